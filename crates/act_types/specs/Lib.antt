@@ -1,0 +1,3 @@
+pub mod GoodText
+pub mod KindState
+pub mod Texts

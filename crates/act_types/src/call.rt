@@ -1,0 +1,89 @@
+//! Methods and arguments.
+
+ghost use Rattle.std.specs.Prelude.{◌≡◌, IfOk, Some};
+ghost use Rattle.act_types.specs.Texts.{method_text, settled_text};
+
+use crate::{CopyOf, FutureId, NoMemory, Value};
+use std::alloc::Global;
+use std::fmt;
+
+/// What an actor can be asked.
+#[derive(Clone, Copy, Debug, PartialEq, Eq)]
+pub enum Method {
+    Add,
+    Get,
+    Put,
+    Del,
+    Size,
+    Deposit,
+    Withdraw,
+    Balance,
+    Push,
+    Pop,
+    At,
+    Len,
+}
+
+impl fmt::Display for Method {
+    ghost output = { λ method. Some (method_text method) };
+
+    fn fmt<W: fmt::Write>(&self, f: &mut fmt::Formatter<W>) -> fmt::Result {
+        match self {
+            Method::Add => write!(f, "add"),
+            Method::Get => write!(f, "get"),
+            Method::Put => write!(f, "put"),
+            Method::Del => write!(f, "del"),
+            Method::Size => write!(f, "size"),
+            Method::Deposit => write!(f, "deposit"),
+            Method::Withdraw => write!(f, "withdraw"),
+            Method::Balance => write!(f, "balance"),
+            Method::Push => write!(f, "push"),
+            Method::Pop => write!(f, "pop"),
+            Method::At => write!(f, "at"),
+            Method::Len => write!(f, "len"),
+        }
+    }
+}
+
+/// An argument as it is submitted: a value, or a future of the same caller.
+#[derive(Debug, Drop, PartialEq, Eq)]
+pub enum Arg {
+    Plain(Value),
+    Fut(FutureId),
+}
+
+impl CopyOf for Arg {
+    fn copy_of(&self, alloc: Global) -> Result<Arg, NoMemory> {
+        match self {
+            Arg::Plain(value) => Ok(Arg::Plain(value.copy_of(alloc)?)),
+            Arg::Fut(future) => Ok(Arg::Fut(*future)),
+        }
+    }
+}
+
+/// An argument as it is sent: a value, or the future that failed.
+#[derive(Debug, Drop, PartialEq, Eq)]
+pub enum Settled {
+    Good(Value),
+    Bad(FutureId),
+}
+
+impl CopyOf for Settled {
+    fn copy_of(&self, alloc: Global) -> Result<Settled, NoMemory> {
+        match self {
+            Settled::Good(value) => Ok(Settled::Good(value.copy_of(alloc)?)),
+            Settled::Bad(future) => Ok(Settled::Bad(*future)),
+        }
+    }
+}
+
+impl fmt::Display for Settled {
+    ghost output = { λ settled. Some (settled_text settled) };
+
+    fn fmt<W: fmt::Write>(&self, f: &mut fmt::Formatter<W>) -> fmt::Result {
+        match self {
+            Settled::Good(value) => write!(f, "{value}"),
+            Settled::Bad(future) => write!(f, "!{future}"),
+        }
+    }
+}

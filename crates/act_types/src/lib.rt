@@ -1,0 +1,20 @@
+//! The values, faults and messages of the actor service.
+#![tactic(auto)]
+
+mod call;
+mod fault;
+mod ids;
+mod list_of;
+mod memory;
+mod message;
+mod text;
+mod value;
+
+pub use call::{Arg, Method, Settled};
+pub use fault::{Answer, Fault};
+pub use ids::{ActorId, CallerId, FutureId};
+pub use list_of::ListOf;
+pub use memory::{CopyOf, NoMemory};
+pub use message::{KillNote, Notice, Packet, ReleaseNote, Reply};
+pub use text::{Text, is_good_text};
+pub use value::Value;

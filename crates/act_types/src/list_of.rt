@@ -1,0 +1,92 @@
+//! A list of items, which contracts see as a list.
+
+ghost use Rattle.std.specs.Prelude.{◌≡◌, List, [], ◌∷◌, ◌++◌, IfOk, IfErr, OnOk, OnErr, length};
+ghost use Rattle.std.specs.Cmp.Lexicographic.{pointwise, lists_per, lists_equiv};
+
+use crate::{CopyOf, NoMemory};
+use std::alloc::{AllocFailed, Global};
+use std::marker::Model;
+
+/// A list of items. Contracts see the list, and not how much room it has.
+#[derive(Debug, Drop)]
+pub struct ListOf<T> {
+    vec: Vec<T>,
+}
+
+impl<T> Model for ListOf<T> {
+    ghost Value = { List T };
+
+    ghost view = { λ a. a.vec.items };
+}
+
+impl<T> ListOf<T> {
+    /// No items.
+    pub fn new(alloc: Global) -> ListOf<T>
+        ensures { result ≡ [] }
+    {
+        ListOf {
+            vec: Vec::new(alloc),
+        }
+    }
+
+    /// The items of a vector.
+    pub fn from_vec(vec: Vec<T>) -> ListOf<T>
+        ensures { result ≡ vec.items }
+    {
+        ListOf { vec }
+    }
+
+    /// The items as a vector.
+    pub fn into_vec(self) -> Vec<T>
+        ensures { result.items ≡ self }
+    {
+        self.vec
+    }
+
+    /// The items as a slice.
+    pub fn as_slice(&self) -> &[T]
+        ensures { result.now ≡ self.now }
+    {
+        self.vec.as_slice()
+    }
+
+    /// How many there are.
+    pub fn len(&self) -> usize
+        ensures { result ≡ length self.now }
+    {
+        self.vec.len()
+    }
+
+    /// Adds an item at the end.
+    pub fn push(&mut self, item: T) -> Result<(), AllocFailed<T>>
+        ensures ok { OnOk result (self.new ≡ self.old ++ item ∷ []) }
+        ensures err { OnErr result (self.new ≡ self.old) }
+        ensures item_back { IfErr result (λ failed. failed.value ≡ item) }
+    {
+        self.vec.push(item)
+    }
+}
+
+impl<T: CopyOf> CopyOf for ListOf<T> {
+    fn copy_of(&self, alloc: Global) -> Result<ListOf<T>, NoMemory> {
+        let mut copies = ListOf::new(alloc);
+        for item in self.vec.as_slice() {
+            copies.push(item.copy_of(alloc)?)?;
+        }
+        Ok(copies)
+    }
+}
+
+impl<T: PartialEq> PartialEq for ListOf<T> {
+    ghost eq = { pointwise T.eq };
+
+    ghost laws = { lists_per T.laws };
+
+    fn eq(&self, other: &ListOf<T>) -> bool {
+        self.vec == other.vec
+    }
+}
+
+impl<T: Eq> Eq for ListOf<T> {
+    ghost laws = { lists_equiv T.Eq.laws };
+}
