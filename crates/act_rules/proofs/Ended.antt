@@ -1,0 +1,82 @@
+-- Nothing runs at an actor that has ended.
+use Rattle.std.proofs.Common.{◌≡◌, ℕ, Bool, true, false, cond, List, [], ◌∷◌, ◌++◌, Some, None, refl, sym, ◌∙◌}
+use Rattle.std.specs.Prelude.{Option, ◌==◌, ◌||◌, not, map}
+use Rattle.std.proofs.lemmas.List.{map-append, append-nil}
+use Rattle.std.proofs.lemmas.List.Elements.{filter-append}
+use Rattle.std.proofs.lemmas.List.Folds.{list_any-append}
+use Rattle.std.proofs.lemmas.Bool.{eqb-true}
+use Rattle.act_rules.specs.declared.history.RunItem.{RunItem}
+use Rattle.act_rules.specs.declared.event.Event.TheVariants.{Submit, Copy, Release, Send, Deliver, Run, Collect, AskKill, TakeKill, Tell, Retire}
+use Rattle.act_rules.specs.declared.outcome.WorldRefusal.TheVariants.{NoCaller, Handle, ActorEnded}
+use Rattle.act_rules.specs.declared.outcome.HandleRefusal.TheVariants.{NoActor}
+use Rattle.act_rules.specs.Submissions.{needs}
+use Rattle.act_rules.specs.History.{History, contains, under, runs_of, is_ended, is_caller, names, cast_of, next_item}
+use Rattle.act_rules.specs.Rules.{refusal_of, after_run}
+use Rattle.act_rules.proofs.Steps.{IsKept}
+
+pub contains_more : (a : ℕ) (xs ys : List ℕ) → contains a xs ≡ true → contains a (xs ++ ys) ≡ true
+contains_more a xs ys h = rw (list_any-append (λ m. m == a) xs ys, h)
+
+-- the needed condition of an event that nothing refuses
+pub needs-none : {R : Type 0} (b : Bool) (r : R) (next : Option R) → needs b r next ≡ None → (b ≡ true) × (next ≡ None)
+needs-none true r next e = (refl, e)
+needs-none false r next e = cc
+
+pub not-true : (b : Bool) → not b ≡ true → b ≡ false
+not-true true e = cc
+not-true false e = refl
+
+-- a run needs a caller, an actor that knows it, and an actor that has not ended
+pub run_needs : (h : History) (a c : ℕ) → refusal_of h (Run a c) ≡ None → (is_caller c h ≡ true) × (names c (cast_of a h) ≡ true) × (is_ended a h ≡ false)
+run_needs h a c e =
+    let first = needs-none (is_caller c h) NoCaller (needs (names c (cast_of a h)) (Handle NoActor) (needs (not (is_ended a h)) ActorEnded None)) e in
+    let second = needs-none (names c (cast_of a h)) (Handle NoActor) (needs (not (is_ended a h)) ActorEnded None) first.1 in
+    let third = needs-none (not (is_ended a h)) ActorEnded None second.1 in
+    (first.0, second.0, not-true (is_ended a h) third.0)
+
+-- one pair more: what stands under its number gets it last, and the rest stays
+pub under-push : {A : Type 0} (n m : ℕ) (pairs : List (ℕ × A)) (x : A) → under n (pairs ++ (m, x) ∷ []) ≡ under n pairs ++ cond (m == n) (x ∷ []) []
+under-push {A = A} n m pairs x = rw (filter-append (λ (pair : ℕ × A). pair.0 == n) pairs ((m, x) ∷ []), map-append) (last (m == n))
+  where
+    last : (same : Bool) → under n pairs ++ map (λ (pair : ℕ × A). pair.1) (cond same ((m, x) ∷ []) []) ≡ under n pairs ++ cond same (x ∷ []) []
+    last true = refl
+    last false = refl
+
+pub record HasEnded (a : ℕ) (items : List RunItem) (h : History) : Type 0 where
+  pub ended : is_ended a h ≡ true
+  pub same : runs_of a h ≡ items
+
+dead_or : (a b c : Bool) → (a || b) ≡ true → (a ≡ true → c ≡ true) → (c || b) ≡ true
+dead_or true b c e f = rw (f refl)
+dead_or false true true e f = refl
+dead_or false true false e f = refl
+dead_or false false c e f = cc
+
+or_retired : (a b c : Bool) → (a || b) ≡ true → (b ≡ true → c ≡ true) → (a || c) ≡ true
+or_retired true b c e f = refl
+or_retired false true c e f = f refl
+or_retired false false c e f = cc
+
+other_run : (a b : ℕ) (h : History) (item : RunItem) → is_ended a h ≡ true → is_ended b h ≡ false → under a (h.ran ++ (b, item) ∷ []) ≡ under a h.ran
+other_run a b h item ended live = under-push a b h.ran item ∙ go (b == a) refl
+  where
+    go : (same : Bool) → (b == a) ≡ same → under a h.ran ++ cond same (item ∷ []) [] ≡ under a h.ran
+    go true e = let eq : b ≡ a = eqb-true b a e in let bad : true ≡ false = sym ended ∙ rw (← eq) live in cc
+    go false e = append-nil (under a h.ran)
+
+pub ended_stays : (a : ℕ) (items : List RunItem) → IsKept (HasEnded a items)
+ended_stays a items h (Submit c b method args) held accepted = record { ended = held.ended; same = held.same }
+ended_stays a items h (Copy c b) held accepted = record { ended = held.ended; same = held.same }
+ended_stays a items h (Release c b) held accepted = record { ended = held.ended; same = held.same }
+ended_stays a items h (Send c k) held accepted = record { ended = held.ended; same = held.same }
+ended_stays a items h (Deliver i) held accepted = record { ended = held.ended; same = held.same }
+ended_stays a items h (Run b c) held accepted = go (next_item b c h)
+  where
+    go : (o : Option RunItem) → HasEnded a items (after_run b c h o)
+    go None = held
+    go (Some item) = record { ended = held.ended; same = other_run a b h item held.ended (run_needs h b c accepted).2 ∙ held.same }
+ended_stays a items h (Collect j) held accepted = record { ended = held.ended; same = held.same }
+ended_stays a items h (AskKill c b) held accepted = record { ended = held.ended; same = held.same }
+ended_stays a items h (TakeKill b) held accepted = record { ended = dead_or _ _ _ held.ended (contains_more a h.dead (b ∷ [])); same = held.same }
+ended_stays a items h (Tell b c) held accepted = record { ended = held.ended; same = held.same }
+ended_stays a items h (Retire b) held accepted = record { ended = or_retired _ _ _ held.ended (contains_more a h.retired (b ∷ [])); same = held.same }

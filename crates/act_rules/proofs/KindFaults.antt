@@ -1,0 +1,101 @@
+-- No kind answers that the actor died.
+use Rattle.std.proofs.Common.{◌≡◌, ◌≢◌, ℕ, zero, suc, Bool, true, false, List, [], ◌∷◌, Some, None, refl, ap, sym, ◌∙◌}
+use Rattle.std.specs.Prelude.{Option, ℤ, Result, Ok, Err}
+use Rattle.act_types.specs.declared.value.Value.{Value}
+use Rattle.act_types.specs.declared.value.Value.TheVariants.{Int, Text}
+use Rattle.act_types.specs.declared.fault.Fault.{Fault}
+use Rattle.act_types.specs.declared.fault.Fault.TheVariants.{Dependency, ActorDied}
+use Rattle.act_types.specs.declared.call.Method.{Method}
+use Rattle.act_types.specs.declared.call.Method.TheVariants.{Add, Get, Put, Del, Size, Deposit, Withdraw, Balance, Push, Pop, At, Len}
+use Rattle.act_rules.specs.declared.history.RunItem.{RunItem}
+use Rattle.act_types.specs.KindState.{KindState, CounterAt, TableOf, AccountAt, ItemsOf}
+use Rattle.act_rules.specs.Kinds.{Reply, need, look_up, counter_reply, table_reply, account_reply, list_reply, reply_of}
+use Rattle.act_rules.specs.RunList.{Answer, values_of, replied, asked, after_item, answer_at}
+
+-- a kind's fault
+abbrev pub is_own : Fault → Bool
+is_own (Dependency k) = false
+is_own ActorDied = false
+is_own fault = true
+
+-- a reply that is a fault is a kind's
+record OwnFault (reply : Reply) : Type 0 where
+  own : (fault : Fault) → reply ≡ Err fault → is_own fault ≡ true
+
+kept_own : (next : KindState × Value) → OwnFault (Ok next)
+kept_own next = record { own = λ fault e. cc }
+
+fault_own : (fault : Fault) → is_own fault ≡ true → OwnFault (Err fault)
+fault_own fault own = record { own = λ other e. let same : fault ≡ other = cc in ap is_own (sym same) ∙ own }
+
+need_own : (b : Bool) (fault : Fault) (next : Reply) → is_own fault ≡ true → OwnFault next → OwnFault (need b fault next)
+need_own true fault next own rest = rest
+need_own false fault next own rest = fault_own fault own
+
+look_up_own : (state : KindState) (fault : Fault) (o : Option Value) → is_own fault ≡ true → OwnFault (look_up state fault o)
+look_up_own state fault None own = fault_own fault own
+look_up_own state fault (Some value) own = kept_own (state, value)
+
+counter_own : (n : ℤ) (method : Method) (args : List Value) → OwnFault (counter_reply n method args)
+counter_own n Add (Int k ∷ []) = need_own _ _ _ refl (kept_own _)
+counter_own n Add args = fault_own _ refl
+counter_own n Get [] = kept_own _
+counter_own n Get args = fault_own _ refl
+counter_own n method args = fault_own _ refl
+
+table_own : (pairs : List (List ℕ × Value)) (method : Method) (args : List Value) → OwnFault (table_reply pairs method args)
+table_own pairs Put (Text key ∷ value ∷ []) = need_own _ _ _ refl (need_own _ _ _ refl (kept_own _))
+table_own pairs Put args = fault_own _ refl
+table_own pairs Get (Text key ∷ []) = need_own _ _ _ refl (look_up_own _ _ _ refl)
+table_own pairs Get args = fault_own _ refl
+table_own pairs Del (Text key ∷ []) = need_own _ _ _ refl (look_up_own _ _ _ refl)
+table_own pairs Del args = fault_own _ refl
+table_own pairs Size [] = kept_own _
+table_own pairs Size args = fault_own _ refl
+table_own pairs method args = fault_own _ refl
+
+account_own : (n : ℤ) (method : Method) (args : List Value) → OwnFault (account_reply n method args)
+account_own n Deposit (Int k ∷ []) = need_own _ _ _ refl (need_own _ _ _ refl (kept_own _))
+account_own n Deposit args = fault_own _ refl
+account_own n Withdraw (Int k ∷ []) = need_own _ _ _ refl (need_own _ _ _ refl (kept_own _))
+account_own n Withdraw args = fault_own _ refl
+account_own n Balance [] = kept_own _
+account_own n Balance args = fault_own _ refl
+account_own n method args = fault_own _ refl
+
+list_own : (items : List Value) (method : Method) (args : List Value) → OwnFault (list_reply items method args)
+list_own items Push (value ∷ []) = need_own _ _ _ refl (need_own _ _ _ refl (kept_own _))
+list_own items Push args = fault_own _ refl
+list_own items Pop [] = look_up_own _ _ _ refl
+list_own items Pop args = fault_own _ refl
+list_own items At (Int i ∷ []) = look_up_own _ _ _ refl
+list_own items At args = fault_own _ refl
+list_own items Len [] = kept_own _
+list_own items Len args = fault_own _ refl
+list_own items method args = fault_own _ refl
+
+reply_own : (state : KindState) (method : Method) (args : List Value) → OwnFault (reply_of state method args)
+reply_own (CounterAt n) = counter_own n
+reply_own (TableOf pairs) = table_own pairs
+reply_own (AccountAt n) = account_own n
+reply_own (ItemsOf items) = list_own items
+
+-- an answer that isn't a death
+abbrev pub IsAlive : Answer → Type 0
+IsAlive answer = answer ≢ Err ActorDied
+
+replied_alive : (state : KindState) (reply : Reply) → OwnFault reply → IsAlive (replied state reply).1
+replied_alive state (Ok next) own e = cc
+replied_alive state (Err fault) own e = let same : fault ≡ ActorDied = cc in let bad : false ≡ true = sym (ap is_own same) ∙ own.own fault refl in cc
+
+asked_alive : (state : KindState) (item : RunItem) (values : Result (List Value) ℕ) → IsAlive (asked state item values).1
+asked_alive state item (Ok values) e = replied_alive state (reply_of state item.method values) (reply_own state item.method values) e
+asked_alive state item (Err k) e = cc
+
+-- no place of a run list answers that the actor died
+pub answer_alive : (state : KindState) (items : List RunItem) (place : ℕ) (answer : Answer) → answer_at state items place ≡ Some answer → IsAlive answer
+answer_alive state [] place answer e dead = cc
+answer_alive state (item ∷ items) zero answer e dead =
+    let same : (after_item state item).1 ≡ answer = cc in
+    asked_alive state item (values_of item.args) (same ∙ dead)
+answer_alive state (item ∷ items) (suc place) answer e dead = answer_alive (after_item state item).0 items place answer e dead

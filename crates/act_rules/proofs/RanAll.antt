@@ -1,0 +1,220 @@
+-- A retired actor ran every call that was submitted to it, of every caller.
+use Rattle.std.proofs.Common.{◌≡◌, ℕ, ◌+◌, ◌≤◌, Bool, true, false, cond, List, [], ◌∷◌, ◌++◌, length, Some, None, refl, ap, sym, ◌∙◌, subst, arith, length-append, ◌⊎◌, inl, inr, ⊎_elim, ◌-◌}
+use Rattle.std.specs.Prelude.{Option, ◌==◌, ◌||◌, not, map, filter, find, slice_get, is_some}
+use Rattle.std.specs.List.{AllByRecursion, list_all, enumerate_from}
+use Rattle.std.proofs.lemmas.Bool.{eqb-true, and_parts, and_from}
+use Rattle.std.proofs.lemmas.List.{append-nil, length-map}
+use Rattle.std.proofs.lemmas.List.Folds.{list_any-append}
+use Rattle.std.proofs.lemmas.List.FromFn.{length-enumerate_from}
+use Rattle.act_rules.specs.declared.history.RunItem.{RunItem}
+use Rattle.act_rules.specs.declared.event.Event.{Event}
+use Rattle.act_rules.specs.declared.event.Event.TheVariants.{Submit, Copy, Release, Send, Deliver, Run, Collect, AskKill, TakeKill, Tell, Retire}
+use Rattle.act_rules.specs.declared.outcome.WorldRefusal.TheVariants.{Handle, ActorEnded, NotDrained}
+use Rattle.act_rules.specs.declared.outcome.HandleRefusal.TheVariants.{NoActor}
+use Rattle.act_rules.specs.RunList.{items_of}
+use Rattle.act_rules.specs.declared.history.Submission.{Submission}
+use Rattle.act_rules.specs.Submissions.{calls_to, needs}
+use Rattle.act_rules.specs.Consistent.{IsFront}
+use Rattle.act_rules.specs.declared.history.Letter.{Letter}
+use Rattle.act_rules.specs.declared.history.Letter.TheVariants.{Note as NoteLetter}
+use Rattle.act_rules.specs.History.{Casting, History, opening, contains, callers_in, cast_of, names, calls_of, times, copies_of, runs_of, ran_count, has_letter, is_letter, is_done, is_drained, is_dead, is_retired, is_ended, next_item}
+use Rattle.act_rules.specs.Rules.{refusal_of, added, after_run, after_all}
+use Rattle.act_rules.proofs.Lists.{All_more, All_at}
+use Rattle.act_rules.proofs.Growth.{Grows, added_grows}
+use Rattle.act_rules.proofs.Steps.{IsKept, after_all_keeps}
+use Rattle.act_rules.proofs.Ended.{needs-none, ended_stays}
+use Rattle.act_rules.proofs.Letters.{has_letter-sound}
+use Rattle.act_rules.proofs.Order.{numbered, numbers}
+use Rattle.act_rules.proofs.AsSubmitted.{filter-slice_get, calls_to-at}
+use Rattle.act_rules.proofs.Unique.{map-slice_get}
+use Rattle.act_rules.proofs.Sound.{IsSound}
+use Rattle.act_rules.proofs.Retired.{IsSoundNote, NotesAreSound, notes_step, submit_needs}
+
+-- ---- each call goes to an actor whose cast names its caller
+
+abbrev pub IsNamed : History → ℕ × Submission → Type 0
+IsNamed h call = names call.0 (cast_of call.1.actor h) ≡ true
+
+abbrev pub AllNamed : History → Type 0
+AllNamed h = AllByRecursion (IsNamed h) h.submitted
+
+copies_named : (c a : ℕ) (h : History) → is_some (copies_of c a h) ≡ true → names c (cast_of a h) ≡ true
+copies_named c a h e = go (names c (cast_of a h)) ((1 + times c a h.copied) - times c a h.released) e
+  where
+    go : (b : Bool) (n : ℕ) → is_some (cond b (Some n) None) ≡ true → b ≡ true
+    go true n e = refl
+    go false n e = cc
+
+pub named_step : IsKept AllNamed
+named_step h (Submit c a method args) s accepted = All_more (IsNamed h) h.submitted (c, record { actor = a; method = method; args = args }) s (copies_named c a h (submit_needs h c a method args accepted).0)
+named_step h (Copy c a) s accepted = s
+named_step h (Release c a) s accepted = s
+named_step h (Send c k) s accepted = s
+named_step h (Deliver i) s accepted = s
+named_step h (Run a c) s accepted = go (next_item a c h)
+  where
+    go : (o : Option RunItem) → AllNamed (after_run a c h o)
+    go None = s
+    go (Some item) = s
+named_step h (Collect j) s accepted = s
+named_step h (AskKill c a) s accepted = s
+named_step h (TakeKill a) s accepted = s
+named_step h (Tell a c) s accepted = s
+named_step h (Retire a) s accepted = s
+
+-- ---- a retired actor is drained
+
+list_all-weaker : {A : Type 0} (p q : A → Bool) (xs : List A) → ((x : A) → p x ≡ true → q x ≡ true) → list_all p xs ≡ true → list_all q xs ≡ true
+list_all-weaker p q [] f e = refl
+list_all-weaker p q (x ∷ xs) f e = let parts = and_parts (p x) (list_all p xs) e in and_from (q x) (list_all q xs) (f x parts.0) (list_all-weaker p q xs f parts.1)
+
+has_letter-more : (letter : Letter) (xs ys : List Letter) → IsFront xs ys → has_letter letter xs ≡ true → has_letter letter ys ≡ true
+has_letter-more letter xs ys f e = rw (← f.1, list_any-append (is_letter letter) xs f.0, e) refl
+
+drained_grows : (a : ℕ) (h g : History) → Grows h g → runs_of a g ≡ runs_of a h → is_drained a h ≡ true → is_drained a g ≡ true
+drained_grows a h g grows same e =
+    let casts : cast_of a g ≡ cast_of a h = ap (λ (casts : List Casting). find (λ (cast : Casting). cast.actor == a) casts) grows.casts in
+    subst (λ (o : Option Casting). list_all (λ c. is_done c a g) (callers_in o) ≡ true) (sym casts)
+    (list_all-weaker (λ c. is_done c a h) (λ c. is_done c a g) (callers_in (cast_of a h)) (λ c done.
+    let count : ran_count c a g ≡ ran_count c a h = ap (λ (items : List RunItem). length (items_of c items)) same in
+    has_letter-more (NoteLetter c a (ran_count c a g)) h.arrived g.arrived grows.arrived (rw count done)) e)
+
+retire_needs : (h : History) (a : ℕ) → refusal_of h (Retire a) ≡ None → is_drained a h ≡ true
+retire_needs h a e =
+    let first = needs-none (is_some (cast_of a h)) (Handle NoActor) (needs (not (is_ended a h)) ActorEnded (needs (is_drained a h) NotDrained None)) e in
+    let second = needs-none (not (is_ended a h)) ActorEnded (needs (is_drained a h) NotDrained None) first.1 in
+    (needs-none (is_drained a h) NotDrained None second.1).0
+
+or_right : (a b : Bool) → b ≡ true → (a || b) ≡ true
+or_right true b e = refl
+or_right false b e = e
+
+abbrev pub RetiredDrained : History → Type 0
+RetiredDrained h = (a : ℕ) → is_retired a h ≡ true → is_drained a h ≡ true
+
+stays_drained : (h : History) (event : Event) → refusal_of h event ≡ None → RetiredDrained h → (a : ℕ) → is_retired a h ≡ true → is_drained a (added h event) ≡ true
+stays_drained h event accepted s a retired =
+    let ended = or_right (is_dead a h) (is_retired a h) retired in
+    let after = ended_stays a (runs_of a h) h event (record { ended = ended; same = refl }) accepted in
+    drained_grows a h (added h event) (added_grows h event) after.same (s a retired)
+
+retired_or : (xs : List ℕ) (a b : ℕ) → contains a (xs ++ b ∷ []) ≡ true → (contains a xs ≡ true) ⊎ (b ≡ a)
+retired_or [] a b e = go (b == a) refl e
+  where
+    go : (same : Bool) → (b == a) ≡ same → (same || false) ≡ true → (contains a [] ≡ true) ⊎ (b ≡ a)
+    go true is e = inr (eqb-true b a is)
+    go false is e = cc
+retired_or (x ∷ xs) a b e = go (x == a) (retired_or xs a b) e
+  where
+    go : (same : Bool) → (contains a (xs ++ b ∷ []) ≡ true → (contains a xs ≡ true) ⊎ (b ≡ a)) → (same || contains a (xs ++ b ∷ [])) ≡ true → ((same || contains a xs) ≡ true) ⊎ (b ≡ a)
+    go true rest e = inl refl
+    go false rest e = rest e
+
+pub retired_step : IsKept RetiredDrained
+retired_step h (Submit c a method args) s accepted x retired = stays_drained h (Submit c a method args) accepted s x retired
+retired_step h (Copy c a) s accepted x retired = stays_drained h (Copy c a) accepted s x retired
+retired_step h (Release c a) s accepted x retired = stays_drained h (Release c a) accepted s x retired
+retired_step h (Send c k) s accepted x retired = stays_drained h (Send c k) accepted s x retired
+retired_step h (Deliver i) s accepted x retired = stays_drained h (Deliver i) accepted s x retired
+retired_step h (Run a c) s accepted b retired = stays_drained h (Run a c) accepted s b (go (next_item a c h) retired)
+  where
+    go : (o : Option RunItem) → is_retired b (after_run a c h o) ≡ true → is_retired b h ≡ true
+    go None e = e
+    go (Some item) e = e
+retired_step h (Collect j) s accepted x retired = stays_drained h (Collect j) accepted s x retired
+retired_step h (AskKill c a) s accepted x retired = stays_drained h (AskKill c a) accepted s x retired
+retired_step h (TakeKill a) s accepted x retired = stays_drained h (TakeKill a) accepted s x retired
+retired_step h (Tell a c) s accepted x retired = stays_drained h (Tell a c) accepted s x retired
+retired_step h (Retire b) s accepted a retired =
+    ⊎_elim (λ (before : is_retired a h ≡ true). stays_drained h (Retire b) accepted s a before)
+    (λ (same : b ≡ a). subst (λ (x : ℕ). is_drained x h ≡ true) same (retire_needs h b accepted))
+    (retired_or h.retired a b retired)
+
+-- ---- all of them
+
+pub record Retires (h : History) : Type 0 where
+  pub notes : NotesAreSound h
+  pub named : AllNamed h
+  pub drained : RetiredDrained h
+
+pub retires_step : IsKept Retires
+retires_step h event s accepted = record {
+  notes = notes_step h event s.notes accepted;
+  named = named_step h event s.named accepted;
+  drained = retired_step h event s.drained accepted;
+}
+
+pub world_retires : (casts : List Casting) (events : List Event) → Retires (after_all (opening casts) events)
+world_retires casts events = after_all_keeps Retires retires_step (opening casts) events (record {
+  notes = record { mail = tt; arrived = tt };
+  named = tt;
+  drained = λ a e. cc;
+})
+
+-- a front that is as long is all
+front_whole : {A : Type 0} (xs ys : List A) → IsFront xs ys → length ys ≤ length xs → xs ≡ ys
+front_whole {A = A} xs ys f short = go f.0 refl
+  where
+    long : length xs + length f.0 ≤ length xs
+    long = rw (← length-append xs f.0, f.1) short
+
+    go : (rest : List A) → f.0 ≡ rest → xs ≡ ys
+    go [] e = sym (append-nil xs) ∙ ap (λ (r : List A). xs ++ r) (sym e) ∙ f.1
+    go (x ∷ rest) e = let bad : length xs + length (x ∷ rest) ≤ length xs = subst (λ (r : List A). length xs + length r ≤ length xs) e long in absurd (omega arith)
+
+nothing_at : {A : Type 0} (xs : List A) → ((n : ℕ) (x : A) → slice_get xs n ≡ Some x → ⊥) → length xs ≡ 0
+nothing_at [] none = refl
+nothing_at (x ∷ xs) none = absurd (none 0 x refl)
+
+named_as : (h : History) (d b c a : ℕ) → d ≡ c → b ≡ a → names d (cast_of b h) ≡ true → names c (cast_of a h) ≡ true
+named_as h d b c a first second is = subst (λ (x : ℕ). names c (cast_of x h) ≡ true) second (subst (λ (y : ℕ). names y (cast_of b h) ≡ true) first is)
+
+-- a caller that the cast doesn't name has no calls to the actor
+stranger_calls : (h : History) (c a : ℕ) → AllNamed h → names c (cast_of a h) ≡ false → length (calls_to a (calls_of c h)) ≡ 0
+stranger_calls h c a named stranger = nothing_at (calls_to a (calls_of c h)) (λ n call at.
+    let found = calls_to-at a (calls_of c h) n call at in
+    let pair = map-slice_get (λ (s : ℕ × Submission). s.1) (filter (λ (s : ℕ × Submission). s.0 == c) h.submitted) call.0 call.1 found.at in
+    let place = filter-slice_get (λ (s : ℕ × Submission). s.0 == c) h.submitted call.0 pair.0 pair.1 in
+    let mine : pair.0.0 ≡ c = eqb-true pair.0.0 c place.passes in
+    let to : pair.0.1.actor ≡ a = ap (λ (s : Submission). s.actor) pair.2 ∙ found.actor in
+    let is : names pair.0.0 (cast_of pair.0.1.actor h) ≡ true = All_at (IsNamed h) h.submitted place.place pair.0 named place.at in
+    let bad : names c (cast_of a h) ≡ true = named_as h pair.0.0 pair.0.1.actor c a mine to is in
+    let no : true ≡ false = sym bad ∙ stranger in
+    cc)
+
+list_all-contains : (p : ℕ → Bool) (xs : List ℕ) (c : ℕ) → list_all p xs ≡ true → contains c xs ≡ true → p c ≡ true
+list_all-contains p [] c all e = cc
+list_all-contains p (x ∷ xs) c all e = let parts = and_parts (p x) (list_all p xs) all in go (x == c) refl parts.0 (list_all-contains p xs c parts.1) e
+  where
+    go : (same : Bool) → (x == c) ≡ same → p x ≡ true → (contains c xs ≡ true → p c ≡ true) → (same || contains c xs) ≡ true → p c ≡ true
+    go true is first rest e = subst (λ (n : ℕ). p n ≡ true) (eqb-true x c is) first
+    go false is first rest e = rest e
+
+map-enumerate_from : (n : ℕ) (xs : List ℕ) → map (λ (p : ℕ × ℕ). p.1) (enumerate_from n xs) ≡ xs
+map-enumerate_from n [] = refl
+map-enumerate_from n (x ∷ xs) = ap (λ (l : List ℕ). x ∷ l) (map-enumerate_from (n + 1) xs)
+
+map-numbered : (items : List RunItem) → map (λ (p : ℕ × ℕ). p.1) (map numbered items) ≡ map (λ (item : RunItem). item.future) items
+map-numbered [] = refl
+map-numbered (item ∷ items) = ap (λ (l : List ℕ). item.future ∷ l) (map-numbered items)
+
+pub ran_all : (h : History) (a c : ℕ) → IsSound h → Retires h → is_retired a h ≡ true → map (λ (item : RunItem). item.future) (items_of c (runs_of a h)) ≡ map (λ (call : ℕ × Submission). call.0) (calls_to a (calls_of c h))
+ran_all h a c s r retired =
+    sym (map-numbered (items_of c (runs_of a h)))
+    ∙ ap (map (λ (p : ℕ × ℕ). p.1)) (front_whole (map numbered (items_of c (runs_of a h))) (numbers a (calls_of c h)) (s.order a c) short)
+    ∙ map-enumerate_from 0 (map (λ (call : ℕ × Submission). call.0) (calls_to a (calls_of c h)))
+  where
+    counted : (named : Bool) → names c (cast_of a h) ≡ named → length (calls_to a (calls_of c h)) ≤ ran_count c a h
+    counted false e = let none = stranger_calls h c a r.named e in omega arith
+    counted true e =
+        let done : is_done c a h ≡ true = list_all-contains (λ d. is_done d a h) (callers_in (cast_of a h)) c (r.drained a retired) e in
+        let note = has_letter-sound (IsSoundNote h) (NoteLetter c a (ran_count c a h)) h.arrived r.notes.arrived done in
+        let count : ran_count c a h ≡ length (calls_to a (calls_of c h)) = note.1 in
+        omega arith
+
+    short : length (numbers a (calls_of c h)) ≤ length (map numbered (items_of c (runs_of a h)))
+    short =
+        let all : length (numbers a (calls_of c h)) ≡ length (calls_to a (calls_of c h)) = length-enumerate_from 0 (map (λ (call : ℕ × Submission). call.0) (calls_to a (calls_of c h))) ∙ length-map (calls_to a (calls_of c h)) (λ (call : ℕ × Submission). call.0) in
+        let some : length (map numbered (items_of c (runs_of a h))) ≡ ran_count c a h = length-map (items_of c (runs_of a h)) numbered in
+        let few = counted (names c (cast_of a h)) refl in
+        rw (all, some) few

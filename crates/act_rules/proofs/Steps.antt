@@ -1,0 +1,31 @@
+-- A fact that each accepted event keeps holds of every run.
+use Rattle.std.proofs.Common.{◌≡◌, List, [], ◌∷◌, ◌++◌, Some, None, refl, ap}
+use Rattle.std.specs.Prelude.{Option}
+use Rattle.act_rules.specs.declared.event.Event.{Event}
+use Rattle.act_rules.specs.declared.outcome.WorldRefusal.{WorldRefusal}
+use Rattle.act_rules.specs.History.{History}
+use Rattle.act_rules.specs.Rules.{Outcome, refusal_of, added, after_by, after, after_all, outcome_of, outcomes}
+
+-- an event leaves the history, or adds to it where nothing refuses it
+pub after_keeps : (P : History → Type 0) (h : History) (event : Event) → P h → (refusal_of h event ≡ None → P (added h event)) → P (after h event)
+after_keeps P h event held step = go (refusal_of h event) refl
+  where
+    go : (r : Option WorldRefusal) → refusal_of h event ≡ r → P (after_by h event r)
+    go None e = step e
+    go (Some refusal) e = held
+
+-- what each accepted event keeps
+abbrev pub IsKept : (History → Type 0) → Type 0
+IsKept P = (h : History) (event : Event) → P h → refusal_of h event ≡ None → P (added h event)
+
+pub after_all_keeps : (P : History → Type 0) → IsKept P → (h : History) (events : List Event) → P h → P (after_all h events)
+after_all_keeps P step h [] held = held
+after_all_keeps P step h (event ∷ events) held = after_all_keeps P step (after h event) events (after_keeps P h event held (step h event held))
+
+pub after_all-append : (h : History) (xs ys : List Event) → after_all h (xs ++ ys) ≡ after_all (after_all h xs) ys
+after_all-append h [] ys = refl
+after_all-append h (x ∷ xs) ys = after_all-append (after h x) xs ys
+
+pub outcomes-append : (h : History) (xs ys : List Event) → outcomes h (xs ++ ys) ≡ outcomes h xs ++ outcomes (after_all h xs) ys
+outcomes-append h [] ys = refl
+outcomes-append h (x ∷ xs) ys = ap (λ (told : List Outcome). outcome_of h x ∷ told) (outcomes-append (after h x) xs ys)

@@ -1,0 +1,85 @@
+-- The laws of every run.
+use Rattle.std.specs.Prelude.{ℕ, ◌≡◌, ◌++◌, ◌^◌, ◌&&◌, Bool, true, nat_lt, nat_le, List, map, Some, Result, Ok, IsTrue, codes, decimal}
+use Rattle.act_types.specs.declared.value.Value.{Value}
+use Rattle.act_types.specs.declared.value.Value.TheVariants as value
+use Rattle.act_types.specs.declared.call.Arg.{Arg}
+use Rattle.act_types.specs.declared.call.Arg.TheVariants.{Plain, Fut}
+use Rattle.act_types.specs.GoodText.{is_good_text}
+use Rattle.act_types.specs.Texts.{value_text}
+use Rattle.act_rules.specs.declared.event.Event.{Event}
+use Rattle.act_rules.specs.declared.script.Wrong.{Wrong}
+use Rattle.act_rules.specs.Words.{Word}
+use Rattle.act_rules.specs.Kinds.{is_in_range}
+use Rattle.act_rules.specs.RunList.{Answer, items_of}
+use Rattle.act_rules.specs.Submissions.{calls_to, kept_at}
+use Rattle.act_rules.specs.Consistent.{Consistent}
+use Rattle.act_rules.specs.History.{Casting, History, opening, opening_of, calls_of, runs_of, kept_of, is_dead, is_retired, is_ended}
+use Rattle.act_rules.specs.Rules.{after_all}
+
+-- what a world of these actors is after the events
+abbrev pub world : List Casting → List Event → History
+world casts events = after_all (opening casts) events
+
+-- nothing runs at an actor that is dead or retired
+abbrev pub NothingRunsAfterTheEnd : Type 0
+NothingRunsAfterTheEnd = (casts : List Casting) (events later : List Event) (a : ℕ) →
+    IsTrue (is_ended a (world casts events)) → runs_of a (world casts (events ++ later)) ≡ runs_of a (world casts events)
+
+-- an answer that is kept stays
+abbrev pub KeptAnswersStay : Type 0
+KeptAnswersStay = (casts : List Casting) (events later : List Event) (c k : ℕ) (answer : Answer) →
+    kept_at (kept_of c (world casts events)) k ≡ Some answer → kept_at (kept_of c (world casts (events ++ later))) k ≡ Some answer
+
+-- a retired actor ran every call of every caller to it, in order
+abbrev pub RetiredRanAll : Type 0
+RetiredRanAll = (casts : List Casting) (events : List Event) (a c : ℕ) →
+    let w = world casts events in
+    IsTrue (is_retired a w) → map (λ item. item.future) (items_of c (runs_of a w)) ≡ map (λ call. call.0) (calls_to a (calls_of c w))
+
+-- opening states, submissions, run lists, kept answers and dead actors fit one another
+abbrev pub EachWorldIsConsistent : Type 0
+EachWorldIsConsistent = (casts : List Casting) (events : List Event) →
+    let w = world casts events in
+    Consistent (λ a. opening_of a w) (λ c. calls_of c w) (λ a. runs_of a w) (λ c. kept_of c w) (λ a. is_dead a w)
+
+-- ---- what words spell
+
+-- an argument, as a script writes it: a value, or `@` and a future
+abbrev pub arg_text : Arg → Word
+arg_text (Plain value) = value_text value
+arg_text (Fut k) = codes "@" ++ decimal k
+
+-- each thing is spelled in one way: a word that spells it is its text
+abbrev pub HasOneSpelling : {A : Type 0} → (Word → Result A Wrong) → (A → Word) → Type 0
+HasOneSpelling {A} spelled_at text = (word : Word) (x : A) → spelled_at word ≡ Ok x → word ≡ text x
+
+-- the text of each such thing spells it
+abbrev pub ReadsBack : {A : Type 0} → (A → Bool) → (A → Word) → (Word → Result A Wrong) → Type 0
+ReadsBack {A} is_such text spelled_at = (x : A) → IsTrue (is_such x) → spelled_at (text x) ≡ Ok x
+
+-- a number that a script can write
+abbrev pub is_number : ℕ → Bool
+is_number n = nat_lt n (2 ^ 32)
+
+-- a caller's number
+abbrev pub is_caller_number : ℕ → Bool
+is_caller_number c = nat_le 1 c && nat_le c 16
+
+-- an actor's number
+abbrev pub is_actor_number : ℕ → Bool
+is_actor_number a = nat_le 1 a && nat_le a 8
+
+-- a value that a script can write: any number, and a good text
+abbrev pub is_sayable : Value → Bool
+is_sayable value.Unit = true
+is_sayable (value.Int n) = is_in_range n
+is_sayable (value.Text text) = is_good_text text
+
+-- an argument that a script can write
+abbrev pub is_sayable_arg : Arg → Bool
+is_sayable_arg (Plain value) = is_sayable value
+is_sayable_arg (Fut k) = is_number k
+
+-- any of them
+abbrev pub always : {A : Type 0} → A → Bool
+always x = true

@@ -1,0 +1,17 @@
+pub mod Kinds
+pub mod RunList
+pub mod Submissions
+pub mod History
+pub mod Rules
+pub mod Report
+pub mod Consistent
+pub mod Plans
+pub mod Words
+pub mod Grammar
+pub mod Scripts
+pub mod Laws
+pub mod Rows
+pub mod ScriptRows
+pub mod KindRows
+pub mod FurtherRows
+pub mod LineRows

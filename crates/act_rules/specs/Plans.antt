@@ -1,0 +1,56 @@
+-- What a caller's plan submits, and its first step that would be refused.
+use Rattle.std.specs.Prelude.{ℕ, ◌+◌, ◌-◌, ◌==◌, Bool, true, false, if◌then◌else◌, nat_lt, List, [], ◌∷◌, ◌++◌, length, filter, Option, Some, None, is_some}
+use Rattle.std.specs.List.{list_any}
+use Rattle.act_rules.specs.declared.script.Step.{Step}
+use Rattle.act_rules.specs.declared.script.Step.TheVariants.{Submit, Copy, Release, Kill, Await}
+use Rattle.act_rules.specs.declared.history.Submission.{Submission}
+use Rattle.act_rules.specs.Submissions.{handle_refusal, copy_refusal, submit_refusal}
+
+-- what a caller did so far: its submissions, and the actors whose handles it copied and released
+pub record Progress : Type 0 where
+  pub submitted : List Submission
+  pub copied : List ℕ
+  pub released : List ℕ
+
+abbrev pub nothing_done : Progress
+nothing_done = record { submitted = []; copied = []; released = [] }
+
+abbrev pub occurrences : ℕ → List ℕ → ℕ
+occurrences a actors = length (filter (λ b. b == a) actors)
+
+-- the copies of a handle that the caller holds, among those of its actors
+abbrev pub holds : ℕ → List ℕ → Progress → Option ℕ
+holds a actors p = if list_any (λ b. b == a) actors then Some ((1 + occurrences a p.copied) - occurrences a p.released) else None
+
+-- whether a step is refused
+abbrev pub is_refused : List ℕ → Progress → Step → Bool
+is_refused actors p (Submit a method args) = is_some (submit_refusal (holds a actors p) (length p.submitted) args)
+is_refused actors p (Copy a) = is_some (copy_refusal (holds a actors p))
+is_refused actors p (Release a) = is_some (handle_refusal (holds a actors p))
+is_refused actors p (Kill a) = is_some (handle_refusal (holds a actors p))
+is_refused actors p (Await k) = if nat_lt k (length p.submitted) then false else true
+
+-- what a step adds
+abbrev pub stepped : Progress → Step → Progress
+stepped p (Submit a method args) = record p { submitted = p.submitted ++ record { actor = a; method = method; args = args } ∷ [] }
+stepped p (Copy a) = record p { copied = p.copied ++ a ∷ [] }
+stepped p (Release a) = record p { released = p.released ++ a ∷ [] }
+stepped p (Kill a) = p
+stepped p (Await k) = p
+
+-- what a plan leaves: a refused step adds nothing
+abbrev pub done_by : List ℕ → Progress → List Step → Progress
+done_by actors p [] = p
+done_by actors p (step ∷ steps) = done_by actors (if is_refused actors p step then p else stepped p step) steps
+
+-- the submissions of the plan of a caller that these actors know
+abbrev pub planned : List ℕ → List Step → List Submission
+planned actors plan = (done_by actors nothing_done plan).submitted
+
+-- the place of the first step that is refused, from n
+abbrev pub first_bad_from : ℕ → List ℕ → Progress → List Step → Option ℕ
+first_bad_from n actors p [] = None
+first_bad_from n actors p (step ∷ steps) = if is_refused actors p step then Some n else first_bad_from (n + 1) actors (stepped p step) steps
+
+abbrev pub first_bad : List ℕ → List Step → Option ℕ
+first_bad actors plan = first_bad_from 0 actors nothing_done plan

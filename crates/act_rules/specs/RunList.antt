@@ -1,0 +1,55 @@
+-- What the calls of a run list answer, in the order in which they ran.
+use Rattle.std.specs.Prelude.{ℕ, ◌==◌, List, [], ◌∷◌, filter, slice_get, Option, Result, Ok, Err}
+use Rattle.act_types.specs.declared.value.Value.{Value}
+use Rattle.act_types.specs.declared.fault.Fault.{Fault}
+use Rattle.act_types.specs.declared.fault.Fault.TheVariants.{Dependency}
+use Rattle.act_types.specs.declared.call.Settled.{Settled}
+use Rattle.act_types.specs.declared.call.Settled.TheVariants.{Good, Bad}
+use Rattle.act_rules.specs.declared.history.RunItem.{RunItem}
+use Rattle.act_types.specs.KindState.{KindState}
+use Rattle.act_rules.specs.Kinds.{Reply, reply_of}
+
+abbrev pub Answer : Type 0
+Answer = Result Value Fault
+
+-- the values, or the future of the first failed argument
+abbrev pub with_value : Value → Result (List Value) ℕ → Result (List Value) ℕ
+with_value value (Ok values) = Ok (value ∷ values)
+with_value value (Err k) = Err k
+
+abbrev pub values_of : List Settled → Result (List Value) ℕ
+values_of [] = Ok []
+values_of (Good value ∷ args) = with_value value (values_of args)
+values_of (Bad k ∷ args) = Err k
+
+-- the state and the answer after a reply, where a fault leaves the state
+abbrev pub replied : KindState → Reply → KindState × Answer
+replied state (Ok next) = (next.0, Ok next.1)
+replied state (Err fault) = (state, Err fault)
+
+-- a call whose argument failed isn't asked of the kind
+abbrev pub asked : KindState → RunItem → Result (List Value) ℕ → KindState × Answer
+asked state item (Ok values) = replied state (reply_of state item.method values)
+asked state item (Err k) = (state, Err (Dependency k))
+
+-- the state and the answer after one item
+abbrev pub after_item : KindState → RunItem → KindState × Answer
+after_item state item = asked state item (values_of item.args)
+
+-- the state after all items
+abbrev pub state_after : KindState → List RunItem → KindState
+state_after state [] = state
+state_after state (item ∷ items) = state_after (after_item state item).0 items
+
+-- the answers of all items, in order
+abbrev pub answers_from : KindState → List RunItem → List Answer
+answers_from state [] = []
+answers_from state (item ∷ items) = (after_item state item).1 ∷ answers_from (after_item state item).0 items
+
+-- the items of one caller
+abbrev pub items_of : ℕ → List RunItem → List RunItem
+items_of c items = filter (λ item. item.caller == c) items
+
+-- the answer of the item at a place
+abbrev pub answer_at : KindState → List RunItem → ℕ → Option Answer
+answer_at state items place = slice_get (answers_from state items) place

@@ -1,0 +1,263 @@
+-- The worked rows as scripts: what they write, from bytes to bytes.
+use Rattle.std.specs.Prelude.{ℕ, ◌≡◌, ◌<◌, List, [], ◌∷◌, length, Err, codes}
+use Rattle.act_rules.specs.declared.script.Wrong.{Wrong}
+use Rattle.act_rules.specs.declared.script.Wrong.TheVariants.{BadPlan, TooMany}
+use Rattle.act_rules.specs.Report.{line}
+use Rattle.act_rules.specs.Scripts.{played, spelled_plans}
+use Rattle.act_rules.specs.Rows.{lines_text}
+
+-- the script of these lines writes those
+abbrev pub Writes : List (List ℕ) → List (List ℕ) → Type 0
+Writes script lines = played (lines_text script) ≡ lines_text lines
+
+-- in threads that serve two callers and two actors the script of these lines has this fault
+abbrev pub HasFault : List (List ℕ) → ℕ × Wrong → Type 0
+HasFault script fault = spelled_plans 2 2 (lines_text script) ≡ Err fault
+
+-- empty
+abbrev pub Empty : Type 0
+Empty = Writes (
+    []) (
+    [])
+
+-- one call
+abbrev pub OneCall : Type 0
+OneCall = Writes (
+    codes "actor a1 counter c1" ∷ codes "submit c1 a1 add 5" ∷ codes "send c1 0" ∷ codes "deliver 0" ∷
+    codes "run a1 c1" ∷ codes "collect 0" ∷ []) (
+    codes "0: future c1.0" ∷ codes "1: mail 0" ∷ codes "2: new" ∷ codes "3: place 0 reply 0" ∷
+    codes "4: kept c1.0" ∷ codes "c1.0 a1 = 5" ∷ codes "a1 live counter 5" ∷ codes "a1.0 c1.0 add 5" ∷ [])
+
+-- reversed
+abbrev pub Reversed : Type 0
+Reversed = Writes (
+    codes "actor a1 counter c1" ∷ codes "submit c1 a1 add 1" ∷ codes "submit c1 a1 add 2" ∷
+    codes "submit c1 a1 add 3" ∷ codes "send c1 0" ∷ codes "send c1 1" ∷ codes "send c1 2" ∷ codes "deliver 2" ∷
+    codes "run a1 c1" ∷ codes "deliver 1" ∷ codes "run a1 c1" ∷ codes "deliver 0" ∷ codes "run a1 c1" ∷
+    codes "run a1 c1" ∷ codes "run a1 c1" ∷ []) (
+    codes "0: future c1.0" ∷ codes "1: future c1.1" ∷ codes "2: future c1.2" ∷ codes "3: mail 0" ∷
+    codes "4: mail 1" ∷ codes "5: mail 2" ∷ codes "6: new" ∷ codes "7: gap" ∷ codes "8: new" ∷ codes "9: gap" ∷
+    codes "10: new" ∷ codes "11: place 0 reply 0" ∷ codes "12: place 1 reply 1" ∷ codes "13: place 2 reply 2" ∷
+    codes "c1.0 a1 ?" ∷ codes "c1.1 a1 ?" ∷ codes "c1.2 a1 ?" ∷ codes "a1 live counter 6" ∷
+    codes "a1.0 c1.0 add 1" ∷ codes "a1.1 c1.1 add 2" ∷ codes "a1.2 c1.2 add 3" ∷ [])
+
+-- repeated
+abbrev pub Repeated : Type 0
+Repeated = Writes (
+    codes "actor a1 counter c1" ∷ codes "submit c1 a1 add 5" ∷ codes "send c1 0" ∷ codes "deliver 0" ∷
+    codes "deliver 0" ∷ codes "run a1 c1" ∷ codes "deliver 0" ∷ codes "run a1 c1" ∷ []) (
+    codes "0: future c1.0" ∷ codes "1: mail 0" ∷ codes "2: new" ∷ codes "3: repeat" ∷
+    codes "4: place 0 reply 0" ∷ codes "5: repeat" ∷ codes "6: gap" ∷ codes "c1.0 a1 ?" ∷
+    codes "a1 live counter 5" ∷ codes "a1.0 c1.0 add 5" ∷ [])
+
+-- lost
+abbrev pub Lost : Type 0
+Lost = Writes (
+    codes "actor a1 counter c1" ∷ codes "submit c1 a1 add 1" ∷ codes "submit c1 a1 add 2" ∷
+    codes "submit c1 a1 add 3" ∷ codes "send c1 0" ∷ codes "send c1 1" ∷ codes "send c1 2" ∷ codes "deliver 0" ∷
+    codes "deliver 2" ∷ codes "run a1 c1" ∷ codes "run a1 c1" ∷ codes "run a1 c1" ∷ []) (
+    codes "0: future c1.0" ∷ codes "1: future c1.1" ∷ codes "2: future c1.2" ∷ codes "3: mail 0" ∷
+    codes "4: mail 1" ∷ codes "5: mail 2" ∷ codes "6: new" ∷ codes "7: new" ∷ codes "8: place 0 reply 0" ∷
+    codes "9: gap" ∷ codes "10: gap" ∷ codes "c1.0 a1 ?" ∷ codes "c1.1 a1 ?" ∷ codes "c1.2 a1 ?" ∷
+    codes "a1 live counter 1" ∷ codes "a1.0 c1.0 add 1" ∷ [])
+
+-- an earlier call waits
+abbrev pub EarlierCallWaits : Type 0
+EarlierCallWaits = Writes (
+    codes "actor a1 counter c1 c2" ∷ codes "actor a2 counter c1" ∷ codes "submit c1 a2 add 7" ∷
+    codes "submit c1 a1 add @0" ∷ codes "submit c1 a1 add 1" ∷ codes "send c1 1" ∷ codes "send c1 2" ∷
+    codes "deliver 0" ∷ codes "run a1 c1" ∷ []) (
+    codes "0: future c1.0" ∷ codes "1: future c1.1" ∷ codes "2: future c1.2" ∷ codes "3: refused NotReady" ∷
+    codes "4: mail 0" ∷ codes "5: new" ∷ codes "6: gap" ∷ codes "c1.0 a2 ?" ∷ codes "c1.1 a1 ?" ∷
+    codes "c1.2 a1 ?" ∷ codes "a1 live counter 0" ∷ codes "a2 live counter 0" ∷ [])
+
+-- another caller passes
+abbrev pub AnotherCallerPasses : Type 0
+AnotherCallerPasses = Writes (
+    codes "actor a1 counter c1 c2" ∷ codes "actor a2 counter c1" ∷ codes "submit c1 a2 add 7" ∷
+    codes "submit c1 a1 add @0" ∷ codes "submit c1 a1 add 1" ∷ codes "send c1 1" ∷ codes "send c1 2" ∷
+    codes "deliver 0" ∷ codes "run a1 c1" ∷ codes "submit c2 a1 add 100" ∷ codes "send c2 0" ∷
+    codes "deliver 1" ∷ codes "run a1 c2" ∷ codes "send c1 0" ∷ codes "deliver 2" ∷ codes "run a2 c1" ∷
+    codes "collect 1" ∷ codes "send c1 1" ∷ codes "deliver 3" ∷ codes "run a1 c1" ∷ codes "run a1 c1" ∷
+    codes "collect 0" ∷ codes "collect 2" ∷ codes "collect 3" ∷ []) (
+    codes "0: future c1.0" ∷ codes "1: future c1.1" ∷ codes "2: future c1.2" ∷ codes "3: refused NotReady" ∷
+    codes "4: mail 0" ∷ codes "5: new" ∷ codes "6: gap" ∷ codes "7: future c2.0" ∷ codes "8: mail 1" ∷
+    codes "9: new" ∷ codes "10: place 0 reply 0" ∷ codes "11: mail 2" ∷ codes "12: new" ∷
+    codes "13: place 0 reply 1" ∷ codes "14: kept c1.0" ∷ codes "15: mail 3" ∷ codes "16: new" ∷
+    codes "17: place 1 reply 2" ∷ codes "18: place 2 reply 3" ∷ codes "19: kept c2.0" ∷ codes "20: kept c1.1" ∷
+    codes "21: kept c1.2" ∷ codes "c1.0 a2 = 7" ∷ codes "c1.1 a1 = 107" ∷ codes "c1.2 a1 = 108" ∷
+    codes "c2.0 a1 = 100" ∷ codes "a1 live counter 108" ∷ codes "a1.0 c2.0 add 100" ∷ codes "a1.1 c1.1 add 7" ∷
+    codes "a1.2 c1.2 add 1" ∷ codes "a2 live counter 7" ∷ codes "a2.0 c1.0 add 7" ∷ [])
+
+-- failed argument
+abbrev pub FailedArgument : Type 0
+FailedArgument = Writes (
+    codes "actor a1 table c1" ∷ codes "submit c1 a1 get \"x\"" ∷ codes "send c1 0" ∷ codes "deliver 0" ∷
+    codes "run a1 c1" ∷ codes "collect 0" ∷ codes "submit c1 a1 put \"y\" @0" ∷ codes "submit c1 a1 size" ∷
+    codes "send c1 1" ∷ codes "send c1 2" ∷ codes "deliver 2" ∷ codes "run a1 c1" ∷ codes "deliver 1" ∷
+    codes "run a1 c1" ∷ codes "run a1 c1" ∷ codes "collect 1" ∷ codes "collect 2" ∷ []) (
+    codes "0: future c1.0" ∷ codes "1: mail 0" ∷ codes "2: new" ∷ codes "3: place 0 reply 0" ∷
+    codes "4: kept c1.0" ∷ codes "5: future c1.1" ∷ codes "6: future c1.2" ∷ codes "7: mail 1" ∷
+    codes "8: mail 2" ∷ codes "9: new" ∷ codes "10: gap" ∷ codes "11: new" ∷ codes "12: place 1 reply 1" ∷
+    codes "13: place 2 reply 2" ∷ codes "14: kept c1.1" ∷ codes "15: kept c1.2" ∷ codes "c1.0 a1 = NoKey" ∷
+    codes "c1.1 a1 = Dependency(0)" ∷ codes "c1.2 a1 = 0" ∷ codes "a1 live table" ∷ codes "a1.0 c1.0 get \"x\"" ∷
+    codes "a1.1 c1.1 put \"y\" !0" ∷ codes "a1.2 c1.2 size" ∷ [])
+
+-- one packet for good
+abbrev pub OnePacketForGood : Type 0
+OnePacketForGood = Writes (
+    codes "actor a1 counter c1" ∷ codes "actor a2 list c1" ∷ codes "submit c1 a1 add 5" ∷
+    codes "submit c1 a2 push @0" ∷ codes "send c1 0" ∷ codes "deliver 0" ∷ codes "run a1 c1" ∷
+    codes "kill c1 a1" ∷ codes "take a1" ∷ codes "tell a1 c1" ∷ codes "collect 1" ∷ codes "send c1 1" ∷
+    codes "collect 0" ∷ codes "send c1 1" ∷ codes "deliver 2" ∷ codes "deliver 1" ∷ codes "run a2 c1" ∷
+    codes "collect 2" ∷ []) (
+    codes "0: future c1.0" ∷ codes "1: future c1.1" ∷ codes "2: mail 0" ∷ codes "3: new" ∷
+    codes "4: place 0 reply 0" ∷ codes "5: asked" ∷ codes "6: dead" ∷ codes "7: reply 1" ∷ codes "8: died 1" ∷
+    codes "9: mail 1" ∷ codes "10: late c1.0" ∷ codes "11: mail 2" ∷ codes "12: new" ∷ codes "13: repeat" ∷
+    codes "14: place 0 reply 2" ∷ codes "15: kept c1.1" ∷ codes "c1.0 a1 = ActorDied" ∷
+    codes "c1.1 a2 = Dependency(0)" ∷ codes "a1 dead" ∷ codes "a1.0 c1.0 add 5" ∷ codes "a2 live list" ∷
+    codes "a2.0 c1.1 push !0" ∷ [])
+
+-- ran and yet died
+abbrev pub RanAndYetDied : Type 0
+RanAndYetDied = Writes (
+    codes "actor a1 counter c1" ∷ codes "submit c1 a1 add 5" ∷ codes "send c1 0" ∷ codes "deliver 0" ∷
+    codes "run a1 c1" ∷ codes "kill c1 a1" ∷ codes "take a1" ∷ codes "tell a1 c1" ∷ codes "collect 1" ∷
+    codes "collect 0" ∷ []) (
+    codes "0: future c1.0" ∷ codes "1: mail 0" ∷ codes "2: new" ∷ codes "3: place 0 reply 0" ∷ codes "4: asked" ∷
+    codes "5: dead" ∷ codes "6: reply 1" ∷ codes "7: died 1" ∷ codes "8: late c1.0" ∷
+    codes "c1.0 a1 = ActorDied" ∷ codes "a1 dead" ∷ codes "a1.0 c1.0 add 5" ∷ [])
+
+-- kill with held calls
+abbrev pub KillWithHeldCalls : Type 0
+KillWithHeldCalls = Writes (
+    codes "actor a1 counter c1" ∷ codes "submit c1 a1 add 1" ∷ codes "submit c1 a1 add 2" ∷
+    codes "submit c1 a1 add 3" ∷ codes "submit c1 a1 add 4" ∷ codes "send c1 0" ∷ codes "send c1 1" ∷
+    codes "send c1 2" ∷ codes "send c1 3" ∷ codes "deliver 0" ∷ codes "run a1 c1" ∷ codes "deliver 2" ∷
+    codes "deliver 3" ∷ codes "kill c1 a1" ∷ codes "take a1" ∷ codes "deliver 1" ∷ codes "run a1 c1" ∷
+    codes "take a1" ∷ codes "retire a1" ∷ codes "tell a1 c1" ∷ codes "collect 1" ∷ []) (
+    codes "0: future c1.0" ∷ codes "1: future c1.1" ∷ codes "2: future c1.2" ∷ codes "3: future c1.3" ∷
+    codes "4: mail 0" ∷ codes "5: mail 1" ∷ codes "6: mail 2" ∷ codes "7: mail 3" ∷ codes "8: new" ∷
+    codes "9: place 0 reply 0" ∷ codes "10: new" ∷ codes "11: new" ∷ codes "12: asked" ∷ codes "13: dead" ∷
+    codes "14: refused ActorEnded" ∷ codes "15: refused ActorEnded" ∷ codes "16: refused ActorEnded" ∷
+    codes "17: refused ActorEnded" ∷ codes "18: reply 1" ∷ codes "19: died 4" ∷ codes "c1.0 a1 = ActorDied" ∷
+    codes "c1.1 a1 = ActorDied" ∷ codes "c1.2 a1 = ActorDied" ∷ codes "c1.3 a1 = ActorDied" ∷ codes "a1 dead" ∷
+    codes "a1.0 c1.0 add 1" ∷ [])
+
+-- known dead
+abbrev pub KnownDead : Type 0
+KnownDead = Writes (
+    codes "actor a1 counter c1" ∷ codes "kill c1 a1" ∷ codes "tell a1 c1" ∷ codes "take a1" ∷
+    codes "tell a1 c1" ∷ codes "collect 0" ∷ codes "submit c1 a1 get" ∷ codes "send c1 0" ∷
+    codes "release c1 a1" ∷ codes "submit c1 a1 get" ∷ codes "kill c1 a1" ∷ codes "deliver 0" ∷ []) (
+    codes "0: asked" ∷ codes "1: refused NotDead" ∷ codes "2: dead" ∷ codes "3: reply 0" ∷ codes "4: died 0" ∷
+    codes "5: future c1.0" ∷ codes "6: refused Answered" ∷ codes "7: mail 0" ∷ codes "8: refused NoHandle" ∷
+    codes "9: refused NoHandle" ∷ codes "10: refused ActorEnded" ∷ codes "c1.0 a1 = ActorDied" ∷
+    codes "a1 dead" ∷ [])
+
+-- largest number
+abbrev pub LargestNumber : Type 0
+LargestNumber = Writes (
+    codes "actor a1 counter c1" ∷ codes "submit c1 a1 add 9223372036854775807" ∷ codes "submit c1 a1 add 1" ∷
+    codes "submit c1 a1 get" ∷ codes "send c1 0" ∷ codes "send c1 1" ∷ codes "send c1 2" ∷ codes "deliver 0" ∷
+    codes "deliver 1" ∷ codes "deliver 2" ∷ codes "run a1 c1" ∷ codes "run a1 c1" ∷ codes "run a1 c1" ∷
+    codes "collect 0" ∷ codes "collect 1" ∷ codes "collect 2" ∷ []) (
+    codes "0: future c1.0" ∷ codes "1: future c1.1" ∷ codes "2: future c1.2" ∷ codes "3: mail 0" ∷
+    codes "4: mail 1" ∷ codes "5: mail 2" ∷ codes "6: new" ∷ codes "7: new" ∷ codes "8: new" ∷
+    codes "9: place 0 reply 0" ∷ codes "10: place 1 reply 1" ∷ codes "11: place 2 reply 2" ∷
+    codes "12: kept c1.0" ∷ codes "13: kept c1.1" ∷ codes "14: kept c1.2" ∷
+    codes "c1.0 a1 = 9223372036854775807" ∷ codes "c1.1 a1 = Overflow" ∷ codes "c1.2 a1 = 9223372036854775807" ∷
+    codes "a1 live counter 9223372036854775807" ∷ codes "a1.0 c1.0 add 9223372036854775807" ∷
+    codes "a1.1 c1.1 add 1" ∷ codes "a1.2 c1.2 get" ∷ [])
+
+-- refused submissions
+abbrev pub RefusedSubmissions : Type 0
+RefusedSubmissions = Writes (
+    codes "actor a1 counter c1" ∷ codes "submit c1 a1 add @0" ∷ codes "submit c1 a1 add 1 2 3 4 5" ∷
+    codes "submit c1 a2 get" ∷ codes "submit c2 a1 get" ∷ codes "submit c1 a1 add 1 2" ∷ codes "send c1 0" ∷
+    codes "deliver 0" ∷ codes "run a1 c1" ∷ codes "collect 0" ∷ []) (
+    codes "0: refused BadFuture" ∷ codes "1: refused TooManyArgs" ∷ codes "2: refused NoActor" ∷
+    codes "3: refused NoCaller" ∷ codes "4: future c1.0" ∷ codes "5: mail 0" ∷ codes "6: new" ∷
+    codes "7: place 0 reply 0" ∷ codes "8: kept c1.0" ∷ codes "c1.0 a1 = BadArgs" ∷ codes "a1 live counter 0" ∷
+    codes "a1.0 c1.0 add 1 2" ∷ [])
+
+-- release and retire
+abbrev pub ReleaseAndRetire : Type 0
+ReleaseAndRetire = Writes (
+    codes "actor a1 counter c1" ∷ codes "submit c1 a1 add 2" ∷ codes "send c1 0" ∷ codes "copy c1 a1" ∷
+    codes "release c1 a1" ∷ codes "release c1 a1" ∷ codes "retire a1" ∷ codes "deliver 1" ∷ codes "retire a1" ∷
+    codes "deliver 1" ∷ codes "deliver 0" ∷ codes "retire a1" ∷ codes "run a1 c1" ∷ codes "retire a1" ∷
+    codes "deliver 0" ∷ codes "collect 0" ∷ []) (
+    codes "0: future c1.0" ∷ codes "1: mail 0" ∷ codes "2: copies 2" ∷ codes "3: copies 1" ∷ codes "4: mail 1" ∷
+    codes "5: refused NotDrained" ∷ codes "6: new" ∷ codes "7: refused NotDrained" ∷ codes "8: repeat" ∷
+    codes "9: new" ∷ codes "10: refused NotDrained" ∷ codes "11: place 0 reply 0" ∷ codes "12: retired" ∷
+    codes "13: refused ActorEnded" ∷ codes "14: kept c1.0" ∷ codes "c1.0 a1 = 2" ∷ codes "a1 retired counter 2" ∷
+    codes "a1.0 c1.0 add 2" ∷ [])
+
+-- nothing there
+abbrev pub NothingThere : Type 0
+NothingThere = Writes (
+    codes "actor a1 counter c1" ∷ codes "deliver 0" ∷ codes "collect 0" ∷ codes "take a1" ∷ codes "send c1 0" ∷
+    codes "run a1 c1" ∷ codes "run a2 c1" ∷ codes "run a1 c2" ∷ codes "tell a1 c1" ∷ []) (
+    codes "0: refused NoMail" ∷ codes "1: refused NoReply" ∷ codes "2: refused NoKill" ∷
+    codes "3: refused NoFuture" ∷ codes "4: gap" ∷ codes "5: refused NoActor" ∷ codes "6: refused NoCaller" ∷
+    codes "7: refused NotDead" ∷ codes "a1 live counter 0" ∷ [])
+
+-- a table
+abbrev pub TableScript : Type 0
+TableScript = Writes (
+    codes "actor a1 table c1" ∷ codes "submit c1 a1 put \"k\" 5" ∷ codes "submit c1 a1 get \"k\"" ∷
+    codes "send c1 0" ∷ codes "send c1 1" ∷ codes "deliver 1" ∷ codes "deliver 0" ∷ codes "run a1 c1" ∷
+    codes "run a1 c1" ∷ codes "collect 1" ∷ codes "collect 0" ∷ []) (
+    codes "0: future c1.0" ∷ codes "1: future c1.1" ∷ codes "2: mail 0" ∷ codes "3: mail 1" ∷ codes "4: new" ∷
+    codes "5: new" ∷ codes "6: place 0 reply 0" ∷ codes "7: place 1 reply 1" ∷ codes "8: kept c1.1" ∷
+    codes "9: kept c1.0" ∷ codes "c1.0 a1 = unit" ∷ codes "c1.1 a1 = 5" ∷ codes "a1 live table \"k\" 5" ∷
+    codes "a1.0 c1.0 put \"k\" 5" ∷ codes "a1.1 c1.1 get \"k\"" ∷ [])
+
+-- a number with a leading zero
+abbrev pub LeadingZero : Type 0
+LeadingZero = Writes (
+    codes "actor a1 counter c1" ∷ codes "submit c1 a1 add 05" ∷ []) (
+    codes "line 2: BadLine" ∷ [])
+
+-- a role without a caller
+abbrev pub RoleWithoutCaller : Type 0
+RoleWithoutCaller = Writes (
+    codes "actor a1 counter" ∷ []) (
+    codes "line 1: BadLine" ∷ [])
+
+-- a role after an event
+abbrev pub RoleAfterEvent : Type 0
+RoleAfterEvent = Writes (
+    codes "actor a1 counter c1" ∷ codes "take a1" ∷ codes "actor a2 list c1" ∷ []) (
+    codes "line 3: LateActor" ∷ [])
+
+-- an actor with two roles
+abbrev pub RoleTwice : Type 0
+RoleTwice = Writes (
+    codes "actor a1 counter c1" ∷ codes "actor a1 list c1" ∷ []) (
+    codes "line 2: TwiceActor" ∷ [])
+
+-- a caller twice in a role
+abbrev pub CallerTwice : Type 0
+CallerTwice = Writes (
+    codes "actor a1 counter c1 c1" ∷ []) (
+    codes "line 1: TwiceCaller" ∷ [])
+
+-- a step of threads among events
+abbrev pub StepOfThreads : Type 0
+StepOfThreads = Writes (
+    codes "actor a1 counter c1" ∷ codes "await c1 0" ∷ []) (
+    codes "line 2: BadLine" ∷ [])
+
+-- a script that is too long
+abbrev pub TooLongScript : Type 0
+TooLongScript = (bytes : List ℕ) → 1048576 < length bytes → played bytes ≡ line (codes "line 0: TooLong")
+
+-- a submission after the release of the handle
+abbrev pub SubmitAfterRelease : Type 0
+SubmitAfterRelease = HasFault (codes "actor a1 counter c1" ∷ codes "release c1 a1" ∷ codes "submit c1 a1 get" ∷ []) (3, BadPlan)
+
+-- more callers than threads serve
+abbrev pub TooManyCallers : Type 0
+TooManyCallers = HasFault (codes "actor a1 counter c1 c2 c3" ∷ []) (0, TooMany)

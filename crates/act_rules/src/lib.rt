@@ -1,0 +1,23 @@
+//! The rules of the actor service: what each event of a world does, what a report says, and what a
+//! script spells, as definitions (`specs/`), with the laws that follow from them and the worked
+//! examples that they were checked on. Every crate above cites these words.
+//!
+//! The plain types that the definitions speak of are declared here, too.
+#![tactic(auto)]
+
+mod event;
+mod history;
+mod laws;
+mod outcome;
+mod rows;
+mod script;
+
+pub use event::Event;
+pub use history::{Letter, Post, RunItem, Submission};
+pub use laws::{
+    each_text_reads_back, each_world_is_consistent, kept_answers_stay, nothing_runs_after_the_end,
+    one_spelling, retired_ran_all,
+};
+pub use outcome::{Arrival, Did, HandleRefusal, Outcome, SendRefusal, SubmitRefusal, WorldRefusal};
+pub use rows::{further_lines, further_rows, worked_kinds, worked_rows, worked_scripts};
+pub use script::{KindName, Line, Mode, Role, Step, Wrong};

@@ -1,0 +1,207 @@
+//! What is told of an event: what it did, or the first refusal that met it.
+
+ghost use Rattle.std.specs.Prelude.{Some};
+ghost use Rattle.act_rules.specs.Report.{arrival_text, did_text, handle_text, submit_text, sending_text, refusal_text};
+
+use act_types::{CallerId, FutureId};
+use std::fmt;
+
+/// What a delivery is to an actor.
+#[derive(Clone, Copy, Debug, PartialEq, Eq)]
+pub enum Arrival {
+    /// It had not arrived before.
+    New,
+    /// It arrived before, and changes nothing.
+    Repeat,
+    /// It is not for this actor, or of no caller of it, and changes nothing.
+    Stranger,
+}
+
+/// What an accepted event did.
+#[derive(Clone, Copy, Debug, PartialEq, Eq)]
+pub enum Did {
+    /// The caller's new future.
+    Future(CallerId, FutureId),
+    /// The copies of the handle that the caller holds now.
+    Copies(u32),
+    /// The place of the new letter in the mail.
+    Mail(u32),
+    Arrived(Arrival),
+    /// The place of the call in the run list, and that of its notice in the replies.
+    Ran(u32, u32),
+    /// The caller's next call has not arrived.
+    Gap,
+    /// The collected answer is the first one of this future.
+    Kept(CallerId, FutureId),
+    /// This future has an answer already, which stays.
+    Late(CallerId, FutureId),
+    /// How many futures the collected death answered.
+    Died(u32),
+    Asked,
+    Dead,
+    /// The place of the death's notice in the replies.
+    Told(u32),
+    Retired,
+}
+
+/// Why a handle isn't used. The first of these that holds is told.
+#[derive(Clone, Copy, Debug, PartialEq, Eq)]
+pub enum HandleRefusal {
+    /// The actor is none of this caller's.
+    NoActor,
+    /// The caller holds no copy of the handle.
+    NoHandle,
+    /// The caller holds 65,535 copies.
+    TooManyCopies,
+    /// The caller has submitted 65,536 calls.
+    TooManyCalls,
+}
+
+/// Why a call isn't submitted. The first of these that holds is told.
+#[derive(Clone, Copy, Debug, PartialEq, Eq)]
+pub enum SubmitRefusal {
+    /// The actor is none of this caller's.
+    NoActor,
+    /// The caller holds no copy of the handle.
+    NoHandle,
+    /// There are more than 4 arguments.
+    TooManyArgs,
+    /// An argument is no earlier future of this caller.
+    BadFuture,
+    /// The caller has submitted 65,536 calls.
+    TooManyCalls,
+    NoMemory,
+}
+
+/// Why a call isn't sent. The first of these that holds is told.
+#[derive(Clone, Copy, Debug, PartialEq, Eq)]
+pub enum SendRefusal {
+    /// The caller has no such future.
+    NoFuture,
+    /// An argument has no answer yet.
+    NotReady,
+    /// A death answered the call before it was sent.
+    Answered,
+    NoMemory,
+}
+
+/// Why an event changed nothing. The first of the checks of its event that fails is told.
+#[derive(Clone, Copy, Debug, PartialEq, Eq)]
+pub enum WorldRefusal {
+    Submit(SubmitRefusal),
+    Handle(HandleRefusal),
+    Sending(SendRefusal),
+    /// No cast names the caller.
+    NoCaller,
+    /// The mail has no letter at this place.
+    NoMail,
+    /// The replies have no notice at this place.
+    NoReply,
+    /// The actor is dead or retired.
+    ActorEnded,
+    /// No kill of the actor was asked.
+    NoKill,
+    /// The actor is not dead.
+    NotDead,
+    /// A handle isn't released, or a call hasn't run.
+    NotDrained,
+    NoMemory,
+}
+
+/// What is told of an event.
+pub type Outcome = Result<Did, WorldRefusal>;
+
+impl fmt::Display for Arrival {
+    ghost output = { λ arrival. Some (arrival_text arrival) };
+
+    fn fmt<W: fmt::Write>(&self, f: &mut fmt::Formatter<W>) -> fmt::Result {
+        match self {
+            Arrival::New => write!(f, "new"),
+            Arrival::Repeat => write!(f, "repeat"),
+            Arrival::Stranger => write!(f, "stranger"),
+        }
+    }
+}
+
+impl fmt::Display for Did {
+    ghost output = { λ did. Some (did_text did) };
+
+    fn fmt<W: fmt::Write>(&self, f: &mut fmt::Formatter<W>) -> fmt::Result {
+        match self {
+            Did::Future(caller, future) => write!(f, "future {caller}.{future}"),
+            Did::Copies(copies) => write!(f, "copies {copies}"),
+            Did::Mail(place) => write!(f, "mail {place}"),
+            Did::Arrived(arrival) => write!(f, "{arrival}"),
+            Did::Ran(place, reply) => write!(f, "place {place} reply {reply}"),
+            Did::Gap => write!(f, "gap"),
+            Did::Kept(caller, future) => write!(f, "kept {caller}.{future}"),
+            Did::Late(caller, future) => write!(f, "late {caller}.{future}"),
+            Did::Died(answered) => write!(f, "died {answered}"),
+            Did::Asked => write!(f, "asked"),
+            Did::Dead => write!(f, "dead"),
+            Did::Told(reply) => write!(f, "reply {reply}"),
+            Did::Retired => write!(f, "retired"),
+        }
+    }
+}
+
+impl fmt::Display for HandleRefusal {
+    ghost output = { λ refusal. Some (handle_text refusal) };
+
+    fn fmt<W: fmt::Write>(&self, f: &mut fmt::Formatter<W>) -> fmt::Result {
+        match self {
+            HandleRefusal::NoActor => write!(f, "NoActor"),
+            HandleRefusal::NoHandle => write!(f, "NoHandle"),
+            HandleRefusal::TooManyCopies => write!(f, "TooManyCopies"),
+            HandleRefusal::TooManyCalls => write!(f, "TooManyCalls"),
+        }
+    }
+}
+
+impl fmt::Display for SubmitRefusal {
+    ghost output = { λ refusal. Some (submit_text refusal) };
+
+    fn fmt<W: fmt::Write>(&self, f: &mut fmt::Formatter<W>) -> fmt::Result {
+        match self {
+            SubmitRefusal::NoActor => write!(f, "NoActor"),
+            SubmitRefusal::NoHandle => write!(f, "NoHandle"),
+            SubmitRefusal::TooManyArgs => write!(f, "TooManyArgs"),
+            SubmitRefusal::BadFuture => write!(f, "BadFuture"),
+            SubmitRefusal::TooManyCalls => write!(f, "TooManyCalls"),
+            SubmitRefusal::NoMemory => write!(f, "NoMemory"),
+        }
+    }
+}
+
+impl fmt::Display for SendRefusal {
+    ghost output = { λ refusal. Some (sending_text refusal) };
+
+    fn fmt<W: fmt::Write>(&self, f: &mut fmt::Formatter<W>) -> fmt::Result {
+        match self {
+            SendRefusal::NoFuture => write!(f, "NoFuture"),
+            SendRefusal::NotReady => write!(f, "NotReady"),
+            SendRefusal::Answered => write!(f, "Answered"),
+            SendRefusal::NoMemory => write!(f, "NoMemory"),
+        }
+    }
+}
+
+impl fmt::Display for WorldRefusal {
+    ghost output = { λ refusal. Some (refusal_text refusal) };
+
+    fn fmt<W: fmt::Write>(&self, f: &mut fmt::Formatter<W>) -> fmt::Result {
+        match self {
+            WorldRefusal::Submit(refusal) => write!(f, "{refusal}"),
+            WorldRefusal::Handle(refusal) => write!(f, "{refusal}"),
+            WorldRefusal::Sending(refusal) => write!(f, "{refusal}"),
+            WorldRefusal::NoCaller => write!(f, "NoCaller"),
+            WorldRefusal::NoMail => write!(f, "NoMail"),
+            WorldRefusal::NoReply => write!(f, "NoReply"),
+            WorldRefusal::ActorEnded => write!(f, "ActorEnded"),
+            WorldRefusal::NoKill => write!(f, "NoKill"),
+            WorldRefusal::NotDead => write!(f, "NotDead"),
+            WorldRefusal::NotDrained => write!(f, "NotDrained"),
+            WorldRefusal::NoMemory => write!(f, "NoMemory"),
+        }
+    }
+}

@@ -1,0 +1,56 @@
+#!/usr/bin/env python3
+"""Refuses each request for memory of the proved program in turn, on some worked scripts.
+
+Each run must write nothing, say `no memory` and end with status 3, or write the whole report. The
+requests are refused from outside, by tools/refuse.c.
+"""
+import os
+import pathlib
+import subprocess
+import sys
+import tempfile
+
+TOP = pathlib.Path(__file__).resolve().parent.parent
+PROGRAM = TOP / "crates/ray_actors/out/ray_actors"
+ROWS = TOP / "crates/ray_actors/rows"
+SCRIPTS = ["one_call", "another_caller_passes", "one_packet_for_good", "release_and_retire", "table_script", "fault_late_actor"]
+NO_MEMORY = (3, b"", b"no memory\n")
+
+
+def main():
+    passed = failed = 0
+    with tempfile.TemporaryDirectory() as folder:
+        refuse = pathlib.Path(folder, "refuse.so")
+        count = pathlib.Path(folder, "count")
+        subprocess.run(["cc", "-O2", "-shared", "-fPIC", "-o", refuse, TOP / "tools/refuse.c"], check=True)
+        environment = dict(os.environ, LD_PRELOAD=str(refuse), REFUSE_REPORT=str(count))
+
+        def run(script, nth):
+            with open(script, "rb") as standard_input:
+                done = subprocess.run([PROGRAM, "play"], stdin=standard_input, capture_output=True,
+                                      env=dict(environment, REFUSE=str(nth)), timeout=60)
+            return done.returncode, done.stdout, done.stderr
+
+        for name in SCRIPTS:
+            script = ROWS / f"{name}.actors"
+            whole = run(script, 0)
+            if whole[1] != script.with_suffix(".report").read_bytes():
+                sys.exit(f"sweep_memory: {name} goes wrong with ample memory: {whole!r:.600}")
+            requests = int(count.read_text())
+            refusals = 0
+            for nth in range(1, requests + 1):
+                got = run(script, nth)
+                refusals += got == NO_MEMORY
+                if got in (NO_MEMORY, whole):
+                    passed += 1
+                else:
+                    failed += 1
+                    print(f"{name}: request {nth} of {requests} refused: got {got!r:.600}")
+            if not refusals:
+                failed += 1
+                print(f"{name}: none of {requests} requests was refused")
+    print(f"sweep_memory: {passed} passed, {failed} failed")
+    sys.exit(1 if failed else 0)
+
+
+main()
