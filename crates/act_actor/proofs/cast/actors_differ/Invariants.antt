@@ -1,0 +1,7 @@
+use Rattle.std.proofs.Common.{take}
+use Rattle.act_actor.specs.Cast.{ActorsDiffer}
+use Rattle.act_actor.proofs.cast.actors_differ.Given as goal
+
+-- the actors so far are distinct
+abbrev pub invariant-loop-place : goal.invariant-loop-place
+invariant-loop-place g l = ActorsDiffer (take l.place l.casts)

@@ -1,0 +1,7 @@
+use Rattle.std.proofs.Common.{take}
+use Rattle.act_actor.specs.Cast.{CallersDiffer}
+use Rattle.act_actor.proofs.cast.callers_differ.Given as goal
+
+-- the callers so far are distinct
+abbrev pub invariant-loop-place : goal.invariant-loop-place
+invariant-loop-place l = CallersDiffer (take l.place l.callers)

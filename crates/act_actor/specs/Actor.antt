@@ -1,0 +1,44 @@
+-- What the calls of an actor do.
+use Rattle.std.specs.Prelude.{◌≡◌, ℕ, ◌==◌, List, [], ◌∷◌, ◌++◌, length, if◌then◌else◌}
+use Rattle.act_types.specs.KindState.{KindState}
+use Rattle.act_types.specs.declared.message.Packet.{Packet}
+use Rattle.act_types.specs.declared.message.Reply.{Reply}
+use Rattle.act_rules.specs.RunList.{after_item, state_after}
+use Rattle.act_rules.specs.declared.history.RunItem.{RunItem}
+use Rattle.act_rules.specs.declared.outcome.Arrival.{Arrival}
+use Rattle.act_rules.specs.declared.outcome.Arrival.TheVariants.{Stranger}
+use Rattle.act_inbox.specs.Inbox.{InboxValue, arrival_of, IsNextTaken}
+use Rattle.act_actor.specs.Value.{BookValue, ActorSeen}
+
+-- an actor with this beside its kind, and its kind in this state
+abbrev pub seen : BookValue → KindState → ActorSeen
+seen book state = record { id = book.id; inbox = book.inbox; log = book.log; state = state }
+
+-- what a packet is to an actor
+abbrev pub arrival_at : ℕ → InboxValue → Packet → Arrival
+arrival_at id inbox packet = if packet.actor == id then arrival_of inbox packet else Stranger
+
+-- the item that a packet becomes in the log
+abbrev pub item_of : Packet → RunItem
+item_of packet = record { caller = packet.caller; number = packet.number; future = packet.future; method = packet.method; args = packet.args }
+
+-- what the actor replies when it runs a packet
+abbrev pub reply_to : ActorSeen → Packet → Reply
+reply_to actor packet = record {
+  actor = actor.id;
+  caller = packet.caller;
+  future = packet.future;
+  place = length actor.log;
+  answer = (after_item actor.state (item_of packet)).1;
+}
+
+-- the actor took the caller's packet, and it ran
+pub record HasRun (caller : ℕ) (packet : Packet) (old new : ActorSeen) : Type 0 where
+  pub id : new.id ≡ old.id
+  pub taken : IsNextTaken caller packet old.inbox new.inbox
+  pub log : new.log ≡ old.log ++ item_of packet ∷ []
+  pub state : new.state ≡ (after_item old.state (item_of packet)).0
+
+-- the state is what the log leaves of this opening state
+abbrev pub HasRunFrom : KindState → ActorSeen → Type 0
+HasRunFrom opening actor = actor.state ≡ state_after opening actor.log

@@ -1,0 +1,4 @@
+pub mod Value
+pub mod Actor
+pub mod Seen
+pub mod Cast

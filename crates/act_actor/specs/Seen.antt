@@ -1,0 +1,8 @@
+-- What contracts see of an actor whose kind's state is read by a function.
+use Rattle.act_types.specs.KindState.{KindState}
+use Rattle.act_actor.specs.Value.{ActorSeen}
+use Rattle.act_actor.specs.Actor.{seen}
+use Rattle.act_actor.specs.declared.live.Live.{Live}
+
+abbrev pub live_seen : {K : Type 0} → (K → KindState) → Live K → ActorSeen
+live_seen state live = seen live.book (state live.kind)

@@ -1,0 +1,134 @@
+//! What an actor keeps beside its kind.
+
+ghost use Rattle.std.specs.Prelude.{◌≡◌, ◌≢◌, ℕ, [], IfOk, OnOk, IfErr, OnErr, IfSome, IfNone, IsSome, is_some, option_copied};
+ghost use Rattle.std.specs.Option.{option_map};
+ghost use Rattle.act_inbox.specs.Inbox.{IsOpened, next_of, waiting, waiting_after};
+ghost use Rattle.act_rules.specs.RunList.{after_item};
+ghost use Rattle.act_rules.specs.declared.outcome.Arrival.TheVariants.{New};
+ghost use Rattle.act_actor.specs.Cast.{CallersDiffer};
+ghost use Rattle.act_actor.specs.Actor.{seen, item_of, reply_to, arrival_at, HasRun};
+
+use crate::arguments::values_of;
+use act_inbox::Inbox;
+use act_kinds::Actor;
+use act_rules::{Arrival, RunItem};
+use act_types::{ActorId, Answer, CallerId, Fault, NoMemory, Packet, Reply};
+use std::alloc::Global;
+use std::marker::Model;
+
+/// An actor's name, the calls that it holds, and those that it ran.
+#[derive(Drop)]
+pub(crate) struct Book {
+    pub(crate) id: ActorId,
+    inbox: Inbox,
+    pub(crate) log: Vec<RunItem>,
+}
+
+impl Model for Book {
+    ghost use Rattle.std.specs.Prelude.{◌≡◌, length};
+    ghost use Rattle.act_inbox.specs.Inbox.{handed_in_all};
+    ghost use Rattle.act_actor.specs.Value.{BookValue};
+
+    ghost Value = { BookValue };
+
+    ghost view = { λ book. record { id = book.id; inbox = book.inbox; log = book.log.items } };
+
+    // Each call that was handed out stands in the log.
+    ghost invariant = { λ book. length book.log.items ≡ handed_in_all book.inbox };
+}
+
+/// The item that a packet becomes in the log.
+fn item_of(packet: Packet) -> RunItem
+    ensures { result ≡ item_of packet }
+{
+    RunItem {
+        caller: packet.caller,
+        number: packet.number,
+        future: packet.future,
+        method: packet.method,
+        args: packet.args,
+    }
+}
+
+/// Asks the kind, or answers that an argument failed. The copies of the values come first.
+fn answer_of<K: Actor>(alloc: Global, kind: &mut K, packet: &Packet) -> Result<Answer, NoMemory>
+    ensures answer { IfOk result (λ answer. answer ≡ (after_item (K.state kind.old) (item_of packet.now)).1) }
+    ensures moved { OnOk result (K.state kind.new ≡ (after_item (K.state kind.old) (item_of packet.now)).0) }
+    ensures err { OnErr result (K.state kind.new ≡ K.state kind.old) }
+{
+    match values_of(alloc, packet.args.as_slice())? {
+        Ok(values) => kind.ask(&packet.method, values.as_slice()),
+        Err(future) => Ok(Err(Fault::Dependency(future))),
+    }
+}
+
+impl Book {
+    /// An empty log, and an inbox for the calls of these callers.
+    pub(crate) fn open(alloc: Global, id: ActorId, callers: &[CallerId]) -> Result<Book, NoMemory>
+        requires distinct { CallersDiffer callers.now }
+        ensures id { IfOk result (λ book. book.id ≡ id) }
+        ensures inbox { IfOk result (λ book. IsOpened callers.now book.inbox) }
+        ensures log { IfOk result (λ book. book.log ≡ []) }
+    {
+        Ok(Book {
+            id,
+            inbox: Inbox::open(alloc, callers)?,
+            log: Vec::new(alloc),
+        })
+    }
+
+    /// Takes in a packet. An `Err` hands it back for want of memory.
+    pub(crate) fn arrive(&mut self, packet: Packet) -> Result<Arrival, Packet>
+        ensures arrival { IfOk result (λ arrival. arrival ≡ arrival_at self.old.id self.old.inbox packet) }
+        ensures id { self.new.id ≡ self.old.id }
+        ensures log { self.new.log ≡ self.old.log }
+        ensures lanes { self.new.inbox.lanes ≡ self.old.inbox.lanes }
+        ensures waiting { IfOk result (λ arrival. (caller number : ℕ) → waiting self.new.inbox caller number ≡ waiting_after arrival packet self.old.inbox caller number) }
+        ensures elsewhere { packet.actor ≢ self.old.id → self.new ≡ self.old }
+        ensures last { OnErr result (arrival_at self.old.id self.old.inbox packet ≡ New) }
+        ensures back { IfErr result (λ back. back ≡ packet) }
+        ensures err { OnErr result (self.new ≡ self.old) }
+    {
+        if packet.actor != self.id {
+            return Ok(Arrival::Stranger);
+        }
+        self.inbox.arrive(packet)
+    }
+
+    /// Whether the caller's next call came.
+    pub(crate) fn has_next(&self, caller: CallerId) -> bool
+        ensures { result ≡ is_some (next_of self.now.inbox caller) }
+    {
+        self.inbox.has_next(caller)
+    }
+
+    /// Runs the caller's next call on the kind, if it came. Each growth comes before the kind is
+    /// asked, and the call leaves the inbox after it.
+    pub(crate) fn run<K: Actor>(
+        &mut self,
+        kind: &mut K,
+        caller: CallerId,
+    ) -> Result<Option<Reply>, NoMemory>
+        ensures reply { let before = seen self.old (K.state kind.old) in IfOk result (λ reply. reply ≡ option_map (reply_to before) (next_of before.inbox caller)) }
+        ensures gap { IfOk result (λ reply. IfNone reply (seen self.new (K.state kind.new) ≡ seen self.old (K.state kind.old))) }
+        ensures ran { let before = seen self.old (K.state kind.old) in OnOk result (IfSome (next_of before.inbox caller) (λ packet. HasRun caller packet before (seen self.new (K.state kind.new)))) }
+        ensures last { OnErr result (IsSome (next_of self.old.inbox caller)) }
+        ensures err { OnErr result (seen self.new (K.state kind.new) ≡ seen self.old (K.state kind.old)) }
+    {
+        let Some(packet) = self.inbox.peek(caller) else {
+            return Ok(None);
+        };
+        self.log.reserve(1)?;
+        let answer = answer_of(*self.log.allocator(), kind, packet)?;
+        let packet = self.inbox.next(caller).unwrap();
+        let reply = Reply {
+            actor: self.id,
+            caller: packet.caller,
+            future: packet.future,
+            place: self.log.len() as u32,
+            answer,
+        };
+        self.log.push_reserved(item_of(packet));
+        Ok(Some(reply))
+    }
+}

@@ -1,0 +1,15 @@
+//! An actor that runs the calls of its inbox one after another and keeps a log of them.
+#![tactic(auto)]
+
+mod arguments;
+mod book;
+mod cast;
+mod dead;
+mod live;
+#[cfg(test)]
+mod tests;
+
+pub use act_rules::{Arrival, RunItem};
+pub use cast::{Cast, cast_fits};
+pub use dead::Dead;
+pub use live::Live;

@@ -1,0 +1,118 @@
+//! An actor that runs.
+//!
+//! `K` is the kind, mostly a box. A clause names what is seen of an actor by `live_seen` at the
+//! kind's state.
+
+ghost use Rattle.std.specs.Prelude.{◌≡◌, ◌≢◌, ◌++◌, ℕ, [], Some, IfOk, OnOk, IfErr, OnErr, IfSome, IfNone, IsSome, is_some};
+ghost use Rattle.std.specs.Option.{option_map};
+ghost use Rattle.std.specs.String.{string_bytes};
+ghost use Rattle.act_types.specs.KindState.{KindState};
+ghost use Rattle.act_types.specs.Texts.{state_text};
+ghost use Rattle.act_rules.specs.RunList.{answer_at};
+ghost use Rattle.act_rules.specs.declared.outcome.Arrival.TheVariants.{New};
+ghost use Rattle.act_inbox.specs.Inbox.{IsOpened, next_of, waiting, waiting_after};
+ghost use Rattle.act_actor.specs.Cast.{CallersDiffer};
+ghost use Rattle.act_actor.specs.Actor.{reply_to, arrival_at, HasRun, HasRunFrom};
+ghost use Rattle.act_actor.specs.Seen.{live_seen};
+
+use crate::Dead;
+use crate::book::Book;
+use act_kinds::{Actor, Boxed};
+use act_rules::{Arrival, RunItem};
+use act_types::{ActorId, CallerId, NoMemory, Packet, Reply};
+use std::alloc::Global;
+
+/// An actor that runs.
+#[derive(Drop)]
+pub struct Live<K = Boxed> {
+    kind: K,
+    book: Book,
+}
+
+impl<K: Actor> Live<K> {
+    /// An actor that ran nothing.
+    pub fn open(
+        alloc: Global,
+        id: ActorId,
+        callers: &[CallerId],
+        kind: K,
+    ) -> Result<Live<K>, NoMemory>
+        requires distinct { CallersDiffer callers.now }
+        ensures id { IfOk result (λ live. (live_seen K.state live).id ≡ id) }
+        ensures inbox { IfOk result (λ live. IsOpened callers.now (live_seen K.state live).inbox) }
+        ensures log { IfOk result (λ live. (live_seen K.state live).log ≡ []) }
+        ensures state { IfOk result (λ live. (live_seen K.state live).state ≡ K.state kind) }
+    {
+        Ok(Live {
+            kind,
+            book: Book::open(alloc, id, callers)?,
+        })
+    }
+
+    /// Its name.
+    pub fn id(&self) -> ActorId
+        ensures { result ≡ (live_seen K.state self.now).id }
+    {
+        self.book.id
+    }
+
+    /// What it ran.
+    pub fn log(&self) -> &[RunItem]
+        ensures { result.now ≡ (live_seen K.state self.now).log }
+    {
+        self.book.log.as_slice()
+    }
+
+    /// Appends the state's text, or leaves the text as it was.
+    pub fn state_text(&self, text: &mut String) -> Result<(), NoMemory>
+        ensures ok { OnOk result (string_bytes text.new ≡ string_bytes text.old ++ state_text (live_seen K.state self.now).state) }
+        ensures err { OnErr result (string_bytes text.new ≡ string_bytes text.old) }
+    {
+        self.kind.state_text(text)
+    }
+
+    /// Takes in a packet. An `Err` hands it back for want of memory.
+    pub fn arrive(&mut self, packet: Packet) -> Result<Arrival, Packet>
+        ensures arrival { let before = live_seen K.state self.old in IfOk result (λ arrival. arrival ≡ arrival_at before.id before.inbox packet) }
+        ensures same { let after = live_seen K.state self.new in after ≡ record (live_seen K.state self.old) { inbox = after.inbox } }
+        ensures lanes { (live_seen K.state self.new).inbox.lanes ≡ (live_seen K.state self.old).inbox.lanes }
+        ensures waiting { IfOk result (λ arrival. (caller number : ℕ) → waiting (live_seen K.state self.new).inbox caller number ≡ waiting_after arrival packet (live_seen K.state self.old).inbox caller number) }
+        ensures elsewhere { packet.actor ≢ (live_seen K.state self.old).id → live_seen K.state self.new ≡ live_seen K.state self.old }
+        ensures last { let before = live_seen K.state self.old in OnErr result (arrival_at before.id before.inbox packet ≡ New) }
+        ensures back { IfErr result (λ back. back ≡ packet) }
+        ensures err { OnErr result (live_seen K.state self.new ≡ live_seen K.state self.old) }
+    {
+        self.book.arrive(packet)
+    }
+
+    /// Whether the caller's next call came.
+    pub fn has_next(&self, caller: CallerId) -> bool
+        ensures { result ≡ is_some (next_of (live_seen K.state self.now).inbox caller) }
+    {
+        self.book.has_next(caller)
+    }
+
+    /// Runs the caller's next call, if it came.
+    pub fn run(&mut self, caller: CallerId) -> Result<Option<Reply>, NoMemory>
+        ensures reply { let before = live_seen K.state self.old in IfOk result (λ reply. reply ≡ option_map (reply_to before) (next_of before.inbox caller)) }
+        ensures gap { IfOk result (λ reply. IfNone reply (live_seen K.state self.new ≡ live_seen K.state self.old)) }
+        ensures ran { let before = live_seen K.state self.old in OnOk result (IfSome (next_of before.inbox caller) (λ packet. HasRun caller packet before (live_seen K.state self.new))) }
+
+        // The state is what the log leaves, whatever the kind was when it was opened.
+        ensures follows { OnOk result ((opening : KindState) → HasRunFrom opening (live_seen K.state self.old) → HasRunFrom opening (live_seen K.state self.new)) }
+        ensures answers { IfOk result (λ reply. IfSome reply (λ reply. (opening : KindState) → HasRunFrom opening (live_seen K.state self.old) → answer_at opening (live_seen K.state self.new).log reply.place ≡ Some reply.answer)) }
+        ensures last { OnErr result (IsSome (next_of (live_seen K.state self.old).inbox caller)) }
+        ensures err { OnErr result (live_seen K.state self.new ≡ live_seen K.state self.old) }
+    {
+        self.book.run(&mut self.kind, caller)
+    }
+
+    /// Ends the actor. Its kind and the calls that it holds are dropped.
+    pub fn kill(self) -> Dead
+        ensures { result ≡ record { id = (live_seen K.state self).id; log = (live_seen K.state self).log } }
+    {
+        let Live { book, .. } = self;
+        let Book { id, log, .. } = book;
+        Dead::new(id, log)
+    }
+}

@@ -1,0 +1,159 @@
+//! Worked calls, each with its answer.
+
+use crate::{Arrival, Cast, Live, cast_fits};
+use act_kinds::{Actor, Boxed, Counter, Table};
+use act_types::{
+    ActorId, CallerId, Fault, FutureId, ListOf, Method, NoMemory, Packet, Reply, Settled, Text,
+    Value,
+};
+use std::alloc::Global;
+use std::process::Abort;
+use std::test::Fail;
+
+/// An argument as a row writes it.
+#[derive(Clone, Copy)]
+enum Given {
+    Int(i64),
+    Text(&'static str),
+    Bad(u32),
+}
+
+/// A call of caller 1 to actor 1 by its number, and its answer.
+type Row<'a> = (u32, Method, &'a [Given], Result<i64, Fault>);
+
+fn settled_of(alloc: Global, given: Given) -> Result<Settled, NoMemory> {
+    match given {
+        Given::Int(number) => Ok(Settled::Good(Value::Int(number))),
+        Given::Text(letters) => Ok(Settled::Good(Value::Text(Text::copied(alloc, letters)?))),
+        Given::Bad(future) => Ok(Settled::Bad(FutureId::new(future))),
+    }
+}
+
+fn packet_of(alloc: Global, row: &Row) -> Result<Packet, NoMemory> {
+    let (number, method, givens, _) = *row;
+    let mut args = ListOf::new(alloc);
+    for given in givens {
+        args.push(settled_of(alloc, *given)?)?;
+    }
+    Ok(Packet {
+        caller: CallerId::new(1).unwrap(),
+        actor: ActorId::new(1).unwrap(),
+        number,
+        future: FutureId::new(number),
+        method,
+        args,
+    })
+}
+
+fn reply_of(row: &Row) -> Reply {
+    let (number, _, _, answer) = *row;
+    Reply {
+        actor: ActorId::new(1).unwrap(),
+        caller: CallerId::new(1).unwrap(),
+        future: FutureId::new(number),
+        place: number,
+        answer: answer.map(Value::Int),
+    }
+}
+
+/// Brings each call, and runs the next one where it came.
+fn play<K: Actor>(
+    rt: &impl Abort,
+    alloc: Global,
+    live: &mut Live<K>,
+    rows: &[Row],
+) -> Result<(), NoMemory> {
+    let caller = CallerId::new(1).unwrap();
+    for row in rows {
+        assert_eq!(rt; live.arrive(packet_of(alloc, row)?), Ok(Arrival::New));
+    }
+    for row in rows {
+        let (number, _, _, _) = *row;
+        let next = live.log().len();
+        let wanted = (number as usize == next).then(|| reply_of(row));
+        assert_eq!(rt; live.has_next(caller), wanted.is_some());
+        assert_eq!(rt; live.run(caller)?, wanted);
+    }
+    Ok(())
+}
+
+#[test]
+fn failed_arguments(rt: HostRuntime) -> Result<(), Fail> {
+    let alloc = rt.alloc();
+    let table: Boxed = Box::new(alloc, Table::open(alloc))?;
+    let callers = [CallerId::new(1).unwrap()];
+    let mut live: Live = Live::open(alloc, ActorId::new(1).unwrap(), &callers, table)?;
+    let rows: [Row; 4] = [
+        (0, Method::Get, &[Given::Text("x")], Err(Fault::NoKey)),
+        (
+            1,
+            Method::Put,
+            &[Given::Text("y"), Given::Bad(0)],
+            Err(Fault::Dependency(FutureId::new(0))),
+        ),
+        (
+            2,
+            Method::Put,
+            &[Given::Bad(3), Given::Bad(1)],
+            Err(Fault::Dependency(FutureId::new(3))),
+        ),
+        (3, Method::Size, &[], Ok(0)),
+    ];
+    play(&rt, alloc, &mut live, &rows)?;
+    Ok(())
+}
+
+#[test]
+fn opened_later(rt: HostRuntime) -> Result<(), Fail> {
+    let alloc = rt.alloc();
+    let mut counter = Counter::open();
+    let _ = counter.ask(&Method::Add, &[Value::Int(5)])?;
+    let callers = [CallerId::new(1).unwrap()];
+    let mut live = Live::open(alloc, ActorId::new(1).unwrap(), &callers, counter)?;
+    let none: [Given; 0] = [];
+    let rows: [Row; 4] = [
+        (0, Method::Get, &none, Ok(5)),
+        (1, Method::Add, &[Given::Int(2)], Ok(7)),
+        (3, Method::Get, &none, Ok(7)),
+        (4, Method::Get, &none, Ok(7)),
+    ];
+    play(&rt, alloc, &mut live, &rows)?;
+    let mut text = String::new(alloc);
+    live.state_text(&mut text)?;
+    assert_eq!(rt; text.as_str(), "counter 7");
+    let id = live.id();
+    let dead = live.kill();
+    assert_eq!(rt; (dead.id(), dead.log().len()), (id, 2));
+    Ok(())
+}
+
+#[test]
+fn casts_that_fit(rt: HostRuntime) -> Result<(), Fail> {
+    let alloc = rt.alloc();
+    let a1 = ActorId::new(1).unwrap();
+    let a2 = ActorId::new(2).unwrap();
+    let c1 = CallerId::new(1).unwrap();
+    let c2 = CallerId::new(2).unwrap();
+    let rows: [(&[(ActorId, [CallerId; 2])], bool); 4] = [
+        (&[], true),
+        (&[(a1, [c1, c2]), (a2, [c2, c1])], true),
+        (&[(a1, [c1, c2]), (a1, [c2, c1])], false),
+        (&[(a1, [c1, c2]), (a2, [c2, c2])], false),
+    ];
+    for (roles, fits) in rows {
+        let mut casts = Vec::new(alloc);
+        for (actor, names) in roles {
+            let mut callers = ListOf::new(alloc);
+            for caller in names {
+                callers.push(*caller)?;
+            }
+            casts.push(Cast {
+                actor: *actor,
+                callers,
+                kind: Counter::open(),
+            })?;
+        }
+        assert_eq!(rt; cast_fits(casts.as_slice()), fits);
+    }
+    Ok(())
+}

@@ -1,0 +1,9 @@
+pub mod Written
+pub mod Numbers
+pub mod Integers
+pub mod Marks
+pub mod Each
+pub mod Plain
+pub mod Lines
+pub mod Placed
+pub mod Joined

@@ -1,0 +1,6 @@
+pub mod Input
+pub mod Output
+pub mod Gives
+pub mod Spelled
+pub mod Parts
+pub mod Console

@@ -1,0 +1,9 @@
+use Rattle.std.proofs.Common.{◌∙◌, ap, position}
+use Rattle.act_handles.specs.Handles.{is_of}
+use Rattle.act_handles.proofs.Places.{place_is}
+use Rattle.act_handles.proofs.handles.Handles.place_of.Goals as goal
+
+pub returns : goal.returns
+returns c =
+    let handles = c.self.inside.handles.items in
+    place_is c.args.a c.args.self.now handles c.place_in.result c.self.view_is c.self.invariant (c.place_in.ensures ∙ ap (position (is_of c.args.a)) c.deref.ensures.value)

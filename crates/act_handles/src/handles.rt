@@ -1,0 +1,163 @@
+//! Copies of handles, and the numbers of calls.
+
+ghost use Rattle.std.specs.Prelude.{◌≡◌, ◌≢◌, ℕ, ◌+◌, map, AllPairs, position, find, Some, None, MatchOption, IfOk, OnOk, IfErr, OnErr};
+ghost use Rattle.act_rules.specs.Submissions.{copies_held, handle_refusal};
+ghost use Rattle.act_handles.specs.Handles.{is_of, copies_in, given_of_all, IsAt, opened, with_copy, with_number, without_copy, copied, numbered, released};
+
+use act_rules::HandleRefusal;
+use act_types::{ActorId, NoMemory};
+use std::alloc::Global;
+use std::marker::Model;
+
+/// A caller holds at most this many copies of a handle.
+const MOST_COPIES: u32 = 65_535;
+
+/// A caller submits at most this many calls.
+const MOST_CALLS: u32 = 65_536;
+
+/// A caller's handle of an actor: how many copies it holds, and how many of its calls to the actor
+/// were given a number.
+#[derive(Clone, Copy, Debug)]
+pub struct Handle {
+    pub actor: ActorId,
+    pub copies: u32,
+    pub given: u32,
+}
+
+/// The handles of one caller.
+#[derive(Drop)]
+pub struct Handles {
+    handles: Vec<Handle>,
+}
+
+impl Model for Handles {
+    ghost use Rattle.std.specs.Prelude.{List};
+    ghost use Rattle.act_handles.specs.declared.handles.Handle.{Handle};
+    ghost use Rattle.act_handles.specs.Handles.{IsHandles};
+
+    ghost Value = { List Handle };
+
+    ghost view = { λ handles. handles.handles.items };
+
+    ghost invariant = { λ handles. IsHandles handles.handles.items };
+}
+
+/// A handle of each actor, of which one copy is held.
+fn opened(alloc: Global, actors: &[ActorId]) -> Result<Vec<Handle>, NoMemory>
+    ensures { IfOk result (λ handles. handles.items ≡ map opened actors.now) }
+{
+    let handles = actors
+        .iter()
+        .map(|actor| Handle {
+            actor: *actor,
+            copies: 1,
+            given: 0,
+        })
+        .collect(alloc)?;
+    Ok(handles)
+}
+
+/// The place of the actor's handle in a list.
+fn place_in(handles: &[Handle], a: ActorId) -> Option<usize>
+    ensures { result ≡ position (is_of a) handles.now }
+{
+    handles.iter().position(|handle| handle.actor == a)
+}
+
+impl Handles {
+    /// One copy of the handle of each actor, and no numbers given.
+    pub fn open(alloc: Global, actors: &[ActorId]) -> Result<Handles, NoMemory>
+        requires distinct { AllPairs (λ one other. one ≢ other) actors.now }
+        ensures { IfOk result (λ handles. handles ≡ map opened actors.now) }
+    {
+        let handles = opened(alloc, actors)?;
+        Ok(Handles { handles })
+    }
+
+    /// The place of the actor's handle.
+    fn place_of(&self, a: ActorId) -> Option<usize>
+        ensures { MatchOption result (find (is_of a) self.now ≡ None) (IsAt a self.now) }
+    {
+        place_in(&self.handles, a)
+    }
+
+    /// How many copies are held, which is none for an actor that is not in the list.
+    pub fn holds(&self, a: ActorId) -> u32
+        ensures { result ≡ copies_held (copies_in a self.now) }
+    {
+        match self.place_of(a) {
+            None => 0,
+            Some(place) => self.handles[place].copies,
+        }
+    }
+
+    /// The place of the actor's handle, where a copy of it is held.
+    fn held(&self, a: ActorId) -> Result<usize, HandleRefusal>
+        ensures place { IfOk result (IsAt a self.now) }
+        ensures ok { OnOk result (handle_refusal (copies_in a self.now) ≡ None) }
+        ensures err { IfErr result (λ refusal. handle_refusal (copies_in a self.now) ≡ Some refusal) }
+    {
+        let Some(place) = self.place_of(a) else {
+            return Err(HandleRefusal::NoActor);
+        };
+        if self.handles[place].copies == 0 {
+            return Err(HandleRefusal::NoHandle);
+        }
+        Ok(place)
+    }
+
+    /// How many numbers were given in all.
+    fn given(&self) -> u32
+        ensures { result ≡ given_of_all self.now }
+    {
+        self.handles.iter().map(|handle| handle.given).sum()
+    }
+
+    /// Adds a copy and gives their number. An `Err` changes nothing.
+    pub fn copy(&mut self, a: ActorId) -> Result<u32, HandleRefusal>
+        ensures value { result ≡ copied a self.old }
+        ensures ok { OnOk result (self.new ≡ with_copy a self.old) }
+        ensures err { OnErr result (self.new ≡ self.old) }
+    {
+        let place = self.held(a)?;
+        let handle = &mut self.handles[place];
+        if handle.copies >= MOST_COPIES {
+            return Err(HandleRefusal::TooManyCopies);
+        }
+        handle.copies += 1;
+        Ok(handle.copies)
+    }
+
+    /// Gives a call to the actor its number and counts it. An `Err` changes nothing.
+    pub fn number(&mut self, a: ActorId) -> Result<u32, HandleRefusal>
+        ensures value { result ≡ numbered a self.old }
+        ensures ok { OnOk result (self.new ≡ with_number a self.old) }
+        ensures counted { OnOk result (given_of_all self.new ≡ given_of_all self.old + 1) }
+        ensures err { OnErr result (self.new ≡ self.old) }
+    {
+        let place = self.held(a)?;
+        if self.given() >= MOST_CALLS {
+            return Err(HandleRefusal::TooManyCalls);
+        }
+        let handle = &mut self.handles[place];
+        let number = handle.given;
+        handle.given += 1;
+        Ok(number)
+    }
+
+    /// Lets a copy go. After the last one it gives the number of calls to the actor. An `Err`
+    /// changes nothing.
+    pub fn release(&mut self, a: ActorId) -> Result<Option<u32>, HandleRefusal>
+        ensures value { result ≡ released a self.old }
+        ensures ok { OnOk result (self.new ≡ without_copy a self.old) }
+        ensures err { OnErr result (self.new ≡ self.old) }
+    {
+        let place = self.held(a)?;
+        let handle = &mut self.handles[place];
+        handle.copies -= 1;
+        if handle.copies > 0 {
+            return Ok(None);
+        }
+        Ok(Some(handle.given))
+    }
+}

@@ -1,0 +1,9 @@
+//! One caller's handles: how many copies of each it holds, and how many numbers it gave to its calls.
+#![tactic(auto)]
+
+mod handles;
+#[cfg(test)]
+mod tests;
+
+pub use act_rules::HandleRefusal;
+pub use handles::{Handle, Handles};

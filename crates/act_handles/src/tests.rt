@@ -1,0 +1,59 @@
+//! One handle from its opening to its last release, and the most copies of it.
+
+use crate::{HandleRefusal, Handles};
+use act_types::ActorId;
+use std::test::Fail;
+
+/// What a row of the table asks for.
+#[derive(Clone, Copy, Debug)]
+enum Ask {
+    Number(ActorId),
+    Copy(ActorId),
+    Release(ActorId),
+}
+
+/// What the handles tell of it.
+fn told(handles: &mut Handles, ask: Ask) -> Result<Option<u32>, HandleRefusal> {
+    match ask {
+        Ask::Number(a) => Ok(Some(handles.number(a)?)),
+        Ask::Copy(a) => Ok(Some(handles.copy(a)?)),
+        Ask::Release(a) => handles.release(a),
+    }
+}
+
+#[test]
+fn from_the_opening_to_the_last_release(rt: HostRuntime) -> Result<(), Fail> {
+    let a1 = ActorId::new(1).unwrap();
+    let a2 = ActorId::new(2).unwrap();
+    let mut handles = Handles::open(rt.alloc(), &[a1])?;
+    for (ask, want) in [
+        (Ask::Number(a1), Ok(Some(0))),
+        (Ask::Copy(a1), Ok(Some(2))),
+        (Ask::Release(a1), Ok(None)),
+        (Ask::Release(a1), Ok(Some(1))),
+        (Ask::Release(a1), Err(HandleRefusal::NoHandle)),
+        (Ask::Number(a1), Err(HandleRefusal::NoHandle)),
+        (Ask::Copy(a1), Err(HandleRefusal::NoHandle)),
+        (Ask::Release(a2), Err(HandleRefusal::NoActor)),
+    ] {
+        assert_eq!(rt; told(&mut handles, ask), want, "at {ask:?}");
+    }
+    assert_eq!(rt; handles.holds(a1), 0);
+    Ok(())
+}
+
+#[test]
+fn the_most_copies(rt: HostRuntime) -> Result<(), Fail> {
+    let a1 = ActorId::new(1).unwrap();
+    let mut handles = Handles::open(rt.alloc(), &[a1])?;
+    let mut last = 1;
+    for _ in 0..65_534 {
+        let Ok(copies) = handles.copy(a1) else {
+            break;
+        };
+        last = copies;
+    }
+    assert_eq!(rt; last, 65_535);
+    assert_eq!(rt; handles.copy(a1), Err(HandleRefusal::TooManyCopies));
+    Ok(())
+}

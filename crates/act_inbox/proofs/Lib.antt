@@ -1,0 +1,5 @@
+pub mod Finding
+pub mod Opening
+pub mod Lanes
+pub mod Packets
+pub mod Taking

@@ -1,0 +1,62 @@
+-- What an inbox is when it is opened.
+use Rattle.std.proofs.Common.{◌≡◌, ◌≢◌, ℕ, ◌<◌, ◌≤◌, List, [], ◌∷◌, length, false, refl, arith, get_or, inl, inr, is_some, All, AllPairs, find, sum_by, map}
+use Rattle.std.specs.List.{IsDistinct}
+use Rattle.std.specs.Option.{option_map_or}
+use Rattle.std.proofs.Math.Dec.{eqb}
+use Rattle.std.proofs.lemmas.Bool.{eqb-true, le-ltb}
+use Rattle.std.proofs.lemmas.Bool.Decides.{eqb_tells, Decides-eqb}
+use Rattle.std.proofs.lemmas.List.{length-map}
+use Rattle.std.proofs.lemmas.List.Elements.{All-nil, All-cons, All-map, recursion_from_All}
+use Rattle.std.proofs.lemmas.List.Folds.{Any-from_list_any}
+use Rattle.std.proofs.lemmas.List.Sums.{sum_by-le}
+use Rattle.std.proofs.lemmas.Map.Keys.{IsDistinct-cons}
+use Rattle.std.proofs.lemmas.Map.Made.{IsDistinct-from_AllPairs}
+use Rattle.std.proofs.lemmas.Map.Steps.{length-le_from_distinct_below}
+use Rattle.act_types.specs.declared.message.Packet.{Packet}
+use Rattle.act_rules.specs.History.{contains}
+use Rattle.act_inbox.specs.declared.inbox.Lane.{Lane}
+use Rattle.act_inbox.specs.Value.{IsInbox}
+use Rattle.act_inbox.specs.Inbox.{InboxValue, is_lane_of, lane_at_first, IsOpened}
+
+-- numbers from 1 to 16 with no two equal are at most 16
+few_callers : (callers : List ℕ) → AllPairs (λ one other. one ≢ other) callers → All (λ caller. (1 ≤ caller) × (caller ≤ 16)) callers → length callers ≤ 16
+few_callers callers pairs valid =
+    let apart : All (λ caller. eqb 0 caller ≡ false) callers = λ k d within. let ok = valid k d within in elim (eqb_tells 0 (get_or callers k d)) [ inl t ↦ absurd (omega arith) | inr f ↦ f.0 ] in
+    let distinct : IsDistinct eqb (0 ∷ callers) = IsDistinct-cons eqb 0 callers (recursion_from_All (λ caller. eqb 0 caller ≡ false) callers apart) (IsDistinct-from_AllPairs Decides-eqb callers pairs) in
+    let below : All (λ caller. caller < 17) (0 ∷ callers) = All-cons (λ caller. caller < 17) 0 callers (omega arith) (λ k d within. let ok = valid k d within in omega arith) in
+    let most : length (0 ∷ callers) ≤ 17 = length-le_from_distinct_below (0 ∷ callers) 17 distinct
+    (λ q is. let any = Any-from_list_any (eqb q) (0 ∷ callers) is in
+    let same : q ≡ any.1 = eqb-true q any.1 any.4 in
+    let there : get_or (0 ∷ callers) any.0 any.1 ≡ any.1 = any.3 in
+    let small : get_or (0 ∷ callers) any.0 any.1 < 17 = below any.0 any.1 any.2 in omega arith) in
+    omega arith
+
+-- lanes at first
+listed_at_first : (callers : List ℕ) (caller : ℕ) → is_some (find (is_lane_of caller) (map lane_at_first callers)) ≡ contains caller callers
+listed_at_first [] caller = refl
+listed_at_first (one ∷ callers) caller = elim (eqb_tells one caller) [ inl t ↦ rw t.0 refl | inr f ↦ rw f.0 (listed_at_first callers caller) ]
+
+handed_at_first : (callers : List ℕ) (caller : ℕ) → option_map_or (λ (lane : Lane). lane.handed) (find (is_lane_of caller) (map lane_at_first callers)) 0 ≡ 0
+handed_at_first [] caller = refl
+handed_at_first (one ∷ callers) caller = elim (eqb_tells one caller) [ inl t ↦ rw t.0 refl | inr f ↦ rw f.0 (handed_at_first callers caller) ]
+
+in_all_at_first : (callers : List ℕ) → sum_by (λ lane. lane.handed) (map lane_at_first callers) ≡ 0
+in_all_at_first callers =
+    let most = sum_by-le (λ (lane : Lane). lane.handed) 0 (map lane_at_first callers) (All-map (λ lane. lane.handed ≤ 0) lane_at_first callers (λ k d within. omega arith)) in
+    omega arith
+
+module _ (callers : List ℕ) (inbox : InboxValue) (lanes : inbox.lanes ≡ map lane_at_first callers) (held : inbox.held ≡ []) where
+  pub opened : IsOpened callers inbox
+  opened = record {
+    listed = λ caller. rw lanes (listed_at_first callers caller);
+    handed = λ caller. rw lanes (handed_at_first callers caller);
+    in_all = rw lanes (in_all_at_first callers);
+    waits = λ caller number. rw (lanes, held, handed_at_first callers caller, le-ltb number 0 (omega arith)) refl;
+  }
+
+  pub opened_is_inbox : AllPairs (λ one other. one ≢ other) callers → All (λ caller. (1 ≤ caller) × (caller ≤ 16)) callers → IsInbox inbox.lanes inbox.held
+  opened_is_inbox pairs valid = record {
+    few = rw (lanes, length-map) (few_callers callers pairs valid);
+    counted = rw lanes (All-map (λ lane. lane.handed ≤ 65536) lane_at_first callers (λ k d within. omega arith));
+    numbered = rw held (All-nil (λ (packet : Packet). packet.number < 65536));
+  }

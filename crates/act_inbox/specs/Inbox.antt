@@ -1,0 +1,83 @@
+-- What an inbox holds, and what its calls do.
+use Rattle.std.specs.Prelude.{◌≡◌, ℕ, ◌+◌, ◌*◌, ◌≤◌, ◌==◌, ◌&&◌, ◌||◌, nat_lt, List, find, sum_by, Option, None, Some, is_some, Bool, if◌then◌else◌}
+use Rattle.std.specs.Option.{option_map_or}
+use Rattle.act_types.specs.declared.message.Packet.{Packet}
+use Rattle.act_rules.specs.declared.outcome.Arrival.{Arrival}
+use Rattle.act_rules.specs.declared.outcome.Arrival.TheVariants.{New, Repeat, Stranger}
+use Rattle.act_rules.specs.History.{contains}
+use Rattle.act_inbox.specs.declared.inbox.Lane.{Lane}
+pub use Rattle.act_inbox.specs.Value.{InboxValue}
+
+-- the lane of a caller of whom no call was handed out
+abbrev pub lane_at_first : ℕ → Lane
+lane_at_first caller = record { caller = caller; handed = 0 }
+
+-- the lane is the caller's
+abbrev pub is_lane_of : ℕ → Lane → Bool
+is_lane_of caller lane = lane.caller == caller
+
+-- the packet is the caller's call of this number
+abbrev pub is_call : ℕ → ℕ → Packet → Bool
+is_call caller number packet = (packet.caller == caller) && (packet.number == number)
+
+-- the caller's lane, if the caller is listed
+abbrev pub lane_of : InboxValue → ℕ → Option Lane
+lane_of inbox caller = find (is_lane_of caller) inbox.lanes
+
+-- whether the caller is listed
+abbrev pub is_listed : InboxValue → ℕ → Bool
+is_listed inbox caller = is_some (lane_of inbox caller)
+
+-- how many calls of the caller were handed out
+abbrev pub handed_of : InboxValue → ℕ → ℕ
+handed_of inbox caller = option_map_or (λ lane. lane.handed) (lane_of inbox caller) 0
+
+-- how many calls were handed out, of all callers
+abbrev pub handed_in_all : InboxValue → ℕ
+handed_in_all inbox = sum_by (λ lane. lane.handed) inbox.lanes
+
+-- whether the call was handed out
+abbrev pub was_handed : InboxValue → ℕ → ℕ → Bool
+was_handed inbox caller number = nat_lt number (handed_of inbox caller)
+
+-- the packet of a call, if it came and was not handed out
+abbrev pub waiting : InboxValue → ℕ → ℕ → Option Packet
+waiting inbox caller number = if was_handed inbox caller number then None else find (is_call caller number) inbox.held
+
+-- the caller's next call, if it came
+abbrev pub next_of : InboxValue → ℕ → Option Packet
+next_of inbox caller = if is_listed inbox caller then waiting inbox caller (handed_of inbox caller) else None
+
+-- whether the call came before
+abbrev pub came : InboxValue → ℕ → ℕ → Bool
+came inbox caller number = was_handed inbox caller number || is_some (waiting inbox caller number)
+
+-- what a packet is to the inbox
+abbrev pub arrival_of : InboxValue → Packet → Arrival
+arrival_of inbox packet =
+    if is_listed inbox packet.caller && nat_lt packet.number 65536
+    then (if came inbox packet.caller packet.number then Repeat else New)
+    else Stranger
+
+-- the packet of a call after another packet came
+abbrev pub waiting_after : Arrival → Packet → InboxValue → ℕ → ℕ → Option Packet
+waiting_after New packet inbox caller number = if is_call caller number packet then Some packet else waiting inbox caller number
+waiting_after Repeat packet inbox caller number = waiting inbox caller number
+waiting_after Stranger packet inbox caller number = waiting inbox caller number
+
+-- exactly these callers are listed, no call was handed out, and none waits
+pub record IsOpened (callers : List ℕ) (inbox : InboxValue) : Type 0 where
+  pub listed : (caller : ℕ) → is_listed inbox caller ≡ contains caller callers
+  pub handed : (caller : ℕ) → handed_of inbox caller ≡ 0
+  pub in_all : handed_in_all inbox ≡ 0
+  pub waits : (caller number : ℕ) → waiting inbox caller number ≡ None
+
+-- the caller's next call was handed out, and nothing else changed
+pub record IsNextTaken (caller : ℕ) (packet : Packet) (old new : InboxValue) : Type 0 where
+  pub of_caller : packet.caller ≡ caller
+  pub numbered : packet.number ≡ handed_of old caller
+  pub listed : (other : ℕ) → is_listed new other ≡ is_listed old other
+  pub handed : (other : ℕ) → handed_of new other ≡ (if other == caller then handed_of old other + 1 else handed_of old other)
+  pub in_all : handed_in_all new ≡ handed_in_all old + 1
+  pub bound : handed_in_all new ≤ 16 * 65536
+  pub waits : (other number : ℕ) → waiting new other number ≡ (if was_handed new other number then None else waiting old other number)

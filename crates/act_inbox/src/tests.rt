@@ -1,0 +1,40 @@
+//! The order in which calls come, and in which they are handed out.
+
+use crate::{Arrival, Inbox};
+use act_types::{ActorId, CallerId, FutureId, ListOf, Method, Packet};
+use std::test::Fail;
+
+#[test]
+fn first_arrivals_in_order(rt: HostRuntime) -> Result<(), Fail> {
+    let alloc = rt.alloc();
+    let c1 = CallerId::new(1).unwrap();
+    let c9 = CallerId::new(9).unwrap();
+    let actor = ActorId::new(1).unwrap();
+    let mut inbox = Inbox::open(alloc, &[c1])?;
+    for (caller, number, method, arrival, has_next) in [
+        (c1, 2, Method::Add, Arrival::New, false),
+        (c1, 0, Method::Get, Arrival::New, true),
+        (c1, 2, Method::Add, Arrival::Repeat, true),
+        (c1, 0, Method::Put, Arrival::Repeat, true),
+        (c1, 65536, Method::Add, Arrival::Stranger, true),
+        (c9, 0, Method::Add, Arrival::Stranger, true),
+    ] {
+        let packet = Packet {
+            caller,
+            actor,
+            number,
+            future: FutureId::new(number),
+            method,
+            args: ListOf::new(alloc),
+        };
+        assert_eq!(rt; inbox.arrive(packet), Ok(arrival));
+        assert_eq!(rt; inbox.has_next(c1), has_next);
+    }
+    for wanted in [Some(Method::Get), None] {
+        let shown = inbox.peek(c1).map(|packet| packet.method);
+        let taken = inbox.next(c1).map(|packet| packet.method);
+        assert_eq!(rt; (shown, taken), (wanted, wanted));
+        assert_eq!(rt; inbox.handed(c1), 1);
+    }
+    Ok(())
+}

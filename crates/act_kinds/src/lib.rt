@@ -1,0 +1,17 @@
+//! The kinds of actor behind one trait: a counter, a table, an account and a list.
+#![tactic(auto)]
+
+mod account;
+mod actor;
+mod counter;
+mod list;
+mod storable;
+mod table;
+#[cfg(test)]
+mod tests;
+
+pub use account::Account;
+pub use actor::{Actor, Boxed};
+pub use counter::Counter;
+pub use list::ListKind;
+pub use table::Table;

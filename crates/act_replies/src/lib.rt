@@ -1,0 +1,8 @@
+//! One caller's futures, each with its actor and, once there is one, its answer.
+#![tactic(auto)]
+
+mod table;
+#[cfg(test)]
+mod tests;
+
+pub use table::{Kept, ReplyTable, Row};

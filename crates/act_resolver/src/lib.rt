@@ -1,0 +1,10 @@
+//! Which call of a caller may be sent next: each call waits for the answers that its arguments
+//! name.
+#![tactic(auto)]
+
+mod futures;
+mod resolver;
+#[cfg(test)]
+mod tests;
+
+pub use resolver::Resolver;
