@@ -58,10 +58,10 @@ fn opened(alloc: Global, actors: &[ActorId]) -> Result<Vec<Handle>, NoMemory>
 }
 
 /// The place of the actor's handle in a list.
-fn place_in(handles: &[Handle], a: ActorId) -> Option<usize>
-    ensures { result ≡ position (is_of a) handles.now }
+fn place_in(handles: &[Handle], actor: ActorId) -> Option<usize>
+    ensures { result ≡ position (is_of actor) handles.now }
 {
-    handles.iter().position(|handle| handle.actor == a)
+    handles.iter().position(|handle| handle.actor == actor)
 }
 
 impl Handles {
@@ -75,29 +75,29 @@ impl Handles {
     }
 
     /// The place of the actor's handle.
-    fn place_of(&self, a: ActorId) -> Option<usize>
-        ensures { MatchOption result (find (is_of a) self.now ≡ None) (IsAt a self.now) }
+    fn place_of(&self, actor: ActorId) -> Option<usize>
+        ensures { MatchOption result (find (is_of actor) self.now ≡ None) (IsAt actor self.now) }
     {
-        place_in(&self.handles, a)
+        place_in(&self.handles, actor)
     }
 
     /// How many copies are held, which is none for an actor that is not in the list.
-    pub fn holds(&self, a: ActorId) -> u32
-        ensures { result ≡ copies_held (copies_in a self.now) }
+    pub fn holds(&self, actor: ActorId) -> u32
+        ensures { result ≡ copies_held (copies_in actor self.now) }
     {
-        match self.place_of(a) {
+        match self.place_of(actor) {
             None => 0,
             Some(place) => self.handles[place].copies,
         }
     }
 
     /// The place of the actor's handle, where a copy of it is held.
-    fn held(&self, a: ActorId) -> Result<usize, HandleRefusal>
-        ensures place { IfOk result (IsAt a self.now) }
-        ensures ok { OnOk result (handle_refusal (copies_in a self.now) ≡ None) }
-        ensures err { IfErr result (λ refusal. handle_refusal (copies_in a self.now) ≡ Some refusal) }
+    fn held(&self, actor: ActorId) -> Result<usize, HandleRefusal>
+        ensures place { IfOk result (IsAt actor self.now) }
+        ensures ok { OnOk result (handle_refusal (copies_in actor self.now) ≡ None) }
+        ensures err { IfErr result (λ refusal. handle_refusal (copies_in actor self.now) ≡ Some refusal) }
     {
-        let Some(place) = self.place_of(a) else {
+        let Some(place) = self.place_of(actor) else {
             return Err(HandleRefusal::NoActor);
         };
         if self.handles[place].copies == 0 {
@@ -114,12 +114,12 @@ impl Handles {
     }
 
     /// Adds a copy and gives their number. An `Err` changes nothing.
-    pub fn copy(&mut self, a: ActorId) -> Result<u32, HandleRefusal>
-        ensures value { result ≡ copied a self.old }
-        ensures ok { OnOk result (self.new ≡ with_copy a self.old) }
+    pub fn copy(&mut self, actor: ActorId) -> Result<u32, HandleRefusal>
+        ensures value { result ≡ copied actor self.old }
+        ensures ok { OnOk result (self.new ≡ with_copy actor self.old) }
         ensures err { OnErr result (self.new ≡ self.old) }
     {
-        let place = self.held(a)?;
+        let place = self.held(actor)?;
         let handle = &mut self.handles[place];
         if handle.copies >= MOST_COPIES {
             return Err(HandleRefusal::TooManyCopies);
@@ -129,13 +129,13 @@ impl Handles {
     }
 
     /// Gives a call to the actor its number and counts it. An `Err` changes nothing.
-    pub fn number(&mut self, a: ActorId) -> Result<u32, HandleRefusal>
-        ensures value { result ≡ numbered a self.old }
-        ensures ok { OnOk result (self.new ≡ with_number a self.old) }
+    pub fn number(&mut self, actor: ActorId) -> Result<u32, HandleRefusal>
+        ensures value { result ≡ numbered actor self.old }
+        ensures ok { OnOk result (self.new ≡ with_number actor self.old) }
         ensures counted { OnOk result (given_of_all self.new ≡ given_of_all self.old + 1) }
         ensures err { OnErr result (self.new ≡ self.old) }
     {
-        let place = self.held(a)?;
+        let place = self.held(actor)?;
         if self.given() >= MOST_CALLS {
             return Err(HandleRefusal::TooManyCalls);
         }
@@ -147,12 +147,12 @@ impl Handles {
 
     /// Lets a copy go. After the last one it gives the number of calls to the actor. An `Err`
     /// changes nothing.
-    pub fn release(&mut self, a: ActorId) -> Result<Option<u32>, HandleRefusal>
-        ensures value { result ≡ released a self.old }
-        ensures ok { OnOk result (self.new ≡ without_copy a self.old) }
+    pub fn release(&mut self, actor: ActorId) -> Result<Option<u32>, HandleRefusal>
+        ensures value { result ≡ released actor self.old }
+        ensures ok { OnOk result (self.new ≡ without_copy actor self.old) }
         ensures err { OnErr result (self.new ≡ self.old) }
     {
-        let place = self.held(a)?;
+        let place = self.held(actor)?;
         let handle = &mut self.handles[place];
         handle.copies -= 1;
         if handle.copies > 0 {

@@ -15,9 +15,9 @@ enum Ask {
 /// What the handles tell of it.
 fn told(handles: &mut Handles, ask: Ask) -> Result<Option<u32>, HandleRefusal> {
     match ask {
-        Ask::Number(a) => Ok(Some(handles.number(a)?)),
-        Ask::Copy(a) => Ok(Some(handles.copy(a)?)),
-        Ask::Release(a) => handles.release(a),
+        Ask::Number(actor) => Ok(Some(handles.number(actor)?)),
+        Ask::Copy(actor) => Ok(Some(handles.copy(actor)?)),
+        Ask::Release(actor) => handles.release(actor),
     }
 }
 

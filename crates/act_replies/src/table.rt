@@ -44,11 +44,11 @@ impl Model for ReplyTable {
 }
 
 /// Gives the future the answer that its actor died, if it is of this actor and has none yet.
-fn mark_row(row: &mut Row, a: ActorId) -> bool
-    ensures value { result ≡ waits_for a row.old }
-    ensures row { row.new ≡ row_after_death a row.old }
+fn mark_row(row: &mut Row, actor: ActorId) -> bool
+    ensures value { result ≡ waits_for actor row.old }
+    ensures row { row.new ≡ row_after_death actor row.old }
 {
-    if row.actor != a || row.answer.is_some() {
+    if row.actor != actor || row.answer.is_some() {
         return false;
     }
     row.answer = Some(Err(Fault::ActorDied));
@@ -56,14 +56,14 @@ fn mark_row(row: &mut Row, a: ActorId) -> bool
 }
 
 /// Does so for each of the futures, and counts those that it changed.
-fn mark_rows(rows: &mut [Row], a: ActorId) -> u32
+fn mark_rows(rows: &mut [Row], actor: ActorId) -> u32
     requires { length rows.old ≤ 65536 }
-    ensures value { result ≡ count_by (waits_for a) rows.old }
-    ensures rows { rows.new ≡ after_death a rows.old }
+    ensures value { result ≡ count_by (waits_for actor) rows.old }
+    ensures rows { rows.new ≡ after_death actor rows.old }
 {
     let mut marked = 0;
     for row in rows.iter_mut() {
-        if mark_row(row, a) {
+        if mark_row(row, actor) {
             marked += 1;
         }
     }
@@ -81,9 +81,10 @@ impl ReplyTable {
         }
     }
 
-    /// Makes room for one more future.
+    /// Makes room for one more future, unless there is some.
     pub fn reserve_one(&mut self) -> Result<(), NoMemory>
         ensures room { OnOk result (1 ≤ self.new.spare) }
+        ensures enough { 1 ≤ self.old.spare → IsOk result }
         ensures rows { self.new.rows ≡ self.old.rows }
         ensures spare { self.old.spare ≤ self.new.spare }
     {
@@ -110,12 +111,12 @@ impl ReplyTable {
     }
 
     /// Keeps the answer where its future has none yet.
-    pub fn keep(&mut self, k: FutureId, answer: Answer) -> Kept
-        ensures value { result ≡ kept k self.old.rows }
-        ensures rows { self.new.rows ≡ after_keep k answer self.old.rows }
+    pub fn keep(&mut self, future: FutureId, answer: Answer) -> Kept
+        ensures value { result ≡ kept future self.old.rows }
+        ensures rows { self.new.rows ≡ after_keep future answer self.old.rows }
         ensures spare { self.new.spare ≡ self.old.spare }
     {
-        let place = k.number() as usize;
+        let place = future.number() as usize;
         if place >= self.rows.len() {
             return Kept::Stray;
         }
@@ -129,21 +130,21 @@ impl ReplyTable {
 
     /// Answers each future of the actor that has no answer yet with `ActorDied`, and gives their
     /// number.
-    pub fn died(&mut self, a: ActorId) -> u32
-        ensures value { result ≡ count_by (waits_for a) self.old.rows }
-        ensures rows { self.new.rows ≡ after_death a self.old.rows }
+    pub fn died(&mut self, actor: ActorId) -> u32
+        ensures value { result ≡ count_by (waits_for actor) self.old.rows }
+        ensures rows { self.new.rows ≡ after_death actor self.old.rows }
         ensures spare { self.new.spare ≡ self.old.spare }
     {
-        let marked = mark_rows(&mut self.rows, a);
+        let marked = mark_rows(&mut self.rows, actor);
         self.unanswered -= marked;
         marked
     }
 
     /// The answer that is kept for a future.
-    pub fn answer(&self, k: FutureId) -> Option<&Answer>
-        ensures { option_copied result ≡ answer_of k self.now.rows }
+    pub fn answer(&self, future: FutureId) -> Option<&Answer>
+        ensures { option_copied result ≡ answer_of future self.now.rows }
     {
-        self.rows.get(k.number() as usize)?.answer.as_ref()
+        self.rows.get(future.number() as usize)?.answer.as_ref()
     }
 
     /// How many futures have no answer yet.

@@ -5,6 +5,6 @@ use Rattle.act_replies.proofs.table.mark_rows.Given as goal
 -- the rows so far are marked and counted
 abbrev pub invariant-loop-row : goal.invariant-loop-row
 invariant-loop-row l = record {
-  marked : l.marked ≡ count_by (waits_for l.a) (take l.row-index l.initial.rows);
-  rows : l.rows ≡ map (row_after_death l.a) (take l.row-index l.initial.rows) ++ drop l.row-index l.initial.rows;
+  marked : l.marked ≡ count_by (waits_for l.actor) (take l.row-index l.initial.rows);
+  rows : l.rows ≡ map (row_after_death l.actor) (take l.row-index l.initial.rows) ++ drop l.row-index l.initial.rows;
 }
