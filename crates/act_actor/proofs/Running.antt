@@ -5,7 +5,7 @@ use Rattle.act_types.specs.KindState.{KindState}
 use Rattle.act_types.specs.declared.message.Packet.{Packet}
 use Rattle.act_types.specs.declared.message.Reply.{Reply}
 use Rattle.act_rules.specs.declared.history.RunItem.{RunItem}
-use Rattle.act_rules.specs.RunList.{Answer, after_item, state_after, answers_from, answer_at}
+use Rattle.act_rules.specs.RunList.{after_item, state_after, answer_at}
 use Rattle.act_actor.specs.Value.{ActorSeen}
 use Rattle.act_actor.specs.Actor.{item_of, reply_to, HasRun, HasRunFrom}
 

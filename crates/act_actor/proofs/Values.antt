@@ -1,5 +1,5 @@
 -- What a scan over settled arguments finds.
-use Rattle.std.proofs.Common.{◌≡◌, ℕ, zero, suc, ◌<◌, List, [], ◌∷◌, ◌++◌, Result, Ok, Err, length, get_or, take, drop, map, refl, ap, sym, ◌∙◌, arith}
+use Rattle.std.proofs.Common.{◌≡◌, ℕ, suc, ◌<◌, List, [], ◌∷◌, ◌++◌, Ok, Err, length, get_or, take, drop, map, refl, ap, sym, ◌∙◌, arith}
 use Rattle.std.proofs.Math.Seq.{split_at}
 use Rattle.std.proofs.lemmas.List.{take_all}
 use Rattle.act_types.specs.declared.value.Value.{Value}

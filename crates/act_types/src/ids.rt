@@ -41,7 +41,8 @@ impl CallerId {
         ensures value { result ≡ self }
         ensures valid { (1 ≤ self) × (self ≤ 16) }
     {
-        self.number
+        let CallerId { number } = self;
+        number
     }
 }
 
@@ -89,7 +90,8 @@ impl ActorId {
         ensures value { result ≡ self }
         ensures valid { (1 ≤ self) × (self ≤ 8) }
     {
-        self.number
+        let ActorId { number } = self;
+        number
     }
 }
 
@@ -130,7 +132,8 @@ impl FutureId {
     pub fn number(self) -> u32
         ensures { result ≡ self }
     {
-        self.number
+        let FutureId { number } = self;
+        number
     }
 }
 

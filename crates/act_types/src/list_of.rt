@@ -40,7 +40,8 @@ impl<T> ListOf<T> {
     pub fn into_vec(self) -> Vec<T>
         ensures { result.items ≡ self }
     {
-        self.vec
+        let ListOf { vec } = self;
+        vec
     }
 
     /// The items as a slice.

@@ -53,8 +53,7 @@ impl Text {
     pub fn copied(alloc: Global, text: &str) -> Result<Text, NoMemory>
         ensures { IfOk result (λ copy. copy ≡ text.now) }
     {
-        let text = String::from_str(alloc, text)?;
-        Ok(Text { text })
+        Ok(Text::new(String::from_str(alloc, text)?))
     }
 
     /// The text as Rust's slice of it.
