@@ -1,0 +1,157 @@
+-- Answers: what a first answer and a death leave in the futures.
+use Rattle.std.proofs.Common.{◌≡◌, ℕ, zero, suc, ◌+◌, ◌==◌, ◌&&◌, Bool, true, false, not, cond, if◌then◌else◌, List, [], ◌∷◌, ◌++◌, length, map, drop, get_or, count_by, Option, Some, None, is_some, Err, refl, sym, ◌∙◌, ap, arith}
+use Rattle.std.specs.Prelude.{slice_get, slice_set, zip, nat_eq}
+use Rattle.std.specs.List.{list_all}
+use Rattle.std.proofs.lemmas.Bool.{ne_eqb}
+use Rattle.std.proofs.lemmas.List.Sums.{sum_by-cons}
+use Rattle.act_types.specs.declared.fault.Fault.TheVariants.{ActorDied}
+use Rattle.act_rules.specs.declared.history.Submission.{Submission}
+use Rattle.act_rules.specs.RunList.{Answer}
+use Rattle.act_rules.specs.Submissions.{kept_at}
+use Rattle.act_handles.specs.declared.handles.Handle.{Handle}
+use Rattle.act_replies.specs.declared.table.Row.{Row}
+use Rattle.act_replies.specs.Table.{is_open, waits_for as row_waits_for, unanswered_row, with_answer, after_keep, after_keep_in, row_after_death, after_death as rows_after_death}
+use Rattle.act_owner.specs.declared.owner.Call.{Call}
+use Rattle.act_types.specs.declared.message.Reply.{Reply}
+use Rattle.act_handles.specs.Handles.{copies_in}
+use Rattle.act_owner.specs.declared.owner.Collected.TheVariants.{First, Late, Stray, Died}
+use Rattle.act_owner.specs.Owner.{OwnerValue, is_of_call, with_answer as owner_with_answer, after_reply_that, after_reply, with_death, collected_death, after_death, submission_of, answers_of, answered_row, waits_for, answer_after_death, IsOwner}
+use Rattle.act_owner.proofs.Calls.{get_last}
+
+answered_cases : (answer : Option Answer) (n : ℕ) (rest : Bool) → nat_eq n 0 ≡ rest → nat_eq (cond (not (is_some answer)) 1 0 + n) 0 ≡ (is_some answer && rest)
+answered_cases None n rest e = ne_eqb (1 + n) 0 (λ same. omega (arith, same))
+answered_cases (Some answer) n rest e = let plain : 0 + n ≡ n = omega arith in ap (λ m. nat_eq m 0) plain ∙ e
+
+-- no future is open where each has an answer
+pub all_answered : (rows : List Row) → nat_eq (count_by is_open rows) 0 ≡ list_all is_some (answers_of rows)
+all_answered [] = refl
+all_answered (row ∷ rows) =
+    ap (λ n. nat_eq n 0) (sum_by-cons (λ (r : Row). cond (is_open r) 1 0) row rows)
+    ∙ answered_cases row.answer (count_by is_open rows) (list_all is_some (answers_of rows)) (all_answered rows)
+
+set_last : {X : Type 0} (xs : List X) (x y : X) → slice_set (xs ++ x ∷ []) (length xs) y ≡ xs ++ y ∷ []
+set_last [] x y = refl
+set_last (z ∷ xs) x y = ap (λ rest. z ∷ rest) (set_last xs x y)
+
+-- a new future that is answered at once
+pub keep_last : (rows : List Row) (a : ℕ) → after_keep (length rows) (Err ActorDied) (rows ++ unanswered_row a ∷ []) ≡ rows ++ answered_row a true ∷ []
+keep_last rows a =
+    ap (after_keep_in (length rows) (Err ActorDied) (rows ++ unanswered_row a ∷ [])) (get_last rows (unanswered_row a))
+    ∙ set_last rows (unanswered_row a) (answered_row a true)
+
+-- an answer for a later future leaves the first one
+after_keep-later : (k : ℕ) (answer : Answer) (row : Row) (rows : List Row) → after_keep (suc k) answer (row ∷ rows) ≡ row ∷ after_keep k answer rows
+after_keep-later k answer row rows =
+    elim (slice_get rows k) as (λ found. after_keep_in (suc k) answer (row ∷ rows) found ≡ row ∷ after_keep_in k answer rows found) [
+      | None ↦ refl
+      | Some r ↦ elim (is_open r) as (λ b. (if b then slice_set (row ∷ rows) (suc k) (with_answer answer r) else row ∷ rows) ≡ row ∷ (if b then slice_set rows k (with_answer answer r) else rows)) [ true ↦ refl | false ↦ refl ]
+    ]
+
+keep_first : (answer : Answer) (row : Row) (rows : List Row) → is_some row.answer ≡ false → answers_of (if is_open row then with_answer answer row ∷ rows else row ∷ rows) ≡ Some answer ∷ answers_of rows
+keep_first answer row rows none = rw none refl
+
+-- the answers after a first answer
+pub keep_open : (k : ℕ) (answer : Answer) (rows : List Row) → is_some (kept_at (answers_of rows) k) ≡ false → answers_of (after_keep k answer rows) ≡ slice_set (answers_of rows) k (Some answer)
+keep_open k answer [] none = refl
+keep_open zero answer (row ∷ rows) none = keep_first answer row rows none
+keep_open (suc k) answer (row ∷ rows) none =
+    ap answers_of (after_keep-later k answer row rows)
+    ∙ ap (λ rest. row.answer ∷ rest) (keep_open k answer rows none)
+
+-- the futures stay those of their actors
+actors-after_keep : (k : ℕ) (answer : Answer) (rows : List Row) → map (λ row. row.actor) (after_keep k answer rows) ≡ map (λ row. row.actor) rows
+actors-after_keep k answer [] = refl
+actors-after_keep zero answer (row ∷ rows) =
+    elim (is_open row) as (λ b. map (λ (r : Row). r.actor) (if b then with_answer answer row ∷ rows else row ∷ rows) ≡ map (λ (r : Row). r.actor) (row ∷ rows)) [ true ↦ refl | false ↦ refl ]
+actors-after_keep (suc k) answer (row ∷ rows) =
+    ap (map (λ (r : Row). r.actor)) (after_keep-later k answer row rows)
+    ∙ ap (λ rest. row.actor ∷ rest) (actors-after_keep k answer rows)
+
+actors-after_death : (a : ℕ) (rows : List Row) → map (λ row. row.actor) (rows_after_death a rows) ≡ map (λ row. row.actor) rows
+actors-after_death a [] = refl
+actors-after_death a (row ∷ rows) =
+    ap (λ n. n ∷ map (λ (r : Row). r.actor) (rows_after_death a rows)) (elim (row_waits_for a row) as (λ b. (if b then with_answer (Err ActorDied) row else row).actor ≡ row.actor) [ true ↦ refl | false ↦ refl ])
+    ∙ ap (λ rest. row.actor ∷ rest) (actors-after_death a rows)
+
+with_rows : (handles : List Handle) (calls : List Call) (rows new : List Row) (sent : List Bool) → IsOwner handles calls rows sent → map (λ row. row.actor) new ≡ map (λ row. row.actor) rows → IsOwner handles calls new sent
+with_rows handles calls rows new sent fine same = record {
+  numbered = fine.numbered;
+  actors = same ∙ fine.actors;
+  marks = fine.marks;
+  given = fine.given;
+  given_in_all = fine.given_in_all;
+  few = fine.few;
+}
+
+-- a caller after an answer, and after a death
+pub kept_fine : (k : ℕ) (answer : Answer) (handles : List Handle) (calls : List Call) (rows new : List Row) (sent : List Bool) → IsOwner handles calls rows sent → new ≡ after_keep k answer rows → IsOwner handles calls new sent
+kept_fine k answer handles calls rows new sent fine is = with_rows handles calls rows new sent fine (ap (map (λ (r : Row). r.actor)) is ∙ actors-after_keep k answer rows)
+
+pub died_fine : (a : ℕ) (handles : List Handle) (calls : List Call) (rows new : List Row) (sent : List Bool) → IsOwner handles calls rows sent → new ≡ rows_after_death a rows → IsOwner handles calls new sent
+died_fine a handles calls rows new sent fine is = with_rows handles calls rows new sent fine (ap (map (λ (r : Row). r.actor)) is ∙ actors-after_death a rows)
+
+-- whether a future waits for its actor, by its call and by its row
+waits_same : (a : ℕ) (row : Row) (call : Call) → row.actor ≡ call.actor → row_waits_for a row ≡ waits_for a (submission_of call, row.answer)
+waits_same a row call same = ap (λ n. (n == a) && not (is_some row.answer)) same
+
+row_answer : (a : ℕ) (row : Row) → (row_after_death a row).answer ≡ (if row_waits_for a row then Some (Err ActorDied) else row.answer)
+row_answer a row = elim (row_waits_for a row) as (λ b. (if b then with_answer (Err ActorDied) row else row).answer ≡ (if b then Some (Err ActorDied) else row.answer)) [ true ↦ refl | false ↦ refl ]
+
+-- the answers after a death
+pub died_answers : (a : ℕ) (rows : List Row) (calls : List Call) → map (λ row. row.actor) rows ≡ map (λ call. call.actor) calls → answers_of (rows_after_death a rows) ≡ map (answer_after_death a) (zip (map submission_of calls) (answers_of rows))
+died_answers a [] [] same = refl
+died_answers a [] (call ∷ calls) same = refl
+died_answers a (row ∷ rows) [] same = let none : length (map (λ (r : Row). r.actor) (row ∷ rows)) ≡ 0 = ap length same in absurd (omega (arith, none))
+died_answers a (row ∷ rows) (call ∷ calls) same =
+    ap (λ answer. answer ∷ answers_of (rows_after_death a rows)) (row_answer a row ∙ ap (λ b. if b then Some (Err ActorDied) else row.answer) (waits_same a row call (ap (λ (l : List ℕ). get_or l 0 0) same)))
+    ∙ ap (λ rest. answer_after_death a (submission_of call, row.answer) ∷ rest) (died_answers a rows calls (ap (drop 1) same))
+
+-- how many futures a death answers
+pub died_count : (a : ℕ) (rows : List Row) (calls : List Call) → map (λ row. row.actor) rows ≡ map (λ call. call.actor) calls → count_by (row_waits_for a) rows ≡ count_by (waits_for a) (zip (map submission_of calls) (answers_of rows))
+died_count a [] [] same = refl
+died_count a [] (call ∷ calls) same = refl
+died_count a (row ∷ rows) [] same = let none : length (map (λ (r : Row). r.actor) (row ∷ rows)) ≡ 0 = ap length same in absurd (omega (arith, none))
+died_count a (row ∷ rows) (call ∷ calls) same =
+    let pairs = zip (map submission_of calls) (answers_of rows) in
+    omega (
+      arith,
+      sum_by-cons (λ (r : Row). cond (row_waits_for a r) 1 0) row rows,
+      sum_by-cons (λ (pair : Submission × Option Answer). cond (waits_for a pair) 1 0) (submission_of call, row.answer) pairs,
+      ap {B = ℕ} (λ b. cond b 1 0) (waits_same a row call (ap (λ (l : List ℕ). get_or l 0 0) same)),
+      died_count a rows calls (ap (drop 1) same),
+    )
+
+-- one caller, seen through its parts
+abbrev seen : ℕ → List Handle → List Call → List Row → List Bool → List Bool → OwnerValue
+seen id handles calls rows sent dead = record { id = id; handles = handles; calls = map submission_of calls; sent = sent; kept = answers_of rows; dead = dead }
+
+reply_cases : (mine known : Bool) (owner : OwnerValue) (reply : Reply) → mine ≡ true → known ≡ false → owner_with_answer owner reply.future reply.answer ≡ after_reply_that (if mine then (if known then Late reply.future else First reply.future) else Stray) owner reply
+reply_cases true false owner reply m n = refl
+reply_cases true true owner reply m n = absurd (cc n)
+reply_cases false known owner reply m n = absurd (cc m)
+
+-- a caller after the first answer of a future
+pub reply_kept : (id : ℕ) (handles : List Handle) (calls : List Call) (rows new : List Row) (sent dead : List Bool) (now : OwnerValue) (reply : Reply) → seen id handles calls rows sent dead ≡ now → new ≡ after_keep reply.future reply.answer rows → is_of_call now reply ≡ true → is_some (kept_at now.kept reply.future) ≡ false → seen id handles calls new sent dead ≡ after_reply now reply
+reply_kept id handles calls rows new sent dead now reply same is mine unknown =
+    let before : is_some (kept_at (answers_of rows) reply.future) ≡ false = ap (λ (owner : OwnerValue). is_some (kept_at owner.kept reply.future)) same ∙ unknown in
+    ap (λ (kept : List (Option Answer)). record (seen id handles calls rows sent dead) { kept = kept }) (ap answers_of is ∙ keep_open reply.future reply.answer rows before)
+    ∙ ap (λ (owner : OwnerValue). owner_with_answer owner reply.future reply.answer) same
+    ∙ reply_cases (is_of_call now reply) (is_some (kept_at now.kept reply.future)) now reply mine unknown
+
+-- what the death of a caller's actor tells
+pub death_told : (id : ℕ) (handles : List Handle) (calls : List Call) (rows : List Row) (sent dead : List Bool) (now : OwnerValue) (a n : ℕ) → seen id handles calls rows sent dead ≡ now → map (λ row. row.actor) rows ≡ map (λ call. call.actor) calls → is_some (copies_in a handles) ≡ true → n ≡ count_by (row_waits_for a) rows → Died n ≡ collected_death now a
+death_told id handles calls rows sent dead now a n same actors listed count =
+    ap Died (count ∙ died_count a rows calls actors)
+    ∙ sym (ap (λ b. if b then Died (count_by (waits_for a) (zip (map submission_of calls) (answers_of rows))) else Stray) listed)
+    ∙ ap (λ (owner : OwnerValue). collected_death owner a) same
+
+-- a caller after the death of one of its actors
+pub death_kept : (id : ℕ) (handles handles2 : List Handle) (calls : List Call) (rows new : List Row) (sent dead : List Bool) (now : OwnerValue) (a number : ℕ) → seen id handles calls rows sent dead ≡ now → map (λ row. row.actor) rows ≡ map (λ call. call.actor) calls → is_some (copies_in a handles) ≡ true → handles2 ≡ handles → new ≡ rows_after_death a rows → number ≡ a → seen id handles2 calls new sent (slice_set dead number true) ≡ after_death now a
+death_kept id handles handles2 calls rows new sent dead now a number same actors listed unchanged is here =
+    let before = seen id handles calls rows sent dead in
+    ap (λ (hs : List Handle). seen id hs calls new sent (slice_set dead number true)) unchanged
+    ∙ ap (λ (rs : List Row). seen id handles calls rs sent (slice_set dead number true)) is
+    ∙ ap (λ b. seen id handles calls (rows_after_death a rows) sent (slice_set dead b true)) here
+    ∙ ap (λ (kept : List (Option Answer)). record before { kept = kept; dead = slice_set dead a true }) (died_answers a rows calls actors)
+    ∙ sym (ap (λ b. if b then with_death before a else before) listed)
+    ∙ ap (λ (owner : OwnerValue). after_death owner a) same

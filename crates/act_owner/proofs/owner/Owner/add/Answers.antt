@@ -1,0 +1,15 @@
+use Rattle.std.proofs.Common.{◌∙◌, sym}
+use Rattle.act_owner.proofs.Calls.{submitted_fine}
+use Rattle.act_owner.proofs.owner.Owner.add.Goals as goal
+
+pub invariant_of-self-3 : goal.invariant_of-self-3
+invariant_of-self-3 c =
+    let inside = c.self.inside in
+    let given = c.unwrap-number.ensures in
+    submitted_fine c.args.a c.unwrap-number.result c.args.method c.args.args c.is_dead-is_dead.result inside.handles c.number.new.self
+    inside.calls.items c.reserve.new.self.items c.push_reserved.new.self.items
+    inside.table.rows c.reserve_one.new.self.rows c.enter.new.table.rows
+    inside.sent.items c.reserve-2.new.self.items c.push_reserved-2.new.self.items
+    c.self.invariant (sym given ∙ c.number.ensures.value) (rw given at c.number.ensures.ok) (rw given at c.number.ensures.counted)
+    c.reserve.ensures.items c.reserve_one.ensures.rows c.reserve-2.ensures.items
+    c.push_reserved.ensures.items c.enter.ensures.rows c.push_reserved-2.ensures.items

@@ -1,0 +1,213 @@
+-- What contracts say of one caller.
+use Rattle.std.specs.Prelude.{◌≡◌, ℕ, ◌≤◌, ◌==◌, Bool, true, false, not, ◌&&◌, if◌then◌else◌, List, [], ◌∷◌, ◌++◌, length, map, zip, replicate, filter, find, count_by, slice_get, slice_set, Option, Some, None, is_some, option_map, unwrap_or, Result, Err}
+use Rattle.std.specs.List.{list_all, range_with_len}
+use Rattle.act_types.specs.declared.fault.Fault.TheVariants.{ActorDied}
+use Rattle.act_types.specs.declared.call.Method.{Method}
+use Rattle.act_types.specs.declared.call.Arg.{Arg}
+use Rattle.act_types.specs.declared.message.Packet.{Packet}
+use Rattle.act_types.specs.declared.message.Reply.{Reply}
+use Rattle.act_types.specs.declared.message.ReleaseNote.{ReleaseNote}
+use Rattle.act_types.specs.declared.message.KillNote.{KillNote}
+use Rattle.act_types.specs.declared.message.Notice.{Notice}
+use Rattle.act_types.specs.declared.message.Notice.TheVariants.{Answered, Death}
+use Rattle.act_rules.specs.declared.history.Submission.{Submission}
+use Rattle.act_rules.specs.declared.outcome.HandleRefusal.{HandleRefusal}
+use Rattle.act_rules.specs.declared.outcome.SubmitRefusal.{SubmitRefusal}
+use Rattle.act_rules.specs.declared.outcome.SendRefusal.{SendRefusal}
+use Rattle.act_rules.specs.RunList.{Answer}
+use Rattle.act_rules.specs.Submissions.{number_of, kept_at, settled, is_known, copies_held, handle_refusal, submit_refusal, send_refusal}
+use Rattle.act_handles.specs.declared.handles.Handle.{Handle}
+use Rattle.act_handles.specs.Handles.{copies_in, given_in, given_of_all, with_number, or_else, opened as opened_handle}
+use Rattle.act_replies.specs.declared.table.Row.{Row}
+use Rattle.act_owner.specs.declared.owner.Call.{Call}
+use Rattle.act_owner.specs.declared.owner.Collected.{Collected}
+use Rattle.act_owner.specs.declared.owner.Collected.TheVariants.{First, Late, Stray, Died}
+
+-- one caller; its calls, what was sent and the answers kept stand in the order of the futures
+pub record OwnerValue : Type 0 where
+  pub id : ℕ
+  pub handles : List Handle
+  pub calls : List Submission
+  pub sent : List Bool
+  pub kept : List (Option Answer)
+  -- whether each actor, by its number, is known to be dead
+  pub dead : List Bool
+
+-- a caller that submitted nothing yet
+abbrev pub opened : ℕ → List ℕ → OwnerValue
+opened id actors = record { id = id; handles = map opened_handle actors; calls = []; sent = []; kept = []; dead = replicate 9 false }
+
+abbrev pub with_handles : OwnerValue → List Handle → OwnerValue
+with_handles owner handles = record owner { handles = handles }
+
+-- what the release of a handle tells: after the last copy, the number of calls to the actor
+abbrev pub release_note : OwnerValue → ℕ → ReleaseNote
+release_note owner a = record { caller = owner.id; actor = a; after = given_in a owner.handles }
+
+abbrev pub release_told : OwnerValue → ℕ → Result (Option ReleaseNote) HandleRefusal
+release_told owner a =
+    or_else (handle_refusal (copies_in a owner.handles))
+    (if copies_held (copies_in a owner.handles) == 1 then Some (release_note owner a) else None)
+
+-- what the asking of a kill tells
+abbrev pub kill_told : OwnerValue → ℕ → Result KillNote HandleRefusal
+kill_told owner a = or_else (handle_refusal (copies_in a owner.handles)) (record { caller = owner.id; actor = a })
+
+-- whether call k was submitted and sent
+abbrev pub is_sent : OwnerValue → ℕ → Bool
+is_sent owner k = unwrap_or (slice_get owner.sent k) false
+
+-- whether the actor is known to be dead
+abbrev pub is_dead : OwnerValue → ℕ → Bool
+is_dead owner a = unwrap_or (slice_get owner.dead a) false
+
+-- why a call is not submitted, memory apart
+abbrev pub submission_refusal : OwnerValue → ℕ → List Arg → Option SubmitRefusal
+submission_refusal owner a args = submit_refusal (copies_in a owner.handles) (length owner.calls) args
+
+-- the answer of a new call, which it has where its actor is dead
+abbrev pub first_answer : Bool → Option Answer
+first_answer is_dead = if is_dead then Some (Err ActorDied) else None
+
+-- the caller after a call is submitted
+abbrev pub with_call : OwnerValue → ℕ → Method → List Arg → OwnerValue
+with_call owner a method args = record owner {
+  handles = with_number a owner.handles;
+  calls = owner.calls ++ record { actor = a; method = method; args = args } ∷ [];
+  sent = owner.sent ++ false ∷ [];
+  kept = owner.kept ++ first_answer (is_dead owner a) ∷ [];
+}
+
+-- a call with its number
+abbrev pub numbered_call : List Submission → ℕ → Submission → Call
+numbered_call calls k call = record { actor = call.actor; number = number_of call.actor k calls; method = call.method; args = call.args }
+
+-- call k
+abbrev pub call_at : List Submission → ℕ → Option Call
+call_at calls k = option_map (numbered_call calls k) (slice_get calls k)
+
+-- why call k is not sent, memory apart
+abbrev pub sending_refusal : OwnerValue → ℕ → Option SendRefusal
+sending_refusal owner k = send_refusal owner.kept k (is_sent owner k) (slice_get owner.calls k)
+
+-- what is sent for a call: its arguments are settled by the answers kept
+abbrev pub packet_of : OwnerValue → ℕ → Submission → Packet
+packet_of owner k call = record {
+  caller = owner.id;
+  actor = call.actor;
+  number = number_of call.actor k owner.calls;
+  future = k;
+  method = call.method;
+  args = map (settled owner.kept) call.args;
+}
+
+-- what is sent for call k
+abbrev pub packet_at : OwnerValue → ℕ → Option Packet
+packet_at owner k = option_map (packet_of owner k) (slice_get owner.calls k)
+
+abbrev pub with_sent : OwnerValue → ℕ → OwnerValue
+with_sent owner k = record owner { sent = slice_set owner.sent k true }
+
+-- whether all future arguments of the call have an answer
+abbrev pub is_known_call : OwnerValue → Option Submission → Bool
+is_known_call owner None = false
+is_known_call owner (Some call) = list_all (is_known owner.kept) call.args
+
+-- whether call k may be sent next: it is known, and neither sent nor answered
+abbrev pub is_ready : OwnerValue → ℕ → Bool
+is_ready owner k = is_known_call owner (slice_get owner.calls k) && not (is_sent owner k) && not (is_some (kept_at owner.kept k))
+
+-- the least call that may be sent next
+abbrev pub first_ready : OwnerValue → Option ℕ
+first_ready owner = find (is_ready owner) (range_with_len 0 (length owner.calls))
+
+abbrev pub is_to : ℕ → Option Submission → Bool
+is_to a None = false
+is_to a (Some call) = call.actor == a
+
+abbrev pub is_death : Answer → Bool
+is_death (Err ActorDied) = true
+is_death answer = false
+
+-- whether a reply is that of a call which this caller sent
+abbrev pub is_of_call : OwnerValue → Reply → Bool
+is_of_call owner reply =
+    (reply.caller == owner.id)
+    && is_to reply.actor (slice_get owner.calls reply.future)
+    && is_sent owner reply.future
+    && not (is_death reply.answer)
+
+-- what becomes of a reply
+abbrev pub collected_reply : OwnerValue → Reply → Collected
+collected_reply owner reply =
+    if is_of_call owner reply
+    then (if is_some (kept_at owner.kept reply.future) then Late reply.future else First reply.future)
+    else Stray
+
+abbrev pub with_answer : OwnerValue → ℕ → Answer → OwnerValue
+with_answer owner k answer = record owner { kept = slice_set owner.kept k (Some answer) }
+
+-- the caller after a reply, of which only a first answer is kept
+abbrev pub after_reply_that : Collected → OwnerValue → Reply → OwnerValue
+after_reply_that (First k) owner reply = with_answer owner k reply.answer
+after_reply_that told owner reply = owner
+
+abbrev pub after_reply : OwnerValue → Reply → OwnerValue
+after_reply owner reply = after_reply_that (collected_reply owner reply) owner reply
+
+-- whether a call is of this actor and has no answer yet
+abbrev pub waits_for : ℕ → Submission × Option Answer → Bool
+waits_for a call = (call.0.actor == a) && not (is_some call.1)
+
+-- the answer of a call after the death of an actor
+abbrev pub answer_after_death : ℕ → Submission × Option Answer → Option Answer
+answer_after_death a call = if waits_for a call then Some (Err ActorDied) else call.1
+
+-- what becomes of the notice that an actor died
+abbrev pub collected_death : OwnerValue → ℕ → Collected
+collected_death owner a =
+    if is_some (copies_in a owner.handles)
+    then Died (count_by (waits_for a) (zip owner.calls owner.kept))
+    else Stray
+
+abbrev pub with_death : OwnerValue → ℕ → OwnerValue
+with_death owner a = record owner {
+  kept = map (answer_after_death a) (zip owner.calls owner.kept);
+  dead = slice_set owner.dead a true;
+}
+
+-- the caller after the notice that an actor died
+abbrev pub after_death : OwnerValue → ℕ → OwnerValue
+after_death owner a = if is_some (copies_in a owner.handles) then with_death owner a else owner
+
+-- what becomes of a notice
+abbrev pub collected : OwnerValue → Notice → Collected
+collected owner (Answered reply) = collected_reply owner reply
+collected owner (Death a) = collected_death owner a
+
+-- the caller after a notice
+abbrev pub after_collect : OwnerValue → Notice → OwnerValue
+after_collect owner (Answered reply) = after_reply owner reply
+after_collect owner (Death a) = after_death owner a
+
+-- the answers in the table of futures
+abbrev pub answers_of : List Row → List (Option Answer)
+answers_of rows = map (λ row. row.answer) rows
+
+-- a new future, which is answered where its actor is dead
+abbrev pub answered_row : ℕ → Bool → Row
+answered_row a is_dead = record { actor = a; answer = first_answer is_dead }
+
+-- a call without its number
+abbrev pub submission_of : Call → Submission
+submission_of call = record { actor = call.actor; method = call.method; args = call.args }
+
+-- how the handles, the calls, the futures and the marks of one caller belong together
+pub record IsOwner (handles : List Handle) (calls : List Call) (rows : List Row) (sent : List Bool) : Type 0 where
+  pub numbered : (k : ℕ) → slice_get calls k ≡ call_at (map submission_of calls) k
+  pub actors : map (λ row. row.actor) rows ≡ map (λ call. call.actor) calls
+  pub marks : length sent ≡ length calls
+  -- as many numbers were given for each actor as it has calls
+  pub given : (a : ℕ) → given_in a handles ≡ length (filter (λ call. call.actor == a) (map submission_of calls))
+  pub given_in_all : given_of_all handles ≡ length calls
+  pub few : length calls ≤ 65536

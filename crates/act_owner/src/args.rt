@@ -1,0 +1,72 @@
+//! Arguments, by the answers that are kept.
+
+ghost use Rattle.std.specs.Prelude.{◌≡◌, map, IfOk};
+ghost use Rattle.std.specs.List.{list_all};
+ghost use Rattle.act_rules.specs.Submissions.{is_earlier, is_known, settled};
+ghost use Rattle.act_owner.specs.Owner.{answers_of};
+
+use act_replies::ReplyTable;
+use act_types::{Arg, CopyOf, ListOf, NoMemory, Settled};
+use std::alloc::Global;
+
+/// Whether the argument is a value or one of the first `count` futures.
+fn is_earlier(arg: &Arg, count: u32) -> bool
+    ensures { result ≡ is_earlier count arg.now }
+{
+    match arg {
+        Arg::Plain(_) => true,
+        Arg::Fut(future) => future.number() < count,
+    }
+}
+
+/// Whether each argument is a value or one of the first `count` futures.
+pub(crate) fn are_earlier(args: &ListOf<Arg>, count: u32) -> bool
+    ensures { result ≡ list_all (is_earlier count) args.now }
+{
+    args.as_slice().iter().all(|arg| is_earlier(arg, count))
+}
+
+/// Whether the argument is a value or has an answer.
+fn is_known(arg: &Arg, table: &ReplyTable) -> bool
+    ensures { result ≡ is_known (answers_of table.now.rows) arg.now }
+{
+    match arg {
+        Arg::Plain(_) => true,
+        Arg::Fut(future) => table.answer(*future).is_some(),
+    }
+}
+
+/// Whether each argument is a value or has an answer.
+pub(crate) fn are_known(args: &ListOf<Arg>, table: &ReplyTable) -> bool
+    ensures { result ≡ list_all (is_known (answers_of table.now.rows)) args.now }
+{
+    args.as_slice().iter().all(|arg| is_known(arg, table))
+}
+
+/// What is sent for an argument that has its answer.
+fn settled(alloc: Global, arg: &Arg, table: &ReplyTable) -> Result<Settled, NoMemory>
+    ensures { IfOk result (λ sent. sent ≡ settled (answers_of table.now.rows) arg.now) }
+{
+    match arg {
+        Arg::Plain(value) => Ok(Settled::Good(value.copy_of(alloc)?)),
+        Arg::Fut(future) => match table.answer(*future) {
+            Some(Ok(value)) => Ok(Settled::Good(value.copy_of(alloc)?)),
+            _ => Ok(Settled::Bad(*future)),
+        },
+    }
+}
+
+/// What is sent for the arguments of a call.
+pub(crate) fn all_settled(
+    alloc: Global,
+    args: &ListOf<Arg>,
+    table: &ReplyTable,
+) -> Result<ListOf<Settled>, NoMemory>
+    ensures { IfOk result (λ sent. sent ≡ map (settled (answers_of table.now.rows)) args.now) }
+{
+    let mut sent = ListOf::new(alloc);
+    for arg in args.as_slice() {
+        sent.push(settled(alloc, arg, table)?)?;
+    }
+    Ok(sent)
+}

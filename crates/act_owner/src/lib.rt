@@ -1,0 +1,11 @@
+//! One caller: what it submitted, what it sent, and the answers that it keeps.
+#![tactic(auto)]
+
+mod args;
+mod futures;
+mod owner;
+#[cfg(test)]
+mod tests;
+
+pub use act_rules::{HandleRefusal, SendRefusal, SubmitRefusal};
+pub use owner::{Call, Collected, Owner};

@@ -1,0 +1,399 @@
+//! One caller and its calls.
+
+ghost use Rattle.std.specs.Prelude.{◌≡◌, ◌≢◌, ℕ, ◌≤◌, map, length, AllPairs, Option, None, Some, Err, IfOk, OnOk, IfErr, OnErr, option_copied, unwrap_or, is_some, slice_get};
+ghost use Rattle.std.specs.List.{list_all};
+ghost use Rattle.act_rules.specs.declared.outcome.SubmitRefusal.TheVariants.{NoMemory as NoRoom};
+ghost use Rattle.act_rules.specs.declared.outcome.SendRefusal.TheVariants.{NoMemory as NoRoomToSend};
+ghost use Rattle.act_rules.specs.Submissions.{copies_held, handle_refusal, kept_at};
+ghost use Rattle.act_handles.specs.Handles.{copies_in, copied, with_copy, without_copy};
+ghost use Rattle.act_owner.specs.Owner.{OwnerValue, opened, with_handles, release_told, kill_told, submission_refusal, with_call, call_at, is_sent, is_dead, sending_refusal, packet_at, with_sent, is_known_call, first_ready, is_ready, is_to, is_death, is_of_call, collected_reply, after_reply, collected_death, after_death, collected, after_collect};
+
+use crate::args::{all_settled, are_earlier, are_known};
+use crate::futures::{enter, is_listed, refusal_of};
+use act_handles::{HandleRefusal, Handles};
+use act_replies::ReplyTable;
+use act_rules::{SendRefusal, SubmitRefusal};
+use act_types::{
+    ActorId, Answer, Arg, CallerId, Fault, FutureId, KillNote, ListOf, Method, NoMemory, Notice,
+    Packet, ReleaseNote, Reply,
+};
+use std::alloc::Global;
+use std::marker::Model;
+
+/// A caller submits at most this many calls.
+const MOST_CALLS: u32 = 65_536;
+
+/// A call has at most this many arguments.
+const MOST_ARGS: usize = 4;
+
+/// A call that was submitted.
+#[derive(Drop)]
+pub struct Call {
+    pub actor: ActorId,
+    /// The call's place among the caller's calls to this actor.
+    pub number: u32,
+    pub method: Method,
+    pub args: ListOf<Arg>,
+}
+
+/// What became of a notice.
+#[derive(Clone, Copy, Debug, PartialEq, Eq)]
+pub enum Collected {
+    /// The first answer of this future.
+    First(FutureId),
+    /// This future has an answer already, which stays.
+    Late(FutureId),
+    /// It is for no call of this caller that was sent, or of no actor of this caller.
+    Stray,
+    /// How many futures the death answered.
+    Died(u32),
+}
+
+/// One caller: its handles, its calls, and the answers that it keeps.
+#[derive(Drop)]
+pub struct Owner {
+    id: CallerId,
+    handles: Handles,
+    calls: Vec<Call>,
+    sent: Vec<bool>,
+    table: ReplyTable,
+    /// Whether each actor, by its number, is known to be dead.
+    dead: [bool; 9],
+}
+
+impl Model for Owner {
+    ghost use Rattle.act_owner.specs.Owner.{OwnerValue, submission_of, answers_of, IsOwner};
+    ghost use Rattle.std.specs.Prelude.{map};
+
+    ghost Value = { OwnerValue };
+
+    ghost view = { λ owner. record {
+      id = owner.id;
+      handles = owner.handles;
+      calls = map submission_of owner.calls.items;
+      sent = owner.sent.items;
+      kept = answers_of owner.table.rows;
+      dead = owner.dead;
+    } };
+
+    ghost invariant = { λ owner. IsOwner owner.handles owner.calls.items owner.table.rows owner.sent.items };
+}
+
+/// Whether the answer says that the actor died.
+fn is_death(answer: &Answer) -> bool
+    ensures { result ≡ is_death answer.now }
+{
+    match answer {
+        Err(Fault::ActorDied) => true,
+        _ => false,
+    }
+}
+
+impl Owner {
+    /// A caller of these actors, which holds one copy of each one's handle and submitted nothing.
+    pub fn open(alloc: Global, id: CallerId, actors: &[ActorId]) -> Result<Owner, NoMemory>
+        requires distinct { AllPairs (λ one other. one ≢ other) actors.now }
+        ensures { IfOk result (λ owner. owner ≡ opened id actors.now) }
+    {
+        Ok(Owner {
+            id,
+            handles: Handles::open(alloc, actors)?,
+            calls: Vec::new(alloc),
+            sent: Vec::new(alloc),
+            table: ReplyTable::new(alloc),
+            dead: [false; 9],
+        })
+    }
+
+    /// This caller.
+    pub fn id(&self) -> CallerId
+        ensures { result ≡ self.now.id }
+    {
+        self.id
+    }
+
+    /// How many copies of the actor's handle are held, which is none for an actor that is not one
+    /// of this caller's.
+    pub fn holds(&self, a: ActorId) -> u32
+        ensures { result ≡ copies_held (copies_in a self.now.handles) }
+    {
+        self.handles.holds(a)
+    }
+
+    /// Adds a copy of the actor's handle and gives their number. An `Err` changes nothing.
+    pub fn copy(&mut self, a: ActorId) -> Result<u32, HandleRefusal>
+        ensures value { result ≡ copied a self.old.handles }
+        ensures ok { OnOk result (self.new ≡ with_handles self.old (with_copy a self.old.handles)) }
+        ensures err { OnErr result (self.new ≡ self.old) }
+    {
+        self.handles.copy(a)
+    }
+
+    /// Lets a copy of the actor's handle go. After the last one it gives the note that tells how
+    /// many calls there were to the actor. An `Err` changes nothing.
+    pub fn release(&mut self, a: ActorId) -> Result<Option<ReleaseNote>, HandleRefusal>
+        ensures value { result ≡ release_told self.old a }
+        ensures ok { OnOk result (self.new ≡ with_handles self.old (without_copy a self.old.handles)) }
+        ensures err { OnErr result (self.new ≡ self.old) }
+    {
+        let Some(after) = self.handles.release(a)? else {
+            return Ok(None);
+        };
+        Ok(Some(ReleaseNote {
+            caller: self.id,
+            actor: a,
+            after,
+        }))
+    }
+
+    /// The note that asks for the actor's kill.
+    pub fn ask_kill(&mut self, a: ActorId) -> Result<KillNote, HandleRefusal>
+        ensures value { result ≡ kill_told self.old a }
+        ensures unchanged { self.new ≡ self.old }
+    {
+        if let Some(refusal) = refusal_of(&mut self.handles, a) {
+            return Err(refusal);
+        }
+        Ok(KillNote {
+            caller: self.id,
+            actor: a,
+        })
+    }
+
+    /// How many calls were submitted.
+    pub fn count(&self) -> u32
+        ensures value { result ≡ length self.now.calls }
+        ensures limit { result ≤ 65536 }
+    {
+        self.calls.len() as u32
+    }
+
+    /// A call, by its future.
+    pub fn call(&self, k: FutureId) -> Option<&Call>
+        ensures { option_copied result ≡ call_at self.now.calls k }
+    {
+        self.calls.get(k.number() as usize)
+    }
+
+    /// The answer that is kept for a future.
+    pub fn answer(&self, k: FutureId) -> Option<&Answer>
+        ensures { option_copied result ≡ kept_at self.now.kept k }
+    {
+        self.table.answer(k)
+    }
+
+    /// Whether each call has an answer.
+    pub fn all_answered(&self) -> bool
+        ensures { result ≡ list_all is_some self.now.kept }
+    {
+        self.table.unanswered() == 0
+    }
+
+    fn is_dead(&self, a: ActorId) -> bool
+        ensures { result ≡ is_dead self.now a }
+    {
+        self.dead[a.number() as usize]
+    }
+
+    fn is_sent(&self, k: FutureId) -> bool
+        ensures { result ≡ is_sent self.now k }
+    {
+        match self.sent.get(k.number() as usize) {
+            Some(sent) => *sent,
+            None => false,
+        }
+    }
+
+    fn is_answered(&self, k: FutureId) -> bool
+        ensures { result ≡ is_some (kept_at self.now.kept k) }
+    {
+        self.answer(k).is_some()
+    }
+
+    /// Why a call of the actor would not be submitted, memory apart.
+    fn submission_refusal(&mut self, a: ActorId, args: &ListOf<Arg>) -> Option<SubmitRefusal>
+        ensures value { result ≡ submission_refusal self.old a args.now }
+        ensures unchanged { self.new ≡ self.old }
+    {
+        let refusal = refusal_of(&mut self.handles, a);
+        let count = self.calls.len() as u32;
+        match refusal {
+            Some(HandleRefusal::NoActor) => Some(SubmitRefusal::NoActor),
+            Some(_) => Some(SubmitRefusal::NoHandle),
+            None if args.len() > MOST_ARGS => Some(SubmitRefusal::TooManyArgs),
+            None if !are_earlier(args, count) => Some(SubmitRefusal::BadFuture),
+            None if count >= MOST_CALLS => Some(SubmitRefusal::TooManyCalls),
+            None => None,
+        }
+    }
+
+    /// Adds a call that nothing refuses.
+    fn add(&mut self, a: ActorId, method: Method, args: ListOf<Arg>) -> Result<FutureId, NoMemory>
+        requires accepted { submission_refusal self.old a args ≡ None }
+        ensures future { IfOk result (λ k. k ≡ length self.old.calls) }
+        ensures ok { OnOk result (self.new ≡ with_call self.old a method args) }
+        ensures err { OnErr result (self.new ≡ self.old) }
+    {
+        self.calls.reserve(1)?;
+        self.sent.reserve(1)?;
+        self.table.reserve_one()?;
+        let is_dead = self.is_dead(a);
+        let number = self.handles.number(a).unwrap();
+        self.calls.push_reserved(Call {
+            actor: a,
+            number,
+            method,
+            args,
+        });
+        self.sent.push_reserved(false);
+        Ok(enter(&mut self.table, a, is_dead))
+    }
+
+    /// Takes a call and gives its future. An `Err` changes nothing.
+    pub fn submit(
+        &mut self,
+        a: ActorId,
+        method: Method,
+        args: ListOf<Arg>,
+    ) -> Result<FutureId, SubmitRefusal>
+        ensures future { IfOk result (λ k. k ≡ length self.old.calls) }
+        ensures accepted { OnOk result (submission_refusal self.old a args ≡ None) }
+        ensures ok { OnOk result (self.new ≡ with_call self.old a method args) }
+        ensures refusal { IfErr result (λ refusal. refusal ≡ unwrap_or (submission_refusal self.old a args) NoRoom) }
+        ensures err { OnErr result (self.new ≡ self.old) }
+    {
+        if let Some(refusal) = self.submission_refusal(a, &args) {
+            return Err(refusal);
+        }
+        let Ok(k) = self.add(a, method, args) else {
+            return Err(SubmitRefusal::NoMemory);
+        };
+        Ok(k)
+    }
+
+    /// The packet of a call, memory permitting, or why it is not sent.
+    fn packet_of(&self, alloc: Global, k: FutureId) -> Result<Packet, SendRefusal>
+        ensures value { IfOk result (λ packet. packet_at self.now k ≡ Some packet) }
+        ensures accepted { OnOk result (sending_refusal self.now k ≡ None) }
+        ensures refusal { IfErr result (λ refusal. refusal ≡ unwrap_or (sending_refusal self.now k) NoRoomToSend) }
+    {
+        let Some(call) = self.call(k) else {
+            return Err(SendRefusal::NoFuture);
+        };
+        if !are_known(&call.args, &self.table) {
+            return Err(SendRefusal::NotReady);
+        }
+        if !self.is_sent(k) && self.is_answered(k) {
+            return Err(SendRefusal::Answered);
+        }
+        let Ok(args) = all_settled(alloc, &call.args, &self.table) else {
+            return Err(SendRefusal::NoMemory);
+        };
+        Ok(Packet {
+            caller: self.id,
+            actor: call.actor,
+            number: call.number,
+            future: k,
+            method: call.method,
+            args,
+        })
+    }
+
+    /// The packet of a call, which is marked sent. It is the same each time. An `Err` changes
+    /// nothing.
+    pub fn packet(&mut self, alloc: Global, k: FutureId) -> Result<Packet, SendRefusal>
+        ensures value { IfOk result (λ packet. packet_at self.old k ≡ Some packet) }
+        ensures accepted { OnOk result (sending_refusal self.old k ≡ None) }
+        ensures ok { OnOk result (self.new ≡ with_sent self.old k) }
+        ensures refusal { IfErr result (λ refusal. refusal ≡ unwrap_or (sending_refusal self.old k) NoRoomToSend) }
+        ensures err { OnErr result (self.new ≡ self.old) }
+    {
+        let packet = self.packet_of(alloc, k)?;
+        self.sent[k.number() as usize] = true;
+        Ok(packet)
+    }
+
+    /// Whether the call's arguments all have their answers.
+    fn is_known(&self, k: FutureId) -> bool
+        ensures { result ≡ is_known_call self.now (slice_get self.now.calls k) }
+    {
+        match self.call(k) {
+            None => false,
+            Some(call) => are_known(&call.args, &self.table),
+        }
+    }
+
+    fn is_ready(&self, k: FutureId) -> bool
+        ensures { result ≡ is_ready self.now k }
+    {
+        self.is_known(k) && !self.is_sent(k) && !self.is_answered(k)
+    }
+
+    /// The least call that is neither sent nor answered and whose future arguments all have their
+    /// answers.
+    pub fn ready(&self) -> Option<FutureId>
+        ensures { result ≡ first_ready self.now }
+    {
+        (0..self.count())
+            .map(FutureId::new)
+            .find(|k| self.is_ready(*k))
+    }
+
+    /// Whether the call of this future goes to the actor.
+    fn is_to(&self, a: ActorId, k: FutureId) -> bool
+        ensures { result ≡ is_to a (slice_get self.now.calls k) }
+    {
+        match self.call(k) {
+            None => false,
+            Some(call) => call.actor == a,
+        }
+    }
+
+    /// Whether the reply is that of a call which this caller sent.
+    fn is_of_call(&self, reply: &Reply) -> bool
+        ensures { result ≡ is_of_call self.now reply.now }
+    {
+        reply.caller == self.id
+            && self.is_to(reply.actor, reply.future)
+            && self.is_sent(reply.future)
+            && !is_death(&reply.answer)
+    }
+
+    fn collect_reply(&mut self, reply: Reply) -> Collected
+        ensures value { result ≡ collected_reply self.old reply }
+        ensures after { self.new ≡ after_reply self.old reply }
+    {
+        if !self.is_of_call(&reply) {
+            return Collected::Stray;
+        }
+        let k = reply.future;
+        if self.is_answered(k) {
+            return Collected::Late(k);
+        }
+        self.table.keep(k, reply.answer);
+        Collected::First(k)
+    }
+
+    fn collect_death(&mut self, a: ActorId) -> Collected
+        ensures value { result ≡ collected_death self.old a }
+        ensures after { self.new ≡ after_death self.old a }
+    {
+        if !is_listed(&mut self.handles, a) {
+            return Collected::Stray;
+        }
+        self.dead[a.number() as usize] = true;
+        Collected::Died(self.table.died(a))
+    }
+
+    /// Takes what an actor's side tells. A reply's answer is kept where its future has none yet,
+    /// and a death is the answer of each of its actor's futures that has none. It takes no memory.
+    pub fn collect(&mut self, notice: Notice) -> Collected
+        ensures value { result ≡ collected self.old notice }
+        ensures after { self.new ≡ after_collect self.old notice }
+    {
+        match notice {
+            Notice::Answered(reply) => self.collect_reply(reply),
+            Notice::Death(a) => self.collect_death(a),
+        }
+    }
+}

@@ -1,0 +1,183 @@
+//! One caller from its first call to a death, and calls that wait for answers.
+
+use crate::{Collected, Owner, SendRefusal, SubmitRefusal};
+use act_types::{
+    ActorId, Arg, CallerId, Fault, FutureId, ListOf, Method, NoMemory, Notice, Reply, Settled,
+    Value,
+};
+use std::alloc::Global;
+use std::test::Fail;
+
+/// What a row of a table asks for.
+#[derive(Clone, Copy, Debug)]
+enum Ask {
+    /// So many arguments of this value.
+    Submit(ActorId, Method, u32, i64),
+    /// One argument, which is a future.
+    SubmitFuture(ActorId, FutureId),
+    Packet(FutureId),
+    Reply(ActorId, FutureId, Result<i64, Fault>),
+    Death(ActorId),
+    Ready,
+}
+
+/// What the caller tells of it.
+#[derive(Clone, Copy, Debug, PartialEq, Eq)]
+enum Told {
+    Future(FutureId),
+    NotSubmitted(SubmitRefusal),
+    /// The number of the packet, and its first argument.
+    Packet(u32, Option<i64>),
+    NotSent(SendRefusal),
+    Collected(Collected),
+    Ready(Option<FutureId>),
+}
+
+fn copies(alloc: Global, count: u32, value: i64) -> Result<ListOf<Arg>, NoMemory> {
+    let mut args = ListOf::new(alloc);
+    for _ in 0..count {
+        args.push(Arg::Plain(Value::Int(value)))?;
+    }
+    Ok(args)
+}
+
+fn submitted(owner: &mut Owner, a: ActorId, method: Method, args: ListOf<Arg>) -> Told {
+    match owner.submit(a, method, args) {
+        Ok(k) => Told::Future(k),
+        Err(refusal) => Told::NotSubmitted(refusal),
+    }
+}
+
+fn packet_told(alloc: Global, owner: &mut Owner, k: FutureId) -> Told {
+    match owner.packet(alloc, k) {
+        Ok(packet) => match packet.args.as_slice().first() {
+            Some(Settled::Good(Value::Int(value))) => Told::Packet(packet.number, Some(*value)),
+            _ => Told::Packet(packet.number, None),
+        },
+        Err(refusal) => Told::NotSent(refusal),
+    }
+}
+
+fn notice_of(
+    actor: ActorId,
+    caller: CallerId,
+    future: FutureId,
+    answer: Result<i64, Fault>,
+) -> Notice {
+    let answer = match answer {
+        Ok(value) => Ok(Value::Int(value)),
+        Err(fault) => Err(fault),
+    };
+    Notice::Answered(Reply {
+        actor,
+        caller,
+        future,
+        place: 0,
+        answer,
+    })
+}
+
+/// What the caller tells of a row's request.
+fn asked(alloc: Global, owner: &mut Owner, ask: Ask) -> Result<Told, NoMemory> {
+    match ask {
+        Ask::Submit(a, method, count, value) => {
+            let args = copies(alloc, count, value)?;
+            Ok(submitted(owner, a, method, args))
+        }
+        Ask::SubmitFuture(a, k) => {
+            let mut args = ListOf::new(alloc);
+            args.push(Arg::Fut(k))?;
+            Ok(submitted(owner, a, Method::Add, args))
+        }
+        Ask::Packet(k) => Ok(packet_told(alloc, owner, k)),
+        Ask::Reply(a, k, answer) => {
+            let notice = notice_of(a, owner.id(), k, answer);
+            Ok(Told::Collected(owner.collect(notice)))
+        }
+        Ask::Death(a) => Ok(Told::Collected(owner.collect(Notice::Death(a)))),
+        Ask::Ready => Ok(Told::Ready(owner.ready())),
+    }
+}
+
+#[test]
+fn from_the_first_call_to_a_death(rt: HostRuntime) -> Result<(), Fail> {
+    let c1 = CallerId::new(1).unwrap();
+    let a1 = ActorId::new(1).unwrap();
+    let a2 = ActorId::new(2).unwrap();
+    let a3 = ActorId::new(3).unwrap();
+    let [k0, k1, k2, k3] = [0, 1, 2, 3].map(FutureId::new);
+    let mut owner = Owner::open(rt.alloc(), c1, &[a1, a2])?;
+    for (ask, want) in [
+        (Ask::Submit(a1, Method::Add, 1, 5), Told::Future(k0)),
+        (Ask::Submit(a2, Method::Get, 0, 0), Told::Future(k1)),
+        (Ask::Submit(a1, Method::Get, 0, 0), Told::Future(k2)),
+        (
+            Ask::Submit(a3, Method::Get, 0, 0),
+            Told::NotSubmitted(SubmitRefusal::NoActor),
+        ),
+        (
+            Ask::Submit(a1, Method::Get, 5, 0),
+            Told::NotSubmitted(SubmitRefusal::TooManyArgs),
+        ),
+        (Ask::Packet(k3), Told::NotSent(SendRefusal::NoFuture)),
+        (Ask::Packet(k0), Told::Packet(0, Some(5))),
+        (Ask::Packet(k0), Told::Packet(0, Some(5))),
+        (Ask::Reply(a2, k0, Ok(5)), Told::Collected(Collected::Stray)),
+        (Ask::Reply(a1, k2, Ok(5)), Told::Collected(Collected::Stray)),
+        (
+            Ask::Reply(a1, k0, Err(Fault::ActorDied)),
+            Told::Collected(Collected::Stray),
+        ),
+        (
+            Ask::Reply(a1, k0, Ok(5)),
+            Told::Collected(Collected::First(k0)),
+        ),
+        (
+            Ask::Reply(a1, k0, Ok(5)),
+            Told::Collected(Collected::Late(k0)),
+        ),
+        (Ask::Death(a1), Told::Collected(Collected::Died(1))),
+        (Ask::Death(a1), Told::Collected(Collected::Died(0))),
+        (Ask::Death(a3), Told::Collected(Collected::Stray)),
+        (Ask::Packet(k2), Told::NotSent(SendRefusal::Answered)),
+        (Ask::Packet(k0), Told::Packet(0, Some(5))),
+        (Ask::Submit(a1, Method::Get, 0, 0), Told::Future(k3)),
+        (Ask::Packet(k3), Told::NotSent(SendRefusal::Answered)),
+    ] {
+        assert_eq!(rt; asked(rt.alloc(), &mut owner, ask), Ok(want), "at {ask:?}");
+    }
+    Ok(())
+}
+
+#[test]
+fn calls_wait_for_answers(rt: HostRuntime) -> Result<(), Fail> {
+    let c1 = CallerId::new(1).unwrap();
+    let a1 = ActorId::new(1).unwrap();
+    let a2 = ActorId::new(2).unwrap();
+    let [k0, k1, k2, k3] = [0, 1, 2, 3].map(FutureId::new);
+    let mut owner = Owner::open(rt.alloc(), c1, &[a1, a2])?;
+    for (ask, want) in [
+        (Ask::Submit(a2, Method::Add, 1, 7), Told::Future(k0)),
+        (Ask::SubmitFuture(a1, k0), Told::Future(k1)),
+        (Ask::Submit(a1, Method::Add, 1, 1), Told::Future(k2)),
+        (
+            Ask::SubmitFuture(a1, k3),
+            Told::NotSubmitted(SubmitRefusal::BadFuture),
+        ),
+        (Ask::Ready, Told::Ready(Some(k0))),
+        (Ask::Packet(k1), Told::NotSent(SendRefusal::NotReady)),
+        (Ask::Packet(k0), Told::Packet(0, Some(7))),
+        (Ask::Ready, Told::Ready(Some(k2))),
+        (Ask::Packet(k2), Told::Packet(1, Some(1))),
+        (Ask::Ready, Told::Ready(None)),
+        (
+            Ask::Reply(a2, k0, Ok(7)),
+            Told::Collected(Collected::First(k0)),
+        ),
+        (Ask::Ready, Told::Ready(Some(k1))),
+        (Ask::Packet(k1), Told::Packet(0, Some(7))),
+    ] {
+        assert_eq!(rt; asked(rt.alloc(), &mut owner, ask), Ok(want), "at {ask:?}");
+    }
+    Ok(())
+}
