@@ -2,12 +2,13 @@
 use Rattle.std.specs.Prelude.{◌≡◌, ℕ, ◌==◌, [], ◌∷◌, ◌++◌, length, if◌then◌else◌}
 use Rattle.act_types.specs.KindState.{KindState}
 use Rattle.act_types.specs.declared.message.Packet.{Packet}
+use Rattle.act_types.specs.declared.message.ReleaseNote.{ReleaseNote}
 use Rattle.act_types.specs.declared.message.Reply.{Reply}
 use Rattle.act_rules.specs.RunList.{after_item, state_after}
 use Rattle.act_rules.specs.declared.history.RunItem.{RunItem}
 use Rattle.act_rules.specs.declared.outcome.Arrival.{Arrival}
 use Rattle.act_rules.specs.declared.outcome.Arrival.TheVariants.{Stranger}
-use Rattle.act_inbox.specs.Inbox.{InboxValue, arrival_of, IsNextTaken}
+use Rattle.act_inbox.specs.Inbox.{InboxValue, arrival_of, note_arrival, IsNextTaken}
 use Rattle.act_actor.specs.Value.{BookValue, ActorSeen}
 
 -- an actor with this beside its kind, and its kind in this state
@@ -17,6 +18,10 @@ seen book state = record { id = book.id; inbox = book.inbox; log = book.log; sta
 -- what a packet is to an actor
 abbrev pub arrival_at : ℕ → InboxValue → Packet → Arrival
 arrival_at id inbox packet = if packet.actor == id then arrival_of inbox packet else Stranger
+
+-- what a release note is to an actor
+abbrev pub note_arrival_at : ℕ → InboxValue → ReleaseNote → Arrival
+note_arrival_at id inbox note = if note.actor == id then note_arrival inbox note else Stranger
 
 -- the item that a packet becomes in the log
 abbrev pub item_of : Packet → RunItem

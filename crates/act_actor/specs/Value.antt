@@ -21,3 +21,9 @@ pub record ActorSeen : Type 0 where
 pub record DeadValue : Type 0 where
   pub id : ℕ
   pub log : List RunItem
+
+-- a retired actor: its name, what it ran, and the state that its kind was left in
+pub record RetiredSeen : Type 0 where
+  pub id : ℕ
+  pub log : List RunItem
+  pub state : KindState

@@ -1,18 +1,19 @@
 //! What an actor keeps beside its kind.
 
 ghost use Rattle.std.specs.Prelude.{◌≡◌, ◌≢◌, ℕ, [], IfOk, OnOk, IfErr, OnErr, IfSome, IfNone, IsSome, is_some, option_copied};
+ghost use Rattle.std.specs.Bool.{Decides};
 ghost use Rattle.std.specs.Option.{option_map};
-ghost use Rattle.act_inbox.specs.Inbox.{IsOpened, next_of, waiting, waiting_after};
+ghost use Rattle.act_inbox.specs.Inbox.{IsOpened, IsDrained, next_of, note_of, waiting, note_after, waiting_after};
 ghost use Rattle.act_rules.specs.RunList.{after_item};
 ghost use Rattle.act_rules.specs.declared.outcome.Arrival.TheVariants.{New};
 ghost use Rattle.act_actor.specs.Cast.{CallersDiffer};
-ghost use Rattle.act_actor.specs.Actor.{seen, item_of, reply_to, arrival_at, HasRun};
+ghost use Rattle.act_actor.specs.Actor.{seen, item_of, reply_to, arrival_at, note_arrival_at, HasRun};
 
 use crate::arguments::values_of;
 use act_inbox::Inbox;
 use act_kinds::Actor;
 use act_rules::{Arrival, RunItem};
-use act_types::{ActorId, Answer, CallerId, Fault, NoMemory, Packet, Reply};
+use act_types::{ActorId, Answer, CallerId, Fault, NoMemory, Packet, ReleaseNote, Reply};
 use std::alloc::Global;
 use std::marker::Model;
 
@@ -83,6 +84,7 @@ impl Book {
         ensures id { self.new.id ≡ self.old.id }
         ensures log { self.new.log ≡ self.old.log }
         ensures lanes { self.new.inbox.lanes ≡ self.old.inbox.lanes }
+        ensures notes { (caller : ℕ) → note_of self.new.inbox caller ≡ note_of self.old.inbox caller }
         ensures waiting { IfOk result (λ arrival. (caller number : ℕ) → waiting self.new.inbox caller number ≡ waiting_after arrival packet self.old.inbox caller number) }
         ensures elsewhere { packet.actor ≢ self.old.id → self.new ≡ self.old }
         ensures last { OnErr result (arrival_at self.old.id self.old.inbox packet ≡ New) }
@@ -93,6 +95,27 @@ impl Book {
             return Ok(Arrival::Stranger);
         }
         self.inbox.arrive(packet)
+    }
+
+    /// Takes in that a caller's last handle copy is gone. Only its first note counts.
+    pub(crate) fn released(&mut self, note: ReleaseNote) -> Arrival
+        ensures arrival { result ≡ note_arrival_at self.old.id self.old.inbox note }
+        ensures same { self.new ≡ record self.old { inbox = self.new.inbox } }
+        ensures calls { (self.new.inbox.lanes ≡ self.old.inbox.lanes) × (self.new.inbox.held ≡ self.old.inbox.held) }
+        ensures notes { (caller : ℕ) → note_of self.new.inbox caller ≡ note_after result note self.old.inbox caller }
+        ensures unless_new { result ≢ New → self.new ≡ self.old }
+    {
+        if note.actor != self.id {
+            return Arrival::Stranger;
+        }
+        self.inbox.released(note)
+    }
+
+    /// Whether each caller's note came, and all calls of which it tells were run.
+    pub(crate) fn drained(&self) -> bool
+        ensures { Decides result (IsDrained self.now.inbox) }
+    {
+        self.inbox.drained()
     }
 
     /// Whether the caller's next call came.

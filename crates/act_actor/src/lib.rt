@@ -6,6 +6,7 @@ mod book;
 mod cast;
 mod dead;
 mod live;
+mod retired;
 #[cfg(test)]
 mod tests;
 
@@ -13,3 +14,4 @@ pub use act_rules::{Arrival, RunItem};
 pub use cast::{Cast, cast_fits};
 pub use dead::Dead;
 pub use live::Live;
+pub use retired::Retired;

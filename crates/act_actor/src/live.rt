@@ -3,23 +3,24 @@
 //! `K` is the kind, mostly a box. A clause names what is seen of an actor by `live_seen` at the
 //! kind's state.
 
-ghost use Rattle.std.specs.Prelude.{◌≡◌, ◌≢◌, ◌++◌, ℕ, [], Some, IfOk, OnOk, IfErr, OnErr, IfSome, IfNone, IsSome, is_some};
+ghost use Rattle.std.specs.Prelude.{◌≡◌, ◌≢◌, ◌↔◌, ◌++◌, ℕ, [], Some, IfOk, OnOk, IfErr, OnErr, IfSome, IfNone, IsOk, IsSome, is_some};
+ghost use Rattle.std.specs.Bool.{Decides};
 ghost use Rattle.std.specs.Option.{option_map};
 ghost use Rattle.std.specs.String.{string_bytes};
 ghost use Rattle.act_types.specs.KindState.{KindState};
 ghost use Rattle.act_types.specs.Texts.{state_text};
 ghost use Rattle.act_rules.specs.RunList.{answer_at};
 ghost use Rattle.act_rules.specs.declared.outcome.Arrival.TheVariants.{New};
-ghost use Rattle.act_inbox.specs.Inbox.{IsOpened, next_of, waiting, waiting_after};
+ghost use Rattle.act_inbox.specs.Inbox.{IsOpened, IsDrained, next_of, note_of, waiting, note_after, waiting_after};
 ghost use Rattle.act_actor.specs.Cast.{CallersDiffer};
-ghost use Rattle.act_actor.specs.Actor.{reply_to, arrival_at, HasRun, HasRunFrom};
-ghost use Rattle.act_actor.specs.Seen.{live_seen};
+ghost use Rattle.act_actor.specs.Actor.{reply_to, arrival_at, note_arrival_at, HasRun, HasRunFrom};
+ghost use Rattle.act_actor.specs.Seen.{live_seen, retired_seen};
 
-use crate::Dead;
 use crate::book::Book;
+use crate::{Dead, Retired};
 use act_kinds::{Actor, Boxed};
 use act_rules::{Arrival, RunItem};
-use act_types::{ActorId, CallerId, NoMemory, Packet, Reply};
+use act_types::{ActorId, CallerId, NoMemory, Packet, ReleaseNote, Reply};
 use std::alloc::Global;
 
 /// An actor that runs.
@@ -76,6 +77,7 @@ impl<K: Actor> Live<K> {
         ensures arrival { let before = live_seen K.state self.old in IfOk result (λ arrival. arrival ≡ arrival_at before.id before.inbox packet) }
         ensures same { let after = live_seen K.state self.new in after ≡ record (live_seen K.state self.old) { inbox = after.inbox } }
         ensures lanes { (live_seen K.state self.new).inbox.lanes ≡ (live_seen K.state self.old).inbox.lanes }
+        ensures notes { (caller : ℕ) → note_of (live_seen K.state self.new).inbox caller ≡ note_of (live_seen K.state self.old).inbox caller }
         ensures waiting { IfOk result (λ arrival. (caller number : ℕ) → waiting (live_seen K.state self.new).inbox caller number ≡ waiting_after arrival packet (live_seen K.state self.old).inbox caller number) }
         ensures elsewhere { packet.actor ≢ (live_seen K.state self.old).id → live_seen K.state self.new ≡ live_seen K.state self.old }
         ensures last { let before = live_seen K.state self.old in OnErr result (arrival_at before.id before.inbox packet ≡ New) }
@@ -83,6 +85,24 @@ impl<K: Actor> Live<K> {
         ensures err { OnErr result (live_seen K.state self.new ≡ live_seen K.state self.old) }
     {
         self.book.arrive(packet)
+    }
+
+    /// Takes in that a caller's last handle copy is gone. Only its first note counts.
+    pub fn released(&mut self, note: ReleaseNote) -> Arrival
+        ensures arrival { let before = live_seen K.state self.old in result ≡ note_arrival_at before.id before.inbox note }
+        ensures same { let after = live_seen K.state self.new in after ≡ record (live_seen K.state self.old) { inbox = after.inbox } }
+        ensures calls { let before = (live_seen K.state self.old).inbox in let after = (live_seen K.state self.new).inbox in (after.lanes ≡ before.lanes) × (after.held ≡ before.held) }
+        ensures notes { (caller : ℕ) → note_of (live_seen K.state self.new).inbox caller ≡ note_after result note (live_seen K.state self.old).inbox caller }
+        ensures unless_new { result ≢ New → live_seen K.state self.new ≡ live_seen K.state self.old }
+    {
+        self.book.released(note)
+    }
+
+    /// Whether each caller's note came, and all calls of which it tells were run.
+    pub fn drained(&self) -> bool
+        ensures { Decides result (IsDrained (live_seen K.state self.now).inbox) }
+    {
+        self.book.drained()
     }
 
     /// Whether the caller's next call came.
@@ -114,5 +134,19 @@ impl<K: Actor> Live<K> {
         let Live { book, .. } = self;
         let Book { id, log, .. } = book;
         Dead::new(id, log)
+    }
+
+    /// Ends the actor once it is drained; else an `Err` hands it back.
+    pub fn retire(self) -> Result<Retired<K>, Live<K>>
+        ensures when { IsOk result ↔ IsDrained (live_seen K.state self).inbox }
+        ensures ok { let live = live_seen K.state self in IfOk result (λ retired. retired_seen K.state retired ≡ record { id = live.id; log = live.log; state = live.state }) }
+        ensures err { IfErr result (λ live. live_seen K.state live ≡ live_seen K.state self) }
+    {
+        if !self.drained() {
+            return Err(self);
+        }
+        let Live { kind, book } = self;
+        let Book { id, log, .. } = book;
+        Ok(Retired::new(id, log, kind))
     }
 }

@@ -3,8 +3,8 @@
 use crate::{Arrival, Cast, Live, cast_fits};
 use act_kinds::{Actor, Boxed, Counter, Table};
 use act_types::{
-    ActorId, CallerId, Fault, FutureId, ListOf, Method, NoMemory, Packet, Reply, Settled, Text,
-    Value,
+    ActorId, CallerId, Fault, FutureId, ListOf, Method, NoMemory, Packet, ReleaseNote, Reply,
+    Settled, Text, Value,
 };
 use std::alloc::Global;
 use std::process::Abort;
@@ -124,6 +124,73 @@ fn opened_later(rt: HostRuntime) -> Result<(), Fail> {
     let id = live.id();
     let dead = live.kill();
     assert_eq!(rt; (dead.id(), dead.log().len()), (id, 2));
+    Ok(())
+}
+
+/// Brings release notes, each by its caller, its actor and what it tells.
+fn note<K: Actor>(rt: &impl Abort, live: &mut Live<K>, rows: &[(CallerId, ActorId, u32, Arrival)]) {
+    for row in rows {
+        let (caller, actor, after, arrival) = *row;
+        let note = ReleaseNote {
+            caller,
+            actor,
+            after,
+        };
+        assert_eq!(rt; live.released(note), arrival);
+    }
+}
+
+#[test]
+fn retired_once_drained(rt: HostRuntime) -> Result<(), Fail> {
+    let alloc = rt.alloc();
+    let a1 = ActorId::new(1).unwrap();
+    let a2 = ActorId::new(2).unwrap();
+    let c1 = CallerId::new(1).unwrap();
+    let c2 = CallerId::new(2).unwrap();
+    let c9 = CallerId::new(9).unwrap();
+    let casts: [(&[CallerId], Option<&str>); 2] = [(&[c1], Some("counter 2")), (&[c1, c2], None)];
+    for (callers, retires) in casts {
+        let mut live = Live::open(alloc, a1, callers, Counter::open())?;
+        let notes = [
+            (c9, a1, 0, Arrival::Stranger),
+            (c1, a2, 0, Arrival::Stranger),
+            (c1, a1, 1, Arrival::New),
+            (c1, a1, 0, Arrival::Repeat),
+        ];
+        note(&rt, &mut live, &notes);
+        let Err(mut live) = live.retire() else {
+            panic!(rt; "retired before its call came");
+        };
+        play(
+            &rt,
+            alloc,
+            &mut live,
+            &[(0, Method::Add, &[Given::Int(2)], Ok(2))],
+        )?;
+        assert_eq!(rt; live.drained(), retires.is_some());
+        let mut text = String::new(alloc);
+        if let Ok(retired) = live.retire() {
+            retired.state_text(&mut text)?;
+            assert_eq!(rt; (retired.id(), retired.log().len()), (a1, 1));
+        }
+        assert_eq!(rt; text.as_str(), retires.unwrap_or(""));
+    }
+    Ok(())
+}
+
+#[test]
+fn killed_with_calls_held(rt: HostRuntime) -> Result<(), Fail> {
+    let alloc = rt.alloc();
+    let callers = [CallerId::new(1).unwrap()];
+    let mut live = Live::open(alloc, ActorId::new(1).unwrap(), &callers, Counter::open())?;
+    let none: [Given; 0] = [];
+    let rows: [Row; 3] = [
+        (0, Method::Add, &[Given::Int(2)], Ok(2)),
+        (2, Method::Get, &none, Ok(2)),
+        (3, Method::Get, &none, Ok(2)),
+    ];
+    play(&rt, alloc, &mut live, &rows)?;
+    assert_eq!(rt; live.kill().log().len(), 1);
     Ok(())
 }
 

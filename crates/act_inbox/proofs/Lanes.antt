@@ -33,7 +33,7 @@ module _ (inbox : InboxValue) (caller place : ℕ) (at : position (is_lane_of ca
   pub lane_is : (lane : Lane) → lane ≡ get_or inbox.lanes place lane → lane_of inbox caller ≡ Some lane
   lane_is lane stands = find-Some (is_lane_of caller) inbox.lanes place lane at ∙ ap Some (sym stands)
 
-  within : place < length inbox.lanes
+  pub within : place < length inbox.lanes
   within = (position-Some (is_lane_of caller) inbox.lanes place (lane_at_first 0) at).0
 
   pub caller_at : (d : Lane) → (get_or inbox.lanes place d).caller ≡ caller

@@ -3,3 +3,4 @@ pub mod Opening
 pub mod Lanes
 pub mod Packets
 pub mod Taking
+pub mod Notes

@@ -1,11 +1,11 @@
 -- What an inbox is when it is opened.
-use Rattle.std.proofs.Common.{◌≡◌, ◌≢◌, ℕ, ◌<◌, ◌≤◌, List, [], ◌∷◌, length, false, refl, arith, get_or, inl, inr, is_some, All, AllPairs, find, sum_by, map}
+use Rattle.std.proofs.Common.{◌≡◌, ◌≢◌, ℕ, suc, Option, None, replicate, ap, ◌<◌, ◌≤◌, List, [], ◌∷◌, length, false, refl, arith, get_or, inl, inr, is_some, All, AllPairs, find, sum_by, map}
 use Rattle.std.specs.List.{IsDistinct}
 use Rattle.std.specs.Option.{option_map_or}
 use Rattle.std.proofs.Math.Dec.{eqb}
 use Rattle.std.proofs.lemmas.Bool.{eqb-true, le-ltb}
-use Rattle.std.proofs.lemmas.Bool.Decides.{eqb_tells, Decides-eqb}
-use Rattle.std.proofs.lemmas.List.{length-map}
+use Rattle.std.proofs.lemmas.Bool.Decides.{leb_tells, eqb_tells, Decides-eqb}
+use Rattle.std.proofs.lemmas.List.{length-map, length-replicate, get_or-replicate, get_or_past}
 use Rattle.std.proofs.lemmas.List.Elements.{All-nil, All-cons, All-map, recursion_from_All}
 use Rattle.std.proofs.lemmas.List.Folds.{Any-from_list_any}
 use Rattle.std.proofs.lemmas.List.Sums.{sum_by-le}
@@ -45,17 +45,33 @@ in_all_at_first callers =
     let most = sum_by-le (λ (lane : Lane). lane.handed) 0 (map lane_at_first callers) (All-map (λ lane. lane.handed ≤ 0) lane_at_first callers (λ k d within. omega arith)) in
     omega arith
 
-module _ (callers : List ℕ) (inbox : InboxValue) (lanes : inbox.lanes ≡ map lane_at_first callers) (held : inbox.held ≡ []) where
+callers_at_first : (callers : List ℕ) → map (λ lane. lane.caller) (map lane_at_first callers) ≡ callers
+callers_at_first [] = refl
+callers_at_first (one ∷ callers) = ap (λ rest. one ∷ rest) (callers_at_first callers)
+
+-- notes of which none came
+abbrev pub no_notes : ℕ → List (Option ℕ)
+no_notes count = replicate count None
+
+no_note : (count caller : ℕ) → get_or (no_notes count) caller None ≡ None
+no_note count caller = elim (leb_tells (suc caller) count) [
+  | inl t ↦ get_or-replicate count caller None None t.1
+  | inr f ↦ let long : length (no_notes count) ≡ count = length-replicate count None in get_or_past (no_notes count) caller None (omega (arith, f.1))
+]
+
+module _ (callers : List ℕ) (inbox : InboxValue) (lanes : inbox.lanes ≡ map lane_at_first callers) (held : inbox.held ≡ []) (notes : inbox.notes ≡ no_notes 17) where
   pub opened : IsOpened callers inbox
   opened = record {
     listed = λ caller. rw lanes (listed_at_first callers caller);
     handed = λ caller. rw lanes (handed_at_first callers caller);
     in_all = rw lanes (in_all_at_first callers);
     waits = λ caller number. rw (lanes, held, handed_at_first callers caller, le-ltb number 0 (omega arith)) refl;
+    notes = λ caller. rw notes (no_note 17 caller);
   }
 
   pub opened_is_inbox : AllPairs (λ one other. one ≢ other) callers → All (λ caller. (1 ≤ caller) × (caller ≤ 16)) callers → IsInbox inbox.lanes inbox.held
   opened_is_inbox pairs valid = record {
+    distinct = rw (lanes, callers_at_first callers) pairs;
     few = rw (lanes, length-map) (few_callers callers pairs valid);
     counted = rw lanes (All-map (λ lane. lane.handed ≤ 65536) lane_at_first callers (λ k d within. omega arith));
     numbered = rw held (All-nil (λ (packet : Packet). packet.number < 65536));

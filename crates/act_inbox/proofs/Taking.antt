@@ -1,6 +1,7 @@
 -- What handing out a caller's next call does.
 use Rattle.std.proofs.Common.{◌≡◌, ℕ, suc, ◌+◌, ◌<◌, ◌≤◌, length, Option, Some, None, Bool, true, false, ◌==◌, if◌then◌else◌, refl, sym, ◌∙◌, ap, subst, arith, get_or, take, drop, remove, inl, inr, find, position}
 use Rattle.std.specs.Prelude.{slice_set}
+use Rattle.std.proofs.Math.Seq.{map-set_same}
 use Rattle.std.proofs.lemmas.Bool.{lt-ltb, ltb-true, ltb-false}
 use Rattle.std.proofs.lemmas.Bool.Decides.{eqb_tells}
 use Rattle.std.proofs.lemmas.List.{length-set}
@@ -47,7 +48,7 @@ module _ (old : InboxValue) (caller place call : ℕ) (lane : Lane) (packet : Pa
         omega arith
 
     module _ (new : InboxValue) (written : Lane) (written_stands : written ≡ get_or old.lanes place written)
-        (lanes : new.lanes ≡ slice_set old.lanes place (one_more written)) (held : new.held ≡ remove old.held call) where
+        (lanes : new.lanes ≡ slice_set old.lanes place (one_more written)) (held : new.held ≡ remove old.held call) (notes : new.notes ≡ old.notes) where
       same : written.caller ≡ caller
       same = ap (λ (l : Lane). l.caller) written_stands ∙ caller_at old caller place at written
 
@@ -61,6 +62,7 @@ module _ (old : InboxValue) (caller place call : ℕ) (lane : Lane) (packet : Pa
           let same_count = more in
           let little : written.handed + 1 ≤ 65536 = omega arith in
           record {
+            distinct = rw (lanes, map-set_same (λ (lane : Lane). lane.caller) old.lanes place (one_more written) written (ap (λ (l : Lane). l.caller) written_stands)) sound.distinct;
             few = rw (lanes, length-set) sound.few;
             counted = rw lanes (All-set (λ lane. lane.handed ≤ 65536) old.lanes place (one_more written) little sound.counted);
             numbered = rw held (All-append small_number (take call old.held) (drop (suc call) old.held) (All-take small_number call old.held sound.numbered) (All-drop small_number (suc call) old.held sound.numbered));
@@ -107,4 +109,5 @@ module _ (old : InboxValue) (caller place call : ℕ) (lane : Lane) (packet : Pa
         waits = λ other number. if_masked (was_handed new other number) (was_handed old other number) (find (is_call other number) new.held) (find (is_call other number) old.held)
             (λ below. let less : number < handed_of old other = ltb-true _ _ below in let up = grows other in lt-ltb _ _ (omega arith))
             (λ past. held_same other number (is_call other number packet) refl (ltb-false _ _ past));
+        notes = λ other. rw notes refl;
       }

@@ -1,7 +1,8 @@
 -- What an inbox holds, and what its calls do.
-use Rattle.std.specs.Prelude.{◌≡◌, ℕ, ◌+◌, ◌*◌, ◌≤◌, ◌==◌, ◌&&◌, ◌||◌, nat_lt, List, find, sum_by, Option, None, Some, is_some, Bool, if◌then◌else◌}
+use Rattle.std.specs.Prelude.{◌≡◌, ℕ, ◌+◌, ◌*◌, ◌≤◌, ◌==◌, ◌&&◌, ◌||◌, nat_lt, List, find, sum_by, Option, None, Some, is_some, Bool, true, if◌then◌else◌, slice_index_or}
 use Rattle.std.specs.Option.{option_map_or}
 use Rattle.act_types.specs.declared.message.Packet.{Packet}
+use Rattle.act_types.specs.declared.message.ReleaseNote.{ReleaseNote}
 use Rattle.act_rules.specs.declared.outcome.Arrival.{Arrival}
 use Rattle.act_rules.specs.declared.outcome.Arrival.TheVariants.{New, Repeat, Stranger}
 use Rattle.act_rules.specs.History.{contains}
@@ -40,6 +41,10 @@ handed_in_all inbox = sum_by (λ lane. lane.handed) inbox.lanes
 abbrev pub was_handed : InboxValue → ℕ → ℕ → Bool
 was_handed inbox caller number = nat_lt number (handed_of inbox caller)
 
+-- how many calls the caller's release note tells, if it came
+abbrev pub note_of : InboxValue → ℕ → Option ℕ
+note_of inbox caller = slice_index_or inbox.notes caller None
+
 -- the packet of a call, if it came and was not handed out
 abbrev pub waiting : InboxValue → ℕ → ℕ → Option Packet
 waiting inbox caller number = if was_handed inbox caller number then None else find (is_call caller number) inbox.held
@@ -59,18 +64,36 @@ arrival_of inbox packet =
     then (if came inbox packet.caller packet.number then Repeat else New)
     else Stranger
 
+-- what a release note is to the inbox: the first of a listed caller is new, whatever it tells
+abbrev pub note_arrival : InboxValue → ReleaseNote → Arrival
+note_arrival inbox note =
+    if is_listed inbox note.caller
+    then (if is_some (note_of inbox note.caller) then Repeat else New)
+    else Stranger
+
 -- the packet of a call after another packet came
 abbrev pub waiting_after : Arrival → Packet → InboxValue → ℕ → ℕ → Option Packet
 waiting_after New packet inbox caller number = if is_call caller number packet then Some packet else waiting inbox caller number
 waiting_after Repeat packet inbox caller number = waiting inbox caller number
 waiting_after Stranger packet inbox caller number = waiting inbox caller number
 
--- exactly these callers are listed, no call was handed out, and none waits
+-- what a caller's release note tells after a note came
+abbrev pub note_after : Arrival → ReleaseNote → InboxValue → ℕ → Option ℕ
+note_after New note inbox caller = if caller == note.caller then Some note.after else note_of inbox caller
+note_after Repeat note inbox caller = note_of inbox caller
+note_after Stranger note inbox caller = note_of inbox caller
+
+-- each caller's release note came, and as many of its calls were handed out as the note tells
+abbrev pub IsDrained : InboxValue → Type 0
+IsDrained inbox = (caller : ℕ) → is_listed inbox caller ≡ true → note_of inbox caller ≡ Some (handed_of inbox caller)
+
+-- exactly these callers are listed, no call was handed out, none waits, and no release note came
 pub record IsOpened (callers : List ℕ) (inbox : InboxValue) : Type 0 where
   pub listed : (caller : ℕ) → is_listed inbox caller ≡ contains caller callers
   pub handed : (caller : ℕ) → handed_of inbox caller ≡ 0
   pub in_all : handed_in_all inbox ≡ 0
   pub waits : (caller number : ℕ) → waiting inbox caller number ≡ None
+  pub notes : (caller : ℕ) → note_of inbox caller ≡ None
 
 -- the caller's next call was handed out, and nothing else changed
 pub record IsNextTaken (caller : ℕ) (packet : Packet) (old new : InboxValue) : Type 0 where
@@ -81,3 +104,4 @@ pub record IsNextTaken (caller : ℕ) (packet : Packet) (old new : InboxValue) :
   pub in_all : handed_in_all new ≡ handed_in_all old + 1
   pub bound : handed_in_all new ≤ 16 * 65536
   pub waits : (other number : ℕ) → waiting new other number ≡ (if was_handed new other number then None else waiting old other number)
+  pub notes : (other : ℕ) → note_of new other ≡ note_of old other

@@ -1,16 +1,20 @@
 //! The calls that an actor holds.
 
-ghost use Rattle.std.specs.Prelude.{◌≡◌, ◌≢◌, ℕ, ◌≤◌, ◌==◌, All, AllPairs, map, position, is_some, IfOk, OnOk, IfErr, OnErr, IfSome, IfNone, option_copied};
+ghost use Rattle.std.specs.Prelude.{◌≡◌, ◌≢◌, ℕ, None, Some, slice_index_or, ◌≤◌, ◌==◌, All, AllPairs, map, position, is_some, IfOk, OnOk, IfErr, OnErr, IfSome, IfNone, option_copied};
 ghost use Rattle.act_rules.specs.declared.outcome.Arrival.TheVariants.{New};
-ghost use Rattle.act_inbox.specs.Inbox.{InboxValue, is_lane_of, is_call, lane_at_first, handed_of, waiting, next_of, arrival_of, waiting_after, IsOpened, IsNextTaken};
+ghost use Rattle.std.specs.Bool.{Decides};
+ghost use Rattle.act_inbox.specs.Inbox.{InboxValue, is_lane_of, is_call, lane_at_first, is_listed, handed_of, note_of, waiting, next_of, arrival_of, note_arrival, waiting_after, note_after, IsOpened, IsNextTaken, IsDrained};
 
 use act_rules::Arrival;
-use act_types::{CallerId, NoMemory, Packet};
+use act_types::{CallerId, NoMemory, Packet, ReleaseNote};
 use std::alloc::{AllocError, Global};
 use std::marker::Model;
 
 /// Each call of a caller has a number below this.
 const MOST_CALLS: u32 = 65536;
+
+/// Each caller has a number below this.
+const CALLER_NUMBERS: usize = 17;
 
 /// How many calls of a caller were handed out.
 #[derive(Clone, Copy)]
@@ -19,11 +23,13 @@ struct Lane {
     handed: u32,
 }
 
-/// The calls that came and were not handed out, and for each caller how many were.
+/// The calls that came and were not handed out, for each caller how many were, and by the callers'
+/// numbers what their release notes tell.
 #[derive(Drop)]
 pub struct Inbox {
     lanes: Vec<Lane>,
     held: Vec<Packet>,
+    notes: [Option<u32>; CALLER_NUMBERS],
 }
 
 impl Model for Inbox {
@@ -31,7 +37,7 @@ impl Model for Inbox {
 
     ghost Value = { InboxValue };
 
-    ghost view = { λ inbox. record { lanes = inbox.lanes.items; held = inbox.held.items } };
+    ghost view = { λ inbox. record { lanes = inbox.lanes.items; held = inbox.held.items; notes = inbox.notes } };
 
     ghost invariant = { λ inbox. IsInbox inbox.lanes.items inbox.held.items };
 }
@@ -67,6 +73,13 @@ fn place_of_call(held: &[Packet], caller: CallerId, number: u32) -> Option<usize
     held.iter().position(|packet| packet.caller == caller && packet.number == number)
 }
 
+/// Whether each lane's caller left a note of as many calls as were handed out.
+fn are_done(lanes: &[Lane], notes: &[Option<u32>; CALLER_NUMBERS]) -> bool
+    ensures { Decides result (All (λ lane. slice_index_or notes.now lane.caller None ≡ Some lane.handed) lanes.now) }
+{
+    lanes.iter().all(|lane| notes[lane.caller.number() as usize] == Some(lane.handed))
+}
+
 impl Inbox {
     /// An inbox for the calls of these callers.
     pub fn open(alloc: Global, callers: &[CallerId]) -> Result<Inbox, NoMemory>
@@ -76,6 +89,7 @@ impl Inbox {
         Ok(Inbox {
             lanes: lanes_of(alloc, callers)?,
             held: Vec::new(alloc),
+            notes: [None; CALLER_NUMBERS],
         })
     }
 
@@ -83,6 +97,7 @@ impl Inbox {
     pub fn arrive(&mut self, packet: Packet) -> Result<Arrival, Packet>
         ensures arrival { IfOk result (λ arrival. arrival ≡ arrival_of self.old packet) }
         ensures lanes { self.new.lanes ≡ self.old.lanes }
+        ensures notes { self.new.notes ≡ self.old.notes }
         ensures waiting { IfOk result (λ arrival. (caller number : ℕ) → waiting self.new caller number ≡ waiting_after arrival packet self.old caller number) }
         // Memory is asked for where the packet is new, and there alone.
         ensures last { OnErr result (arrival_of self.old packet ≡ New) }
@@ -116,6 +131,38 @@ impl Inbox {
             Some(_) => Arrival::Repeat,
             None => Arrival::New,
         }
+    }
+
+    /// Whether the caller is one of those whose calls it takes.
+    fn lists(&self, caller: CallerId) -> bool
+        ensures { result ≡ is_listed self.now caller }
+    {
+        place_of_lane(&self.lanes, caller).is_some()
+    }
+
+    /// Takes in that a caller's last handle copy is gone. Only its first note counts.
+    pub fn released(&mut self, note: ReleaseNote) -> Arrival
+        ensures arrival { result ≡ note_arrival self.old note }
+        ensures calls { (self.new.lanes ≡ self.old.lanes) × (self.new.held ≡ self.old.held) }
+        ensures notes { (caller : ℕ) → note_of self.new caller ≡ note_after result note self.old caller }
+        ensures unless_new { result ≢ New → self.new ≡ self.old }
+    {
+        if !self.lists(note.caller) {
+            return Arrival::Stranger;
+        }
+        let number = note.caller.number() as usize;
+        if self.notes[number].is_some() {
+            return Arrival::Repeat;
+        }
+        self.notes[number] = Some(note.after);
+        Arrival::New
+    }
+
+    /// Whether each caller's note came, and all calls of which it tells were handed out.
+    pub fn drained(&self) -> bool
+        ensures { Decides result (IsDrained self.now) }
+    {
+        are_done(&self.lanes, &self.notes)
     }
 
     /// Whether the caller's next call came.

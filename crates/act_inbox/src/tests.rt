@@ -1,7 +1,7 @@
 //! The order in which calls come, and in which they are handed out.
 
 use crate::{Arrival, Inbox};
-use act_types::{ActorId, CallerId, FutureId, ListOf, Method, Packet};
+use act_types::{ActorId, CallerId, FutureId, ListOf, Method, Packet, ReleaseNote};
 use std::test::Fail;
 
 #[test]
@@ -35,6 +35,19 @@ fn first_arrivals_in_order(rt: HostRuntime) -> Result<(), Fail> {
         let taken = inbox.next(c1).map(|packet| packet.method);
         assert_eq!(rt; (shown, taken), (wanted, wanted));
         assert_eq!(rt; inbox.handed(c1), 1);
+    }
+    for (caller, after, arrival, drained) in [
+        (c9, 1, Arrival::Stranger, false),
+        (c1, 1, Arrival::New, true),
+        (c1, 2, Arrival::Repeat, true),
+    ] {
+        let note = ReleaseNote {
+            caller,
+            actor,
+            after,
+        };
+        assert_eq!(rt; inbox.released(note), arrival);
+        assert_eq!(rt; inbox.drained(), drained);
     }
     Ok(())
 }
