@@ -106,6 +106,13 @@ impl Handles {
         Ok(place)
     }
 
+    /// Why the actor's handle can't be used, if it can't.
+    pub fn refusal(&self, actor: ActorId) -> Option<HandleRefusal>
+        ensures { result ≡ handle_refusal (copies_in actor self.now) }
+    {
+        self.held(actor).err()
+    }
+
     /// How many numbers were given in all.
     fn given(&self) -> u32
         ensures { result ≡ given_of_all self.now }

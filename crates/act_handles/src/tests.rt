@@ -39,6 +39,9 @@ fn from_the_opening_to_the_last_release(rt: HostRuntime) -> Result<(), Fail> {
         assert_eq!(rt; told(&mut handles, ask), want, "at {ask:?}");
     }
     assert_eq!(rt; handles.holds(a1), 0);
+    for (actor, want) in [(a1, HandleRefusal::NoHandle), (a2, HandleRefusal::NoActor)] {
+        assert_eq!(rt; handles.refusal(actor), Some(want));
+    }
     Ok(())
 }
 

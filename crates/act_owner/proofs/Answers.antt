@@ -3,6 +3,7 @@ use Rattle.std.proofs.Common.{◌≡◌, ℕ, zero, suc, ◌+◌, ◌==◌, ◌&
 use Rattle.std.specs.Prelude.{slice_get, slice_set, zip, nat_eq}
 use Rattle.std.specs.List.{list_all}
 use Rattle.std.proofs.lemmas.Bool.{ne_eqb}
+use Rattle.std.proofs.lemmas.List.{map-set}
 use Rattle.std.proofs.lemmas.List.Sums.{sum_by-cons}
 use Rattle.act_types.specs.declared.fault.Fault.TheVariants.{ActorDied}
 use Rattle.act_rules.specs.declared.history.Submission.{Submission}
@@ -15,8 +16,10 @@ use Rattle.act_owner.specs.declared.owner.Call.{Call}
 use Rattle.act_types.specs.declared.message.Reply.{Reply}
 use Rattle.act_handles.specs.Handles.{copies_in}
 use Rattle.act_owner.specs.declared.owner.Collected.TheVariants.{First, Late, Stray, Died}
-use Rattle.act_owner.specs.Owner.{OwnerValue, is_of_call, with_answer as owner_with_answer, after_reply_that, after_reply, with_death, collected_death, after_death, submission_of, answers_of, answered_row, waits_for, answer_after_death, IsOwner}
-use Rattle.act_owner.proofs.Calls.{get_last}
+use Rattle.act_owner.specs.Owner.{OwnerValue, is_of_call, with_answer as owner_with_answer, after_reply_that, after_reply, with_death, with_sent, collected_death, after_death, submission_of, answers_of, answered_row, waits_for, answer_after_death, IsTold, IsOwner}
+use Rattle.act_resolver.specs.Resolver.{Entered, with_told, with_sent as with_sent_entered}
+use Rattle.act_owner.proofs.Calls.{get_last, set_last}
+use Rattle.act_owner.proofs.Waiting.{seen, read_stays, read_set}
 
 answered_cases : (answer : Option Answer) (n : ℕ) (rest : Bool) → nat_eq n 0 ≡ rest → nat_eq (cond (not (is_some answer)) 1 0 + n) 0 ≡ (is_some answer && rest)
 answered_cases None n rest e = ne_eqb (1 + n) 0 (λ same. omega (arith, same))
@@ -28,10 +31,6 @@ all_answered [] = refl
 all_answered (row ∷ rows) =
     ap (λ n. nat_eq n 0) (sum_by-cons (λ (r : Row). cond (is_open r) 1 0) row rows)
     ∙ answered_cases row.answer (count_by is_open rows) (list_all is_some (answers_of rows)) (all_answered rows)
-
-set_last : {X : Type 0} (xs : List X) (x y : X) → slice_set (xs ++ x ∷ []) (length xs) y ≡ xs ++ y ∷ []
-set_last [] x y = refl
-set_last (z ∷ xs) x y = ap (λ rest. z ∷ rest) (set_last xs x y)
 
 -- a new future that is answered at once
 pub keep_last : (rows : List Row) (a : ℕ) → after_keep (length rows) (Err ActorDied) (rows ++ unanswered_row a ∷ []) ≡ rows ++ answered_row a true ∷ []
@@ -73,22 +72,42 @@ actors-after_death a (row ∷ rows) =
     ap (λ n. n ∷ map (λ (r : Row). r.actor) (rows_after_death a rows)) (elim (row_waits_for a row) as (λ b. (if b then with_answer (Err ActorDied) row else row).actor ≡ row.actor) [ true ↦ refl | false ↦ refl ])
     ∙ ap (λ rest. row.actor ∷ rest) (actors-after_death a rows)
 
-with_rows : (handles : List Handle) (calls : List Call) (rows new : List Row) (sent : List Bool) → IsOwner handles calls rows sent → map (λ row. row.actor) new ≡ map (λ row. row.actor) rows → IsOwner handles calls new sent
-with_rows handles calls rows new sent fine same = record {
+with_answers : (handles : List Handle) (calls : List Call) (rows new : List Row) (entered entered2 : List Entered) → IsOwner handles calls rows entered → map (λ row. row.actor) new ≡ map (λ row. row.actor) rows → map (λ call. call.futures) entered2 ≡ map (λ call. call.futures) entered → IsTold entered2 new → IsOwner handles calls new entered2
+with_answers handles calls rows new entered entered2 fine same waits told = record {
   numbered = fine.numbered;
   actors = same ∙ fine.actors;
-  marks = fine.marks;
+  waits = waits ∙ fine.waits;
+  told = told;
   given = fine.given;
   given_in_all = fine.given_in_all;
   few = fine.few;
 }
 
--- a caller after an answer, and after a death
-pub kept_fine : (k : ℕ) (answer : Answer) (handles : List Handle) (calls : List Call) (rows new : List Row) (sent : List Bool) → IsOwner handles calls rows sent → new ≡ after_keep k answer rows → IsOwner handles calls new sent
-kept_fine k answer handles calls rows new sent fine is = with_rows handles calls rows new sent fine (ap (map (λ (r : Row). r.actor)) is ∙ actors-after_keep k answer rows)
+is_answered-map : (rows : List Row) → map (λ row. is_some row.answer) rows ≡ map is_some (answers_of rows)
+is_answered-map [] = refl
+is_answered-map (row ∷ rows) = ap (λ rest. is_some row.answer ∷ rest) (is_answered-map rows)
 
-pub died_fine : (a : ℕ) (handles : List Handle) (calls : List Call) (rows new : List Row) (sent : List Bool) → IsOwner handles calls rows sent → new ≡ rows_after_death a rows → IsOwner handles calls new sent
-died_fine a handles calls rows new sent fine is = with_rows handles calls rows new sent fine (ap (map (λ (r : Row). r.actor)) is ∙ actors-after_death a rows)
+-- a caller after a call was sent
+pub sent_fine : (k : ℕ) (handles : List Handle) (calls : List Call) (rows : List Row) (entered entered2 : List Entered) → IsOwner handles calls rows entered → entered2 ≡ with_sent_entered entered k → IsOwner handles calls rows entered2
+sent_fine k handles calls rows entered entered2 fine is =
+    rw is (with_answers handles calls rows rows entered (with_sent_entered entered k) fine refl (read_stays (λ (call : Entered). call.futures) (λ (call : Entered). record call { sent = true }) (λ _. refl) entered k) (read_stays (λ (call : Entered). call.told) (λ (call : Entered). record call { sent = true }) (λ _. refl) entered k ∙ fine.told))
+
+-- a caller after an answer
+pub kept_fine : (k : ℕ) (answer : Answer) (handles : List Handle) (calls : List Call) (rows new : List Row) (entered entered2 : List Entered) → IsOwner handles calls rows entered → is_some (kept_at (answers_of rows) k) ≡ false → new ≡ after_keep k answer rows → entered2 ≡ with_told entered k → IsOwner handles calls new entered2
+kept_fine k answer handles calls rows new entered entered2 fine none is told =
+    rw (is, told) (with_answers handles calls rows (after_keep k answer rows) entered (with_told entered k) fine
+    (actors-after_keep k answer rows)
+    (read_stays (λ (call : Entered). call.futures) (λ (call : Entered). record call { told = true }) (λ _. refl) entered k)
+    (read_set (λ (call : Entered). call.told) (λ (call : Entered). record call { told = true }) true (λ _. refl) entered k
+    ∙ ap (λ (flags : List Bool). slice_set flags k true) (fine.told ∙ is_answered-map rows)
+    ∙ sym (map-set is_some (answers_of rows) k (Some answer))
+    ∙ ap (map is_some) (sym (keep_open k answer rows none))
+    ∙ sym (is_answered-map (after_keep k answer rows))))
+
+-- a caller after a death
+pub died_fine : (a : ℕ) (handles : List Handle) (calls : List Call) (rows new : List Row) (entered entered2 : List Entered) → IsOwner handles calls rows entered → new ≡ rows_after_death a rows → map (λ call. call.futures) entered2 ≡ map (λ call. call.futures) entered → IsTold entered2 (rows_after_death a rows) → IsOwner handles calls new entered2
+died_fine a handles calls rows new entered entered2 fine is waits told =
+    rw is (with_answers handles calls rows (rows_after_death a rows) entered entered2 fine (actors-after_death a rows) waits told)
 
 -- whether a future waits for its actor, by its call and by its row
 waits_same : (a : ℕ) (row : Row) (call : Call) → row.actor ≡ call.actor → row_waits_for a row ≡ waits_for a (submission_of call, row.answer)
@@ -121,37 +140,40 @@ died_count a (row ∷ rows) (call ∷ calls) same =
       died_count a rows calls (ap (drop 1) same),
     )
 
--- one caller, seen through its parts
-abbrev seen : ℕ → List Handle → List Call → List Row → List Bool → List Bool → OwnerValue
-seen id handles calls rows sent dead = record { id = id; handles = handles; calls = map submission_of calls; sent = sent; kept = answers_of rows; dead = dead }
-
 reply_cases : (mine known : Bool) (owner : OwnerValue) (reply : Reply) → mine ≡ true → known ≡ false → owner_with_answer owner reply.future reply.answer ≡ after_reply_that (if mine then (if known then Late reply.future else First reply.future) else Stray) owner reply
 reply_cases true false owner reply m n = refl
 reply_cases true true owner reply m n = absurd (cc n)
 reply_cases false known owner reply m n = absurd (cc m)
 
 -- a caller after the first answer of a future
-pub reply_kept : (id : ℕ) (handles : List Handle) (calls : List Call) (rows new : List Row) (sent dead : List Bool) (now : OwnerValue) (reply : Reply) → seen id handles calls rows sent dead ≡ now → new ≡ after_keep reply.future reply.answer rows → is_of_call now reply ≡ true → is_some (kept_at now.kept reply.future) ≡ false → seen id handles calls new sent dead ≡ after_reply now reply
-reply_kept id handles calls rows new sent dead now reply same is mine unknown =
+pub reply_kept : (id : ℕ) (handles : List Handle) (calls : List Call) (rows new : List Row) (entered entered2 : List Entered) (dead : List Bool) (now : OwnerValue) (reply : Reply) → seen id handles calls rows entered dead ≡ now → new ≡ after_keep reply.future reply.answer rows → entered2 ≡ with_told entered reply.future → is_of_call now reply ≡ true → is_some (kept_at now.kept reply.future) ≡ false → seen id handles calls new entered2 dead ≡ after_reply now reply
+reply_kept id handles calls rows new entered entered2 dead now reply same is told mine unknown =
     let before : is_some (kept_at (answers_of rows) reply.future) ≡ false = ap (λ (owner : OwnerValue). is_some (kept_at owner.kept reply.future)) same ∙ unknown in
-    ap (λ (kept : List (Option Answer)). record (seen id handles calls rows sent dead) { kept = kept }) (ap answers_of is ∙ keep_open reply.future reply.answer rows before)
+    ap (λ (sent : List Bool). record (seen id handles calls new entered dead) { sent = sent }) (ap (map (λ (call : Entered). call.sent)) told ∙ read_stays (λ (call : Entered). call.sent) (λ (call : Entered). record call { told = true }) (λ _. refl) entered reply.future)
+    ∙ ap (λ (kept : List (Option Answer)). record (seen id handles calls rows entered dead) { kept = kept }) (ap answers_of is ∙ keep_open reply.future reply.answer rows before)
     ∙ ap (λ (owner : OwnerValue). owner_with_answer owner reply.future reply.answer) same
     ∙ reply_cases (is_of_call now reply) (is_some (kept_at now.kept reply.future)) now reply mine unknown
 
+-- a caller after a call was sent
+pub sent_marked : (id : ℕ) (handles : List Handle) (calls : List Call) (rows : List Row) (entered entered2 : List Entered) (dead : List Bool) (now : OwnerValue) (k : ℕ) → seen id handles calls rows entered dead ≡ now → entered2 ≡ with_sent_entered entered k → seen id handles calls rows entered2 dead ≡ with_sent now k
+sent_marked id handles calls rows entered entered2 dead now k same is =
+    ap (λ (sent : List Bool). record (seen id handles calls rows entered dead) { sent = sent }) (ap (map (λ (call : Entered). call.sent)) is ∙ read_set (λ (call : Entered). call.sent) (λ (call : Entered). record call { sent = true }) true (λ _. refl) entered k)
+    ∙ ap (λ (owner : OwnerValue). with_sent owner k) same
+
 -- what the death of a caller's actor tells
-pub death_told : (id : ℕ) (handles : List Handle) (calls : List Call) (rows : List Row) (sent dead : List Bool) (now : OwnerValue) (a n : ℕ) → seen id handles calls rows sent dead ≡ now → map (λ row. row.actor) rows ≡ map (λ call. call.actor) calls → is_some (copies_in a handles) ≡ true → n ≡ count_by (row_waits_for a) rows → Died n ≡ collected_death now a
-death_told id handles calls rows sent dead now a n same actors listed count =
+pub death_told : (id : ℕ) (handles : List Handle) (calls : List Call) (rows : List Row) (entered : List Entered) (dead : List Bool) (now : OwnerValue) (a n : ℕ) → seen id handles calls rows entered dead ≡ now → map (λ row. row.actor) rows ≡ map (λ call. call.actor) calls → is_some (copies_in a now.handles) ≡ true → n ≡ count_by (row_waits_for a) rows → Died n ≡ collected_death now a
+death_told id handles calls rows entered dead now a n same actors listed count =
     ap Died (count ∙ died_count a rows calls actors)
-    ∙ sym (ap (λ b. if b then Died (count_by (waits_for a) (zip (map submission_of calls) (answers_of rows))) else Stray) listed)
-    ∙ ap (λ (owner : OwnerValue). collected_death owner a) same
+    ∙ ap (λ (owner : OwnerValue). Died (count_by (waits_for a) (zip owner.calls owner.kept))) same
+    ∙ sym (ap (λ b. if b then Died (count_by (waits_for a) (zip now.calls now.kept)) else Stray) listed)
 
 -- a caller after the death of one of its actors
-pub death_kept : (id : ℕ) (handles handles2 : List Handle) (calls : List Call) (rows new : List Row) (sent dead : List Bool) (now : OwnerValue) (a number : ℕ) → seen id handles calls rows sent dead ≡ now → map (λ row. row.actor) rows ≡ map (λ call. call.actor) calls → is_some (copies_in a handles) ≡ true → handles2 ≡ handles → new ≡ rows_after_death a rows → number ≡ a → seen id handles2 calls new sent (slice_set dead number true) ≡ after_death now a
-death_kept id handles handles2 calls rows new sent dead now a number same actors listed unchanged is here =
-    let before = seen id handles calls rows sent dead in
-    ap (λ (hs : List Handle). seen id hs calls new sent (slice_set dead number true)) unchanged
-    ∙ ap (λ (rs : List Row). seen id handles calls rs sent (slice_set dead number true)) is
-    ∙ ap (λ b. seen id handles calls (rows_after_death a rows) sent (slice_set dead b true)) here
+pub death_kept : (id : ℕ) (handles : List Handle) (calls : List Call) (rows new : List Row) (entered entered2 : List Entered) (dead : List Bool) (now : OwnerValue) (a number : ℕ) → seen id handles calls rows entered dead ≡ now → map (λ row. row.actor) rows ≡ map (λ call. call.actor) calls → is_some (copies_in a now.handles) ≡ true → new ≡ rows_after_death a rows → map (λ call. call.sent) entered2 ≡ map (λ call. call.sent) entered → number ≡ a → seen id handles calls new entered2 (slice_set dead number true) ≡ after_death now a
+death_kept id handles calls rows new entered entered2 dead now a number same actors listed is sent here =
+    let before = seen id handles calls rows entered dead in
+    ap (λ (flags : List Bool). record (seen id handles calls new entered (slice_set dead number true)) { sent = flags }) sent
+    ∙ ap (λ (rs : List Row). seen id handles calls rs entered (slice_set dead number true)) is
+    ∙ ap (λ b. seen id handles calls (rows_after_death a rows) entered (slice_set dead b true)) here
     ∙ ap (λ (kept : List (Option Answer)). record before { kept = kept; dead = slice_set dead a true }) (died_answers a rows calls actors)
-    ∙ sym (ap (λ b. if b then with_death before a else before) listed)
-    ∙ ap (λ (owner : OwnerValue). after_death owner a) same
+    ∙ ap (λ (owner : OwnerValue). with_death owner a) same
+    ∙ sym (ap (λ b. if b then with_death now a else now) listed)

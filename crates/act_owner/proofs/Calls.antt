@@ -1,6 +1,6 @@
 -- Handles and calls: what a copy, a number and a new call leave.
 use Rattle.std.proofs.Common.{◌≡◌, ℕ, zero, suc, ◌+◌, ◌-◌, ◌<◌, ◌≤◌, ◌==◌, Bool, true, false, List, [], ◌∷◌, ◌++◌, length, map, filter, Option, Some, None, is_some, Result, Ok, Err, OnOk, OnErr, inl, inr, refl, sym, ◌∙◌, ap, arith}
-use Rattle.std.specs.Prelude.{slice_get, option_map, nat_lt}
+use Rattle.std.specs.Prelude.{slice_get, slice_set, option_map, nat_lt}
 use Rattle.std.proofs.lemmas.List.{map-append, length-append, length-map, take_all, take-append-le}
 use Rattle.std.proofs.lemmas.List.Elements.{filter-append}
 use Rattle.std.proofs.lemmas.List.Sums.{sum_by-cons}
@@ -16,8 +16,9 @@ use Rattle.act_handles.specs.declared.handles.Handle.{Handle}
 use Rattle.act_handles.specs.Handles.{changed, copies_in, given_in, given_of_all, numbered, or_else, opened, with_copy, with_number, without_copy}
 use Rattle.act_handles.proofs.Lookups.{given-with_copy, given-without_copy, given-with_number, given-with_number-other, given-opened, given_of_all-opened}
 use Rattle.act_replies.specs.declared.table.Row.{Row}
+use Rattle.act_resolver.specs.Resolver.{Entered}
 use Rattle.act_owner.specs.declared.owner.Call.{Call}
-use Rattle.act_owner.specs.Owner.{call_at, numbered_call, submission_of, answered_row, IsOwner}
+use Rattle.act_owner.specs.Owner.{call_at, numbered_call, submission_of, futures_of, first_answer, answered_row, entered_call, IsOwner}
 
 -- a change that keeps the numbers given keeps their sum
 given_of_all-changed : (a : ℕ) (change : Handle → Handle) → ((handle : Handle) → (change handle).given ≡ handle.given) → (handles : List Handle) → given_of_all (changed a change handles) ≡ given_of_all handles
@@ -29,41 +30,43 @@ given_of_all-changed a change same (handle ∷ handles) =
     ]
 
 -- handles of which the numbers given stay the same
-same_given : (handles new : List Handle) (calls : List Call) (rows : List Row) (sent : List Bool) → ((b : ℕ) → given_in b new ≡ given_in b handles) → given_of_all new ≡ given_of_all handles → IsOwner handles calls rows sent → IsOwner new calls rows sent
-same_given handles new calls rows sent each all fine = record {
+same_given : (handles new : List Handle) (calls : List Call) (rows : List Row) (entered : List Entered) → ((b : ℕ) → given_in b new ≡ given_in b handles) → given_of_all new ≡ given_of_all handles → IsOwner handles calls rows entered → IsOwner new calls rows entered
+same_given handles new calls rows entered each all fine = record {
   numbered = fine.numbered;
   actors = fine.actors;
-  marks = fine.marks;
+  waits = fine.waits;
+  told = fine.told;
   given = λ b. each b ∙ fine.given b;
   given_in_all = all ∙ fine.given_in_all;
   few = fine.few;
 }
 
 -- a caller after a copy of a handle, or after none
-pub copied_fine : (a : ℕ) (result : Result ℕ HandleRefusal) (handles new : List Handle) (calls : List Call) (rows : List Row) (sent : List Bool) → OnOk result (new ≡ with_copy a handles) → OnErr result (new ≡ handles) → IsOwner handles calls rows sent → IsOwner new calls rows sent
-copied_fine a (Ok copies) handles new calls rows sent ok err fine =
-    rw ok (same_given handles (with_copy a handles) calls rows sent (λ b. given-with_copy a b handles) (given_of_all-changed a (λ (handle : Handle). record handle { copies = handle.copies + 1 }) (λ _. refl) handles) fine)
-copied_fine a (Err refusal) handles new calls rows sent ok err fine = rw err fine
+pub copied_fine : (a : ℕ) (result : Result ℕ HandleRefusal) (handles new : List Handle) (calls : List Call) (rows : List Row) (entered : List Entered) → OnOk result (new ≡ with_copy a handles) → OnErr result (new ≡ handles) → IsOwner handles calls rows entered → IsOwner new calls rows entered
+copied_fine a (Ok copies) handles new calls rows entered ok err fine =
+    rw ok (same_given handles (with_copy a handles) calls rows entered (λ b. given-with_copy a b handles) (given_of_all-changed a (λ (handle : Handle). record handle { copies = handle.copies + 1 }) (λ _. refl) handles) fine)
+copied_fine a (Err refusal) handles new calls rows entered ok err fine = rw err fine
 
 -- the same of a release
-pub released_fine : (a : ℕ) (result : Result (Option ℕ) HandleRefusal) (handles new : List Handle) (calls : List Call) (rows : List Row) (sent : List Bool) → OnOk result (new ≡ without_copy a handles) → OnErr result (new ≡ handles) → IsOwner handles calls rows sent → IsOwner new calls rows sent
-released_fine a (Ok after) handles new calls rows sent ok err fine =
-    rw ok (same_given handles (without_copy a handles) calls rows sent (λ b. given-without_copy a b handles) (given_of_all-changed a (λ (handle : Handle). record handle { copies = handle.copies - 1 }) (λ _. refl) handles) fine)
-released_fine a (Err refusal) handles new calls rows sent ok err fine = rw err fine
+pub released_fine : (a : ℕ) (result : Result (Option ℕ) HandleRefusal) (handles new : List Handle) (calls : List Call) (rows : List Row) (entered : List Entered) → OnOk result (new ≡ without_copy a handles) → OnErr result (new ≡ handles) → IsOwner handles calls rows entered → IsOwner new calls rows entered
+released_fine a (Ok after) handles new calls rows entered ok err fine =
+    rw ok (same_given handles (without_copy a handles) calls rows entered (λ b. given-without_copy a b handles) (given_of_all-changed a (λ (handle : Handle). record handle { copies = handle.copies - 1 }) (λ _. refl) handles) fine)
+released_fine a (Err refusal) handles new calls rows entered ok err fine = rw err fine
 
 -- a caller at its opening
 pub opened_fine : (actors : List ℕ) → IsOwner (map opened actors) [] [] []
 opened_fine actors = record {
   numbered = λ k. refl;
   actors = refl;
-  marks = refl;
+  waits = refl;
+  told = refl;
   given = λ a. given-opened a actors;
   given_in_all = given_of_all-opened actors;
   few = omega arith;
 }
 
 -- what stands in a list with one item more
-get_before : {X : Type 0} (xs : List X) (x : X) (k : ℕ) → k < length xs → slice_get (xs ++ x ∷ []) k ≡ slice_get xs k
+pub get_before : {X : Type 0} (xs : List X) (x : X) (k : ℕ) → k < length xs → slice_get (xs ++ x ∷ []) k ≡ slice_get xs k
 get_before [] x k below = absurd (omega arith)
 get_before (y ∷ xs) x zero below = refl
 get_before (y ∷ xs) x (suc k) below = get_before xs x k (omega arith)
@@ -72,7 +75,11 @@ pub get_last : {X : Type 0} (xs : List X) (x : X) → slice_get (xs ++ x ∷ [])
 get_last [] x = refl
 get_last (y ∷ xs) x = get_last xs x
 
-number_of-more : (a k : ℕ) (calls : List Submission) (call : Submission) → k ≤ length calls → number_of a k (calls ++ call ∷ []) ≡ number_of a k calls
+pub set_last : {X : Type 0} (xs : List X) (x y : X) → slice_set (xs ++ x ∷ []) (length xs) y ≡ xs ++ y ∷ []
+set_last [] x y = refl
+set_last (z ∷ xs) x y = ap (λ rest. z ∷ rest) (set_last xs x y)
+
+pub number_of-more : (a k : ℕ) (calls : List Submission) (call : Submission) → k ≤ length calls → number_of a k (calls ++ call ∷ []) ≡ number_of a k calls
 number_of-more a k calls call within = ap (λ (front : List Submission). length (filter (λ c. c.actor == a) front)) (take-append-le k calls (call ∷ []) within)
 
 -- an earlier call stays as it was
@@ -141,9 +148,14 @@ number_facts a n handles e =
     let facts = number_cases (is_some (copies_in a handles)) (nat_lt 0 (copies_held (copies_in a handles))) (nat_lt (given_of_all handles) 65536) (given_in a handles) n e in
     (facts.0, elim (leb_tells (suc (given_of_all handles)) 65536) [ inl t ↦ t.1 | inr f ↦ absurd (cc (f.0, facts.1)) ], facts.2)
 
+-- a new call has an answer where its actor is dead
+dead_answered : (is_dead : Bool) → is_dead ≡ is_some (first_answer is_dead)
+dead_answered true = refl
+dead_answered false = refl
+
 -- a caller after a new call
-added_fine : (a n : ℕ) (method : Method) (args : List Arg) (is_dead : Bool) (handles : List Handle) (calls : List Call) (rows : List Row) (sent : List Bool) → IsOwner handles calls rows sent → Ok n ≡ numbered a handles → given_of_all (with_number a handles) ≡ given_of_all handles + 1 → IsOwner (with_number a handles) (calls ++ record { actor = a; number = n; method = method; args = args } ∷ []) (rows ++ answered_row a is_dead ∷ []) (sent ++ false ∷ [])
-added_fine a n method args is_dead handles calls rows sent fine is counted =
+added_fine : (a n : ℕ) (method : Method) (args : List Arg) (is_dead : Bool) (handles : List Handle) (calls : List Call) (rows : List Row) (entered : List Entered) → IsOwner handles calls rows entered → Ok n ≡ numbered a handles → given_of_all (with_number a handles) ≡ given_of_all handles + 1 → IsOwner (with_number a handles) (calls ++ record { actor = a; number = n; method = method; args = args } ∷ []) (rows ++ answered_row a is_dead ∷ []) (entered ++ entered_call args is_dead ∷ [])
+added_fine a n method args is_dead handles calls rows entered fine is counted =
     let call : Call = record { actor = a; number = n; method = method; args = args } in
     let facts = number_facts a n handles is in
     let subs = map submission_of calls in
@@ -152,13 +164,14 @@ added_fine a n method args is_dead handles calls rows sent fine is counted =
     record {
       numbered = λ k. numbered_added calls call fine.numbered number k ∙ ap (λ (l : List Submission). call_at l k) (sym more);
       actors = map-append (λ (row : Row). row.actor) rows (answered_row a is_dead ∷ []) ∙ ap (λ (l : List ℕ). l ++ a ∷ []) fine.actors ∙ sym (map-append (λ (c : Call). c.actor) calls (call ∷ []));
-      marks = omega (arith, fine.marks, length-append sent (false ∷ []), length-append calls (call ∷ []));
+      waits = map-append (λ (c : Entered). c.futures) entered (entered_call args is_dead ∷ []) ∙ ap (λ (l : List (List ℕ)). l ++ futures_of args ∷ []) fine.waits ∙ sym (map-append (λ (c : Call). futures_of c.args) calls (call ∷ []));
+      told = map-append (λ (c : Entered). c.told) entered (entered_call args is_dead ∷ []) ∙ ap (λ (l : List Bool). l ++ is_dead ∷ []) fine.told ∙ ap (λ b. map (λ (row : Row). is_some row.answer) rows ++ b ∷ []) (dead_answered is_dead) ∙ sym (map-append (λ (row : Row). is_some row.answer) rows (answered_row a is_dead ∷ []));
       given = λ b. given_added a b handles subs (submission_of call) refl facts.0 fine.given ∙ ap (λ (l : List Submission). length (filter (λ c. c.actor == b) l)) (sym more);
       given_in_all = omega (arith, counted, fine.given_in_all, length-append calls (call ∷ []));
       few = omega (arith, facts.1, fine.given_in_all, length-append calls (call ∷ []));
     }
 
 -- the same, of parts that were changed one by one
-pub submitted_fine : (a n : ℕ) (method : Method) (args : List Arg) (is_dead : Bool) (handles new : List Handle) (calls calls1 calls2 : List Call) (rows rows1 rows2 : List Row) (sent sent1 sent2 : List Bool) → IsOwner handles calls rows sent → Ok n ≡ numbered a handles → new ≡ with_number a handles → given_of_all new ≡ given_of_all handles + 1 → calls1 ≡ calls → rows1 ≡ rows → sent1 ≡ sent → calls2 ≡ calls1 ++ record { actor = a; number = n; method = method; args = args } ∷ [] → rows2 ≡ rows1 ++ answered_row a is_dead ∷ [] → sent2 ≡ sent1 ++ false ∷ [] → IsOwner new calls2 rows2 sent2
-submitted_fine a n method args is_dead handles new calls calls1 calls2 rows rows1 rows2 sent sent1 sent2 fine is numbers counted calls_same rows_same sent_same more_calls more_rows more_sent =
-    rw (numbers, more_calls, more_rows, more_sent, calls_same, rows_same, sent_same) (added_fine a n method args is_dead handles calls rows sent fine is (ap given_of_all (sym numbers) ∙ counted))
+pub submitted_fine : (a n : ℕ) (method : Method) (args : List Arg) (is_dead : Bool) (handles new : List Handle) (calls calls1 calls2 : List Call) (rows rows1 rows2 : List Row) (entered entered1 entered2 : List Entered) → IsOwner handles calls rows entered → Ok n ≡ numbered a handles → new ≡ with_number a handles → given_of_all new ≡ given_of_all handles + 1 → calls1 ≡ calls → rows1 ≡ rows → entered1 ≡ entered → calls2 ≡ calls1 ++ record { actor = a; number = n; method = method; args = args } ∷ [] → rows2 ≡ rows1 ++ answered_row a is_dead ∷ [] → entered2 ≡ entered1 ++ entered_call args is_dead ∷ [] → IsOwner new calls2 rows2 entered2
+submitted_fine a n method args is_dead handles new calls calls1 calls2 rows rows1 rows2 entered entered1 entered2 fine is numbers counted calls_same rows_same entered_same more_calls more_rows more_entered =
+    rw (numbers, more_calls, more_rows, more_entered, calls_same, rows_same, entered_same) (added_fine a n method args is_dead handles calls rows entered fine is (ap given_of_all (sym numbers) ∙ counted))

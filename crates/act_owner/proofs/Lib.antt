@@ -1,2 +1,5 @@
 pub mod Calls
+pub mod Waiting
+pub mod Deaths
 pub mod Answers
+pub mod Life

@@ -1,9 +1,10 @@
 -- What contracts say of one caller.
-use Rattle.std.specs.Prelude.{◌≡◌, ℕ, ◌≤◌, ◌==◌, Bool, true, false, not, ◌&&◌, if◌then◌else◌, List, [], ◌∷◌, ◌++◌, length, map, zip, replicate, filter, find, count_by, slice_get, slice_set, Option, Some, None, is_some, option_map, unwrap_or, Result, Err}
+use Rattle.std.specs.Prelude.{◌≡◌, ℕ, ◌≤◌, ◌==◌, Bool, true, false, not, ◌&&◌, if◌then◌else◌, List, [], ◌∷◌, ◌++◌, length, map, zip, replicate, filter, filter_map, find, count_by, slice_get, slice_set, Option, Some, None, is_some, option_map, unwrap_or, Result, Err}
 use Rattle.std.specs.List.{list_all, range_with_len}
 use Rattle.act_types.specs.declared.fault.Fault.TheVariants.{ActorDied}
 use Rattle.act_types.specs.declared.call.Method.{Method}
 use Rattle.act_types.specs.declared.call.Arg.{Arg}
+use Rattle.act_types.specs.declared.call.Arg.TheVariants.{Plain, Fut}
 use Rattle.act_types.specs.declared.message.Packet.{Packet}
 use Rattle.act_types.specs.declared.message.Reply.{Reply}
 use Rattle.act_types.specs.declared.message.ReleaseNote.{ReleaseNote}
@@ -19,6 +20,7 @@ use Rattle.act_rules.specs.Submissions.{number_of, kept_at, settled, is_known, c
 use Rattle.act_handles.specs.declared.handles.Handle.{Handle}
 use Rattle.act_handles.specs.Handles.{copies_in, given_in, given_of_all, with_number, or_else, opened as opened_handle}
 use Rattle.act_replies.specs.declared.table.Row.{Row}
+use Rattle.act_resolver.specs.Resolver.{Entered}
 use Rattle.act_owner.specs.declared.owner.Call.{Call}
 use Rattle.act_owner.specs.declared.owner.Collected.{Collected}
 use Rattle.act_owner.specs.declared.owner.Collected.TheVariants.{First, Late, Stray, Died}
@@ -202,11 +204,30 @@ answered_row a is_dead = record { actor = a; answer = first_answer is_dead }
 abbrev pub submission_of : Call → Submission
 submission_of call = record { actor = call.actor; method = call.method; args = call.args }
 
--- how the handles, the calls, the futures and the marks of one caller belong together
-pub record IsOwner (handles : List Handle) (calls : List Call) (rows : List Row) (sent : List Bool) : Type 0 where
+-- the future of an argument, where it is one
+abbrev pub future_of : Arg → Option ℕ
+future_of (Plain value) = None
+future_of (Fut k) = Some k
+
+-- the futures among the arguments of a call
+abbrev pub futures_of : List Arg → List ℕ
+futures_of args = filter_map future_of args
+
+-- a call as the resolver enters it: it is told at once where its actor is dead
+abbrev pub entered_call : List Arg → Bool → Entered
+entered_call args is_dead = record { futures = futures_of args; told = is_dead; sent = false }
+
+-- the resolver was told of exactly the futures that have an answer
+abbrev pub IsTold : List Entered → List Row → Type 0
+IsTold entered rows = map (λ call. call.told) entered ≡ map (λ row. is_some row.answer) rows
+
+-- how the handles, the calls, the futures and what the resolver knows of one caller belong together
+pub record IsOwner (handles : List Handle) (calls : List Call) (rows : List Row) (entered : List Entered) : Type 0 where
   pub numbered : (k : ℕ) → slice_get calls k ≡ call_at (map submission_of calls) k
   pub actors : map (λ row. row.actor) rows ≡ map (λ call. call.actor) calls
-  pub marks : length sent ≡ length calls
+  -- each call waits for the futures among its arguments
+  pub waits : map (λ call. call.futures) entered ≡ map (λ call. futures_of call.args) calls
+  pub told : IsTold entered rows
   -- as many numbers were given for each actor as it has calls
   pub given : (a : ℕ) → given_in a handles ≡ length (filter (λ call. call.actor == a) (map submission_of calls))
   pub given_in_all : given_of_all handles ≡ length calls

@@ -2,7 +2,7 @@
 
 ghost use Rattle.std.specs.Prelude.{◌≡◌, map, IfOk};
 ghost use Rattle.std.specs.List.{list_all};
-ghost use Rattle.act_rules.specs.Submissions.{is_earlier, is_known, settled};
+ghost use Rattle.act_rules.specs.Submissions.{is_earlier, settled};
 ghost use Rattle.act_owner.specs.Owner.{answers_of};
 
 use act_replies::ReplyTable;
@@ -24,23 +24,6 @@ pub(crate) fn are_earlier(args: &ListOf<Arg>, count: u32) -> bool
     ensures { result ≡ list_all (is_earlier count) args.now }
 {
     args.as_slice().iter().all(|arg| is_earlier(arg, count))
-}
-
-/// Whether the argument is a value or has an answer.
-fn is_known(arg: &Arg, table: &ReplyTable) -> bool
-    ensures { result ≡ is_known (answers_of table.now.rows) arg.now }
-{
-    match arg {
-        Arg::Plain(_) => true,
-        Arg::Fut(future) => table.answer(*future).is_some(),
-    }
-}
-
-/// Whether each argument is a value or has an answer.
-pub(crate) fn are_known(args: &ListOf<Arg>, table: &ReplyTable) -> bool
-    ensures { result ≡ list_all (is_known (answers_of table.now.rows)) args.now }
-{
-    args.as_slice().iter().all(|arg| is_known(arg, table))
 }
 
 /// What is sent for an argument that has its answer.

@@ -3,9 +3,11 @@
 
 mod args;
 mod futures;
+mod laws;
 mod owner;
 #[cfg(test)]
 mod tests;
 
 pub use act_rules::{HandleRefusal, SendRefusal, SubmitRefusal};
+pub use laws::one_packet_for_good;
 pub use owner::{Call, Collected, Owner};

@@ -6,12 +6,13 @@ ghost use Rattle.act_rules.specs.declared.outcome.SubmitRefusal.TheVariants.{NoM
 ghost use Rattle.act_rules.specs.declared.outcome.SendRefusal.TheVariants.{NoMemory as NoRoomToSend};
 ghost use Rattle.act_rules.specs.Submissions.{copies_held, handle_refusal, kept_at};
 ghost use Rattle.act_handles.specs.Handles.{copies_in, copied, with_copy, without_copy};
-ghost use Rattle.act_owner.specs.Owner.{OwnerValue, opened, with_handles, release_told, kill_told, submission_refusal, with_call, call_at, is_sent, is_dead, sending_refusal, packet_at, with_sent, is_known_call, first_ready, is_ready, is_to, is_death, is_of_call, collected_reply, after_reply, collected_death, after_death, collected, after_collect};
+ghost use Rattle.act_owner.specs.Owner.{OwnerValue, opened, with_handles, release_told, kill_told, submission_refusal, with_call, call_at, is_sent, is_dead, sending_refusal, packet_at, with_sent, is_known_call, first_ready, is_to, is_death, is_of_call, collected_reply, after_reply, collected_death, after_death, collected, after_collect};
 
-use crate::args::{all_settled, are_earlier, are_known};
-use crate::futures::{enter, is_listed, refusal_of};
+use crate::args::{all_settled, are_earlier};
+use crate::futures::{enter, enter_call, tell_death};
 use act_handles::{HandleRefusal, Handles};
 use act_replies::ReplyTable;
+use act_resolver::Resolver;
 use act_rules::{SendRefusal, SubmitRefusal};
 use act_types::{
     ActorId, Answer, Arg, CallerId, Fault, FutureId, KillNote, ListOf, Method, NoMemory, Notice,
@@ -55,7 +56,8 @@ pub struct Owner {
     id: CallerId,
     handles: Handles,
     calls: Vec<Call>,
-    sent: Vec<bool>,
+    /// Which calls were sent, and which may be.
+    resolver: Resolver,
     table: ReplyTable,
     /// Whether each actor, by its number, is known to be dead.
     dead: [bool; 9],
@@ -71,12 +73,12 @@ impl Model for Owner {
       id = owner.id;
       handles = owner.handles;
       calls = map submission_of owner.calls.items;
-      sent = owner.sent.items;
+      sent = map (λ call. call.sent) owner.resolver.calls;
       kept = answers_of owner.table.rows;
       dead = owner.dead;
     } };
 
-    ghost invariant = { λ owner. IsOwner owner.handles owner.calls.items owner.table.rows owner.sent.items };
+    ghost invariant = { λ owner. IsOwner owner.handles owner.calls.items owner.table.rows owner.resolver.calls };
 }
 
 /// Whether the answer says that the actor died.
@@ -99,7 +101,7 @@ impl Owner {
             id,
             handles: Handles::open(alloc, actors)?,
             calls: Vec::new(alloc),
-            sent: Vec::new(alloc),
+            resolver: Resolver::new(alloc),
             table: ReplyTable::new(alloc),
             dead: [false; 9],
         })
@@ -147,11 +149,10 @@ impl Owner {
     }
 
     /// The note that asks for the actor's kill.
-    pub fn ask_kill(&mut self, a: ActorId) -> Result<KillNote, HandleRefusal>
-        ensures value { result ≡ kill_told self.old a }
-        ensures unchanged { self.new ≡ self.old }
+    pub fn ask_kill(&self, a: ActorId) -> Result<KillNote, HandleRefusal>
+        ensures { result ≡ kill_told self.now a }
     {
-        if let Some(refusal) = refusal_of(&mut self.handles, a) {
+        if let Some(refusal) = self.handles.refusal(a) {
             return Err(refusal);
         }
         Ok(KillNote {
@@ -183,10 +184,21 @@ impl Owner {
     }
 
     /// Whether each call has an answer.
+    #[tactic(auto, using(crate::proofs::Answers::all_answered))]
     pub fn all_answered(&self) -> bool
         ensures { result ≡ list_all is_some self.now.kept }
     {
         self.table.unanswered() == 0
+    }
+
+    /// Whether the actor is one of this caller's.
+    fn is_listed(&self, a: ActorId) -> bool
+        ensures { result ≡ is_some (copies_in a self.now.handles) }
+    {
+        match self.handles.refusal(a) {
+            Some(HandleRefusal::NoActor) => false,
+            _ => true,
+        }
     }
 
     fn is_dead(&self, a: ActorId) -> bool
@@ -198,10 +210,7 @@ impl Owner {
     fn is_sent(&self, k: FutureId) -> bool
         ensures { result ≡ is_sent self.now k }
     {
-        match self.sent.get(k.number() as usize) {
-            Some(sent) => *sent,
-            None => false,
-        }
+        self.resolver.is_sent(k)
     }
 
     fn is_answered(&self, k: FutureId) -> bool
@@ -211,13 +220,11 @@ impl Owner {
     }
 
     /// Why a call of the actor would not be submitted, memory apart.
-    fn submission_refusal(&mut self, a: ActorId, args: &ListOf<Arg>) -> Option<SubmitRefusal>
-        ensures value { result ≡ submission_refusal self.old a args.now }
-        ensures unchanged { self.new ≡ self.old }
+    pub fn submission_refusal(&self, a: ActorId, args: &ListOf<Arg>) -> Option<SubmitRefusal>
+        ensures { result ≡ submission_refusal self.now a args.now }
     {
-        let refusal = refusal_of(&mut self.handles, a);
         let count = self.calls.len() as u32;
-        match refusal {
+        match self.handles.refusal(a) {
             Some(HandleRefusal::NoActor) => Some(SubmitRefusal::NoActor),
             Some(_) => Some(SubmitRefusal::NoHandle),
             None if args.len() > MOST_ARGS => Some(SubmitRefusal::TooManyArgs),
@@ -235,18 +242,19 @@ impl Owner {
         ensures err { OnErr result (self.new ≡ self.old) }
     {
         self.calls.reserve(1)?;
-        self.sent.reserve(1)?;
+        self.resolver.reserve_one()?;
         self.table.reserve_one()?;
         let is_dead = self.is_dead(a);
         let number = self.handles.number(a).unwrap();
+        let k = enter(&mut self.table, a, is_dead);
+        enter_call(&mut self.resolver, k, &args, is_dead);
         self.calls.push_reserved(Call {
             actor: a,
             number,
             method,
             args,
         });
-        self.sent.push_reserved(false);
-        Ok(enter(&mut self.table, a, is_dead))
+        Ok(k)
     }
 
     /// Takes a call and gives its future. An `Err` changes nothing.
@@ -271,6 +279,22 @@ impl Owner {
         Ok(k)
     }
 
+    /// Why a call would not be sent, memory apart.
+    pub fn sending_refusal(&self, k: FutureId) -> Option<SendRefusal>
+        ensures { result ≡ sending_refusal self.now k }
+    {
+        if self.call(k).is_none() {
+            return Some(SendRefusal::NoFuture);
+        }
+        if !self.is_known(k) {
+            return Some(SendRefusal::NotReady);
+        }
+        if !self.is_sent(k) && self.is_answered(k) {
+            return Some(SendRefusal::Answered);
+        }
+        None
+    }
+
     /// The packet of a call, memory permitting, or why it is not sent.
     fn packet_of(&self, alloc: Global, k: FutureId) -> Result<Packet, SendRefusal>
         ensures value { IfOk result (λ packet. packet_at self.now k ≡ Some packet) }
@@ -280,11 +304,8 @@ impl Owner {
         let Some(call) = self.call(k) else {
             return Err(SendRefusal::NoFuture);
         };
-        if !are_known(&call.args, &self.table) {
-            return Err(SendRefusal::NotReady);
-        }
-        if !self.is_sent(k) && self.is_answered(k) {
-            return Err(SendRefusal::Answered);
+        if let Some(refusal) = self.sending_refusal(k) {
+            return Err(refusal);
         }
         let Ok(args) = all_settled(alloc, &call.args, &self.table) else {
             return Err(SendRefusal::NoMemory);
@@ -309,24 +330,16 @@ impl Owner {
         ensures err { OnErr result (self.new ≡ self.old) }
     {
         let packet = self.packet_of(alloc, k)?;
-        self.sent[k.number() as usize] = true;
+        self.resolver.mark_sent(k);
         Ok(packet)
     }
 
     /// Whether the call's arguments all have their answers.
+    #[tactic(auto, using(crate::proofs::Waiting::known_same))]
     fn is_known(&self, k: FutureId) -> bool
         ensures { result ≡ is_known_call self.now (slice_get self.now.calls k) }
     {
-        match self.call(k) {
-            None => false,
-            Some(call) => are_known(&call.args, &self.table),
-        }
-    }
-
-    fn is_ready(&self, k: FutureId) -> bool
-        ensures { result ≡ is_ready self.now k }
-    {
-        self.is_known(k) && !self.is_sent(k) && !self.is_answered(k)
+        self.resolver.is_known(k)
     }
 
     /// The least call that is neither sent nor answered and whose future arguments all have their
@@ -334,9 +347,7 @@ impl Owner {
     pub fn ready(&self) -> Option<FutureId>
         ensures { result ≡ first_ready self.now }
     {
-        (0..self.count())
-            .map(FutureId::new)
-            .find(|k| self.is_ready(*k))
+        self.resolver.ready()
     }
 
     /// Whether the call of this future goes to the actor.
@@ -371,6 +382,7 @@ impl Owner {
             return Collected::Late(k);
         }
         self.table.keep(k, reply.answer);
+        self.resolver.told(k);
         Collected::First(k)
     }
 
@@ -378,10 +390,11 @@ impl Owner {
         ensures value { result ≡ collected_death self.old a }
         ensures after { self.new ≡ after_death self.old a }
     {
-        if !is_listed(&mut self.handles, a) {
+        if !self.is_listed(a) {
             return Collected::Stray;
         }
         self.dead[a.number() as usize] = true;
+        tell_death(&mut self.resolver, &self.calls, &self.table, a);
         Collected::Died(self.table.died(a))
     }
 

@@ -1,11 +1,13 @@
-//! One caller from its first call to a death, and calls that wait for answers.
+//! One caller from its first call to a death, calls that wait for answers, forged notices, and the
+//! most calls.
 
 use crate::{Collected, Owner, SendRefusal, SubmitRefusal};
 use act_types::{
-    ActorId, Arg, CallerId, Fault, FutureId, ListOf, Method, NoMemory, Notice, Reply, Settled,
-    Value,
+    ActorId, Answer, Arg, CallerId, Fault, FutureId, ListOf, Method, NoMemory, Notice, Reply,
+    Settled, Value,
 };
 use std::alloc::Global;
+use std::process::Abort;
 use std::test::Fail;
 
 /// What a row of a table asks for.
@@ -179,5 +181,75 @@ fn calls_wait_for_answers(rt: HostRuntime) -> Result<(), Fail> {
     ] {
         assert_eq!(rt; asked(rt.alloc(), &mut owner, ask), Ok(want), "at {ask:?}");
     }
+    Ok(())
+}
+
+/// Compares all that can be read of a caller which submitted these calls and has these answers.
+fn assert_stands(
+    rt: &impl Abort,
+    owner: &Owner,
+    answers: &[(FutureId, Option<Answer>)],
+    ready: Option<FutureId>,
+) {
+    for (k, want) in answers {
+        assert_eq!(rt; owner.answer(*k), want.as_ref());
+    }
+    assert_eq!(rt; owner.count() as usize, answers.len());
+    assert_eq!(rt; owner.ready(), ready);
+    for number in 1..3 {
+        let a = ActorId::new(number).unwrap();
+        assert_eq!(rt; owner.holds(a), 1);
+    }
+}
+
+#[test]
+fn forged_notices_change_nothing(rt: HostRuntime) -> Result<(), Fail> {
+    let c1 = CallerId::new(1).unwrap();
+    let c2 = CallerId::new(2).unwrap();
+    let a1 = ActorId::new(1).unwrap();
+    let a2 = ActorId::new(2).unwrap();
+    let a3 = ActorId::new(3).unwrap();
+    let [k0, k1, k2, k9] = [0, 1, 2, 9].map(FutureId::new);
+    let mut owner = Owner::open(rt.alloc(), c1, &[a1, a2])?;
+    for ask in [
+        Ask::Submit(a1, Method::Add, 1, 5),
+        Ask::Submit(a2, Method::Get, 0, 0),
+        Ask::Submit(a1, Method::Get, 0, 0),
+        Ask::Packet(k0),
+        Ask::Packet(k1),
+        Ask::Reply(a1, k0, Ok(5)),
+    ] {
+        asked(rt.alloc(), &mut owner, ask)?;
+    }
+    let answers = [(k0, Some(Ok(Value::Int(5)))), (k1, None), (k2, None)];
+    for notice in [
+        notice_of(a2, c2, k1, Ok(7)),
+        notice_of(a1, c1, k1, Ok(7)),
+        notice_of(a2, c1, k9, Ok(7)),
+        notice_of(a1, c1, k2, Ok(7)),
+        notice_of(a2, c1, k1, Err(Fault::ActorDied)),
+        Notice::Death(a3),
+    ] {
+        assert_eq!(rt; owner.collect(notice), Collected::Stray);
+        assert_stands(&rt, &owner, &answers, Some(k2));
+    }
+    let genuine = notice_of(a2, c1, k1, Ok(7));
+    assert_eq!(rt; owner.collect(genuine), Collected::First(k1));
+    Ok(())
+}
+
+#[test]
+fn the_most_calls(rt: HostRuntime) -> Result<(), Fail> {
+    let c1 = CallerId::new(1).unwrap();
+    let a1 = ActorId::new(1).unwrap();
+    let mut owner = Owner::open(rt.alloc(), c1, &[a1])?;
+    let mut refused = None;
+    for submitted in 0..65_537 {
+        if let Err(refusal) = owner.submit(a1, Method::Get, ListOf::new(rt.alloc())) {
+            refused = Some((submitted, refusal));
+        }
+    }
+    assert_eq!(rt; refused, Some((65_536, SubmitRefusal::TooManyCalls)));
+    assert_eq!(rt; owner.count(), 65_536);
     Ok(())
 }

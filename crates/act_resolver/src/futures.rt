@@ -1,6 +1,6 @@
 //! A few futures, kept in place.
 
-ghost use Rattle.std.specs.Prelude.{◌≡◌, ◌≤◌, length};
+ghost use Rattle.std.specs.Prelude.{◌≡◌, ◌<◌, ◌≤◌, [], ◌∷◌, ◌++◌, length};
 
 use act_types::FutureId;
 use std::marker::Model;
@@ -32,6 +32,15 @@ impl Futures {
         let count = futures.len();
         places[..count].copy_from_slice(futures);
         Futures { places, count }
+    }
+
+    /// Adds a future at the end.
+    pub fn push(&mut self, future: FutureId)
+        requires { length self.old < 4 }
+        ensures { self.new ≡ self.old ++ future ∷ [] }
+    {
+        self.places[self.count] = future;
+        self.count += 1;
     }
 
     /// The futures as a slice.

@@ -7,4 +7,5 @@ mod resolver;
 #[cfg(test)]
 mod tests;
 
+pub use futures::Futures;
 pub use resolver::Resolver;

@@ -4,9 +4,9 @@ use Rattle.act_owner.proofs.owner.Owner.release.Goals as goal
 pub invariant_of-self-in_default : goal.invariant_of-self-in_default
 invariant_of-self-in_default c =
     let inside = c.self.inside in
-    released_fine c.args.a c.release.result inside.handles c.release.new.self inside.calls.items inside.table.rows inside.sent.items c.release.ensures.ok c.release.ensures.err c.self.invariant
+    released_fine c.args.a c.release.result inside.handles c.release.new.self inside.calls.items inside.table.rows inside.resolver.calls c.release.ensures.ok c.release.ensures.err c.self.invariant
 
 pub invariant_of-self-2 : goal.invariant_of-self-2
 invariant_of-self-2 c =
     let inside = c.self.inside in
-    released_fine c.args.a c.release.result inside.handles c.release.new.self inside.calls.items inside.table.rows inside.sent.items c.release.ensures.ok c.release.ensures.err c.self.invariant
+    released_fine c.args.a c.release.result inside.handles c.release.new.self inside.calls.items inside.table.rows inside.resolver.calls c.release.ensures.ok c.release.ensures.err c.self.invariant

@@ -1,0 +1,173 @@
+-- What the changes of a caller leave: its calls, their numbers, and the answers that it keeps.
+use Rattle.std.proofs.Common.{◌≡◌, ℕ, zero, suc, ◌<◌, ◌==◌, ◌&&◌, Bool, true, false, if◌then◌else◌, List, [], ◌∷◌, ◌++◌, length, map, Option, Some, None, is_some, Err, inl, inr, refl, ◌∙◌, ap, arith}
+use Rattle.std.specs.Prelude.{slice_get, slice_set, option_map, zip}
+use Rattle.std.specs.List.{list_all}
+use Rattle.std.proofs.lemmas.List.{length-append, length-set}
+use Rattle.std.proofs.lemmas.Option.{slice_get_past}
+use Rattle.std.proofs.lemmas.Bool.Decides.{leb_tells}
+use Rattle.act_types.specs.declared.fault.Fault.TheVariants.{ActorDied}
+use Rattle.act_types.specs.declared.call.Method.{Method}
+use Rattle.act_types.specs.declared.call.Arg.{Arg}
+use Rattle.act_types.specs.declared.call.Arg.TheVariants.{Plain, Fut}
+use Rattle.act_types.specs.declared.call.Settled.{Settled}
+use Rattle.act_types.specs.declared.message.Reply.{Reply}
+use Rattle.act_types.specs.declared.message.Notice.TheVariants.{Answered, Death}
+use Rattle.act_rules.specs.declared.history.Submission.{Submission}
+use Rattle.act_rules.specs.RunList.{Answer}
+use Rattle.act_rules.specs.Submissions.{number_of, kept_at, settled, settled_future, is_known}
+use Rattle.act_handles.specs.Handles.{copies_in}
+use Rattle.act_owner.specs.declared.owner.Collected.TheVariants.{First, Late, Stray}
+use Rattle.act_owner.specs.Owner.{OwnerValue, with_call, with_death, after_reply_that, is_of_call, is_dead, first_answer, answer_after_death, is_known_call, packet_of, packet_at}
+use Rattle.act_owner.specs.Life.{Change, Copied, Released, Submitted, Sent, Noticed, after, after_all, is_known_at}
+use Rattle.act_owner.proofs.Calls.{get_before, number_of-more}
+use Rattle.act_owner.proofs.Waiting.{and_parts}
+
+-- what was there stays: each call with its number, and each answer
+pub record Extends (owner later : OwnerValue) : Type 0 where
+  pub id : later.id ≡ owner.id
+  pub calls : (k : ℕ) → k < length owner.calls → slice_get later.calls k ≡ slice_get owner.calls k
+  pub numbers : (a k : ℕ) → k < length owner.calls → number_of a k later.calls ≡ number_of a k owner.calls
+  pub kept : (k : ℕ) → is_some (kept_at owner.kept k) ≡ true → kept_at later.kept k ≡ kept_at owner.kept k
+  -- each call has its place for an answer
+  pub places : length later.kept ≡ length later.calls
+
+-- ---- a packet
+
+known_after : (kept later : List (Option Answer)) → ((k : ℕ) → is_some (kept_at kept k) ≡ true → kept_at later k ≡ kept_at kept k) → (arg : Arg) → is_known kept arg ≡ true → (is_known later arg ≡ true) × (settled later arg ≡ settled kept arg)
+known_after kept later same (Plain value) known = (refl, refl)
+known_after kept later same (Fut k) known = (ap is_some (same k known) ∙ known, ap (settled_future k) (same k known))
+
+args_after : (kept later : List (Option Answer)) → ((k : ℕ) → is_some (kept_at kept k) ≡ true → kept_at later k ≡ kept_at kept k) → (args : List Arg) → list_all (is_known kept) args ≡ true → (list_all (is_known later) args ≡ true) × (map (settled later) args ≡ map (settled kept) args)
+args_after kept later same [] known = (refl, refl)
+args_after kept later same (arg ∷ args) known =
+    let parts = and_parts (is_known kept arg) (list_all (is_known kept) args) known in
+    let here = known_after kept later same arg parts.0 in
+    let rest = args_after kept later same args parts.1 in (
+      ap (λ b. b && list_all (is_known later) args) here.0 ∙ rest.0,
+      ap (λ (x : Settled). x ∷ map (settled later) args) here.1 ∙ ap (λ (xs : List Settled). settled kept arg ∷ xs) rest.1,
+    )
+
+found_below : (calls : List Submission) (k : ℕ) (call : Submission) → slice_get calls k ≡ Some call → k < length calls
+found_below calls k call found =
+    elim (leb_tells (suc k) (length calls)) [
+      | inl t ↦ t.1
+      | inr f ↦ let none : slice_get calls k ≡ None = slice_get_past calls k (omega (arith, f.1)) in absurd (cc (found, none))
+    ]
+
+packet_by : (owner later : OwnerValue) (k : ℕ) (found : Option Submission) → Extends owner later → slice_get owner.calls k ≡ found → is_known_call owner found ≡ true → (is_known_call later found ≡ true) × (option_map (packet_of later k) found ≡ option_map (packet_of owner k) found)
+packet_by owner later k None grown is known = absurd (cc known)
+packet_by owner later k (Some call) grown is known =
+    let args = args_after owner.kept later.kept grown.kept call.args known in (
+      args.0,
+      ap (λ (id : ℕ). Some (record (packet_of later k call) { caller = id })) grown.id
+          ∙ ap (λ (n : ℕ). Some (record (packet_of later k call) { caller = owner.id; number = n })) (grown.numbers call.actor k (found_below owner.calls k call is))
+          ∙ ap (λ (xs : List Settled). Some (record (packet_of owner k call) { args = xs })) args.1,
+    )
+
+known_below : (calls : List Submission) (owner : OwnerValue) (k : ℕ) → is_known_call owner (slice_get calls k) ≡ true → k < length calls
+known_below calls owner k known =
+    elim (leb_tells (suc k) (length calls)) [
+      | inl t ↦ t.1
+      | inr f ↦ absurd (cc (known, ap (is_known_call owner) (slice_get_past calls k (omega (arith, f.1)))))
+    ]
+
+-- a call that is known stays so, and its packet stays the same
+pub packet_stays : (owner later : OwnerValue) (k : ℕ) → Extends owner later → is_known_at owner k ≡ true → (is_known_at later k ≡ true) × (packet_at later k ≡ packet_at owner k)
+packet_stays owner later k grown known =
+    let same = grown.calls k (known_below owner.calls owner k known) in
+    let both = packet_by owner later k (slice_get owner.calls k) grown refl known in
+    (ap (is_known_call later) same ∙ both.0, ap (option_map (packet_of later k)) same ∙ both.1)
+
+-- ---- the answers after a change
+
+kept_more : (kept : List (Option Answer)) (x : Option Answer) (k : ℕ) → is_some (kept_at kept k) ≡ true → kept_at (kept ++ x ∷ []) k ≡ kept_at kept k
+kept_more [] x k some = absurd (cc some)
+kept_more (y ∷ kept) x zero some = refl
+kept_more (y ∷ kept) x (suc k) some = kept_more kept x k some
+
+kept_set : (kept : List (Option Answer)) (j k : ℕ) (x : Option Answer) → is_some (kept_at kept j) ≡ false → is_some (kept_at kept k) ≡ true → kept_at (slice_set kept j x) k ≡ kept_at kept k
+kept_set [] j k x none some = refl
+kept_set (y ∷ kept) zero zero x none some = absurd (cc (none, some))
+kept_set (y ∷ kept) zero (suc k) x none some = refl
+kept_set (y ∷ kept) (suc j) zero x none some = refl
+kept_set (y ∷ kept) (suc j) (suc k) x none some = kept_set kept j k x none some
+
+death_answer : (a : ℕ) (call : Submission) (answer : Option Answer) → is_some answer ≡ true → answer_after_death a (call, answer) ≡ answer
+death_answer a call None some = absurd (cc some)
+death_answer a call (Some answer) some =
+    elim (call.actor == a) as (λ b. (if b && false then Some (Err ActorDied) else Some answer) ≡ Some answer) [ true ↦ refl | false ↦ refl ]
+
+kept_death : (a : ℕ) (calls : List Submission) (kept : List (Option Answer)) (k : ℕ) → length kept ≡ length calls → is_some (kept_at kept k) ≡ true → kept_at (map (answer_after_death a) (zip calls kept)) k ≡ kept_at kept k
+kept_death a calls [] k same some = absurd (cc some)
+kept_death a [] (y ∷ kept) k same some = absurd (omega (arith, same))
+kept_death a (call ∷ calls) (y ∷ kept) zero same some = death_answer a call y some
+kept_death a (call ∷ calls) (y ∷ kept) (suc k) same some = kept_death a calls kept k (omega (arith, same)) some
+
+places_death : (a : ℕ) (calls : List Submission) (kept : List (Option Answer)) → length kept ≡ length calls → length (map (answer_after_death a) (zip calls kept)) ≡ length calls
+places_death a [] [] same = refl
+places_death a [] (y ∷ kept) same = absurd (omega (arith, same))
+places_death a (call ∷ calls) [] same = absurd (omega (arith, same))
+places_death a (call ∷ calls) (y ∷ kept) same = ap suc (places_death a calls kept (omega (arith, same)))
+
+-- ---- each change
+
+unchanged : (owner : OwnerValue) → length owner.kept ≡ length owner.calls → Extends owner owner
+unchanged owner places = record { id = refl; calls = λ k _. refl; numbers = λ a k _. refl; kept = λ k _. refl; places = places }
+
+submitted : (owner : OwnerValue) (a : ℕ) (method : Method) (args : List Arg) → length owner.kept ≡ length owner.calls → Extends owner (with_call owner a method args)
+submitted owner a method args places =
+    let call : Submission = record { actor = a; method = method; args = args } in
+    record {
+      id = refl;
+      calls = λ k below. get_before owner.calls call k below;
+      numbers = λ b k below. number_of-more b k owner.calls call (omega (arith, below));
+      kept = λ k some. kept_more owner.kept (first_answer (is_dead owner a)) k some;
+      places = omega (arith, places, length-append owner.calls (call ∷ []), length-append owner.kept (first_answer (is_dead owner a) ∷ []));
+    }
+
+answered : (owner : OwnerValue) (reply : Reply) (mine known : Bool) → length owner.kept ≡ length owner.calls → is_some (kept_at owner.kept reply.future) ≡ known → Extends owner (after_reply_that (if mine then (if known then Late reply.future else First reply.future) else Stray) owner reply)
+answered owner reply false known places is = unchanged owner places
+answered owner reply true true places is = unchanged owner places
+answered owner reply true false places is = record {
+  id = refl;
+  calls = λ k _. refl;
+  numbers = λ a k _. refl;
+  kept = λ k some. kept_set owner.kept reply.future k (Some reply.answer) is some;
+  places = length-set owner.kept reply.future (Some reply.answer) ∙ places;
+}
+
+died : (owner : OwnerValue) (a : ℕ) (listed : Bool) → length owner.kept ≡ length owner.calls → Extends owner (if listed then with_death owner a else owner)
+died owner a false places = unchanged owner places
+died owner a true places = record {
+  id = refl;
+  calls = λ k _. refl;
+  numbers = λ b k _. refl;
+  kept = λ k some. kept_death a owner.calls owner.kept k places some;
+  places = places_death a owner.calls owner.kept places;
+}
+
+step : (owner : OwnerValue) (change : Change) → length owner.kept ≡ length owner.calls → Extends owner (after owner change)
+step owner (Copied a) places = record { id = refl; calls = λ k _. refl; numbers = λ b k _. refl; kept = λ k _. refl; places = places }
+step owner (Released a) places = record { id = refl; calls = λ k _. refl; numbers = λ b k _. refl; kept = λ k _. refl; places = places }
+step owner (Submitted a method args) places = submitted owner a method args places
+step owner (Sent k) places = record { id = refl; calls = λ j _. refl; numbers = λ b j _. refl; kept = λ j _. refl; places = places }
+step owner (Noticed (Answered reply)) places = answered owner reply (is_of_call owner reply) (is_some (kept_at owner.kept reply.future)) places refl
+step owner (Noticed (Death a)) places = died owner a (is_some (copies_in a owner.handles)) places
+
+-- ---- a life
+
+pub places_all : (owner : OwnerValue) (changes : List Change) → length owner.kept ≡ length owner.calls → length (after_all owner changes).kept ≡ length (after_all owner changes).calls
+places_all owner [] places = places
+places_all owner (change ∷ changes) places = places_all (after owner change) changes (step owner change places).places
+
+pub packet_stays_all : (owner : OwnerValue) (changes : List Change) (k : ℕ) → length owner.kept ≡ length owner.calls → is_known_at owner k ≡ true → (is_known_at (after_all owner changes) k ≡ true) × (packet_at (after_all owner changes) k ≡ packet_at owner k)
+packet_stays_all owner [] k places known = (known, refl)
+packet_stays_all owner (change ∷ changes) k places known =
+    let grown = step owner change places in
+    let now = packet_stays owner (after owner change) k grown known in
+    let later = packet_stays_all (after owner change) changes k grown.places now.0 in
+    (later.0, later.1 ∙ now.1)
+
+pub after_all-append : (owner : OwnerValue) (changes later : List Change) → after_all owner (changes ++ later) ≡ after_all (after_all owner changes) later
+after_all-append owner [] later = refl
+after_all-append owner (change ∷ changes) later = after_all-append (after owner change) changes later

@@ -1,0 +1,11 @@
+use Rattle.std.proofs.Common.{◌∙◌, ap}
+use Rattle.act_owner.specs.Owner.{OwnerValue, first_ready}
+use Rattle.act_owner.proofs.Waiting.{first_ready_same}
+use Rattle.act_owner.proofs.owner.Owner.ready.Goals as goal
+
+pub returns : goal.returns
+returns c =
+    let inside = c.self.inside in
+    c.ready.ensures
+    ∙ first_ready_same inside.id inside.handles inside.calls.items inside.table.rows inside.resolver.calls inside.dead c.self.invariant
+    ∙ ap (λ (owner : OwnerValue). first_ready owner) c.self.view_is

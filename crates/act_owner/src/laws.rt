@@ -1,0 +1,10 @@
+// The laws of a caller's whole life, over the definitions alone.
+
+ghost use Rattle.act_owner.specs.Life.{KnownCallsStayKnown, OnePacketForGood};
+
+/// Once a call may be sent, its packet is the same for good.
+#[tactic(none)]
+pub fn one_packet_for_good()
+    ensures known { KnownCallsStayKnown }
+    ensures packet { OnePacketForGood }
+{}
