@@ -192,6 +192,11 @@ abbrev pub after_collect : OwnerValue → Notice → OwnerValue
 after_collect owner (Answered reply) = after_reply owner reply
 after_collect owner (Death a) = after_death owner a
 
+-- a caller that is told the death of one of its actors knows it from then on
+abbrev pub KnowsDeath : Notice → OwnerValue → OwnerValue → Type 0
+KnowsDeath (Answered reply) old new = Unit {0}
+KnowsDeath (Death a) old new = is_some (copies_in a old.handles) ≡ true → is_dead new a ≡ true
+
 -- the answers in the table of futures
 abbrev pub answers_of : List Row → List (Option Answer)
 answers_of rows = map (λ row. row.answer) rows

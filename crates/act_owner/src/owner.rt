@@ -6,7 +6,8 @@ ghost use Rattle.act_rules.specs.declared.outcome.SubmitRefusal.TheVariants.{NoM
 ghost use Rattle.act_rules.specs.declared.outcome.SendRefusal.TheVariants.{NoMemory as NoRoomToSend};
 ghost use Rattle.act_rules.specs.Submissions.{copies_held, handle_refusal, kept_at};
 ghost use Rattle.act_handles.specs.Handles.{copies_in, copied, with_copy, without_copy};
-ghost use Rattle.act_owner.specs.Owner.{OwnerValue, opened, with_handles, release_told, kill_told, submission_refusal, with_call, call_at, is_sent, is_dead, sending_refusal, packet_at, with_sent, is_known_call, first_ready, is_to, is_death, is_of_call, collected_reply, after_reply, collected_death, after_death, collected, after_collect};
+ghost use Rattle.act_owner.specs.Owner.{OwnerValue, opened, with_handles, release_told, kill_told, submission_refusal, with_call, call_at, is_sent, is_dead, sending_refusal, packet_at, with_sent, is_known_call, first_ready, is_to, is_death, is_of_call, collected_reply, after_reply, collected_death, after_death, collected, after_collect, KnowsDeath};
+ghost use Rattle.act_types.specs.declared.message.Notice.TheVariants.{Death};
 
 use crate::args::{all_settled, are_earlier};
 use crate::futures::{enter, enter_call, tell_death};
@@ -389,6 +390,7 @@ impl Owner {
     fn collect_death(&mut self, a: ActorId) -> Collected
         ensures value { result ≡ collected_death self.old a }
         ensures after { self.new ≡ after_death self.old a }
+        ensures known { KnowsDeath (Death a) self.old self.new }
     {
         if !self.is_listed(a) {
             return Collected::Stray;
@@ -403,6 +405,7 @@ impl Owner {
     pub fn collect(&mut self, notice: Notice) -> Collected
         ensures value { result ≡ collected self.old notice }
         ensures after { self.new ≡ after_collect self.old notice }
+        ensures known { KnowsDeath notice self.old self.new }
     {
         match notice {
             Notice::Answered(reply) => self.collect_reply(reply),
