@@ -1,0 +1,114 @@
+-- The rule of a line: a queue with many putters and one taker.
+use Rattle.std.specs.Prelude.{◌≡◌, ℕ, suc, ◌==◌, List, [], ◌∷◌, ◌++◌, Option, Some, None, filter, All, Contains}
+use mathlib.Core.Option.{some}
+use lib.ListN.{get_elem?}
+use Rattle.act_mailbox.specs.declared.line.view.View.{View}
+use Rattle.act_mailbox.specs.declared.line.view.View.TheVariants.{Puts, Takes, Saw, Spent}
+
+-- the first list is the beginning of the second
+abbrev pub IsPrefix : {T : Type 0} → List T → List T → Type 0
+IsPrefix {T} xs ys = (rest : List T) × (ys ≡ xs ++ rest)
+
+-- the items of putter c, in order
+abbrev pub items_of : {T : Type 0} → (T → ℕ) → ℕ → List T → List T
+items_of putter_of c xs = filter (λ x. putter_of x == c) xs
+
+module _ {T N : Type 0} where
+  -- what a putter's pass knows
+  abbrev pub putting : ℕ → List T → List N → List T → View T N
+  putting c put note seen = Puts (record { number = c; put = put; note = note; seen = seen })
+
+  -- what the taker's pass knows
+  abbrev pub taking : List ℕ → List T → List N → View T N
+  taking putters taken note = Takes (record { putters = putters; taken = taken; note = note })
+
+  -- who a pass acts for: the taker, or one putter
+  abbrev pub role : View T N → Option ℕ
+  role (Puts v) = Some (suc v.number)
+  role (Takes v) = Some 0
+  role (Saw xs) = None
+  role Spent = None
+
+  -- the taker made the pass of putter c
+  abbrev pub after_deal : ℕ → View T N → View T N
+  after_deal c (Takes v) = taking (v.putters ++ c ∷ []) v.taken v.note
+  after_deal c (Puts v) = Puts v
+  after_deal c (Saw xs) = Saw xs
+  after_deal c Spent = Spent
+
+  -- a putter put x
+  abbrev pub after_put : T → List N → View T N → View T N
+  after_put x note (Puts v) = putting v.number (v.put ++ x ∷ []) note v.seen
+  after_put x note (Takes v) = Takes v
+  after_put x note (Saw xs) = Saw xs
+  after_put x note Spent = Spent
+
+  -- the taker took x
+  abbrev pub after_take : T → List N → View T N → View T N
+  after_take x note (Takes v) = taking v.putters (v.taken ++ x ∷ []) note
+  after_take x note (Puts v) = Puts v
+  after_take x note (Saw xs) = Saw xs
+  after_take x note Spent = Spent
+
+  -- what a copy of the taker's pass knows
+  abbrev pub copied : View T N → View T N
+  copied (Takes v) = Saw v.taken
+  copied (Puts v) = Spent
+  copied (Saw xs) = Saw xs
+  copied Spent = Spent
+
+  -- a putter takes in what a copy knows
+  abbrev pub shown : View T N → View T N → View T N
+  shown (Puts v) (Saw xs) = putting v.number v.put v.note xs
+  shown v w = v
+
+module _ {T N : Type 0} where
+  -- the parts of what a pass knows, or nothing where it has no such part
+  abbrev pub put_of : View T N → List T
+  put_of (Puts v) = v.put
+  put_of (Takes v) = []
+  put_of (Saw xs) = []
+  put_of Spent = []
+
+  abbrev pub note_of : View T N → List N
+  note_of (Puts v) = v.note
+  note_of (Takes v) = v.note
+  note_of (Saw xs) = []
+  note_of Spent = []
+
+  abbrev pub taken_of : View T N → List T
+  taken_of (Puts v) = []
+  taken_of (Takes v) = v.taken
+  taken_of (Saw xs) = []
+  taken_of Spent = []
+
+  abbrev pub putters_of : View T N → List ℕ
+  putters_of (Puts v) = []
+  putters_of (Takes v) = v.putters
+  putters_of (Saw xs) = []
+  putters_of Spent = []
+
+module _ {T N : Type 0} (putter_of : T → ℕ) where
+  -- what a pass knows, where `got` was taken so far and the queue holds `items`
+  abbrev pub Fits : List ℕ → List T → List T → View T N → Type 0
+  Fits putters got items (Puts v) = Contains putters v.number × (v.put ≡ items_of putter_of v.number (got ++ items)) × IsPrefix v.seen got
+  Fits putters got items (Takes v) = (v.putters ≡ putters) × (v.taken ≡ got)
+  Fits putters got items (Saw xs) = IsPrefix xs got
+  Fits putters got items Spent = Unit {0}
+
+  -- a putter or the taker has one pass; what was taken of a putter, and then what the queue holds of it, is what it put; each item's putter has a pass
+  abbrev pub Lined : List T → List (View T N) → Type 0
+  Lined items views = (seat : ℕ → ℕ) × (putters : List ℕ) × (got : List T)
+      × All (λ x. Contains putters (putter_of x)) (got ++ items)
+      × ((port : ℕ) (v : View T N) → get_elem? views port ≡ some v → Fits putters got items v × ((r : ℕ) → role v ≡ Some r → port ≡ seat r))
+
+  -- what a take tells
+  abbrev pub Took : List N → View T N → T → View T N → Type 0
+  Took note v x w = (w ≡ after_take x note v) × Contains (putters_of v) (putter_of x)
+
+  -- what an audit tells of a putter
+  abbrev pub Audited : View T N → Type 0
+  Audited (Puts v) = IsPrefix (items_of putter_of v.number v.seen) v.put
+  Audited (Takes v) = Unit {0}
+  Audited (Saw xs) = Unit {0}
+  Audited Spent = Unit {0}

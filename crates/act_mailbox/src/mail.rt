@@ -1,0 +1,104 @@
+//! The mail line of an actor: the letters of its callers.
+
+ghost use Rattle.std.specs.Prelude.{◌≡◌, ◌≢◌, [], ◌∷◌, ◌++◌, map, AllPairs, Contains, IfOk, OnOk, IfErr, OnErr, IfSome, IfNone};
+ghost use Rattle.act_mailbox.specs.Lines.{items_of, IsPrefix};
+ghost use Rattle.act_mailbox.specs.Passes.{new_putter, new_taker};
+ghost use Rattle.act_mailbox.specs.Mails.{caller_of};
+
+use crate::line::{Item, Line, Putter, Taker};
+use act_types::{ActorId, CallerId, NoMemory, Packet, ReleaseNote};
+use std::alloc::Global;
+use std::marker::{Brand, Model};
+use std::sync::Wait;
+
+/// How many letters a mail line holds.
+const MAIL_CAPACITY: usize = 64;
+
+/// What a caller posts to an actor.
+#[derive(Debug, Drop, PartialEq, Eq)]
+pub enum Letter {
+    Call(Packet),
+    Note(ReleaseNote),
+}
+
+impl Item for Letter {
+    ghost use Rattle.act_mailbox.specs.Mails.{caller_of};
+
+    ghost putter = { caller_of };
+}
+
+/// A caller's pass on a mail line.
+pub type MailCaller = Putter<Letter, ()>;
+
+/// The executor's pass on a mail line.
+pub type MailExec = Taker<Letter, ()>;
+
+/// An actor's mail line.
+#[derive(Drop)]
+pub struct Mail {
+    actor: ActorId,
+    line: Line<Letter, ()>,
+}
+
+impl Model for Mail {
+    ghost use Rattle.act_mailbox.specs.Mails.{MailValue};
+
+    ghost Value = { MailValue };
+
+    ghost view = { λ mail. record { line = mail.line; actor = mail.actor } };
+}
+
+impl Mail {
+    /// An empty line, a pass for each caller in the order of the list, and the executor's pass.
+    pub fn open(
+        alloc: Global,
+        actor: ActorId,
+        callers: &[CallerId],
+    ) -> Result<(Mail, Vec<MailCaller>, MailExec), NoMemory>
+        requires distinct { AllPairs (λ one other. one ≢ other) callers.now }
+        ensures actor { IfOk result (λ opened. opened.0.actor ≡ actor) }
+        ensures callers { IfOk result (λ opened. opened.1.items ≡ map (new_putter opened.0.line) callers.now) }
+        ensures executor { IfOk result (λ opened. opened.2 ≡ new_taker opened.0.line callers.now) }
+    {
+        let (line, mut executor) = Line::open(alloc, MAIL_CAPACITY)?;
+        let passes = line.deal_all(alloc, &mut executor, callers)?;
+        Ok((Mail { actor, line }, passes, executor))
+    }
+
+    /// The actor whose line it is.
+    pub fn actor(&self) -> ActorId
+        ensures { result ≡ self.now.actor }
+    {
+        self.actor
+    }
+
+    /// Hands the letter back where the line is full.
+    pub fn post<R: Wait>(&self, rt: &R, pass: &mut MailCaller, letter: Letter) -> Result<(), Letter>
+        requires pass { pass.old.line ≡ self.now.line }
+        requires caller { caller_of letter ≡ pass.old.number }
+        ensures ok { OnOk result (pass.new ≡ record pass.old { put = pass.old.put ++ letter ∷ [] }) }
+        ensures err { OnErr result (pass.new ≡ pass.old) }
+        ensures back { IfErr result (λ back. back ≡ letter) }
+    {
+        self.line.put::<Brand, R>(rt, pass, letter)
+    }
+
+    /// `None` where the line is empty.
+    pub fn take<R: Wait>(&self, rt: &R, pass: &mut MailExec) -> Option<Letter>
+        requires pass { pass.old.line ≡ self.now.line }
+        ensures taken { IfSome result (λ letter. pass.new ≡ record pass.old { taken = pass.old.taken ++ letter ∷ [] }) }
+        ensures none { IfNone result (pass.new ≡ pass.old) }
+        ensures known { IfSome result (λ letter. Contains pass.old.putters (caller_of letter)) }
+    {
+        self.line.take::<Brand, R>(rt, pass)
+    }
+
+    /// The line's length. The letters of the caller that were taken begin those that it posted.
+    pub fn audit<R: Wait>(&self, rt: &R, caller: &mut MailCaller, executor: &mut MailExec) -> usize
+        requires passes { (caller.old.line ≡ self.now.line) × (executor.old.line ≡ self.now.line) }
+        ensures same { (caller.new ≡ caller.old) × (executor.new ≡ executor.old) }
+        ensures prefix { IsPrefix (items_of caller_of caller.old.number executor.old.taken) caller.old.put }
+    {
+        self.line.audit(rt, caller, executor)
+    }
+}

@@ -1,0 +1,154 @@
+//! The reply line of a caller: the notices of its actors.
+
+ghost use Rattle.std.specs.Prelude.{◌≡◌, ◌≢◌, [], ◌∷◌, ◌++◌, map, All, AllPairs, Contains, IfOk, OnOk, IfErr, OnErr, IfSome, IfNone};
+ghost use Rattle.act_mailbox.specs.Lines.{items_of, IsPrefix};
+ghost use Rattle.act_mailbox.specs.Passes.{new_taker};
+ghost use Rattle.act_mailbox.specs.Notices.{actor_of, IsReply, NamesPlace, new_exec};
+
+use crate::line::{Item, Line, Noted, Taker};
+use act_rules::RunItem;
+use act_types::{ActorId, CallerId, NoMemory, Notice};
+use std::alloc::Global;
+use std::marker::{Brand, Model};
+use std::sync::Wait;
+
+mod passes;
+
+pub use passes::ReplyExec;
+
+/// How many notices a reply line holds.
+const REPLY_CAPACITY: usize = 64;
+
+impl Item for Notice {
+    ghost use Rattle.act_mailbox.specs.Notices.{actor_of};
+
+    ghost putter = { actor_of };
+}
+
+/// The caller's pass on a reply line.
+pub type ReplyCaller = Taker<Notice, RunItem>;
+
+/// A caller's reply line.
+#[derive(Drop)]
+pub struct Replies {
+    caller: CallerId,
+    line: Line<Notice, RunItem>,
+}
+
+impl Model for Replies {
+    ghost use Rattle.act_mailbox.specs.Notices.{RepliesValue};
+
+    ghost Value = { RepliesValue };
+
+    ghost view = { λ replies. record { line = replies.line; caller = replies.caller } };
+}
+
+/// A pass for each actor's executor, in the order of the list.
+fn deal_all(
+    alloc: Global,
+    line: &Line<Notice, RunItem>,
+    collector: &mut ReplyCaller,
+    actors: &[ActorId],
+) -> Result<Vec<ReplyExec>, NoMemory>
+    requires line { collector.old.line ≡ line.now }
+    requires distinct { AllPairs (λ one other. one ≢ other) actors.now }
+    requires first { collector.old.putters ≡ [] }
+    ensures collector { OnOk result (collector.new ≡ record collector.old { putters = actors.now }) }
+    ensures executors { IfOk result (λ executors. executors.items ≡ map (new_exec line.now) actors.now) }
+{
+    let mut executors = Vec::with_capacity(alloc, actors.len())?;
+    for actor in actors {
+        executors.push(ReplyExec::new(line.deal(collector, actor.number())))?;
+    }
+    Ok(executors)
+}
+
+impl Replies {
+    /// An empty line, a pass for each actor's executor in the order of the list, and the caller's.
+    pub fn open(
+        alloc: Global,
+        caller: CallerId,
+        actors: &[ActorId],
+    ) -> Result<(Replies, Vec<ReplyExec>, ReplyCaller), NoMemory>
+        requires distinct { AllPairs (λ one other. one ≢ other) actors.now }
+        ensures caller { IfOk result (λ opened. opened.0.caller ≡ caller) }
+        ensures executors { IfOk result (λ opened. opened.1.items ≡ map (new_exec opened.0.line) actors.now) }
+        ensures collector { IfOk result (λ opened. opened.2 ≡ new_taker opened.0.line actors.now) }
+    {
+        let (line, mut collector) = Line::open(alloc, REPLY_CAPACITY)?;
+        let executors = deal_all(alloc, &line, &mut collector, actors)?;
+        Ok((Replies { caller, line }, executors, collector))
+    }
+
+    /// The caller whose line it is.
+    pub fn caller(&self) -> CallerId
+        ensures { result ≡ self.now.caller }
+    {
+        self.caller
+    }
+
+    /// Hands the notice back where the line is full.
+    pub fn give<R: Wait>(
+        &self,
+        rt: &R,
+        pass: &mut ReplyExec,
+        log: &[RunItem],
+        notice: Notice,
+    ) -> Result<(), Notice>
+        requires pass { pass.old.line ≡ self.now.line }
+        requires actor { actor_of notice ≡ pass.old.actor }
+        requires grown { IsPrefix pass.old.seen log.now }
+        requires place { NamesPlace log.now notice }
+        requires alive { All IsReply pass.old.given }
+        ensures ok { OnOk result (pass.new ≡ record pass.old { given = pass.old.given ++ notice ∷ []; seen = log.now }) }
+        ensures err { OnErr result (pass.new ≡ pass.old) }
+        ensures back { IfErr result (λ back. back ≡ notice) }
+    {
+        self.give_showing::<Brand, R>(rt, pass, log, notice)
+    }
+
+    /// Gives a notice, and `K` is the log that the pass has seen from then on.
+    fn give_showing<K: Noted<RunItem>, R: Wait>(
+        &self,
+        rt: &R,
+        pass: &mut ReplyExec,
+        log: &[RunItem],
+        notice: Notice,
+    ) -> Result<(), Notice>
+        requires note { K.note ≡ log.now }
+        requires pass { pass.old.line ≡ self.now.line }
+        requires actor { actor_of notice ≡ pass.old.actor }
+        requires grown { IsPrefix pass.old.seen log.now }
+        requires place { NamesPlace log.now notice }
+        requires alive { All IsReply pass.old.given }
+        ensures ok { OnOk result (pass.new ≡ record pass.old { given = pass.old.given ++ notice ∷ []; seen = log.now }) }
+        ensures err { OnErr result (pass.new ≡ pass.old) }
+        ensures back { IfErr result (λ back. back ≡ notice) }
+    {
+        self.line.put::<K, R>(rt, &mut pass.pass, notice)
+    }
+
+    /// `None` where the line is empty.
+    pub fn collect<R: Wait>(&self, rt: &R, pass: &mut ReplyCaller) -> Option<Notice>
+        requires pass { pass.old.line ≡ self.now.line }
+        ensures taken { IfSome result (λ notice. pass.new ≡ record pass.old { taken = pass.old.taken ++ notice ∷ [] }) }
+        ensures none { IfNone result (pass.new ≡ pass.old) }
+        ensures known { IfSome result (λ notice. Contains pass.old.putters (actor_of notice)) }
+    {
+        self.line.take::<Brand, R>(rt, pass)
+    }
+
+    /// The line's length. The notices of the actor that were collected begin those that it gave.
+    pub fn audit<R: Wait>(
+        &self,
+        rt: &R,
+        executor: &mut ReplyExec,
+        caller: &mut ReplyCaller,
+    ) -> usize
+        requires passes { (executor.old.line ≡ self.now.line) × (caller.old.line ≡ self.now.line) }
+        ensures same { (executor.new ≡ executor.old) × (caller.new ≡ caller.old) }
+        ensures prefix { IsPrefix (items_of actor_of executor.old.actor caller.old.taken) executor.old.given }
+    {
+        self.line.audit(rt, &mut executor.pass, caller)
+    }
+}

@@ -1,0 +1,6 @@
+//! Full and empty lines, and threads that share one.
+
+mod full_control;
+mod full_mail;
+mod full_replies;
+mod threads;
