@@ -4,13 +4,11 @@
 Each run must write nothing, say `no memory` and end with status 3, or write the whole report. The
 requests are refused from outside, by tools/refuse.c.
 """
-import os
-import pathlib
-import subprocess
 import sys
 import tempfile
 
-TOP = pathlib.Path(__file__).resolve().parent.parent
+from refusing import TOP, Refusing
+
 PROGRAM = TOP / "crates/ray_actors/out/ray_actors"
 ROWS = TOP / "crates/ray_actors/rows"
 SCRIPTS = ["one_call", "another_caller_passes", "one_packet_for_good", "release_and_retire", "table_script", "fault_late_actor"]
@@ -20,26 +18,16 @@ NO_MEMORY = (3, b"", b"no memory\n")
 def main():
     passed = failed = 0
     with tempfile.TemporaryDirectory() as folder:
-        refuse = pathlib.Path(folder, "refuse.so")
-        count = pathlib.Path(folder, "count")
-        subprocess.run(["cc", "-O2", "-shared", "-fPIC", "-o", refuse, TOP / "tools/refuse.c"], check=True)
-        environment = dict(os.environ, LD_PRELOAD=str(refuse), REFUSE_REPORT=str(count))
-
-        def run(script, nth):
-            with open(script, "rb") as standard_input:
-                done = subprocess.run([PROGRAM, "play"], stdin=standard_input, capture_output=True,
-                                      env=dict(environment, REFUSE=str(nth)), timeout=60)
-            return done.returncode, done.stdout, done.stderr
-
+        refusing = Refusing(folder)
         for name in SCRIPTS:
             script = ROWS / f"{name}.actors"
-            whole = run(script, 0)
+            whole = refusing.run([PROGRAM, "play"], 0, script)
             if whole[1] != script.with_suffix(".report").read_bytes():
                 sys.exit(f"sweep_memory: {name} goes wrong with ample memory: {whole!r:.600}")
-            requests = int(count.read_text())
+            requests = refusing.requests()
             refusals = 0
             for nth in range(1, requests + 1):
-                got = run(script, nth)
+                got = refusing.run([PROGRAM, "play"], nth, script)
                 refusals += got == NO_MEMORY
                 if got in (NO_MEMORY, whole):
                     passed += 1

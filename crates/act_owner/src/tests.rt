@@ -1,5 +1,5 @@
-//! One caller from its first call to a death, calls that wait for answers, forged notices, and the
-//! most calls.
+//! One caller from its first call to a death, calls that wait for answers, forged notices, the most
+//! calls, and refused memory.
 
 use crate::{Collected, Owner, SendRefusal, SubmitRefusal};
 use act_types::{
@@ -251,5 +251,91 @@ fn the_most_calls(rt: HostRuntime) -> Result<(), Fail> {
     }
     assert_eq!(rt; refused, Some((65_536, SubmitRefusal::TooManyCalls)));
     assert_eq!(rt; owner.count(), 65_536);
+    Ok(())
+}
+
+/// What is shown of a caller of two actors and three calls.
+#[derive(Clone, Copy, Debug, PartialEq, Eq)]
+struct Shown {
+    count: u32,
+    all_answered: bool,
+    ready: Option<FutureId>,
+    answered: [Option<i64>; 3],
+    copies: [u32; 2],
+}
+
+fn answered(owner: &Owner, k: FutureId) -> Option<i64> {
+    match owner.answer(k) {
+        Some(Ok(Value::Int(value))) => Some(*value),
+        _ => None,
+    }
+}
+
+fn shown_of(owner: &Owner) -> Shown {
+    let a1 = ActorId::new(1).unwrap();
+    let a2 = ActorId::new(2).unwrap();
+    let [k0, k1, k2] = [0, 1, 2].map(FutureId::new);
+    Shown {
+        count: owner.count(),
+        all_answered: owner.all_answered(),
+        ready: owner.ready(),
+        answered: [
+            answered(owner, k0),
+            answered(owner, k1),
+            answered(owner, k2),
+        ],
+        copies: [owner.holds(a1), owner.holds(a2)],
+    }
+}
+
+/// What the caller tells of a request, which is asked once more where memory is refused.
+fn asked_again(
+    rt: &impl Abort,
+    alloc: Global,
+    owner: &mut Owner,
+    ask: Ask,
+) -> Result<Told, NoMemory> {
+    let before = shown_of(owner);
+    let told = asked(alloc, owner, ask)?;
+    match told {
+        Told::NotSubmitted(SubmitRefusal::NoMemory) | Told::NotSent(SendRefusal::NoMemory) => {
+            assert_eq!(rt; shown_of(owner), before, "at {ask:?}");
+            asked(alloc, owner, ask)
+        }
+        _ => Ok(told),
+    }
+}
+
+/// Memory is refused from outside, at most once.
+#[test]
+fn refused_memory_changes_nothing(rt: HostRuntime) -> Result<(), Fail> {
+    let c1 = CallerId::new(1).unwrap();
+    let a1 = ActorId::new(1).unwrap();
+    let a2 = ActorId::new(2).unwrap();
+    let [k0, k1, k2, k3, k4] = [0, 1, 2, 3, 4].map(FutureId::new);
+    let mut opened = Owner::open(rt.alloc(), c1, &[a1, a2]);
+    if opened.is_err() {
+        opened = Owner::open(rt.alloc(), c1, &[a1, a2]);
+        assert!(rt; opened.is_ok());
+    }
+    let mut owner = opened?;
+    for (ask, want) in [
+        (Ask::Submit(a1, Method::Add, 1, 5), Told::Future(k0)),
+        (Ask::SubmitFuture(a2, k0), Told::Future(k1)),
+        (Ask::Submit(a2, Method::Add, 2, 7), Told::Future(k2)),
+        (Ask::Packet(k0), Told::Packet(0, Some(5))),
+        (
+            Ask::Reply(a1, k0, Ok(5)),
+            Told::Collected(Collected::First(k0)),
+        ),
+        (Ask::Packet(k1), Told::Packet(0, Some(5))),
+        (Ask::Submit(a1, Method::Get, 0, 0), Told::Future(k3)),
+        (Ask::SubmitFuture(a1, k2), Told::Future(k4)),
+        (Ask::Packet(k2), Told::Packet(1, Some(7))),
+        (Ask::Ready, Told::Ready(Some(k3))),
+    ] {
+        let told = asked_again(&rt, rt.alloc(), &mut owner, ask)?;
+        assert_eq!(rt; told, want, "at {ask:?}");
+    }
     Ok(())
 }
