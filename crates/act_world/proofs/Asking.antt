@@ -1,0 +1,67 @@
+-- A kill that is asked.
+use Rattle.std.proofs.Common.{◌≡◌, ℕ, ◌<◌, Bool, true, false, List, [], ◌∷◌, ◌++◌, length, Some, None, Ok, Err, inl, inr, refl, sym, ◌∙◌, subst, get_or}
+use Rattle.std.specs.Prelude.{◌==◌, ◌||◌, position, slice_get, slice_set, unwrap_or}
+use Rattle.std.proofs.lemmas.Bool.{ne_eqb, eq-eqb}
+use Rattle.std.proofs.lemmas.Bool.Decides.{eqb_tells}
+use Rattle.std.proofs.lemmas.List.{get_or-set_same, get_or-set_other}
+use Rattle.std.proofs.lemmas.List.Folds.{list_any-append}
+use Rattle.std.proofs.lemmas.Option.{unwrap_or-slice_get}
+use Rattle.act_types.specs.declared.message.KillNote.{KillNote}
+use Rattle.act_rules.specs.declared.event.Event.TheVariants.{AskKill}
+use Rattle.act_rules.specs.declared.outcome.Did.TheVariants.{Asked}
+use Rattle.act_rules.specs.declared.outcome.HandleRefusal.{HandleRefusal}
+use Rattle.act_rules.specs.declared.outcome.WorldRefusal.TheVariants.{Handle}
+use Rattle.act_rules.specs.Submissions.{handle_refusal}
+use Rattle.act_rules.specs.History.{History, contains}
+use Rattle.act_rules.specs.Rules.{outcome_of, added, after}
+use Rattle.act_rules.proofs.Growth.{added_grows}
+use Rattle.act_handles.specs.Handles.{copies_in}
+use Rattle.act_owner.specs.Owner.{OwnerValue, kill_told}
+use Rattle.act_world.specs.Exchange.{ExchangeValue, is_owner}
+use Rattle.act_world.specs.Value.{SlotSeen}
+use Rattle.act_world.specs.Ties.{Ties}
+use Rattle.act_world.proofs.Lawful.{IsLawful}
+use Rattle.act_world.proofs.Frames.{same_caller, owners_stay, mail_stays}
+use Rattle.act_world.proofs.OneCaller.{refused_follows, accepted_follows, or_else-Ok, or_else-Err, caller_here, handle_refused, callers_tie}
+
+-- one number more
+contains-push : (b a : ℕ) (ns : List ℕ) → contains b (ns ++ a ∷ []) ≡ (contains b ns || ((a == b) || false))
+contains-push b a ns = list_any-append (λ m. m == b) ns (a ∷ [])
+
+-- the mark that a kill of the actor was asked
+asked_after : (asked : List Bool) (numbers : List ℕ) (a : ℕ) → a < length asked → ((b : ℕ) → unwrap_or (slice_get asked b) false ≡ contains b numbers)
+    → (b : ℕ) → unwrap_or (slice_get (slice_set asked a true) b) false ≡ contains b (numbers ++ a ∷ [])
+asked_after asked numbers a within all b = unwrap_or-slice_get (slice_set asked a true) b false ∙ elim (eqb_tells a b) [
+  | inl t ↦ subst (λ (x : ℕ). get_or (slice_set asked a true) x false ≡ contains x (numbers ++ a ∷ [])) t.1
+      (get_or-set_same asked a true false within ∙ sym (contains-push a a numbers ∙ rw (eq-eqb a a refl) (or_true (contains a numbers))))
+  | inr f ↦ get_or-set_other asked a b true false (λ same. f.1 (sym same)) ∙ sym (unwrap_or-slice_get asked b false) ∙ all b
+      ∙ sym (contains-push b a numbers ∙ rw (ne_eqb a b f.1) (or_false (contains b numbers)))
+]
+  where
+    or_true : (x : Bool) → (x || true) ≡ true
+    or_true true = refl
+    or_true false = refl
+
+    or_false : (x : Bool) → (x || false) ≡ x
+    or_false true = refl
+    or_false false = refl
+
+pub ask_follows : (h : History) (old : ExchangeValue) (slots : List SlotSeen) (c a place : ℕ) (note : KillNote) (owner : OwnerValue) → IsLawful h → Ties h (record { exchange = old; slots = slots })
+    → position (is_owner c) old.owners ≡ Some place → owner ≡ get_or old.owners place owner → Ok note ≡ kill_told owner a → a < length old.asked
+    → (Ok Asked ≡ outcome_of h (AskKill c a)) × Ties (after h (AskKill c a)) (record { exchange = record old { asked = slice_set old.asked a true }; slots = slots })
+ask_follows h old slots c a place note owner lawful ties at owner_is told within =
+    let here = caller_here h old slots c place owner ties at owner_is in
+    let accepted = or_else-Ok (handle_refusal (copies_in a owner.handles)) (record { caller = owner.id; actor = a }) note told in
+    let grows = added_grows h (AskKill c a) in
+    accepted_follows h (AskKill c a) Asked _ (handle_refused h c a owner None here accepted.0) refl
+    (callers_tie h (added h (AskKill c a)) old _ slots lawful ties (record { grows = grows; arrived = refl; ran = refl; posts = refl; dead = refl; retired = refl })
+    (owners_stay h (added h (AskKill c a)) old.owners refl (λ d. same_caller d h (added h (AskKill c a)) lawful grows refl refl refl refl refl) ties.owners)
+    (mail_stays h (added h (AskKill c a)) old.mail lawful grows ties.mail) ties.mail_count refl
+    (asked_after old.asked h.asked a within ties.asked))
+
+pub ask_refused_follows : (h : History) (old : ExchangeValue) (slots : List SlotSeen) (c a place : ℕ) (refusal : HandleRefusal) (owner : OwnerValue) → Ties h (record { exchange = old; slots = slots })
+    → position (is_owner c) old.owners ≡ Some place → owner ≡ get_or old.owners place owner → Err refusal ≡ kill_told owner a
+    → (Err (Handle refusal) ≡ outcome_of h (AskKill c a)) × Ties (after h (AskKill c a)) (record { exchange = old; slots = slots })
+ask_refused_follows h old slots c a place refusal owner ties at owner_is told =
+    let here = caller_here h old slots c place owner ties at owner_is in
+    refused_follows h (AskKill c a) (Handle refusal) _ (handle_refused h c a owner (Some refusal) here (or_else-Err (handle_refusal (copies_in a owner.handles)) (record { caller = owner.id; actor = a }) refusal told)) ties

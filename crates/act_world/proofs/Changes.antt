@@ -1,0 +1,92 @@
+-- How a world goes on where one of its actors changes, or nothing does.
+use Rattle.std.proofs.Common.{◌≡◌, ◌≢◌, ℕ, zero, suc, ◌<◌, true, false, List, [], ◌∷◌, length, map, get_or, Some, None, inl, inr, refl, ap, sym, ◌∙◌, subst}
+use Rattle.std.specs.Prelude.{Option, Result, Ok, Err, OnErr, slice_get, slice_set, option_map}
+use Rattle.std.proofs.lemmas.Bool.Decides.{eqb_tells}
+use Rattle.std.proofs.lemmas.Option.{slice_get-map, slice_get-get_or, get_or_from_slice_get}
+use Rattle.act_rules.specs.declared.event.Event.{Event}
+use Rattle.act_rules.specs.declared.outcome.Did.{Did}
+use Rattle.act_rules.specs.declared.outcome.WorldRefusal.{WorldRefusal}
+use Rattle.act_rules.specs.History.{Casting, History, cast_of, names, is_ended}
+use Rattle.act_rules.specs.Rules.{refusal_of, did, added, outcome_by, after_by, outcome_of, after}
+use Rattle.act_world.specs.Value.{SlotSeen, Runs, Died, Ended, Vacant, WorldSeen}
+use Rattle.act_world.specs.Slots.{is_live_seen}
+use Rattle.act_world.specs.Ties.{IsStage, Ties}
+
+-- ---- what is told, and what stands after
+
+-- an event that is refused leaves the world
+pub refused : (h : History) (event : Event) (refusal : WorldRefusal) (world : WorldSeen) → refusal_of h event ≡ Some refusal → Ties h world → (Err refusal ≡ outcome_of h event) × Ties (after h event) world
+refused h event refusal world e ties = (
+  ap (outcome_by h event) (sym e),
+  subst (λ (r : Option WorldRefusal). Ties (after_by h event r) world) (sym e) ties,
+)
+
+pub accepted : (h : History) (event : Event) (told : Did) (world : WorldSeen) → refusal_of h event ≡ None → told ≡ did h event → Ties (added h event) world → (Ok told ≡ outcome_of h event) × Ties (after h event) world
+accepted h event told world e same ties = (
+  ap (λ (d : Did). Ok d) same ∙ ap (outcome_by h event) (sym e),
+  subst (λ (r : Option WorldRefusal). Ties (after_by h event r) world) (sym e) ties,
+)
+
+-- ---- slots
+
+pub get_set-same : {X : Type 0} (xs : List X) (i : ℕ) (x y : X) → slice_get xs i ≡ Some x → slice_get (slice_set xs i y) i ≡ Some y
+get_set-same [] i x y e = cc
+get_set-same (z ∷ xs) zero x y e = refl
+get_set-same (z ∷ xs) (suc i) x y e = get_set-same xs i x y e
+
+pub get_set-other : {X : Type 0} (xs : List X) (i j : ℕ) (y : X) → i ≢ j → slice_get (slice_set xs i y) j ≡ slice_get xs j
+get_set-other [] i j y apart = refl
+get_set-other (z ∷ xs) zero zero y apart = absurd (apart refl)
+get_set-other (z ∷ xs) zero (suc j) y apart = refl
+get_set-other (z ∷ xs) (suc i) zero y apart = refl
+get_set-other (z ∷ xs) (suc i) (suc j) y apart = get_set-other xs i j y (λ e. apart (ap suc e))
+
+pub set-same : {X : Type 0} (xs : List X) (i : ℕ) (x : X) → slice_get xs i ≡ Some x → slice_set xs i x ≡ xs
+set-same [] i x e = cc
+set-same {X = X} (z ∷ xs) zero x e = let same : z ≡ x = cc in ap (λ (w : X). w ∷ xs) (sym same)
+set-same {X = X} (z ∷ xs) (suc i) x e = ap (λ (ys : List X). z ∷ ys) (set-same xs i x e)
+
+-- one actor changes, and none of the others
+pub stages_change : (h g : History) (slots : List SlotSeen) (a : ℕ) (old new : SlotSeen) → ((b : ℕ) → IsStage h b (slice_get slots b)) → slice_get slots a ≡ Some old → IsStage g a (Some new)
+    → ((b : ℕ) (stage : Option SlotSeen) → a ≢ b → IsStage h b stage → IsStage g b stage) → (b : ℕ) → IsStage g b (slice_get (slice_set slots a new) b)
+stages_change h g slots a old new all at is others b = elim (eqb_tells a b) [
+  | inl t ↦ subst (λ (x : ℕ). IsStage g x (slice_get (slice_set slots a new) x)) t.1 (subst (IsStage g a) (sym (get_set-same slots a old new at)) is)
+  | inr f ↦ subst (IsStage g b) (sym (get_set-other slots a b new f.1)) (others b (slice_get slots b) f.1 (all b))
+]
+
+-- an actor with a cast that doesn't run has ended
+pub has_ended : (h : History) (a : ℕ) (slot : SlotSeen) → IsStage h a (Some slot) → is_live_seen slot ≡ false → (cast_of a h ≡ None → ⊥) → is_ended a h ≡ true
+has_ended h a (Runs live) is off cast = cc
+has_ended h a (Died dead) is off cast = rw is.died refl
+has_ended h a (Ended retired) is off cast = rw (is.lived, is.ended) refl
+has_ended h a Vacant is off cast = absurd (cast is)
+
+-- an actor that runs has not
+pub not_ended : (h : History) (a : ℕ) (slot : SlotSeen) → IsStage h a (Some slot) → is_live_seen slot ≡ true → is_ended a h ≡ false
+not_ended h a (Runs live) is on = is.runs
+not_ended h a (Died dead) is on = cc
+not_ended h a (Ended retired) is on = cc
+not_ended h a Vacant is on = cc
+
+-- an actor whose cast names a caller has a cast
+pub named_cast : (c a : ℕ) (h : History) → names c (cast_of a h) ≡ true → cast_of a h ≡ None → ⊥
+named_cast c a h named none = let bad : names c None ≡ true = subst (λ (o : Option Casting). names c o ≡ true) none named in cc
+
+-- ---- what is seen of slots
+
+-- the slot of an actor that has a cast
+pub slot_there : {S : Type 0} (f : S → SlotSeen) (slots : List S) (h : History) (a : ℕ) (x : S) → ((b : ℕ) → IsStage h b (slice_get (map f slots) b)) → (cast_of a h ≡ None → ⊥) → x ≡ get_or slots a x
+    → slice_get (map f slots) a ≡ Some (f x)
+slot_there {S = S} f slots h a x all cast is = slice_get-map f slots a ∙ ap (option_map f) (there (slice_get slots a) refl)
+  where
+    there : (o : Option S) → slice_get slots a ≡ o → slice_get slots a ≡ Some x
+    there None e = absurd (cast (subst (IsStage h a) (slice_get-map f slots a ∙ ap (option_map f) e) (all a)))
+    there (Some y) e = e ∙ ap (λ (z : S). Some z) (sym (get_or_from_slice_get slots a y x e) ∙ sym is)
+
+-- the slot of an actor, in a list that is long enough
+pub slot_within : {S : Type 0} (f : S → SlotSeen) (slots : List S) (a : ℕ) (x : S) → a < length slots → x ≡ get_or slots a x → slice_get (map f slots) a ≡ Some (f x)
+slot_within {S = S} f slots a x within is = slice_get-map f slots a ∙ ap (option_map f) (slice_get-get_or slots a x within) ∙ ap (λ (y : S). Some (f y)) (sym is)
+
+pub on_err : {X Y : Type 0} {P : Type 0} (r : Result X Y) → P → OnErr r P
+on_err (Ok x) p = tt
+on_err (Err y) p = p

@@ -1,0 +1,153 @@
+-- A world that stands is consistent.
+use Rattle.std.proofs.Common.{◌≡◌, ℕ, ◌<◌, Bool, true, false, List, [], ◌∷◌, ◌++◌, length, map, Some, None, refl, ap, sym, ◌∙◌, subst, arith}
+use Rattle.std.specs.Prelude.{Option, ◌==◌, ◌||◌, find, slice_get, is_some, not}
+use Rattle.std.specs.List.{enumerate_from}
+use Rattle.std.specs.Option.{option_map_or}
+use Rattle.std.proofs.lemmas.Bool.{eq-eqb, eqb-true}
+use Rattle.act_types.specs.KindState.{KindState}
+use Rattle.act_rules.specs.declared.event.Event.{Event}
+use Rattle.act_rules.specs.declared.event.Event.TheVariants.{Submit, Copy, Release, Send, Deliver, Run, Collect, AskKill, TakeKill, Tell, Retire}
+use Rattle.act_rules.specs.declared.history.RunItem.{RunItem}
+use Rattle.act_rules.specs.declared.history.Submission.{Submission}
+use Rattle.act_rules.specs.declared.history.Letter.TheVariants.{Call as CallLetter}
+use Rattle.act_rules.specs.declared.outcome.HandleRefusal.TheVariants.{NoActor}
+use Rattle.act_rules.specs.declared.outcome.WorldRefusal.TheVariants.{Handle, ActorEnded, NoKill}
+use Rattle.act_rules.specs.RunList.{Answer, items_of}
+use Rattle.act_rules.specs.Submissions.{needs}
+use Rattle.act_rules.specs.Consistent.{Consistent}
+use Rattle.act_rules.specs.Laws.{world as history}
+use Rattle.act_rules.specs.History.{Casting, History, opening, contains, cast_of, opening_of, names, is_caller, calls_of, runs_of, ran_count, kept_of, first_answer, has_letter, is_dead, is_retired, is_ended, next_item}
+use Rattle.act_rules.specs.Rules.{refusal_of, after_run}
+use Rattle.act_rules.proofs.Steps.{IsKept, after_all_keeps}
+use Rattle.act_rules.proofs.Ended.{needs-none}
+use Rattle.act_rules.proofs.Letters.{has_letter-sound}
+use Rattle.act_rules.proofs.Growth.{added_grows}
+use Rattle.act_rules.proofs.Sound.{consistent}
+use Rattle.act_owner.specs.Owner.{OwnerValue}
+use Rattle.act_world.specs.Exchange.{is_owner}
+use Rattle.act_world.specs.Value.{SlotSeen, Runs, Died, Ended, Vacant, WorldSeen}
+use Rattle.act_world.specs.Ties.{IsOwnerAt, IsStage, Ties}
+use Rattle.act_world.specs.Slots.{is_dead_seen}
+use Rattle.act_world.specs.Headline.{calls_in, kept_in, log_of, log_in, died_in, IsConsistent}
+use Rattle.act_world.proofs.Lawful.{IsLawful, IsNamedLetter, world_lawful, named_caller, sent_call_named}
+
+-- ---- the casts stay, and the dead have casts
+
+abbrev HasCasts : List Casting → History → Type 0
+HasCasts casts h = h.casts ≡ casts
+
+casts_step : (casts : List Casting) → IsKept (HasCasts casts)
+casts_step casts h event same accepted = (added_grows h event).casts ∙ same
+
+abbrev DeadHaveCasts : History → Type 0
+DeadHaveCasts h = (a : ℕ) → is_dead a h ≡ true → is_some (cast_of a h) ≡ true
+
+kill_needs : (h : History) (a : ℕ) → refusal_of h (TakeKill a) ≡ None → is_some (cast_of a h) ≡ true
+kill_needs h a e = (needs-none (is_some (cast_of a h)) (Handle NoActor) (needs (not (is_ended a h)) ActorEnded (needs (contains a h.asked) NoKill None)) e).0
+
+one_more : (xs : List ℕ) (a b : ℕ) → contains a (xs ++ b ∷ []) ≡ true → (contains a xs ≡ false) → b ≡ a
+one_more [] a b e none = go (b == a) refl e
+  where
+    go : (same : Bool) → (b == a) ≡ same → (same || false) ≡ true → b ≡ a
+    go true is e = eqb-true b a is
+    go false is e = cc
+one_more (x ∷ xs) a b e none = go (x == a) e none (one_more xs a b)
+  where
+    go : (same : Bool) → (same || contains a (xs ++ b ∷ [])) ≡ true → (same || contains a xs) ≡ false → (contains a (xs ++ b ∷ []) ≡ true → contains a xs ≡ false → b ≡ a) → b ≡ a
+    go true e none rest = cc
+    go false e none rest = rest e none
+
+dead_step : IsKept DeadHaveCasts
+dead_step h (Submit c a method args) all accepted b dead = all b dead
+dead_step h (Copy c a) all accepted b dead = all b dead
+dead_step h (Release c a) all accepted b dead = all b dead
+dead_step h (Send c k) all accepted b dead = all b dead
+dead_step h (Deliver i) all accepted b dead = all b dead
+dead_step h (Run a c) all accepted b dead = go (next_item a c h) dead
+  where
+    go : (o : Option RunItem) → is_dead b (after_run a c h o) ≡ true → is_some (cast_of b (after_run a c h o)) ≡ true
+    go None dead = all b dead
+    go (Some item) dead = all b dead
+dead_step h (Collect j) all accepted b dead = all b dead
+dead_step h (AskKill c a) all accepted b dead = all b dead
+dead_step h (TakeKill a) all accepted b dead = go (is_dead b h) refl
+  where
+    go : (before : Bool) → is_dead b h ≡ before → is_some (cast_of b h) ≡ true
+    go true is = all b is
+    go false is = subst (λ (x : ℕ). is_some (cast_of x h) ≡ true) (one_more h.dead b a dead is) (kill_needs h a accepted)
+dead_step h (Tell a c) all accepted b dead = all b dead
+dead_step h (Retire a) all accepted b dead = all b dead
+
+-- ---- who is no caller submitted nothing, and what has no cast ran nothing
+
+no_calls : (h : History) (c : ℕ) (calls : List Submission) → calls_of c h ≡ calls → IsLawful h → is_caller c h ≡ false → calls ≡ []
+no_calls h c [] is lawful stranger = refl
+no_calls h c (call ∷ calls) is lawful stranger =
+    let named = sent_call_named h c 0 call lawful.retires.named (ap (λ (l : List Submission). slice_get l 0) is) in
+    let bad : true ≡ false = sym (named_caller c call.actor h named) ∙ stranger in
+    absurd (cc)
+
+first_counts : (item : RunItem) (items : List RunItem) → 0 < length (items_of item.caller (item ∷ items))
+first_counts item items = rw (eq-eqb item.caller item.caller refl) (omega arith)
+
+no_runs : (h : History) (a : ℕ) (items : List RunItem) → runs_of a h ≡ items → IsLawful h → cast_of a h ≡ None → items ≡ []
+no_runs h a [] is lawful uncast = refl
+no_runs h a (item ∷ items) is lawful uncast =
+    let below : 0 < ran_count item.caller a h = subst (λ (l : List RunItem). 0 < length (items_of item.caller l)) (sym is) (first_counts item items) in
+    let arrived = lawful.came a item.caller 0 below in
+    let sent = has_letter-sound (λ letter. has_letter letter h.mail ≡ true) (CallLetter item.caller a 0) h.arrived lawful.sent arrived in
+    let named = has_letter-sound (IsNamedLetter h) (CallLetter item.caller a 0) h.mail lawful.named.mail sent in
+    let bad : false ≡ true = ap (names item.caller) (sym uncast) ∙ named in
+    absurd (cc)
+
+-- ---- what the world shows is what the history tells
+
+calls_are : (h : History) (c : ℕ) (owner : Option OwnerValue) → IsLawful h → IsOwnerAt h c owner → calls_of c h ≡ option_map_or (λ (o : OwnerValue). o.calls) owner []
+calls_are h c None lawful is = no_calls h c (calls_of c h) refl lawful is
+calls_are h c (Some owner) lawful is = sym is.1.calls
+
+kept_are : (h : History) (c : ℕ) (owner : Option OwnerValue) → IsLawful h → IsOwnerAt h c owner → kept_of c h ≡ option_map_or (λ (o : OwnerValue). o.kept) owner []
+kept_are h c None lawful is = ap (λ (calls : List Submission). map (first_answer h c) (enumerate_from 0 calls)) (no_calls h c (calls_of c h) refl lawful is)
+kept_are h c (Some owner) lawful is = sym is.1.kept
+
+logs_are : (h : History) (a : ℕ) (slot : Option SlotSeen) → IsLawful h → IsStage h a slot → runs_of a h ≡ option_map_or log_of slot []
+logs_are h a None lawful is = no_runs h a (runs_of a h) refl lawful is
+logs_are h a (Some Vacant) lawful is = no_runs h a (runs_of a h) refl lawful is
+logs_are h a (Some (Runs live)) lawful is = sym is.log
+logs_are h a (Some (Died dead)) lawful is = sym is.log
+logs_are h a (Some (Ended retired)) lawful is = sym is.log
+
+not_dead : (h : History) (a : ℕ) → DeadHaveCasts h → cast_of a h ≡ None → is_dead a h ≡ false
+not_dead h a all uncast = go (is_dead a h) refl
+  where
+    go : (b : Bool) → is_dead a h ≡ b → b ≡ false
+    go true e = let bad : false ≡ true = ap (λ (o : Option Casting). is_some o) (sym uncast) ∙ all a e in absurd (cc)
+    go false e = refl
+
+left_false : (x y : Bool) → (x || y) ≡ false → x ≡ false
+left_false true y e = cc
+left_false false y e = refl
+
+deaths_are : (h : History) (a : ℕ) (slot : Option SlotSeen) → DeadHaveCasts h → IsStage h a slot → is_dead a h ≡ option_map_or is_dead_seen slot false
+deaths_are h a None all is = not_dead h a all is
+deaths_are h a (Some Vacant) all is = not_dead h a all is
+deaths_are h a (Some (Runs live)) all is = left_false (is_dead a h) (is_retired a h) is.runs
+deaths_are h a (Some (Died dead)) all is = is.died
+deaths_are h a (Some (Ended retired)) all is = is.lived
+
+opened : (casts : List Casting) (h : History) (a : ℕ) → h.casts ≡ casts → opening_of a h ≡ opening_of a (opening casts)
+opened casts h a same = ap (λ (l : List Casting). opening_of a (opening l)) same
+
+-- the world is consistent, as its history is
+pub stands_consistent : (casts : List Casting) (events : List Event) (world : WorldSeen) → Ties (history casts events) world → IsConsistent casts world
+stands_consistent casts events world ties =
+    let h = history casts events in
+    let lawful = world_lawful casts events in
+    let same : h.casts ≡ casts = after_all_keeps (HasCasts casts) (casts_step casts) (opening casts) events refl in
+    let dead : DeadHaveCasts h = after_all_keeps DeadHaveCasts dead_step (opening casts) events (λ a e. cc) in
+    subst (λ (f : ℕ → Option KindState). Consistent f (calls_in world) (log_in world) (kept_in world) (died_in world)) (λ i a. opened casts h a same i)
+    (subst (λ (f : ℕ → List Submission). Consistent (λ a. opening_of a h) f (log_in world) (kept_in world) (died_in world)) (λ i c. calls_are h c (find (is_owner c) world.exchange.owners) lawful (ties.owners c) i)
+    (subst (λ (f : ℕ → List RunItem). Consistent (λ a. opening_of a h) (λ c. calls_of c h) f (kept_in world) (died_in world)) (λ i a. logs_are h a (slice_get world.slots a) lawful (ties.actors a) i)
+    (subst (λ (f : ℕ → List (Option Answer)). Consistent (λ a. opening_of a h) (λ c. calls_of c h) (λ a. runs_of a h) f (died_in world)) (λ i c. kept_are h c (find (is_owner c) world.exchange.owners) lawful (ties.owners c) i)
+    (subst (λ (f : ℕ → Bool). Consistent (λ a. opening_of a h) (λ c. calls_of c h) (λ a. runs_of a h) (λ c. kept_of c h) f) (λ i a. deaths_are h a (slice_get world.slots a) dead (ties.actors a) i)
+    (consistent h lawful.sound)))))

@@ -1,0 +1,295 @@
+-- What every history keeps, beside the laws of the rules: what a world may rely on.
+use Rattle.std.proofs.Common.{◌≡◌, ℕ, zero, suc, ◌+◌, ◌-◌, ◌<◌, ◌≤◌, Bool, true, false, cond, List, [], ◌∷◌, ◌++◌, length, Some, None, inl, inr, refl, ap, sym, ◌∙◌, subst, arith, length-append}
+use Rattle.std.specs.Prelude.{Option, ◌==◌, ◌||◌, filter, find, slice_get, option_map, is_some, nat_lt, nat_le}
+use Rattle.std.specs.List.{AllByRecursion, list_all, list_any}
+use Rattle.std.proofs.lemmas.Bool.{eqb-true, eq-eqb, ltb-true}
+use Rattle.std.proofs.lemmas.Bool.Decides.{leb_tells}
+use Rattle.std.proofs.lemmas.List.{append-nil}
+use Rattle.std.proofs.lemmas.List.Folds.{list_any-append}
+use Rattle.std.proofs.lemmas.List.Elements.{filter-append}
+use Rattle.act_types.specs.declared.call.Arg.{Arg}
+use Rattle.act_types.specs.declared.call.Method.{Method}
+use Rattle.act_rules.specs.declared.history.RunItem.{RunItem}
+use Rattle.act_rules.specs.declared.history.Submission.{Submission}
+use Rattle.act_rules.specs.declared.history.Letter.{Letter}
+use Rattle.act_rules.specs.declared.history.Letter.TheVariants.{Call as CallLetter, Note as NoteLetter}
+use Rattle.act_rules.specs.declared.history.Post.{Post}
+use Rattle.act_rules.specs.declared.history.Post.TheVariants.{Reply as ReplyPost, Death as DeathPost}
+use Rattle.act_rules.specs.declared.event.Event.{Event}
+use Rattle.act_rules.specs.declared.event.Event.TheVariants.{Submit, Copy, Release, Send, Deliver, Run, Collect, AskKill, TakeKill, Tell, Retire}
+use Rattle.act_rules.specs.declared.outcome.HandleRefusal.TheVariants.{NoActor, NoHandle}
+use Rattle.act_rules.specs.declared.outcome.SubmitRefusal.TheVariants.{NoActor as NoSuchActor, NoHandle as NoCopy, TooManyArgs, BadFuture, TooManyCalls}
+use Rattle.act_rules.specs.declared.outcome.WorldRefusal.TheVariants.{Submit as SubmitRefused, NoCaller, Handle, NotDead}
+use Rattle.act_rules.specs.RunList.{items_of}
+use Rattle.act_rules.specs.Submissions.{calls_to, needs, copies_held, submit_refusal, handle_refusal, is_earlier}
+use Rattle.act_rules.specs.History.{Casting, History, opening, contains, under, times, cast_of, names, is_caller, calls_of, copies_of, runs_of, ran_count, has_letter, is_letter, is_dead, next_item}
+use Rattle.act_rules.specs.Rules.{refusal_of, added, and_also, after_run, call_letter, is_last, after_all}
+use Rattle.act_rules.proofs.Lists.{All_more, All_weaker, All_at}
+use Rattle.act_rules.proofs.Steps.{IsKept, after_all_keeps}
+use Rattle.act_rules.proofs.Ended.{needs-none, under-push, run_needs}
+use Rattle.act_rules.proofs.Order.{IsNext, next_item_is}
+use Rattle.act_rules.proofs.Unique.{map-slice_get}
+use Rattle.act_rules.proofs.AsSubmitted.{filter-slice_get}
+use Rattle.act_rules.proofs.RanAll.{Retires, retires_step, AllNamed, world_retires}
+use Rattle.act_rules.proofs.Sound.{IsSound, sound_step, world_sound}
+
+option_map-none : {A B : Type 0} (f : A → B) (o : Option A) → option_map f o ≡ None → o ≡ None
+option_map-none f None e = refl
+option_map-none f (Some x) e = cc
+
+-- ---- no caller submits too much
+
+abbrev pub AreFew : History → Type 0
+AreFew h = (c : ℕ) → length (calls_of c h) ≤ 65536
+
+submit_below : (h : History) (c a : ℕ) (method : Method) (args : List Arg) → refusal_of h (Submit c a method args) ≡ None → length (calls_of c h) < 65536
+submit_below h c a method args e =
+    let count = length (calls_of c h) in
+    let copies = copies_of c a h in
+    let none = option_map-none SubmitRefused (submit_refusal copies count args) (needs-none (is_caller c h) NoCaller (option_map SubmitRefused (submit_refusal copies count args)) e).1 in
+    let last = needs (nat_lt count 65536) TooManyCalls None in
+    let fourth = needs (list_all (is_earlier count) args) BadFuture last in
+    let third = needs (nat_le (length args) 4) TooManyArgs fourth in
+    let second = needs (nat_lt 0 (copies_held copies)) NoCopy third in
+    let first = needs-none (is_some copies) NoSuchActor second none in
+    let held = needs-none (nat_lt 0 (copies_held copies)) NoCopy third first.1 in
+    let short = needs-none (nat_le (length args) 4) TooManyArgs fourth held.1 in
+    let known = needs-none (list_all (is_earlier count) args) BadFuture last short.1 in
+    ltb-true count 65536 (needs-none (nat_lt count 65536) TooManyCalls None known.1).0
+
+one_more_call : (h : History) (c d : ℕ) (call : Submission) → (d ≡ c → length (calls_of c h) < 65536) → length (calls_of c h) ≤ 65536 → length (under c (h.submitted ++ (d, call) ∷ [])) ≤ 65536
+one_more_call h c d call below few = rw (under-push c d h.submitted call, length-append) (go (d == c) refl)
+  where
+    go : (same : Bool) → (d == c) ≡ same → length (under c h.submitted) + length (cond same (call ∷ []) []) ≤ 65536
+    go true e = let less = below (eqb-true d c e) in omega arith
+    go false e = omega arith
+
+pub few_step : IsKept AreFew
+few_step h (Submit d a method args) few accepted c = one_more_call h c d (record { actor = a; method = method; args = args }) (λ same. subst (λ (x : ℕ). length (calls_of x h) < 65536) same (submit_below h d a method args accepted)) (few c)
+few_step h (Copy d a) few accepted c = few c
+few_step h (Release d a) few accepted c = few c
+few_step h (Send d k) few accepted c = few c
+few_step h (Deliver i) few accepted c = few c
+few_step h (Run a d) few accepted c = go (next_item a d h)
+  where
+    go : (o : Option RunItem) → length (calls_of c (after_run a d h o)) ≤ 65536
+    go None = few c
+    go (Some item) = few c
+few_step h (Collect j) few accepted c = few c
+few_step h (AskKill d a) few accepted c = few c
+few_step h (TakeKill a) few accepted c = few c
+few_step h (Tell a d) few accepted c = few c
+few_step h (Retire a) few accepted c = few c
+
+-- ---- what arrived was sent, and what ran had arrived
+
+pub has_letter-more : (letter : Letter) (xs ys : List Letter) → has_letter letter xs ≡ true → has_letter letter (xs ++ ys) ≡ true
+has_letter-more letter xs ys e = rw (list_any-append (is_letter letter) xs ys, e) refl
+
+pub has_letter-last : (letter other : Letter) (xs : List Letter) → has_letter letter (xs ++ other ∷ []) ≡ (has_letter letter xs || is_letter letter other)
+has_letter-last letter other xs = list_any-append (is_letter letter) xs (other ∷ []) ∙ ap (λ (b : Bool). has_letter letter xs || b) (or_false (is_letter letter other))
+  where
+    or_false : (b : Bool) → (b || false) ≡ b
+    or_false true = refl
+    or_false false = refl
+
+-- a letter is itself
+pub is_letter-same : (letter : Letter) → is_letter letter letter ≡ true
+is_letter-same (CallLetter c a n) = rw (eq-eqb c c refl, eq-eqb a a refl, eq-eqb n n refl) refl
+is_letter-same (NoteLetter c a n) = rw (eq-eqb c c refl, eq-eqb a a refl, eq-eqb n n refl) refl
+
+pub has_letter-at : (letter : Letter) (letters : List Letter) (i : ℕ) → slice_get letters i ≡ Some letter → has_letter letter letters ≡ true
+has_letter-at letter [] i e = cc
+has_letter-at letter (x ∷ letters) zero e = let same : x ≡ letter = cc in rw (same, is_letter-same letter) refl
+has_letter-at letter (x ∷ letters) (suc i) e = or_right (is_letter letter x) (has_letter letter letters) (has_letter-at letter letters i e)
+  where
+    or_right : (a b : Bool) → b ≡ true → (a || b) ≡ true
+    or_right true b e = refl
+    or_right false b e = e
+
+-- each letter that arrived stands in the mail
+abbrev pub WereSent : History → Type 0
+WereSent h = AllByRecursion (λ letter. has_letter letter h.mail ≡ true) h.arrived
+
+sent_more : (h : History) (o : Option Letter) → WereSent h → AllByRecursion (λ letter. has_letter letter (and_also h.mail o) ≡ true) h.arrived
+sent_more h None sent = sent
+sent_more h (Some letter) sent = All_weaker (λ x. has_letter x h.mail ≡ true) (λ x. has_letter x (h.mail ++ letter ∷ []) ≡ true) h.arrived (λ x e. has_letter-more x h.mail (letter ∷ []) e) sent
+
+pub sent_step : IsKept WereSent
+sent_step h (Submit c a method args) sent accepted = sent
+sent_step h (Copy c a) sent accepted = sent
+sent_step h (Release c a) sent accepted = sent_more h (if_last (is_last c a h)) sent
+  where
+    if_last : Bool → Option Letter
+    if_last last = cond last (Some (NoteLetter c a (length (calls_to a (calls_of c h))))) None
+sent_step h (Send c k) sent accepted = sent_more h (option_map (λ (call : Submission). call_letter c k call h) (slice_get (calls_of c h) k)) sent
+sent_step h (Deliver i) sent accepted = go (slice_get h.mail i) refl
+  where
+    go : (o : Option Letter) → slice_get h.mail i ≡ o → AllByRecursion (λ letter. has_letter letter h.mail ≡ true) (and_also h.arrived o)
+    go None e = sent
+    go (Some letter) e = All_more (λ x. has_letter x h.mail ≡ true) h.arrived letter sent (has_letter-at letter h.mail i e)
+sent_step h (Run a c) sent accepted = go (next_item a c h)
+  where
+    go : (o : Option RunItem) → WereSent (after_run a c h o)
+    go None = sent
+    go (Some item) = sent
+sent_step h (Collect j) sent accepted = sent
+sent_step h (AskKill c a) sent accepted = sent
+sent_step h (TakeKill a) sent accepted = sent
+sent_step h (Tell a c) sent accepted = sent
+sent_step h (Retire a) sent accepted = sent
+
+-- the caller's calls that an actor ran had arrived
+abbrev pub HadArrived : History → Type 0
+HadArrived h = (a c n : ℕ) → n < ran_count c a h → has_letter (CallLetter c a n) h.arrived ≡ true
+
+arrived_run : (h : History) (b d : ℕ) (item : RunItem) → IsNext b d h item → HadArrived h → (a c n : ℕ) → n < length (items_of c (under a (h.ran ++ (b, item) ∷ []))) → has_letter (CallLetter c a n) h.arrived ≡ true
+arrived_run h b d item next came a c n below = go (b == a) refl (subst (λ (items : List RunItem). n < length (items_of c items)) (under-push a b h.ran item) below)
+  where
+    caller : item.caller ≡ d
+    caller = ap (λ (i : RunItem). i.caller) (sym next.is)
+
+    inner : (same : Bool) → (item.caller == c) ≡ same → b ≡ a → n < length (items_of c (runs_of a h)) + length {A = RunItem} (cond same (item ∷ []) []) → has_letter (CallLetter c a n) h.arrived ≡ true
+    inner true e same below = elim (leb_tells (suc n) (ran_count c a h)) [
+      | inl less ↦ came a c n (let here = less.1 in omega arith)
+      | inr more ↦ let least = more.1 in let last : n ≡ ran_count c a h = omega arith in let who : d ≡ c = sym caller ∙ eqb-true item.caller c e in rw last (subst (λ (x : ℕ). has_letter (CallLetter x a (ran_count x a h)) h.arrived ≡ true) who (subst (λ (y : ℕ). has_letter (CallLetter d y (ran_count d y h)) h.arrived ≡ true) same next.arrived))
+    ]
+    inner false e same below = came a c n (omega arith)
+
+    go : (same : Bool) → (b == a) ≡ same → n < length (items_of c (runs_of a h ++ cond same (item ∷ []) [])) → has_letter (CallLetter c a n) h.arrived ≡ true
+    go true e below = inner (item.caller == c) refl (eqb-true b a e) (subst (λ (k : ℕ). n < k) (ap (λ (items : List RunItem). length items) (filter-append (λ (i : RunItem). i.caller == c) (runs_of a h) (item ∷ [])) ∙ length-append (items_of c (runs_of a h)) _) below)
+    go false e below = came a c n (subst (λ (items : List RunItem). n < length (items_of c items)) (append-nil (runs_of a h)) below)
+
+pub came_step : IsKept HadArrived
+came_step h (Submit c a method args) came accepted = came
+came_step h (Copy c a) came accepted = came
+came_step h (Release c a) came accepted = came
+came_step h (Send c k) came accepted = came
+came_step h (Deliver i) came accepted = go (slice_get h.mail i)
+  where
+    go : (o : Option Letter) → (a c n : ℕ) → n < ran_count c a h → has_letter (CallLetter c a n) (and_also h.arrived o) ≡ true
+    go None a c n below = came a c n below
+    go (Some letter) a c n below = has_letter-more (CallLetter c a n) h.arrived (letter ∷ []) (came a c n below)
+came_step h (Run b d) came accepted = go (next_item b d h) refl
+  where
+    go : (o : Option RunItem) → next_item b d h ≡ o → HadArrived (after_run b d h o)
+    go None e = came
+    go (Some item) e = arrived_run h b d item (next_item_is b d h item e) came
+came_step h (Collect j) came accepted = came
+came_step h (AskKill c a) came accepted = came
+came_step h (TakeKill a) came accepted = came
+came_step h (Tell a c) came accepted = came
+came_step h (Retire a) came accepted = came
+
+-- ---- letters and notices are of callers that their actor's cast names
+
+abbrev pub IsNamedLetter : History → Letter → Type 0
+IsNamedLetter h (CallLetter c a n) = names c (cast_of a h) ≡ true
+IsNamedLetter h (NoteLetter c a n) = names c (cast_of a h) ≡ true
+
+abbrev pub IsNamedPost : History → Post → Type 0
+IsNamedPost h (ReplyPost c a place) = names c (cast_of a h) ≡ true
+IsNamedPost h (DeathPost c a) = names c (cast_of a h) ≡ true
+
+pub record AreNamed (h : History) : Type 0 where
+  pub mail : AllByRecursion (IsNamedLetter h) h.mail
+  pub posts : AllByRecursion (IsNamedPost h) h.posts
+
+copies_named : (c a : ℕ) (h : History) → is_some (copies_of c a h) ≡ true → names c (cast_of a h) ≡ true
+copies_named c a h e = go (names c (cast_of a h)) ((1 + times c a h.copied) - times c a h.released) e
+  where
+    go : (b : Bool) (n : ℕ) → is_some (cond b (Some n) None) ≡ true → b ≡ true
+    go true n e = refl
+    go false n e = cc
+
+release_needs : (h : History) (c a : ℕ) → refusal_of h (Release c a) ≡ None → is_some (copies_of c a h) ≡ true
+release_needs h c a e =
+    let copies = copies_of c a h in
+    let none = option_map-none Handle (handle_refusal copies) (needs-none (is_caller c h) NoCaller (option_map Handle (handle_refusal copies)) e).1 in
+    (needs-none (is_some copies) NoActor (needs (nat_lt 0 (copies_held copies)) NoHandle None) none).0
+
+tell_names : (h : History) (a c : ℕ) → refusal_of h (Tell a c) ≡ None → names c (cast_of a h) ≡ true
+tell_names h a c e =
+    let first = needs-none (is_caller c h) NoCaller (needs (names c (cast_of a h)) (Handle NoActor) (needs (is_dead a h) NotDead None)) e in
+    (needs-none (names c (cast_of a h)) (Handle NoActor) (needs (is_dead a h) NotDead None) first.1).0
+
+pub sent_call_named : (h : History) (c k : ℕ) (call : Submission) → AllNamed h → slice_get (calls_of c h) k ≡ Some call → names c (cast_of call.actor h) ≡ true
+sent_call_named h c k call named at =
+    let pair = map-slice_get (λ (s : ℕ × Submission). s.1) (filter (λ (s : ℕ × Submission). s.0 == c) h.submitted) k call at in
+    let place = filter-slice_get (λ (s : ℕ × Submission). s.0 == c) h.submitted k pair.0 pair.1 in
+    let mine : pair.0.0 ≡ c = eqb-true pair.0.0 c place.passes in
+    let to : pair.0.1.actor ≡ call.actor = ap (λ (s : Submission). s.actor) pair.2 in
+    let is : names pair.0.0 (cast_of pair.0.1.actor h) ≡ true = All_at (λ (one : ℕ × Submission). names one.0 (cast_of one.1.actor h) ≡ true) h.submitted place.place pair.0 named place.at in
+    subst (λ (x : ℕ). names x (cast_of call.actor h) ≡ true) mine (subst (λ (y : ℕ). names pair.0.0 (cast_of y h) ≡ true) to is)
+
+pub named_step : (h : History) (event : Event) → AllNamed h → AreNamed h → refusal_of h event ≡ None → AreNamed (added h event)
+named_step h (Submit c a method args) all named accepted = record { mail = named.mail; posts = named.posts }
+named_step h (Copy c a) all named accepted = record { mail = named.mail; posts = named.posts }
+named_step h (Release c a) all named accepted = record { mail = go (is_last c a h); posts = named.posts }
+  where
+    go : (last : Bool) → AllByRecursion (IsNamedLetter h) (and_also h.mail (cond last (Some (NoteLetter c a (length (calls_to a (calls_of c h))))) None))
+    go true = All_more (IsNamedLetter h) h.mail (NoteLetter c a (length (calls_to a (calls_of c h)))) named.mail (copies_named c a h (release_needs h c a accepted))
+    go false = named.mail
+named_step h (Send c k) all named accepted = record { mail = go (slice_get (calls_of c h) k) refl; posts = named.posts }
+  where
+    go : (o : Option Submission) → slice_get (calls_of c h) k ≡ o → AllByRecursion (IsNamedLetter h) (and_also h.mail (option_map (λ (call : Submission). call_letter c k call h) o))
+    go None e = named.mail
+    go (Some call) e = All_more (IsNamedLetter h) h.mail (call_letter c k call h) named.mail (sent_call_named h c k call all e)
+named_step h (Deliver i) all named accepted = record { mail = named.mail; posts = named.posts }
+named_step h (Run a c) all named accepted = go (next_item a c h)
+  where
+    go : (o : Option RunItem) → AreNamed (after_run a c h o)
+    go None = named
+    go (Some item) = record { mail = named.mail; posts = All_more (IsNamedPost h) h.posts (ReplyPost c a (length (runs_of a h))) named.posts (run_needs h a c accepted).1 }
+named_step h (Collect j) all named accepted = record { mail = named.mail; posts = named.posts }
+named_step h (AskKill c a) all named accepted = record { mail = named.mail; posts = named.posts }
+named_step h (TakeKill a) all named accepted = record { mail = named.mail; posts = named.posts }
+named_step h (Tell a c) all named accepted = record { mail = named.mail; posts = All_more (IsNamedPost h) h.posts (DeathPost c a) named.posts (tell_names h a c accepted) }
+named_step h (Retire a) all named accepted = record { mail = named.mail; posts = named.posts }
+
+or_either : (x y : Bool) → y ≡ true → (x || y) ≡ true
+or_either true y f = refl
+or_either false y f = f
+
+named_here : (c : ℕ) (cast : Casting) (casts : List Casting) (found : Option Casting) (here : Bool) → (names c found ≡ true → list_any (λ (one : Casting). contains c one.callers) casts ≡ true)
+    → names c (cond here (Some cast) found) ≡ true → (contains c cast.callers || list_any (λ (one : Casting). contains c one.callers) casts) ≡ true
+named_here c cast casts found true rest e = rw e refl
+named_here c cast casts found false rest e = or_either (contains c cast.callers) (list_any (λ (one : Casting). contains c one.callers) casts) (rest e)
+
+named_among : (c a : ℕ) (casts : List Casting) → names c (find (λ (cast : Casting). cast.actor == a) casts) ≡ true → list_any (λ (cast : Casting). contains c cast.callers) casts ≡ true
+named_among c a [] e = cc
+named_among c a (cast ∷ casts) e = named_here c cast casts (find (λ (one : Casting). one.actor == a) casts) (cast.actor == a) (named_among c a casts) e
+
+-- who is named by a cast is a caller
+pub named_caller : (c a : ℕ) (h : History) → names c (cast_of a h) ≡ true → is_caller c h ≡ true
+named_caller c a h e = named_among c a h.casts e
+
+-- ---- all of them
+
+pub record IsLawful (h : History) : Type 0 where
+  pub sound : IsSound h
+  pub retires : Retires h
+  pub few : AreFew h
+  pub sent : WereSent h
+  pub came : HadArrived h
+  pub named : AreNamed h
+
+pub lawful_step : IsKept IsLawful
+lawful_step h event lawful accepted = record {
+  sound = sound_step h event lawful.sound accepted;
+  retires = retires_step h event lawful.retires accepted;
+  few = few_step h event lawful.few accepted;
+  sent = sent_step h event lawful.sent accepted;
+  came = came_step h event lawful.came accepted;
+  named = named_step h event lawful.retires.named lawful.named accepted;
+}
+
+pub world_lawful : (casts : List Casting) (events : List Event) → IsLawful (after_all (opening casts) events)
+world_lawful casts events = after_all_keeps IsLawful lawful_step (opening casts) events (record {
+  sound = world_sound casts [];
+  retires = world_retires casts [];
+  few = λ c. omega arith;
+  sent = tt;
+  came = λ a c n below. absurd (omega arith);
+  named = record { mail = tt; posts = tt };
+})

@@ -1,0 +1,149 @@
+-- What an event of a caller leaves in place.
+use Rattle.std.proofs.Common.{◌≡◌, ◌≢◌, ℕ, ◌+◌, Bool, true, false, cond, List, [], ◌∷◌, ◌++◌, length, Some, None, Ok, Err, refl, ap, sym, ◌∙◌, subst, arith, length-append, get_or}
+use Rattle.std.specs.Prelude.{Option, Result, ◌==◌, ◌&&◌, find, position, slice_get, slice_set, option_map, option_and_then, unwrap_or, OnErr}
+use Rattle.std.proofs.lemmas.Bool.{eq-eqb, ne_eqb}
+use Rattle.std.proofs.lemmas.List.{set-get_or, append-nil}
+use Rattle.std.proofs.lemmas.List.Elements.{filter-append}
+use Rattle.act_rules.specs.declared.history.Submission.{Submission}
+use Rattle.act_rules.specs.declared.history.Letter.TheVariants.{Call as CallLetter}
+use Rattle.act_rules.specs.declared.event.Event.{Event}
+use Rattle.act_rules.specs.declared.outcome.Did.{Did}
+use Rattle.act_rules.specs.declared.outcome.HandleRefusal.{HandleRefusal}
+use Rattle.act_rules.specs.declared.outcome.WorldRefusal.{WorldRefusal}
+use Rattle.act_rules.specs.declared.outcome.WorldRefusal.TheVariants.{NoCaller, Handle}
+use Rattle.act_rules.specs.Submissions.{needs, number_of, handle_refusal}
+use Rattle.act_rules.specs.History.{History, contains, under, times, is_caller, calls_of, copies_of, has_letter}
+use Rattle.act_rules.specs.Rules.{refusal_of, did, added, outcome_of, after, was_sent}
+use Rattle.act_rules.proofs.Growth.{Grows}
+use Rattle.act_rules.proofs.Ended.{under-push}
+use Rattle.act_handles.specs.Handles.{copies_in, or_else}
+use Rattle.act_owner.specs.Owner.{OwnerValue}
+use Rattle.act_world.specs.Exchange.{ExchangeValue, is_owner}
+use Rattle.act_world.specs.Value.{SlotSeen, WorldSeen}
+use Rattle.act_world.specs.Ties.{Ties, IsOwnerOf, IsOwnerAt, mailed}
+use Rattle.act_world.proofs.Lawful.{IsLawful}
+use Rattle.act_world.proofs.Frames.{owner_here, owner_absent, replies_stay, stages_stay}
+
+-- ---- what is told, and what stands after
+
+-- an event that is refused leaves the world as it was
+pub refused_follows : (h : History) (event : Event) (refusal : WorldRefusal) (world : WorldSeen) → refusal_of h event ≡ Some refusal → Ties h world
+    → (Err refusal ≡ outcome_of h event) × Ties (after h event) world
+refused_follows h event refusal world refused ties = rw refused (refl, ties)
+
+-- an event that nothing refuses
+pub accepted_follows : (h : History) (event : Event) (told : Did) (world : WorldSeen) → refusal_of h event ≡ None → told ≡ did h event → Ties (added h event) world
+    → (Ok told ≡ outcome_of h event) × Ties (after h event) world
+accepted_follows h event told world accepted same ties = rw accepted (ap Ok same, ties)
+
+-- the needed conditions that hold, and the first that fails
+pub needs_holds : {R : Type 0} (b : Bool) (r : R) (next : Option R) → b ≡ true → needs b r next ≡ next
+needs_holds b r next e = rw e refl
+
+pub needs_fails : {R : Type 0} (b : Bool) (r : R) (next : Option R) → b ≡ false → needs b r next ≡ Some r
+needs_fails b r next e = rw e refl
+
+-- what holds holds of an error
+pub on_err : {A E P : Type 0} (result : Result A E) → P → OnErr result P
+on_err (Ok value) holds = tt
+on_err (Err error) holds = holds
+
+-- an answer of the handles: nothing refused it, or what did
+pub or_else-Ok : {X : Type 0} (refusal : Option HandleRefusal) (value told : X) → Ok told ≡ or_else refusal value → (refusal ≡ None) × (told ≡ value)
+or_else-Ok None value told e = (refl, cc)
+or_else-Ok (Some refusal) value told e = cc
+
+pub or_else-Err : {X : Type 0} (refusal : Option HandleRefusal) (value : X) (told : HandleRefusal) → Err told ≡ or_else refusal value → refusal ≡ Some told
+or_else-Err None value told e = cc
+or_else-Err (Some refusal) value told e = let same : told ≡ refusal = cc in ap Some (sym same)
+
+-- ---- the caller at its place
+
+-- what the history tells of the caller at its place
+pub record IsHere (h : History) (c : ℕ) (owner : OwnerValue) : Type 0 where
+  pub caller : is_caller c h ≡ true
+  pub is : IsOwnerOf h c owner
+
+pub caller_here : (h : History) (exchange : ExchangeValue) (slots : List SlotSeen) (c place : ℕ) (owner : OwnerValue) → Ties h (record { exchange = exchange; slots = slots })
+    → position (is_owner c) exchange.owners ≡ Some place → owner ≡ get_or exchange.owners place owner → IsHere h c owner
+caller_here h exchange slots c place owner ties at owner_is =
+    let here = owner_here h exchange.owners c place owner ties.owners at in
+    record { caller = here.0; is = subst (IsOwnerOf h c) (sym owner_is) here.1 }
+
+-- a release and the asking of a kill are refused as the handles say
+pub handle_refused : (h : History) (c a : ℕ) (owner : OwnerValue) (refusal : Option HandleRefusal) → IsHere h c owner → handle_refusal (copies_in a owner.handles) ≡ refusal
+    → needs (is_caller c h) NoCaller (option_map Handle (handle_refusal (copies_of c a h))) ≡ option_map Handle refusal
+handle_refused h c a owner refusal here e =
+    needs_holds (is_caller c h) NoCaller (option_map Handle (handle_refusal (copies_of c a h))) here.caller
+    ∙ ap (λ (copies : Option ℕ). option_map Handle (handle_refusal copies)) (sym (here.is.copies a))
+    ∙ ap (option_map Handle) e
+
+-- where the caller is written back as it was, the world is as it was
+pub written_back : (h : History) (exchange : ExchangeValue) (slots : List SlotSeen) (place : ℕ) (owner new : OwnerValue) → owner ≡ get_or exchange.owners place owner → new ≡ owner
+    → Ties h (record { exchange = exchange; slots = slots }) → Ties h (record { exchange = record exchange { owners = slice_set exchange.owners place new }; slots = slots })
+written_back h exchange slots place owner new owner_is same ties =
+    let owners : slice_set exchange.owners place new ≡ exchange.owners = ap (slice_set exchange.owners place) (same ∙ owner_is) ∙ set-get_or exchange.owners place owner in
+    subst (λ (list : List OwnerValue). Ties h (record { exchange = record exchange { owners = list }; slots = slots })) (sym owners) ties
+
+-- nothing that an unknown caller does is done
+pub no_caller_follows : (h : History) (event : Event) (exchange : ExchangeValue) (slots : List SlotSeen) (c : ℕ) (rest : Option WorldRefusal) → refusal_of h event ≡ needs (is_caller c h) NoCaller rest
+    → Ties h (record { exchange = exchange; slots = slots }) → position (is_owner c) exchange.owners ≡ None
+    → (Err NoCaller ≡ outcome_of h event) × Ties (after h event) (record { exchange = exchange; slots = slots })
+no_caller_follows h event exchange slots c rest first ties at =
+    refused_follows h event NoCaller (record { exchange = exchange; slots = slots }) (first ∙ needs_fails (is_caller c h) NoCaller rest (owner_absent h exchange.owners c ties.owners at)) ties
+
+-- ---- the other callers, and the rest of the world
+
+-- the events after which actors and notices stand as before
+pub record IsOfCallers (h g : History) : Type 0 where
+  pub grows : Grows h g
+  pub arrived : g.arrived ≡ h.arrived
+  pub ran : g.ran ≡ h.ran
+  pub posts : g.posts ≡ h.posts
+  pub dead : g.dead ≡ h.dead
+  pub retired : g.retired ≡ h.retired
+
+-- the world ties to the history after such an event where its callers, its mail and what was asked do
+pub callers_tie : (h g : History) (old new : ExchangeValue) (slots : List SlotSeen) → IsLawful h → Ties h (record { exchange = old; slots = slots }) → IsOfCallers h g
+    → ((c : ℕ) → IsOwnerAt g c (find (is_owner c) new.owners))
+    → ((i : ℕ) → slice_get new.mail i ≡ option_and_then (mailed g) (slice_get g.mail i)) → length new.mail ≡ length g.mail
+    → new.replies ≡ old.replies → ((a : ℕ) → unwrap_or (slice_get new.asked a) false ≡ contains a g.asked)
+    → Ties g (record { exchange = new; slots = slots })
+callers_tie h g old new slots lawful ties same owners mail count replies asked = record {
+  owners = owners;
+  actors = stages_stay h g slots lawful same.grows same.arrived same.ran same.dead same.retired ties.actors;
+  mail = mail;
+  mail_count = count;
+  replies = rw (replies, same.posts) (replies_stay h g old.replies lawful same.grows ties.replies);
+  reply_count = rw (replies, same.posts) ties.reply_count;
+  asked = asked;
+}
+
+-- another caller's entry adds nothing to this one's
+pub under-other : {A : Type 0} (c d : ℕ) (pairs : List (ℕ × A)) (x : A) → c ≢ d → under d (pairs ++ (c, x) ∷ []) ≡ under d pairs
+under-other {A = A} c d pairs x apart = under-push d c pairs x ∙ rw (ne_eqb c d apart) (append-nil (under d pairs))
+
+-- a call was sent before where it was, if no call's letter comes
+pub sent_stays : (h g : History) (c k : ℕ) (call : Option Submission) → calls_of c g ≡ calls_of c h → ((a n : ℕ) → has_letter (CallLetter c a n) g.mail ≡ has_letter (CallLetter c a n) h.mail) → was_sent c k call g ≡ was_sent c k call h
+sent_stays h g c k None calls mail = refl
+sent_stays h g c k (Some call) calls mail = rw calls (mail call.actor (number_of call.actor k (calls_of c h)))
+
+-- ---- the copies of one handle
+
+-- one pair more counts for its caller and its actor alone
+pub times-push : (c a d b : ℕ) (pairs : List (ℕ × ℕ)) → times c a (pairs ++ (d, b) ∷ []) ≡ times c a pairs + cond ((d == c) && (b == a)) 1 0
+times-push c a d b pairs =
+    rw (filter-append (λ (pair : ℕ × ℕ). (pair.0 == c) && (pair.1 == a)) pairs ((d, b) ∷ []), length-append) (go ((d == c) && (b == a)))
+  where
+    go : (same : Bool) → times c a pairs + length {A = ℕ × ℕ} (cond same ((d, b) ∷ []) []) ≡ times c a pairs + cond same 1 0
+    go true = refl
+    go false = refl
+
+pub times-same : (c a : ℕ) (pairs : List (ℕ × ℕ)) → times c a (pairs ++ (c, a) ∷ []) ≡ times c a pairs + 1
+times-same c a pairs = times-push c a c a pairs ∙ rw (eq-eqb c c refl, eq-eqb a a refl) refl
+
+pub times-other_caller : (c a d b : ℕ) (pairs : List (ℕ × ℕ)) → c ≢ d → times d b (pairs ++ (c, a) ∷ []) ≡ times d b pairs
+times-other_caller c a d b pairs apart = times-push d b c a pairs ∙ rw (ne_eqb c d apart) (omega arith)
+
+pub times-other_actor : (c a b : ℕ) (pairs : List (ℕ × ℕ)) → a ≢ b → times c b (pairs ++ (c, a) ∷ []) ≡ times c b pairs
+times-other_actor c a b pairs apart = times-push c b c a pairs ∙ rw (ne_eqb a b apart, eq-eqb c c refl) (omega arith)

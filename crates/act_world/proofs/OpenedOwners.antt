@@ -1,0 +1,196 @@
+-- The callers at the opening.
+use Rattle.std.proofs.Common.{◌≡◌, ◌≢◌, ℕ, zero, suc, ◌+◌, ◌<◌, Bool, true, false, List, [], ◌∷◌, ◌++◌, length, map, filter, take, Option, Some, None, is_some, All, AllPairs, get_or, inl, inr, refl, ap, sym, ◌∙◌, subst, arith}
+use Rattle.std.specs.Prelude.{◌==◌, ◌||◌, if◌then◌else◌, find, position, unwrap_or, slice_get, replicate}
+use Rattle.std.specs.Option.{option_or}
+use Rattle.std.proofs.lemmas.Bool.Decides.{eqb_tells}
+use Rattle.std.proofs.lemmas.List.{append-nil, append_assoc, get_or-map, length-map, take_more}
+use Rattle.std.proofs.lemmas.Grind.{flat_map-append}
+use Rattle.std.proofs.lemmas.List.Elements.{All-tail}
+use Rattle.std.proofs.lemmas.List.Folds.{find-append, list_any-append}
+use Rattle.std.proofs.lemmas.List.Kept.{AllPairs-filter}
+use Rattle.act_types.specs.KindState.{KindState}
+use Rattle.act_rules.specs.History.{opening, contains, cast_of, names, is_caller}
+use Rattle.act_handles.proofs.Lookups.{copies-opened, given-opened}
+use Rattle.act_inbox.proofs.Finding.{find-Some, find-None}
+use Rattle.act_actor.specs.declared.cast.Cast.{Cast}
+use Rattle.act_actor.specs.Cast.{ActorsDiffer}
+use Rattle.act_owner.specs.Owner.{OwnerValue, opened}
+use Rattle.act_world.specs.Value.{is_owner}
+use Rattle.act_world.specs.Ties.{IsOwnerAt, IsOwnerOf}
+use Rattle.act_world.specs.Openings.{casting, callers_named, actors_naming, HasOwners}
+
+-- ---- the actors of a caller
+
+differ_map : {X : Type 0} (f : X → ℕ) (xs : List X) → AllPairs (λ one other. f one ≢ f other) xs → AllPairs (λ one other. one ≢ other) (map f xs)
+differ_map f [] pairs i j d below within same = absurd (omega arith)
+differ_map f (x ∷ xs) pairs i j d below within same =
+    let long : length (map f (x ∷ xs)) ≡ length (x ∷ xs) = length-map (x ∷ xs) f in
+    let second : j < length (x ∷ xs) = omega arith in
+    let first : i < length (x ∷ xs) = omega arith in
+    pairs i j x below second (sym (get_or-map f (x ∷ xs) i x d first) ∙ same ∙ get_or-map f (x ∷ xs) j x d second)
+
+-- no actor stands twice among those that name a caller
+pub actors_differ : {K : Type 0} (c : ℕ) (casts : List (Cast K)) → ActorsDiffer casts → AllPairs (λ one other. one ≢ other) (actors_naming c casts)
+actors_differ {K} c casts differ =
+    differ_map (λ (cast : Cast K). cast.actor) (filter (λ cast. contains c cast.callers) casts)
+    (AllPairs-filter (λ (one other : Cast K). one.actor ≢ other.actor) (λ cast. contains c cast.callers) casts differ)
+
+-- ---- a caller more
+
+is_in_more : (c d : ℕ) (callers : List ℕ) → contains d (callers ++ c ∷ []) ≡ (contains d callers || ((c == d) || false))
+is_in_more c d callers = list_any-append (λ m. m == d) callers (c ∷ [])
+
+-- one that was there
+pub owner_known : {K : Type 0} (casts : List (Cast K)) (callers : List ℕ) (owners : List OwnerValue) (c : ℕ) → is_some (position (is_owner c) owners) ≡ true → HasOwners casts callers owners → HasOwners casts (callers ++ c ∷ []) owners
+owner_known casts callers owners c there has d =
+    elim (eqb_tells c d) [
+      | inl t ↦ subst (λ b. find (is_owner d) owners ≡ (if b then Some (opened d (actors_naming d casts)) else None)) (here (subst (λ x. contains x callers ≡ true) t.1 is_in)) (has d)
+      | inr f ↦ has d ∙ ap (λ b. if b then Some (opened d (actors_naming d casts)) else None) (sym (is_in_more c d callers ∙ ap (λ b. contains d callers || (b || false)) f.0 ∙ or_none (contains d callers)))
+    ]
+  where
+    or_none : (b : Bool) → (b || false) ≡ b
+    or_none true = refl
+    or_none false = refl
+
+    found : (o : Option ℕ) → position (is_owner c) owners ≡ o → is_some o ≡ true → is_some (find (is_owner c) owners) ≡ true
+    found None e some = cc
+    found (Some i) e some = go owners e
+      where
+        go : (xs : List OwnerValue) → position (is_owner c) xs ≡ Some i → is_some (find (is_owner c) xs) ≡ true
+        go [] e = cc
+        go (x ∷ xs) e = rw (find-Some (is_owner c) (x ∷ xs) i x e) refl
+
+    is_in : contains c callers ≡ true
+    is_in = cases (contains c callers) (sym (ap is_some (has c)) ∙ found (position (is_owner c) owners) refl there)
+      where
+        cases : (b : Bool) → is_some (if b then Some (opened c (actors_naming c casts)) else None) ≡ true → b ≡ true
+        cases true e = refl
+        cases false e = cc
+
+    here : contains d callers ≡ true → contains d callers ≡ contains d (callers ++ c ∷ [])
+    here e = e ∙ sym (is_in_more c d callers ∙ ap (λ b. b || ((c == d) || false)) e)
+
+-- one that is new
+pub owner_new : {K : Type 0} (casts : List (Cast K)) (callers : List ℕ) (owners : List OwnerValue) (c : ℕ) → is_some (position (is_owner c) owners) ≡ false → HasOwners casts callers owners → HasOwners casts (callers ++ c ∷ []) (owners ++ opened c (actors_naming c casts) ∷ [])
+owner_new casts callers owners c absent has d =
+    find-append (is_owner d) owners (opened c (actors_naming c casts) ∷ [])
+    ∙ elim (eqb_tells c d) [
+      | inl t ↦
+          ap (λ o. option_or o (find (is_owner d) (opened c (actors_naming c casts) ∷ []))) (subst (λ x. find (is_owner x) owners ≡ None) t.1 none)
+          ∙ ap (λ b. if b then Some (opened c (actors_naming c casts)) else None) t.0
+          ∙ ap (λ x. Some (opened x (actors_naming x casts))) t.1
+          ∙ ap (λ b. if b then Some (opened d (actors_naming d casts)) else None) (sym (is_in_more c d callers ∙ ap (λ b. contains d callers || (b || false)) t.0 ∙ or_some (contains d callers)))
+      | inr f ↦
+          ap (λ b. option_or (find (is_owner d) owners) (if b then Some (opened c (actors_naming c casts)) else None)) f.0
+          ∙ or_nothing (find (is_owner d) owners)
+          ∙ has d
+          ∙ ap (λ b. if b then Some (opened d (actors_naming d casts)) else None) (sym (is_in_more c d callers ∙ ap (λ b. contains d callers || (b || false)) f.0 ∙ or_none (contains d callers)))
+    ]
+  where
+    or_none : (b : Bool) → (b || false) ≡ b
+    or_none true = refl
+    or_none false = refl
+
+    or_some : (b : Bool) → (b || true) ≡ true
+    or_some true = refl
+    or_some false = refl
+
+    or_nothing : (o : Option OwnerValue) → option_or o None ≡ o
+    or_nothing None = refl
+    or_nothing (Some owner) = refl
+
+    none : find (is_owner c) owners ≡ None
+    none = go (position (is_owner c) owners) refl absent
+      where
+        go : (o : Option ℕ) → position (is_owner c) owners ≡ o → is_some o ≡ false → find (is_owner c) owners ≡ None
+        go None e is = find-None (is_owner c) owners e
+        go (Some i) e is = cc
+
+-- ---- the callers of the opening
+
+-- an actor that stands in no cast
+absent : {K : Type 0} (a c : ℕ) (casts : List (Cast K)) → All (λ cast. a ≢ cast.actor) casts → contains a (actors_naming c casts) ≡ false
+absent a c [] all = refl
+absent {K} a c (cast ∷ casts) all =
+    let rest = absent a c casts (All-tail (λ (cast : Cast K). a ≢ cast.actor) cast casts all) in
+    elim (eqb_tells cast.actor a) [
+      | inl t ↦ absurd (all 0 cast (omega arith) (sym t.1))
+      | inr f ↦ elim (contains c cast.callers) as (λ b. contains a (map (λ (cast : Cast K). cast.actor) (if b then cast ∷ filter (λ cast. contains c cast.callers) casts else filter (λ cast. contains c cast.callers) casts)) ≡ false) [
+        | true ↦ rw f.0 rest
+        | false ↦ rest
+      ]
+    ]
+
+pub differ_tail : {K : Type 0} (cast : Cast K) (casts : List (Cast K)) → ActorsDiffer (cast ∷ casts) → ActorsDiffer casts
+differ_tail cast casts differ = λ i j d below within. differ (suc i) (suc j) d (omega arith) (omega arith)
+
+pub differ_head : {K : Type 0} (cast : Cast K) (casts : List (Cast K)) → ActorsDiffer (cast ∷ casts) → All (λ other. cast.actor ≢ other.actor) casts
+differ_head cast casts differ = λ k d within. differ 0 (suc k) d (omega arith) (omega arith)
+
+-- an actor stands among those that name a caller where its cast names the caller
+actor_named : {K : Type 0} (state : K → KindState) (a c : ℕ) (casts : List (Cast K)) → ActorsDiffer casts → contains a (actors_naming c casts) ≡ names c (cast_of a (opening (map (casting state) casts)))
+actor_named state a c [] differ = refl
+actor_named {K} state a c (cast ∷ casts) differ =
+    let rest = actor_named state a c casts (differ_tail cast casts differ) in
+    elim (eqb_tells cast.actor a) [
+      | inl t ↦
+          let none = absent a c casts (λ k d within same. differ_head cast casts differ k d within (t.1 ∙ same)) in
+          rw t.0 (elim (contains c cast.callers) as (λ b. contains a (map (λ (cast : Cast K). cast.actor) (if b then cast ∷ filter (λ cast. contains c cast.callers) casts else filter (λ cast. contains c cast.callers) casts)) ≡ b) [
+            | true ↦ rw t.0 refl
+            | false ↦ none
+          ])
+      | inr f ↦
+          rw f.0 (elim (contains c cast.callers) as (λ b. contains a (map (λ (cast : Cast K). cast.actor) (if b then cast ∷ filter (λ cast. contains c cast.callers) casts else filter (λ cast. contains c cast.callers) casts)) ≡ names c (cast_of a (opening (map (casting state) casts)))) [
+            | true ↦ rw f.0 rest
+            | false ↦ rest
+          ])
+    ]
+
+-- the callers that the casts name are the world's
+caller_named : {K : Type 0} (state : K → KindState) (c : ℕ) (casts : List (Cast K)) → contains c (callers_named casts) ≡ is_caller c (opening (map (casting state) casts))
+caller_named state c [] = refl
+caller_named state c (cast ∷ casts) =
+    list_any-append (λ m. m == c) cast.callers (callers_named casts) ∙ ap (λ b. contains c cast.callers || b) (caller_named state c casts)
+
+-- of which no mark is set
+no_mark : (count a : ℕ) → unwrap_or (slice_get (replicate count false) a) false ≡ false
+no_mark zero a = refl
+no_mark (suc count) zero = refl
+no_mark (suc count) (suc a) = no_mark count a
+
+pub nothing_asked : (a : ℕ) → unwrap_or (slice_get (replicate 9 false) a) false ≡ false
+nothing_asked a = no_mark 9 a
+
+owner_opened : {K : Type 0} (state : K → KindState) (c : ℕ) (casts : List (Cast K)) → ActorsDiffer casts → IsOwnerOf (opening (map (casting state) casts)) c (opened c (actors_naming c casts))
+owner_opened state c casts differ = record {
+  id = refl;
+  copies = λ a. copies-opened a (actors_naming c casts) ∙ ap (λ b. if b then Some 1 else None) (actor_named state a c casts differ);
+  given = λ a. given-opened a (actors_naming c casts);
+  calls = refl;
+  marks = refl;
+  sent = λ k. refl;
+  kept = refl;
+  deaths = λ a. no_mark 9 a;
+}
+
+pub owners_opened : {K : Type 0} (state : K → KindState) (casts : List (Cast K)) (owners : List OwnerValue) → ActorsDiffer casts → HasOwners casts (callers_named casts) owners → (c : ℕ) → IsOwnerAt (opening (map (casting state) casts)) c (find (is_owner c) owners)
+owners_opened state casts owners differ has c =
+    subst (IsOwnerAt (opening (map (casting state) casts)) c) (sym (has c)) (go (contains c (callers_named casts)) (sym (caller_named state c casts)))
+  where
+    go : (b : Bool) → is_caller c (opening (map (casting state) casts)) ≡ b → IsOwnerAt (opening (map (casting state) casts)) c (if b then Some (opened c (actors_naming c casts)) else None)
+    go true e = (e, owner_opened state c casts differ)
+    go false e = e
+
+-- ---- the callers so far
+
+pub one_more : {K : Type 0} (casts : List (Cast K)) (callers these : List ℕ) (i c : ℕ) (owners : List OwnerValue) → i < length these → c ≡ get_or these i c → HasOwners casts ((callers ++ take i these) ++ c ∷ []) owners → HasOwners casts (callers ++ take (i + 1) these) owners
+one_more casts callers these i c owners within is =
+    subst (λ (named : List ℕ). HasOwners casts named owners)
+    (append_assoc callers (take i these) (c ∷ []) ∙ ap (λ (named : List ℕ). callers ++ named) (ap (λ (last : ℕ). take i these ++ last ∷ []) is ∙ sym (take_more these i c within)))
+
+pub cast_more : {K : Type 0} (casts : List (Cast K)) (i : ℕ) (cast : Cast K) (owners : List OwnerValue) → i < length casts → cast ≡ get_or casts i cast → HasOwners casts (callers_named (take i casts) ++ cast.callers) owners → HasOwners casts (callers_named (take (i + 1) casts)) owners
+cast_more {K} casts i cast owners within is =
+    subst (λ (named : List ℕ). HasOwners casts named owners)
+    (ap (λ (named : List ℕ). callers_named (take i casts) ++ named) (sym (append-nil cast.callers))
+    ∙ sym (flat_map-append (λ (cast : Cast K). cast.callers) (take i casts) (cast ∷ []))
+    ∙ ap callers_named (ap (λ (last : Cast K). take i casts ++ last ∷ []) is ∙ sym (take_more casts i cast within)))

@@ -1,0 +1,55 @@
+-- One event of the whole world, and one event after another.
+use Rattle.std.proofs.Common.{◌≡◌, ℕ, ◌+◌, ◌<◌, List, [], ◌∷◌, ◌++◌, length, take, Result, Ok, Err, IfOk, OnErr, ap, sym, ◌∙◌, subst, get_or, append_assoc, append-nil}
+use Rattle.std.proofs.lemmas.List.{take_more}
+use Rattle.act_rules.specs.declared.event.Event.{Event}
+use Rattle.act_rules.specs.History.{Casting, History, opening}
+use Rattle.act_rules.specs.Laws.{world as history}
+use Rattle.act_rules.specs.Rules.{Outcome, after, after_all, outcome_of, outcomes}
+use Rattle.act_rules.proofs.Steps.{after_all-append, outcomes-append}
+use Rattle.act_world.specs.Exchange.{ExchangeValue}
+use Rattle.act_world.specs.Value.{SlotSeen, WorldSeen}
+use Rattle.act_world.specs.Ties.{Ties}
+use Rattle.act_world.specs.Stands.{Stands, Follows, FollowsThere, IsUnrefused, IsUnrefusedThere, Played}
+
+abbrev pub with_slots : ExchangeValue → List SlotSeen → WorldSeen
+with_slots exchange slots = record { exchange = exchange; slots = slots }
+
+-- what holds of the exchange, with any slots, holds of the world
+pub there : (slots : List SlotSeen) (event shown : Event) (old new : ExchangeValue) (told : Outcome) → shown ≡ event → FollowsThere event old new told → Follows shown (with_slots old slots) (with_slots new slots) told
+there slots event shown old new told is follows = subst (λ (e : Event). Follows e (with_slots old slots) (with_slots new slots) told) (sym is) (follows slots)
+
+pub ok_there : {E : Type 0} (slots : List SlotSeen) (event shown : Event) (old new : ExchangeValue) (result : Result Outcome E) → shown ≡ event → IfOk result (FollowsThere event old new) → IfOk result (Follows shown (with_slots old slots) (with_slots new slots))
+ok_there slots event shown old new (Ok told) is follows = there slots event shown old new told is follows
+ok_there slots event shown old new (Err e) is follows = tt
+
+pub last_there : {E : Type 0} (slots : List SlotSeen) (event shown : Event) (old : ExchangeValue) (result : Result Outcome E) → shown ≡ event → OnErr result (IsUnrefusedThere event old) → OnErr result (IsUnrefused shown (with_slots old slots))
+last_there slots event shown old (Ok told) is unrefused = tt
+last_there slots event shown old (Err e) is unrefused = subst (λ (x : Event). IsUnrefused x (with_slots old slots)) (sym is) (unrefused slots)
+
+-- the world stands after one event more
+pub stands_next : (casts : List Casting) (before : List Event) (event : Event) (world : WorldSeen) → Ties (after (history casts before) event) world → Stands casts (before ++ event ∷ []) world
+stands_next casts before event world ties = subst (λ (h : History). Ties h world) (sym (after_all-append (opening casts) before (event ∷ []))) ties
+
+-- no event yet
+pub Played_none : (world : WorldSeen) (told : List Outcome) → Played [] world world told told
+Played_none world told casts before stands = (subst (λ (l : List Event). Stands casts l world) (sym (append-nil before)) stands, sym (append-nil told))
+
+-- what is told of one event more
+pub Played_next : (events : List Event) (i : ℕ) (d : Event) (old mid new : WorldSeen) (told told_mid told_new : List Outcome) (outcome : Outcome) → i < length events
+    → Played (take i events) old mid told told_mid → Follows (get_or events i d) mid new outcome → told_new ≡ told_mid ++ outcome ∷ [] → Played (take (i + 1) events) old new told told_new
+Played_next events i d old mid new told told_mid told_new outcome below played follows more casts before stands =
+    let first = played casts before stands in
+    let next = follows casts (before ++ take i events) first.0 in
+    let event = get_or events i d in
+    let front = take i events in
+    let h = history casts before in
+    let shown : take (i + 1) events ≡ front ++ event ∷ [] = take_more events i d below in
+    let joined : history casts (before ++ front) ≡ after_all h front = after_all-append (opening casts) before front in
+    let told_all : told_new ≡ told ++ outcomes h (front ++ event ∷ []) =
+    more
+    ∙ ap (λ (l : List Outcome). l ++ outcome ∷ []) first.1
+    ∙ append_assoc told (outcomes h front) (outcome ∷ [])
+    ∙ ap (λ (o : Outcome). told ++ (outcomes h front ++ o ∷ [])) (next.0 ∙ ap (λ (g : History). outcome_of g event) joined)
+    ∙ ap (λ (l : List Outcome). told ++ l) (sym (outcomes-append h front (event ∷ []))) in
+    subst (λ (l : List Event). Stands casts (before ++ l) new × (told_new ≡ told ++ outcomes h l)) (sym shown)
+    (subst (λ (l : List Event). Stands casts l new) (append_assoc before front (event ∷ [])) (stands_next casts (before ++ front) event new next.1), told_all)

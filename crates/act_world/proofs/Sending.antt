@@ -1,0 +1,213 @@
+-- A call that its caller sends.
+use Rattle.std.proofs.Common.{◌≡◌, ◌≢◌, ℕ, ◌+◌, ◌<◌, Bool, true, false, List, [], ◌∷◌, ◌++◌, length, map, Some, None, inl, inr, refl, ap, sym, ◌∙◌, subst, arith, Ok, Err, length-append, length-set, get_or}
+use Rattle.std.specs.Prelude.{Option, ◌==◌, ◌||◌, slice_get, slice_set, position, option_map, unwrap_or}
+use Rattle.std.proofs.lemmas.Bool.{eq-eqb, ne_eqb}
+use Rattle.std.proofs.lemmas.Bool.Decides.{eqb_tells}
+use Rattle.std.proofs.lemmas.Option.{slice_get_within, slice_get-get_or}
+use Rattle.act_types.specs.declared.message.Packet.{Packet}
+use Rattle.act_rules.specs.declared.event.Event.TheVariants.{Send}
+use Rattle.act_rules.specs.declared.history.Submission.{Submission}
+use Rattle.act_rules.specs.declared.history.Letter.{Letter}
+use Rattle.act_rules.specs.declared.history.Letter.TheVariants.{Call as CallLetter}
+use Rattle.act_rules.specs.declared.outcome.Did.TheVariants.{Mail}
+use Rattle.act_rules.specs.declared.outcome.SendRefusal.{SendRefusal}
+use Rattle.act_rules.specs.declared.outcome.WorldRefusal.TheVariants.{NoCaller, Sending}
+use Rattle.act_rules.specs.RunList.{Answer}
+use Rattle.act_rules.specs.Submissions.{calls_to, number_of, settled, send_refusal}
+use Rattle.act_rules.specs.History.{History, is_caller, calls_of, kept_of, has_letter, is_letter}
+use Rattle.act_rules.specs.Rules.{refusal_of, outcome_of, added, after, and_also, call_letter, was_sent}
+use Rattle.act_rules.proofs.Growth.{Grows, added_grows}
+use Rattle.act_rules.proofs.Letters.{calls_to-number, letter_is}
+use Rattle.act_rules.proofs.Table.{kept_of-same}
+use Rattle.act_owner.specs.Owner.{OwnerValue, is_sent, sending_refusal, packet_at, with_sent, packet_of as owner_packet}
+use Rattle.act_world.specs.declared.exchange.Mailed.{Mailed}
+use Rattle.act_world.specs.declared.exchange.Mailed.TheVariants.{Call as MailedCall}
+use Rattle.act_world.specs.Exchange.{ExchangeValue, is_owner}
+use Rattle.act_world.specs.Value.{SlotSeen, WorldSeen}
+use Rattle.act_world.specs.Ties.{IsOwnerOf, mailed, packet_as, Ties}
+use Rattle.act_world.proofs.Lawful.{IsLawful, has_letter-last, is_letter-same}
+use Rattle.act_world.proofs.Frames.{SameCaller, owners_change, owner_here, owner_absent, mail_stays, replies_stay, go_together, stages_stay}
+use Rattle.act_world.proofs.Killing.{refused, accepted, or_true, or_false, set_here, set_there}
+
+-- ---- the refusals
+
+-- the caller at its place
+pub record SeesOwner (exchange : ExchangeValue) (c place : ℕ) (owner : OwnerValue) : Type 0 where
+  pub place_is : position (is_owner c) exchange.owners ≡ Some place
+  pub owner_is : owner ≡ get_or exchange.owners place owner
+
+pub seen_owner : (h : History) (exchange : ExchangeValue) (slots : List SlotSeen) (c place : ℕ) (owner : OwnerValue) → Ties h (record { exchange = exchange; slots = slots }) → SeesOwner exchange c place owner → (is_caller c h ≡ true) × IsOwnerOf h c owner
+seen_owner h exchange slots c place owner ties sees = subst (λ (o : OwnerValue). (is_caller c h ≡ true) × IsOwnerOf h c o) (sym sees.owner_is) (owner_here h exchange.owners c place owner ties.owners sees.place_is)
+
+-- the caller refuses what the history does
+send_refuses : (h : History) (c k : ℕ) (owner : OwnerValue) → is_caller c h ≡ true → IsOwnerOf h c owner → refusal_of h (Send c k) ≡ option_map Sending (sending_refusal owner k)
+send_refuses h c k owner caller is = rw caller (ap (λ (refusal : Option SendRefusal). option_map Sending refusal) (sym same))
+  where
+    same : sending_refusal owner k ≡ send_refusal (kept_of c h) k (was_sent c k (slice_get (calls_of c h) k) h) (slice_get (calls_of c h) k)
+    same =
+        ap (λ (kept : List (Option Answer)). send_refusal kept k (is_sent owner k) (slice_get owner.calls k)) is.kept
+        ∙ ap (λ (sent : Bool). send_refusal (kept_of c h) k sent (slice_get owner.calls k)) (is.sent k)
+        ∙ ap (λ (calls : List Submission). send_refusal (kept_of c h) k (was_sent c k (slice_get (calls_of c h) k) h) (slice_get calls k)) is.calls
+
+no_caller : (h : History) (c k : ℕ) → is_caller c h ≡ false → refusal_of h (Send c k) ≡ Some NoCaller
+no_caller h c k e = rw e refl
+
+pub send_no_caller : (h : History) (exchange : ExchangeValue) (slots : List SlotSeen) (c k : ℕ) → Ties h (record { exchange = exchange; slots = slots }) → position (is_owner c) exchange.owners ≡ None
+    → (Err NoCaller ≡ outcome_of h (Send c k)) × Ties (after h (Send c k)) (record { exchange = exchange; slots = slots })
+send_no_caller h exchange slots c k ties none = refused h (Send c k) NoCaller (record { exchange = exchange; slots = slots }) (no_caller h c k (owner_absent h exchange.owners c ties.owners none)) ties
+
+pub send_refused : (h : History) (exchange : ExchangeValue) (slots : List SlotSeen) (c k place : ℕ) (owner : OwnerValue) (refusal : SendRefusal) → Ties h (record { exchange = exchange; slots = slots }) → SeesOwner exchange c place owner → sending_refusal owner k ≡ Some refusal
+    → (Err (Sending refusal) ≡ outcome_of h (Send c k)) × Ties (after h (Send c k)) (record { exchange = exchange; slots = slots })
+send_refused h exchange slots c k place owner refusal ties sees e =
+    let here = seen_owner h exchange slots c place owner ties sees in
+    refused h (Send c k) (Sending refusal) (record { exchange = exchange; slots = slots }) (send_refuses h c k owner here.0 here.1 ∙ ap (λ (o : Option SendRefusal). option_map Sending o) e) ties
+
+pub send_unrefused : (h : History) (exchange : ExchangeValue) (slots : List SlotSeen) (c k place : ℕ) (owner : OwnerValue) → Ties h (record { exchange = exchange; slots = slots }) → SeesOwner exchange c place owner → sending_refusal owner k ≡ None → refusal_of h (Send c k) ≡ None
+send_unrefused h exchange slots c k place owner ties sees e =
+    let here = seen_owner h exchange slots c place owner ties sees in
+    send_refuses h c k owner here.0 here.1 ∙ ap (λ (o : Option SendRefusal). option_map Sending o) e
+
+-- ---- one letter more
+
+abbrev sent_more : History → Letter → History
+sent_more h letter = record h { mail = h.mail ++ letter ∷ [] }
+
+-- two calls of one caller have different letters
+letters_differ : (c j k : ℕ) (calls : List Submission) (other call : Submission) → slice_get calls j ≡ Some other → slice_get calls k ≡ Some call → k ≢ j → is_letter (CallLetter c other.actor (number_of other.actor j calls)) (CallLetter c call.actor (number_of call.actor k calls)) ≡ false
+letters_differ c j k calls other call at_j at_k apart = go (is_letter (CallLetter c other.actor (number_of other.actor j calls)) (CallLetter c call.actor (number_of call.actor k calls))) refl
+  where
+    go : (b : Bool) → is_letter (CallLetter c other.actor (number_of other.actor j calls)) (CallLetter c call.actor (number_of call.actor k calls)) ≡ b → b ≡ false
+    go false e = refl
+    go true e =
+        let same = letter_is (CallLetter c other.actor (number_of other.actor j calls)) (CallLetter c call.actor (number_of call.actor k calls)) e in
+        let actor : other.actor ≡ call.actor = cc in
+        let number : number_of other.actor j calls ≡ number_of call.actor k calls = cc in
+        let one : slice_get (calls_to other.actor calls) (number_of other.actor j calls) ≡ Some (j, other) = calls_to-number other.actor calls j other at_j (eq-eqb other.actor other.actor refl) in
+        let two : slice_get (calls_to call.actor calls) (number_of call.actor k calls) ≡ Some (k, call) = calls_to-number call.actor calls k call at_k (eq-eqb call.actor call.actor refl) in
+        let three : slice_get (calls_to other.actor calls) (number_of other.actor j calls) ≡ Some (k, call) = ap (slice_get (calls_to other.actor calls)) number ∙ ap (λ (a : ℕ). slice_get (calls_to a calls) (number_of call.actor k calls)) actor ∙ two in
+        let pair : ◌≡◌ {A = ℕ × Submission} (j, other) (k, call) = let both : ◌≡◌ {A = Option (ℕ × Submission)} (Some (j, other)) (Some (k, call)) = sym one ∙ three in cc in
+        absurd (apart (sym (ap (λ (p : ℕ × Submission). p.0) pair)))
+
+-- the marks of other callers stay
+other_marks : (h : History) (c d : ℕ) (a n : ℕ) → c ≢ d → (j : ℕ) (call : Option Submission) → was_sent d j call (sent_more h (CallLetter c a n)) ≡ was_sent d j call h
+other_marks h c d a n apart j None = refl
+other_marks h c d a n apart j (Some call) =
+    let differs : (d == c) ≡ false = ne_eqb d c (λ same. apart (sym same)) in
+    has_letter-last (call_letter d j call h) (CallLetter c a n) h.mail ∙ rw differs (or_false (has_letter (call_letter d j call h) h.mail))
+
+-- the marks of the caller's other calls stay
+call_marks : (h : History) (c k : ℕ) (call : Submission) → slice_get (calls_of c h) k ≡ Some call → (j : ℕ) → k ≢ j → (other : Option Submission) → slice_get (calls_of c h) j ≡ other → was_sent c j other (sent_more h (call_letter c k call h)) ≡ was_sent c j other h
+call_marks h c k call at j apart None at_j = refl
+call_marks h c k call at j apart (Some other) at_j =
+    has_letter-last (call_letter c j other h) (call_letter c k call h) h.mail
+    ∙ ap (λ (b : Bool). has_letter (call_letter c j other h) h.mail || b) (letters_differ c j k (calls_of c h) other call at_j at apart)
+    ∙ or_false (has_letter (call_letter c j other h) h.mail)
+
+-- ---- the caller
+
+marked : (h : History) (c k : ℕ) (call : Submission) (owner : OwnerValue) → IsOwnerOf h c owner → slice_get (calls_of c h) k ≡ Some call → (j : ℕ) → is_sent (with_sent owner k) j ≡ was_sent c j (slice_get (calls_of c h) j) (sent_more h (call_letter c k call h))
+marked h c k call owner is at j = elim (eqb_tells k j) [
+  | inl t ↦ subst (λ (x : ℕ). is_sent (with_sent owner k) x ≡ was_sent c x (slice_get (calls_of c h) x) (sent_more h (call_letter c k call h))) t.1 itself
+  | inr f ↦ ap (λ (o : Option Bool). unwrap_or o false) (set_there owner.sent k j true f.1) ∙ is.sent j ∙ sym (call_marks h c k call at j f.1 (slice_get (calls_of c h) j) refl)
+]
+  where
+    within : k < length owner.sent
+    within = let below = slice_get_within (calls_of c h) k call at in let marks = is.marks in omega arith
+
+    written : slice_get (slice_set owner.sent k true) k ≡ Some true
+    written = set_here owner.sent k (get_or owner.sent k false) true (slice_get-get_or owner.sent k false within)
+
+    has : was_sent c k (Some call) (sent_more h (call_letter c k call h)) ≡ true
+    has = has_letter-last (call_letter c k call h) (call_letter c k call h) h.mail ∙ ap (λ (b : Bool). has_letter (call_letter c k call h) h.mail || b) (is_letter-same (call_letter c k call h)) ∙ or_true (has_letter (call_letter c k call h) h.mail)
+
+    itself : is_sent (with_sent owner k) k ≡ was_sent c k (slice_get (calls_of c h) k) (sent_more h (call_letter c k call h))
+    itself = ap (λ (o : Option Bool). unwrap_or o false) written ∙ sym has ∙ ap (λ (o : Option Submission). was_sent c k o (sent_more h (call_letter c k call h))) (sym at)
+
+sender : (h : History) (c k : ℕ) (call : Submission) (owner : OwnerValue) → IsLawful h → Grows h (sent_more h (call_letter c k call h)) → IsOwnerOf h c owner → slice_get (calls_of c h) k ≡ Some call → IsOwnerOf (sent_more h (call_letter c k call h)) c (with_sent owner k)
+sender h c k call owner lawful grows is at = record {
+  id = is.id;
+  copies = is.copies;
+  given = is.given;
+  calls = is.calls;
+  marks = length-set owner.sent k true ∙ is.marks;
+  sent = marked h c k call owner is at;
+  kept = is.kept ∙ sym (kept_of-same h (sent_more h (call_letter c k call h)) c grows lawful.sound.posts refl refl);
+  deaths = is.deaths;
+}
+
+others : (h : History) (c a n d : ℕ) → IsLawful h → Grows h (sent_more h (CallLetter c a n)) → c ≢ d → SameCaller d h (sent_more h (CallLetter c a n))
+others h c a n d lawful grows apart = record {
+  calls = refl;
+  copies = λ b. refl;
+  sent = λ j. other_marks h c d a n apart j (slice_get (calls_of d h) j);
+  kept = kept_of-same h (sent_more h (CallLetter c a n)) d grows lawful.sound.posts refl refl;
+  deaths = λ b. refl;
+}
+
+-- ---- the packet
+
+abbrev made : ℕ → ℕ → List Submission → List (Option Answer) → Submission → Packet
+made id k calls kept call = record { caller = id; actor = call.actor; number = number_of call.actor k calls; future = k; method = call.method; args = map (settled kept) call.args }
+
+carries : (h : History) (c k : ℕ) (call : Submission) (owner : OwnerValue) → IsLawful h → Grows h (sent_more h (call_letter c k call h)) → IsOwnerOf h c owner → slice_get (calls_of c h) k ≡ Some call
+    → mailed (sent_more h (call_letter c k call h)) (call_letter c k call h) ≡ Some (MailedCall (owner_packet owner k call))
+carries h c k call owner lawful grows is at =
+    ap (λ (o : Option (ℕ × Submission)). option_map MailedCall (option_map (packet_as g c call.actor (number_of call.actor k (calls_of c h))) o)) there
+    ∙ ap (λ (packet : Packet). Some (MailedCall packet)) same
+  where
+    g : History
+    g = sent_more h (call_letter c k call h)
+
+    there : slice_get (calls_to call.actor (calls_of c h)) (number_of call.actor k (calls_of c h)) ≡ Some (k, call)
+    there = calls_to-number call.actor (calls_of c h) k call at (eq-eqb call.actor call.actor refl)
+
+    kept : kept_of c (sent_more h (call_letter c k call h)) ≡ owner.kept
+    kept = kept_of-same h (sent_more h (call_letter c k call h)) c grows lawful.sound.posts refl refl ∙ sym is.kept
+
+    same : made c k (calls_of c h) (kept_of c (sent_more h (call_letter c k call h))) call ≡ made owner.id k owner.calls owner.kept call
+    same =
+        ap (λ (id : ℕ). made id k (calls_of c h) (kept_of c (sent_more h (call_letter c k call h))) call) (sym is.id)
+        ∙ ap (λ (calls : List Submission). made owner.id k calls (kept_of c (sent_more h (call_letter c k call h))) call) (sym is.calls)
+        ∙ ap (λ (answers : List (Option Answer)). made owner.id k owner.calls answers call) kept
+
+-- ---- the world
+
+sent_ties : (h : History) (exchange : ExchangeValue) (slots : List SlotSeen) (c k place : ℕ) (owner : OwnerValue) (call : Submission) → IsLawful h → Grows h (sent_more h (call_letter c k call h)) → Ties h (record { exchange = exchange; slots = slots }) → SeesOwner exchange c place owner
+    → slice_get (calls_of c h) k ≡ Some call
+    → Ties (sent_more h (call_letter c k call h)) (record { exchange = record exchange { owners = slice_set exchange.owners place (with_sent owner k); mail = exchange.mail ++ MailedCall (owner_packet owner k call) ∷ [] }; slots = slots })
+sent_ties h exchange slots c k place owner call lawful grows ties sees at =
+    let letter = call_letter c k call h in
+    let g = sent_more h letter in
+    let is = (seen_owner h exchange slots c place owner ties sees).1 in
+    record {
+      owners = owners_change h g exchange.owners c place (with_sent owner k) refl ties.owners sees.place_is (sender h c k call owner lawful grows is at) (λ d apart. others h c call.actor (number_of call.actor k (calls_of c h)) d lawful grows apart);
+      actors = stages_stay h g slots lawful grows refl refl refl refl ties.actors;
+      mail = go_together (mailed g) exchange.mail h.mail (MailedCall (owner_packet owner k call)) letter (carries h c k call owner lawful grows is at) ties.mail_count (mail_stays h g exchange.mail lawful grows ties.mail);
+      mail_count = length-append exchange.mail (MailedCall (owner_packet owner k call) ∷ []) ∙ ap (λ (n : ℕ). n + 1) ties.mail_count ∙ sym (length-append h.mail (letter ∷ []));
+      replies = replies_stay h g exchange.replies lawful grows ties.replies;
+      reply_count = ties.reply_count;
+      asked = ties.asked;
+    }
+
+pub send_follows : (h : History) (exchange : ExchangeValue) (slots : List SlotSeen) (c k place i : ℕ) (owner new : OwnerValue) (packet : Packet) (mail : List Mailed) → IsLawful h → Ties h (record { exchange = exchange; slots = slots }) → SeesOwner exchange c place owner
+    → sending_refusal owner k ≡ None → packet_at owner k ≡ Some packet → new ≡ with_sent owner k → i ≡ length exchange.mail → mail ≡ exchange.mail ++ MailedCall packet ∷ []
+    → (Ok (Mail i) ≡ outcome_of h (Send c k)) × Ties (after h (Send c k)) (record { exchange = record exchange { owners = slice_set exchange.owners place new; mail = mail }; slots = slots })
+send_follows h exchange slots c k place i owner new packet mail lawful ties sees unrefused packet_is new_is i_is mail_is =
+    rw (i_is ∙ ties.mail_count, new_is, mail_is) (accepted h (Send c k) world (send_unrefused h exchange slots c k place owner ties sees unrefused) (go (slice_get (calls_of c h) k) refl (sym found ∙ packet_is)))
+  where
+    found : packet_at owner k ≡ option_map (owner_packet owner k) (slice_get (calls_of c h) k)
+    found = ap (λ (calls : List Submission). option_map (owner_packet owner k) (slice_get calls k)) (seen_owner h exchange slots c place owner ties sees).1.calls
+
+    world : WorldSeen
+    world = record { exchange = record exchange { owners = slice_set exchange.owners place (with_sent owner k); mail = exchange.mail ++ MailedCall packet ∷ [] }; slots = slots }
+
+    go : (o : Option Submission) → slice_get (calls_of c h) k ≡ o → option_map (owner_packet owner k) o ≡ Some packet
+        → Ties (added h (Send c k)) (record { exchange = record exchange { owners = slice_set exchange.owners place (with_sent owner k); mail = exchange.mail ++ MailedCall packet ∷ [] }; slots = slots })
+    go None at e = cc
+    go (Some call) at e =
+        let same : owner_packet owner k call ≡ packet = cc in
+        let more : added h (Send c k) ≡ sent_more h (call_letter c k call h) = ap (λ (o : Option Submission). record h { mail = and_also h.mail (option_map (λ (one : Submission). call_letter c k one h) o) }) at in
+        let grows : Grows h (sent_more h (call_letter c k call h)) = subst (Grows h) more (added_grows h (Send c k)) in
+        subst (λ (g : History). Ties g (record { exchange = record exchange { owners = slice_set exchange.owners place (with_sent owner k); mail = exchange.mail ++ MailedCall packet ∷ [] }; slots = slots })) (sym more)
+        (subst (λ (p : Packet). Ties (sent_more h (call_letter c k call h)) (record { exchange = record exchange { owners = slice_set exchange.owners place (with_sent owner k); mail = exchange.mail ++ MailedCall p ∷ [] }; slots = slots })) same
+        (sent_ties h exchange slots c k place owner call lawful grows ties sees at))

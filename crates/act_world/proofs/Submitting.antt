@@ -1,0 +1,203 @@
+-- A call that is submitted.
+use Rattle.std.proofs.Common.{◌≡◌, ◌≢◌, ℕ, zero, suc, ◌+◌, ◌<◌, ◌≤◌, Bool, true, false, cond, List, [], ◌∷◌, ◌++◌, length, map, Some, None, Ok, Err, inl, inr, refl, ap, sym, ◌∙◌, subst, arith, length-append, get_or}
+use Rattle.std.specs.Prelude.{Option, ◌==◌, ◌||◌, filter, position, slice_get, slice_set, option_map, unwrap_or, is_some, nat_lt, nat_le}
+use Rattle.std.specs.List.{list_all, list_any, enumerate_from}
+use Rattle.std.proofs.lemmas.Bool.{ne_eqb, eq-eqb}
+use Rattle.std.proofs.lemmas.Bool.Decides.{eqb_tells}
+use Rattle.std.proofs.lemmas.List.{take-append-le}
+use Rattle.std.proofs.lemmas.Option.{slice_get_within, slice_get_cases}
+use Rattle.std.proofs.Math.Seq.{take-append_seam}
+use Rattle.act_types.specs.declared.call.Arg.{Arg}
+use Rattle.act_types.specs.declared.call.Method.{Method}
+use Rattle.act_rules.specs.declared.history.Submission.{Submission}
+use Rattle.act_rules.specs.declared.history.Letter.TheVariants.{Call as CallLetter}
+use Rattle.act_rules.specs.declared.history.Post.{Post}
+use Rattle.act_rules.specs.declared.history.Post.TheVariants.{Reply as ReplyPost, Death as DeathPost}
+use Rattle.act_rules.specs.declared.event.Event.TheVariants.{Submit}
+use Rattle.act_rules.specs.declared.outcome.Did.TheVariants.{Future}
+use Rattle.act_rules.specs.declared.outcome.SubmitRefusal.{SubmitRefusal}
+use Rattle.act_rules.specs.declared.outcome.SubmitRefusal.TheVariants.{NoActor as NoSuchActor, NoHandle as NoCopy, TooManyArgs, BadFuture, TooManyCalls}
+use Rattle.act_rules.specs.declared.outcome.WorldRefusal.TheVariants.{NoCaller, Submit as SubmitRefused}
+use Rattle.act_rules.specs.Submissions.{needs, calls_to, number_of, copies_held, submit_refusal, is_earlier}
+use Rattle.act_rules.specs.History.{History, is_caller, calls_of, copies_of, first_answer, has_letter}
+use Rattle.act_rules.specs.Rules.{refusal_of, outcome_of, was_sent, added, after}
+use Rattle.act_rules.proofs.Lists.{slice_get_more}
+use Rattle.act_rules.proofs.Ended.{needs-none, under-push}
+use Rattle.act_rules.proofs.Growth.{added_grows}
+use Rattle.act_rules.proofs.Letters.{IsSoundLetter, has_letter-sound}
+use Rattle.act_rules.proofs.Retired.{calls_to-push}
+use Rattle.act_rules.proofs.Table.{kept_of-submitted, death_if, is_death_of, knows_dead}
+use Rattle.act_handles.specs.Handles.{copies_in, given_in, with_number}
+use Rattle.act_handles.proofs.Lookups.{copies-with_number, given-with_number, given-with_number-other}
+use Rattle.act_owner.specs.Owner.{OwnerValue, submission_refusal, with_call}
+use Rattle.act_world.specs.Exchange.{ExchangeValue, is_owner}
+use Rattle.act_world.specs.Value.{SlotSeen}
+use Rattle.act_world.specs.Ties.{Ties, IsOwnerOf, is_death_to}
+use Rattle.act_world.proofs.Lawful.{IsLawful}
+use Rattle.act_world.proofs.Frames.{SameCaller, owners_change, mail_stays}
+use Rattle.act_world.proofs.OneCaller.{refused_follows, accepted_follows, needs_holds, IsHere, caller_here, callers_tie, sent_stays, under-other}
+
+-- a submission is refused as the caller says
+pub submission_refused : (h : History) (c a : ℕ) (method : Method) (args : List Arg) (owner : OwnerValue) (refusal : Option SubmitRefusal) → IsHere h c owner → submission_refusal owner a args ≡ refusal
+    → refusal_of h (Submit c a method args) ≡ option_map SubmitRefused refusal
+submission_refused h c a method args owner refusal here e =
+    needs_holds (is_caller c h) NoCaller (option_map SubmitRefused (submit_refusal (copies_of c a h) (length (calls_of c h)) args)) here.caller
+    ∙ ap (λ (copies : Option ℕ). option_map SubmitRefused (submit_refusal copies (length (calls_of c h)) args)) (sym (here.is.copies a))
+    ∙ ap (λ (calls : List Submission). option_map SubmitRefused (submit_refusal (copies_in a owner.handles) (length calls) args)) (sym here.is.calls)
+    ∙ ap (option_map SubmitRefused) e
+
+-- ---- the caller that submits
+
+calls_after : (h : History) (c : ℕ) (call : Submission) → calls_of c (record h { submitted = h.submitted ++ (c, call) ∷ [] }) ≡ calls_of c h ++ call ∷ []
+calls_after h c call = under-push c c h.submitted call ∙ rw (eq-eqb c c refl) refl
+
+-- one call more, where it goes to the actor
+calls_to-count : (b : ℕ) (calls : List Submission) (call : Submission) → length (calls_to b (calls ++ call ∷ [])) ≡ length (calls_to b calls) + cond (call.actor == b) 1 0
+calls_to-count b calls call = rw (calls_to-push b calls call, length-append) (go (call.actor == b))
+  where
+    go : (same : Bool) → length (calls_to b calls) + length {A = ℕ × Submission} (cond same ((0 + length calls, call) ∷ []) []) ≡ length (calls_to b calls) + cond same 1 0
+    go true = refl
+    go false = refl
+
+given_after : (a b : ℕ) (owner : OwnerValue) (calls : List Submission) (call : Submission) → call.actor ≡ a → is_some (copies_in a owner.handles) ≡ true
+    → ((b : ℕ) → given_in b owner.handles ≡ length (calls_to b calls)) → given_in b (with_number a owner.handles) ≡ length (calls_to b (calls ++ call ∷ []))
+given_after a b owner calls call to listed given = elim (eqb_tells a b) [
+  | inl t ↦ subst (λ (x : ℕ). given_in x (with_number a owner.handles) ≡ length (calls_to x (calls ++ call ∷ []))) t.1
+      (given-with_number a owner.handles listed ∙ ap (λ (n : ℕ). n + 1) (given a) ∙ sym (calls_to-count a calls call ∙ rw (eq-eqb call.actor a to) refl))
+  | inr f ↦ given-with_number-other a b owner.handles f.1 ∙ given b
+      ∙ sym (calls_to-count b calls call ∙ rw (ne_eqb call.actor b (λ same. f.1 (sym to ∙ same))) (let none : length (calls_to b calls) + 0 ≡ length (calls_to b calls) = omega arith in none))
+]
+
+accepted_listed : (copies : Option ℕ) (count : ℕ) (args : List Arg) → submit_refusal copies count args ≡ None → is_some copies ≡ true
+accepted_listed copies count args e =
+    (needs-none (is_some copies) NoSuchActor (needs (nat_lt 0 (copies_held copies)) NoCopy (needs (nat_le (length args) 4) TooManyArgs (needs (list_all (is_earlier count) args) BadFuture (needs (nat_lt count 65536) TooManyCalls None)))) e).0
+
+-- ---- what was sent
+
+-- a mark that is not set tells what no mark tells
+unset : (marks : List Bool) (k : ℕ) → unwrap_or (slice_get (marks ++ false ∷ []) k) false ≡ unwrap_or (slice_get marks k) false
+unset [] zero = refl
+unset [] (suc k) = refl
+unset (mark ∷ marks) zero = refl
+unset (mark ∷ marks) (suc k) = unset marks k
+
+-- how many calls go to an actor, with and without their futures
+calls_to-length : (b n : ℕ) (calls : List Submission) → length (filter (λ (call : ℕ × Submission). call.1.actor == b) (enumerate_from n calls)) ≡ length (filter (λ (call : Submission). call.actor == b) calls)
+calls_to-length b n [] = refl
+calls_to-length b n (call ∷ calls) = go (call.actor == b) (calls_to-length b (n + 1) calls)
+  where
+    go : (to : Bool) → length (filter (λ (call : ℕ × Submission). call.1.actor == b) (enumerate_from (n + 1) calls)) ≡ length (filter (λ (call : Submission). call.actor == b) calls)
+        → length (cond to ((n, call) ∷ filter (λ (call : ℕ × Submission). call.1.actor == b) (enumerate_from (n + 1) calls)) (filter (λ (call : ℕ × Submission). call.1.actor == b) (enumerate_from (n + 1) calls))) ≡ length (cond to (call ∷ filter (λ (call : Submission). call.actor == b) calls) (filter (λ (call : Submission). call.actor == b) calls))
+    go true e = ap suc e
+    go false e = e
+
+-- no letter of a call that wasn't submitted is in the mail
+unsent : (h : History) (c b n : ℕ) → IsLawful h → length (calls_to b (calls_of c h)) ≤ n → has_letter (CallLetter c b n) h.mail ≡ false
+unsent h c b n lawful past = go (has_letter (CallLetter c b n) h.mail) refl
+  where
+    go : (found : Bool) → has_letter (CallLetter c b n) h.mail ≡ found → found ≡ false
+    go true e =
+        let sound : IsSoundLetter h (CallLetter c b n) = has_letter-sound (IsSoundLetter h) (CallLetter c b n) h.mail lawful.sound.letters.mail e in
+        let within : n < length (calls_to b (calls_of c h)) = slice_get_within (calls_to b (calls_of c h)) n sound.0 sound.1 in
+        absurd (omega arith)
+    go false e = refl
+
+-- the calls that were submitted before are sent as before, and the new one wasn't
+sent_after : (h : History) (c k : ℕ) (call : Submission) → IsLawful h
+    → was_sent c k (slice_get (calls_of c (record h { submitted = h.submitted ++ (c, call) ∷ [] })) k) (record h { submitted = h.submitted ++ (c, call) ∷ [] }) ≡ was_sent c k (slice_get (calls_of c h) k) h
+sent_after h c k call lawful = ap (λ (found : Option Submission). was_sent c k found now) (ap (λ (calls : List Submission). slice_get calls k) more) ∙ elim (slice_get_cases (calls_of c h) k).1 [
+  | inl t ↦ before t.0 t.1 t.2
+  | inr f ↦ rw f.1 (new (slice_get (calls_of c h ++ call ∷ []) k) refl f.0)
+]
+  where
+    now : History
+    now = record h { submitted = h.submitted ++ (c, call) ∷ [] }
+
+    more : calls_of c now ≡ calls_of c h ++ call ∷ []
+    more = calls_after h c call
+
+    before : (old : Submission) → k < length (calls_of c h) → slice_get (calls_of c h) k ≡ Some old → was_sent c k (slice_get (calls_of c h ++ call ∷ []) k) now ≡ was_sent c k (slice_get (calls_of c h) k) h
+    before old within at =
+        let there : slice_get (calls_of c h ++ call ∷ []) k ≡ Some old = slice_get_more (calls_of c h) (call ∷ []) k old at in
+        let same : number_of old.actor k (calls_of c now) ≡ number_of old.actor k (calls_of c h) =
+        ap (λ (calls : List Submission). number_of old.actor k calls) more
+        ∙ ap (λ (calls : List Submission). length (filter (λ (one : Submission). one.actor == old.actor) calls)) (take-append-le k (calls_of c h) (call ∷ []) (omega arith)) in
+        rw (there, at) (ap (λ (n : ℕ). has_letter (CallLetter c old.actor n) h.mail) same)
+
+    new : (found : Option Submission) → slice_get (calls_of c h ++ call ∷ []) k ≡ found → length (calls_of c h) ≤ k → was_sent c k found now ≡ false
+    new None at past = refl
+    new (Some one) at past =
+        let within : k < length (calls_of c h ++ call ∷ []) = slice_get_within (calls_of c h ++ call ∷ []) k one at in
+        let count : length (calls_of c h ++ call ∷ []) ≡ length (calls_of c h) + 1 = length-append (calls_of c h) (call ∷ []) in
+        let last : k ≡ length (calls_of c h) = omega arith in
+        let number : number_of one.actor k (calls_of c now) ≡ length (calls_to one.actor (calls_of c h)) =
+        ap (λ (calls : List Submission). number_of one.actor k calls) more
+        ∙ ap (λ (n : ℕ). number_of one.actor n (calls_of c h ++ call ∷ [])) last
+        ∙ ap (λ (calls : List Submission). length (filter (λ (other : Submission). other.actor == one.actor) calls)) (take-append_seam (calls_of c h) (call ∷ []))
+        ∙ sym (calls_to-length one.actor 0 (calls_of c h)) in
+        unsent h c one.actor (number_of one.actor k (calls_of c now)) lawful (omega arith)
+
+-- ---- the answers
+
+deaths_same : (c a : ℕ) (posts : List Post) → list_any (is_death_to c a) posts ≡ list_any (is_death_of c a) posts
+deaths_same c a [] = refl
+deaths_same c a (ReplyPost d b place ∷ posts) = deaths_same c a posts
+deaths_same c a (DeathPost d b ∷ posts) = ap (λ (rest : Bool). is_death_of c a (DeathPost d b) || rest) (deaths_same c a posts)
+
+submitted_owner : (h : History) (c a : ℕ) (method : Method) (args : List Arg) (owner : OwnerValue) → IsLawful h → IsOwnerOf h c owner → is_some (copies_in a owner.handles) ≡ true
+    → IsOwnerOf (added h (Submit c a method args)) c (with_call owner a method args)
+submitted_owner h c a method args owner lawful is listed = record {
+  id = is.id;
+  copies = λ b. copies-with_number a b owner.handles ∙ is.copies b;
+  given = λ b. given_after a b owner (calls_of c h) call refl listed is.given ∙ ap (λ (calls : List Submission). length (calls_to b calls)) (sym more);
+  calls = ap (λ (calls : List Submission). calls ++ call ∷ []) is.calls ∙ sym more;
+  marks = length-append owner.sent (false ∷ []) ∙ ap (λ (n : ℕ). n + 1) is.marks ∙ sym (ap (λ (calls : List Submission). length calls) more ∙ length-append (calls_of c h) (call ∷ []));
+  sent = λ k. unset owner.sent k ∙ is.sent k ∙ sym (sent_after h c k call lawful);
+  kept = ap (λ (dead : Bool). owner.kept ++ death_if dead ∷ []) (is.deaths a ∙ deaths_same c a h.collected)
+      ∙ ap (λ kept. kept ++ death_if (knows_dead c a h) ∷ []) is.kept
+      ∙ sym (kept_of-submitted h c a method args lawful.sound.order lawful.sound.posts);
+  deaths = is.deaths;
+}
+  where
+    call : Submission
+    call = record { actor = a; method = method; args = args }
+
+    more : calls_of c (added h (Submit c a method args)) ≡ calls_of c h ++ call ∷ []
+    more = calls_after h c call
+
+-- nothing of another caller's changes
+others_stay : (h : History) (c a d : ℕ) (method : Method) (args : List Arg) → c ≢ d → SameCaller d h (added h (Submit c a method args))
+others_stay h c a d method args apart = record {
+  calls = same;
+  copies = λ b. refl;
+  sent = λ k. sent_stays h (added h (Submit c a method args)) d k (slice_get (calls_of d h) k) same (λ b n. refl);
+  kept = ap (λ (calls : List Submission). map (first_answer h d) (enumerate_from 0 calls)) same;
+  deaths = λ b. refl;
+}
+  where
+    same : calls_of d (added h (Submit c a method args)) ≡ calls_of d h
+    same = under-other c d h.submitted (record { actor = a; method = method; args = args }) apart
+
+pub submit_follows : (h : History) (old : ExchangeValue) (slots : List SlotSeen) (c a place k : ℕ) (method : Method) (args : List Arg) (owner new : OwnerValue) → IsLawful h → Ties h (record { exchange = old; slots = slots })
+    → position (is_owner c) old.owners ≡ Some place → owner ≡ get_or old.owners place owner → submission_refusal owner a args ≡ None → k ≡ length owner.calls → new ≡ with_call owner a method args
+    → (Ok (Future c k) ≡ outcome_of h (Submit c a method args)) × Ties (after h (Submit c a method args)) (record { exchange = record old { owners = slice_set old.owners place new }; slots = slots })
+submit_follows h old slots c a place k method args owner new lawful ties at owner_is accepted future new_is =
+    let here = caller_here h old slots c place owner ties at owner_is in
+    let grows = added_grows h (Submit c a method args) in
+    let listed = accepted_listed (copies_in a owner.handles) (length owner.calls) args accepted in
+    let now : IsOwnerOf (added h (Submit c a method args)) c new = subst (IsOwnerOf (added h (Submit c a method args)) c) (sym new_is) (submitted_owner h c a method args owner lawful here.is listed) in
+    accepted_follows h (Submit c a method args) (Future c k) _ (submission_refused h c a method args owner None here accepted) (ap (Future c) (future ∙ ap (λ (calls : List Submission). length calls) here.is.calls))
+    (callers_tie h (added h (Submit c a method args)) old _ slots lawful ties (record { grows = grows; arrived = refl; ran = refl; posts = refl; dead = refl; retired = refl })
+    (owners_change h (added h (Submit c a method args)) old.owners c place new refl ties.owners at now (λ d apart. others_stay h c a d method args apart))
+    (mail_stays h (added h (Submit c a method args)) old.mail lawful grows ties.mail) ties.mail_count refl ties.asked)
+
+pub submit_refused_follows : (h : History) (old : ExchangeValue) (slots : List SlotSeen) (c a place : ℕ) (method : Method) (args : List Arg) (refusal : SubmitRefusal) (owner : OwnerValue) → Ties h (record { exchange = old; slots = slots })
+    → position (is_owner c) old.owners ≡ Some place → owner ≡ get_or old.owners place owner → Some refusal ≡ submission_refusal owner a args
+    → (Err (SubmitRefused refusal) ≡ outcome_of h (Submit c a method args)) × Ties (after h (Submit c a method args)) (record { exchange = old; slots = slots })
+submit_refused_follows h old slots c a place method args refusal owner ties at owner_is told =
+    refused_follows h (Submit c a method args) (SubmitRefused refusal) _ (submission_refused h c a method args owner (Some refusal) (caller_here h old slots c place owner ties at owner_is) (sym told)) ties
+
+-- where memory is wanted, nothing else refuses the submission
+pub submit_unrefused : (h : History) (old : ExchangeValue) (slots : List SlotSeen) (c a place : ℕ) (method : Method) (args : List Arg) (owner : OwnerValue) → Ties h (record { exchange = old; slots = slots })
+    → position (is_owner c) old.owners ≡ Some place → owner ≡ get_or old.owners place owner → None ≡ submission_refusal owner a args → refusal_of h (Submit c a method args) ≡ None
+submit_unrefused h old slots c a place method args owner ties at owner_is told = submission_refused h c a method args owner None (caller_here h old slots c place owner ties at owner_is) (sym told)

@@ -1,0 +1,122 @@
+-- A dead actor that tells a caller its death.
+use Rattle.std.proofs.Common.{◌≡◌, ℕ, ◌+◌, ◌-◌, Bool, true, false, cond, List, [], ◌∷◌, ◌++◌, length, Some, None, refl, ap, sym, ◌∙◌, subst, Ok, Err, length-append, get_or}
+use Rattle.std.specs.Prelude.{Option, ◌||◌, slice_get, position, is_some}
+use Rattle.act_types.specs.declared.message.Notice.TheVariants.{Death}
+use Rattle.act_rules.specs.declared.event.Event.TheVariants.{Tell}
+use Rattle.act_rules.specs.declared.history.Post.TheVariants.{Death as DeathPost}
+use Rattle.act_rules.specs.declared.outcome.Did.TheVariants.{Told}
+use Rattle.act_rules.specs.declared.outcome.HandleRefusal.TheVariants.{NoActor}
+use Rattle.act_rules.specs.declared.outcome.WorldRefusal.TheVariants.{Handle, NoCaller, NotDead}
+use Rattle.act_rules.specs.History.{History, times, cast_of, names, is_caller, is_dead, is_retired}
+use Rattle.act_rules.specs.Rules.{refusal_of, outcome_of, added, after}
+use Rattle.act_rules.proofs.Growth.{added_grows}
+use Rattle.act_handles.specs.Handles.{copies_in}
+use Rattle.act_owner.specs.Owner.{OwnerValue}
+use Rattle.act_world.specs.declared.exchange.Posted.{Posted}
+use Rattle.act_world.specs.Exchange.{ExchangeValue, is_owner}
+use Rattle.act_world.specs.Value.{SlotSeen, Runs, Died, Ended, Vacant}
+use Rattle.act_world.specs.Slots.{is_dead_seen}
+use Rattle.act_world.specs.Ties.{IsOwnerOf, IsStage, posted, Ties}
+use Rattle.act_world.proofs.Lawful.{IsLawful}
+use Rattle.act_world.proofs.Frames.{same_caller, owners_stay, owner_here, owner_absent, mail_stays, replies_stay, go_together, stages_stay}
+use Rattle.act_world.proofs.Killing.{refused, accepted}
+
+-- ---- what the caller and the slot tell
+
+-- an actor is one of the caller's where its cast names the caller
+pub is_named : (h : History) (c a : ℕ) (owner : OwnerValue) → IsOwnerOf h c owner → is_some (copies_in a owner.handles) ≡ names c (cast_of a h)
+is_named h c a owner is = ap (λ (copies : Option ℕ). is_some copies) (is.copies a) ∙ go (names c (cast_of a h)) ((1 + times c a h.copied) - times c a h.released)
+  where
+    go : (b : Bool) (n : ℕ) → is_some (cond b (Some n) None) ≡ b
+    go true n = refl
+    go false n = refl
+
+-- an actor that no cast has names no caller
+pub unnamed : (h : History) (c a : ℕ) → cast_of a h ≡ None → names c (cast_of a h) ≡ false
+unnamed h c a e = ap (names c) e
+
+or_parts : (x y : Bool) → (x || y) ≡ false → x ≡ false
+or_parts true y e = cc
+or_parts false y e = refl
+
+-- the slot shows whether its actor is dead
+pub dead_is : (h : History) (c a : ℕ) (slot : SlotSeen) → IsStage h a (Some slot) → names c (cast_of a h) ≡ true → is_dead_seen slot ≡ is_dead a h
+dead_is h c a (Runs live) is named = sym (or_parts (is_dead a h) (is_retired a h) is.runs)
+dead_is h c a (Died dead) is named = sym is.died
+dead_is h c a (Ended retired) is named = sym is.lived
+dead_is h c a Vacant is named = let none = unnamed h c a is in let bad : true ≡ false = sym named ∙ none in cc
+
+-- ---- what is seen before the change
+
+pub record TellSees (exchange : ExchangeValue) (slots : List SlotSeen) (a c place : ℕ) (owner : OwnerValue) (slot : SlotSeen) : Type 0 where
+  pub place_is : position (is_owner c) exchange.owners ≡ Some place
+  pub owner_is : owner ≡ get_or exchange.owners place owner
+  pub slot_is : slice_get slots a ≡ Some slot
+
+caller_is : (h : History) (exchange : ExchangeValue) (slots : List SlotSeen) (a c place : ℕ) (owner : OwnerValue) (slot : SlotSeen) → Ties h (record { exchange = exchange; slots = slots }) → TellSees exchange slots a c place owner slot
+    → (is_caller c h ≡ true) × IsOwnerOf h c owner
+caller_is h exchange slots a c place owner slot ties sees = subst (λ (o : OwnerValue). (is_caller c h ≡ true) × IsOwnerOf h c o) (sym sees.owner_is) (owner_here h exchange.owners c place owner ties.owners sees.place_is)
+
+refuses_stranger : (h : History) (a c : ℕ) → is_caller c h ≡ true → names c (cast_of a h) ≡ false → refusal_of h (Tell a c) ≡ Some (Handle NoActor)
+refuses_stranger h a c caller named = rw (caller, named) refl
+
+refuses_living : (h : History) (a c : ℕ) → is_caller c h ≡ true → names c (cast_of a h) ≡ true → is_dead a h ≡ false → refusal_of h (Tell a c) ≡ Some NotDead
+refuses_living h a c caller named dead = rw (caller, named, dead) refl
+
+refuses_none : (h : History) (a c : ℕ) → is_caller c h ≡ true → names c (cast_of a h) ≡ true → is_dead a h ≡ true → refusal_of h (Tell a c) ≡ None
+refuses_none h a c caller named dead = rw (caller, named, dead) refl
+
+refuses_all : (h : History) (a c : ℕ) → is_caller c h ≡ false → refusal_of h (Tell a c) ≡ Some NoCaller
+refuses_all h a c caller = rw caller refl
+
+-- ---- the refusals
+
+pub tell_no_caller : (h : History) (exchange : ExchangeValue) (slots : List SlotSeen) (a c : ℕ) → Ties h (record { exchange = exchange; slots = slots }) → position (is_owner c) exchange.owners ≡ None
+    → (Err NoCaller ≡ outcome_of h (Tell a c)) × Ties (after h (Tell a c)) (record { exchange = exchange; slots = slots })
+tell_no_caller h exchange slots a c ties none = refused h (Tell a c) NoCaller (record { exchange = exchange; slots = slots }) (refuses_all h a c (owner_absent h exchange.owners c ties.owners none)) ties
+
+pub tell_stranger : (h : History) (exchange : ExchangeValue) (slots : List SlotSeen) (a c place : ℕ) (owner : OwnerValue) (slot : SlotSeen) → Ties h (record { exchange = exchange; slots = slots }) → TellSees exchange slots a c place owner slot → is_some (copies_in a owner.handles) ≡ false
+    → (Err (Handle NoActor) ≡ outcome_of h (Tell a c)) × Ties (after h (Tell a c)) (record { exchange = exchange; slots = slots })
+tell_stranger h exchange slots a c place owner slot ties sees stranger =
+    let caller = caller_is h exchange slots a c place owner slot ties sees in
+    refused h (Tell a c) (Handle NoActor) (record { exchange = exchange; slots = slots }) (refuses_stranger h a c caller.0 (sym (is_named h c a owner caller.1) ∙ stranger)) ties
+
+pub tell_living : (h : History) (exchange : ExchangeValue) (slots : List SlotSeen) (a c place : ℕ) (owner : OwnerValue) (slot : SlotSeen) → Ties h (record { exchange = exchange; slots = slots }) → TellSees exchange slots a c place owner slot → is_some (copies_in a owner.handles) ≡ true → is_dead_seen slot ≡ false
+    → (Err NotDead ≡ outcome_of h (Tell a c)) × Ties (after h (Tell a c)) (record { exchange = exchange; slots = slots })
+tell_living h exchange slots a c place owner slot ties sees listed lives =
+    let caller = caller_is h exchange slots a c place owner slot ties sees in
+    let named = sym (is_named h c a owner caller.1) ∙ listed in
+    refused h (Tell a c) NotDead (record { exchange = exchange; slots = slots }) (refuses_living h a c caller.0 named (sym (dead_is h c a slot (subst (IsStage h a) sees.slot_is (ties.actors a)) named) ∙ lives)) ties
+
+pub tell_unrefused : (h : History) (exchange : ExchangeValue) (slots : List SlotSeen) (a c place : ℕ) (owner : OwnerValue) (slot : SlotSeen) → Ties h (record { exchange = exchange; slots = slots }) → TellSees exchange slots a c place owner slot → is_some (copies_in a owner.handles) ≡ true → is_dead_seen slot ≡ true
+    → refusal_of h (Tell a c) ≡ None
+tell_unrefused h exchange slots a c place owner slot ties sees listed dead =
+    let caller = caller_is h exchange slots a c place owner slot ties sees in
+    let named = sym (is_named h c a owner caller.1) ∙ listed in
+    refuses_none h a c caller.0 named (sym (dead_is h c a slot (subst (IsStage h a) sees.slot_is (ties.actors a)) named) ∙ dead)
+
+-- ---- the notice
+
+told_ties : (h : History) (exchange : ExchangeValue) (slots : List SlotSeen) (a c : ℕ) → IsLawful h → Ties h (record { exchange = exchange; slots = slots })
+    → Ties (added h (Tell a c)) (record { exchange = record exchange { replies = exchange.replies ++ record { caller = c; notice = Death a } ∷ [] }; slots = slots })
+told_ties h exchange slots a c lawful ties =
+    let g = added h (Tell a c) in
+    let grows = added_grows h (Tell a c) in
+    let notice : Posted = record { caller = c; notice = Death a } in
+    record {
+      owners = owners_stay h g exchange.owners refl (λ d. same_caller d h g lawful grows refl refl refl refl refl) ties.owners;
+      actors = stages_stay h g slots lawful grows refl refl refl refl ties.actors;
+      mail = mail_stays h g exchange.mail lawful grows ties.mail;
+      mail_count = ties.mail_count;
+      replies = go_together (posted g) exchange.replies h.posts notice (DeathPost c a) refl ties.reply_count (replies_stay h g exchange.replies lawful grows ties.replies);
+      reply_count = length-append exchange.replies (notice ∷ []) ∙ ap (λ (n : ℕ). n + 1) ties.reply_count ∙ sym (length-append h.posts (DeathPost c a ∷ []));
+      asked = ties.asked;
+    }
+
+pub tell_follows : (h : History) (exchange : ExchangeValue) (slots : List SlotSeen) (a c place j : ℕ) (owner : OwnerValue) (slot : SlotSeen) (replies : List Posted) → IsLawful h → Ties h (record { exchange = exchange; slots = slots }) → TellSees exchange slots a c place owner slot
+    → is_some (copies_in a owner.handles) ≡ true → is_dead_seen slot ≡ true → j ≡ length exchange.replies → replies ≡ exchange.replies ++ record { caller = c; notice = Death a } ∷ []
+    → (Ok (Told j) ≡ outcome_of h (Tell a c)) × Ties (after h (Tell a c)) (record { exchange = record exchange { replies = replies }; slots = slots })
+tell_follows h exchange slots a c place j owner slot replies lawful ties sees listed dead j_is replies_are =
+    let unrefused = tell_unrefused h exchange slots a c place owner slot ties sees listed dead in
+    let count : j ≡ length h.posts = j_is ∙ ties.reply_count in
+    rw (count, replies_are) (accepted h (Tell a c) (record { exchange = record exchange { replies = exchange.replies ++ record { caller = c; notice = Death a } ∷ [] }; slots = slots }) unrefused (told_ties h exchange slots a c lawful ties))

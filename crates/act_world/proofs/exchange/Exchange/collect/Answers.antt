@@ -1,0 +1,40 @@
+use Rattle.std.proofs.Common.{◌≡◌, Some, None, ap, sym, ◌∙◌, subst, slice_set, get_or}
+use Rattle.std.specs.Prelude.{slice_get, position}
+use Rattle.act_types.specs.declared.message.Notice.{Notice}
+use Rattle.act_rules.specs.declared.event.Event.TheVariants as event
+use Rattle.act_rules.specs.Laws.{world as history}
+use Rattle.act_rules.specs.Rules.{outcome_of, after}
+use Rattle.act_owner.specs.Owner.{OwnerValue, collected, after_collect, KnowsDeath}
+use Rattle.act_world.specs.declared.exchange.Posted.{Posted}
+use Rattle.act_world.specs.Exchange.{ExchangeValue, is_owner, told_collected}
+use Rattle.act_world.specs.Ties.{Ties}
+use Rattle.act_world.proofs.Lawful.{world_lawful}
+use Rattle.act_world.proofs.Sending.{SeesOwner}
+use Rattle.act_world.proofs.Hearing.{collect_follows, collect_owned}
+use Rattle.act_world.proofs.exchange.Exchange.collect.Goals as goal
+
+pub returns-in_default-place_of-clause-ok : goal.returns-in_default-place_of-clause-ok
+returns-in_default-place_of-clause-ok c slots casts before stands =
+    let notice : Posted = c.in-Some.posted.now in
+    let here : slice_get c.args.self.now.replies c.args.j ≡ Some notice = sym c.in-Some.ensures in
+    let owners : c.deref.result.now ≡ c.args.self.now.owners = c.deref.ensures.value ∙ ap (λ (exchange : ExchangeValue). exchange.owners) c.self.view_is in
+    let none : None ≡ position (is_owner notice.caller) c.args.self.now.owners = c.in_default-place_of.ensures ∙ ap (position (is_owner notice.caller)) owners in
+    absurd (collect_owned (history casts before) c.args.self.now slots c.args.j notice (world_lawful casts before) stands here (sym none))
+
+pub returns-clause-ok : goal.returns-clause-ok
+returns-clause-ok c slots casts before stands =
+    let h = history casts before in
+    let notice : Posted = c.in-Some.posted.now in
+    let here : slice_get c.args.self.now.replies c.args.j ≡ Some notice = sym c.in-Some.ensures in
+    let owner : OwnerValue = c.index_mut.result.now in
+    let owners : c.deref.result.now ≡ c.args.self.now.owners = c.deref.ensures.value ∙ ap (λ (exchange : ExchangeValue). exchange.owners) c.self.view_is in
+    let sees : SeesOwner c.args.self.now notice.caller c.in-Some-place_of.place owner = record {
+      place_is = sym (c.in-Some-place_of.ensures ∙ ap (position (is_owner notice.caller)) owners);
+      owner_is = c.index_mut.ensures.value ∙ ap (λ (exchange : ExchangeValue). get_or exchange.owners c.in-Some-place_of.place owner) c.self.view_is;
+    } in
+    let copied : c.in_ok-notice.notice ≡ notice.notice = c.in_ok-notice.ensures in
+    let told : c.told.result ≡ told_collected notice.caller (collected owner notice.notice) = c.told.ensures.value ∙ ap (told_collected notice.caller) (c.collect-collected.ensures.value ∙ ap (collected owner) copied) in
+    let new : c.collect-collected.new.self ≡ after_collect owner notice.notice = c.collect-collected.ensures.after ∙ ap (after_collect owner) copied in
+    let known : KnowsDeath notice.notice owner c.collect-collected.new.self = subst (λ (one : Notice). KnowsDeath one owner c.collect-collected.new.self) copied c.collect-collected.ensures.known in
+    subst (λ (exchange : ExchangeValue). (c.told.result ≡ outcome_of h (event.Collect c.args.j)) × Ties (after h (event.Collect c.args.j)) (record { exchange = record exchange { owners = slice_set exchange.owners c.in-Some-place_of.place c.collect-collected.new.self }; slots = slots })) (sym c.self.view_is)
+    (collect_follows h c.args.self.now slots c.args.j notice (world_lawful casts before) stands here c.in-Some-place_of.place owner c.collect-collected.new.self c.told.result sees told new known)

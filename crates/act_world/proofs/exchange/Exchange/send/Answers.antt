@@ -1,0 +1,71 @@
+use Rattle.std.proofs.Common.{◌≡◌, ◌++◌, ◌∷◌, [], List, length, None, ap, sym, ◌∙◌, subst, arith, slice_set, get_or, Ok}
+use Rattle.std.specs.Prelude.{position}
+use Rattle.std.proofs.lemmas.Grind.{common_steps}
+use Rattle.act_rules.specs.declared.event.Event.TheVariants as event
+use Rattle.act_rules.specs.declared.outcome.Did.TheVariants as did
+use Rattle.act_rules.specs.Laws.{world as history}
+use Rattle.act_rules.specs.Rules.{outcome_of, after}
+use Rattle.act_owner.specs.Owner.{OwnerValue}
+use Rattle.act_world.specs.declared.exchange.Mailed.{Mailed}
+use Rattle.act_world.specs.declared.exchange.Mailed.TheVariants.{Call as MailedCall}
+use Rattle.act_world.specs.Exchange.{ExchangeValue, is_owner}
+use Rattle.act_world.specs.Stands.{IsUnrefusedThere}
+use Rattle.act_world.specs.Ties.{Ties}
+use Rattle.act_world.proofs.Lawful.{world_lawful}
+use Rattle.act_world.proofs.Killing.{on_err}
+use Rattle.act_world.proofs.Sending.{SeesOwner, send_no_caller, send_refused, send_unrefused, send_follows}
+use Rattle.act_world.proofs.exchange.Exchange.send.Goals as goal
+
+pub returns-in_default-clause-ok : goal.returns-in_default-clause-ok
+returns-in_default-clause-ok c slots casts before stands =
+    let owners : c.deref.result.now ≡ c.args.self.now.owners = c.deref.ensures.value ∙ ap (λ (exchange : ExchangeValue). exchange.owners) c.self.view_is in
+    let none : None ≡ position (is_owner c.args.c) c.args.self.now.owners = c.in_default.ensures ∙ ap (position (is_owner c.args.c)) owners in
+    send_no_caller (history casts before) c.args.self.now slots c.args.c c.args.k stands (sym none)
+
+pub returns-in-Some-sending_refusal-clause-ok : goal.returns-in-Some-sending_refusal-clause-ok
+returns-in-Some-sending_refusal-clause-ok c slots casts before stands =
+    let owner : OwnerValue = c.index.result.now in
+    let owners : c.deref.result.now ≡ c.args.self.now.owners = c.deref.ensures.value ∙ ap (λ (exchange : ExchangeValue). exchange.owners) c.self.view_is in
+    let sees : SeesOwner c.args.self.now c.args.c c.in-Some.place owner = record {
+      place_is = sym (c.in-Some.ensures ∙ ap (position (is_owner c.args.c)) owners);
+      owner_is = c.index.ensures ∙ ap (λ (exchange : ExchangeValue). get_or exchange.owners c.in-Some.place owner) c.self.view_is;
+    } in
+    send_refused (history casts before) c.args.self.now slots c.args.c c.args.k c.in-Some.place owner c.in-Some-sending_refusal.refusal stands sees (sym c.in-Some-sending_refusal.ensures)
+
+pub returns-in_err-reserve-clause-last : goal.returns-in_err-reserve-clause-last
+returns-in_err-reserve-clause-last c =
+    let owner : OwnerValue = c.index.result.now in
+    let owners : c.deref.result.now ≡ c.args.self.now.owners = c.deref.ensures.value ∙ ap (λ (exchange : ExchangeValue). exchange.owners) c.self.view_is in
+    let sees : SeesOwner c.args.self.now c.args.c c.in-Some.place owner = record {
+      place_is = sym (c.in-Some.ensures ∙ ap (position (is_owner c.args.c)) owners);
+      owner_is = c.index.ensures ∙ ap (λ (exchange : ExchangeValue). get_or exchange.owners c.in-Some.place owner) c.self.view_is;
+    } in
+    let last : IsUnrefusedThere (event.Send c.args.c c.args.k) c.args.self.now = λ slots casts before stands. send_unrefused (history casts before) c.args.self.now slots c.args.c c.args.k c.in-Some.place owner stands sees (sym c.in_default-sending_refusal.ensures) in
+    on_err (IsUnrefusedThere (event.Send c.args.c c.args.k) c.args.self.now) c.from_residual.result last
+
+pub returns-in_default-packet-clause-last : goal.returns-in_default-packet-clause-last
+returns-in_default-packet-clause-last c slots casts before stands =
+    let owner : OwnerValue = c.index.result.now in
+    let owners : c.deref.result.now ≡ c.args.self.now.owners = c.deref.ensures.value ∙ ap (λ (exchange : ExchangeValue). exchange.owners) c.self.view_is in
+    let sees : SeesOwner c.args.self.now c.args.c c.in-Some.place owner = record {
+      place_is = sym (c.in-Some.ensures ∙ ap (position (is_owner c.args.c)) owners);
+      owner_is = c.index.ensures ∙ ap (λ (exchange : ExchangeValue). get_or exchange.owners c.in-Some.place owner) c.self.view_is;
+    } in
+    send_unrefused (history casts before) c.args.self.now slots c.args.c c.args.k c.in-Some.place owner stands sees (sym c.in_default-sending_refusal.ensures)
+
+pub returns-clause-ok : goal.returns-clause-ok
+returns-clause-ok c slots casts before stands =
+    let owner : OwnerValue = c.index_mut.result.now in
+    let owners : c.deref.result.now ≡ c.args.self.now.owners = c.deref.ensures.value ∙ ap (λ (exchange : ExchangeValue). exchange.owners) c.self.view_is in
+    let sees : SeesOwner c.args.self.now c.args.c c.in-Some.place owner = record {
+      place_is = sym (c.in-Some.ensures ∙ ap (position (is_owner c.args.c)) owners);
+      owner_is = c.index_mut.ensures.value ∙ ap (λ (exchange : ExchangeValue). get_or exchange.owners c.in-Some.place owner) c.self.view_is;
+    } in
+    let mailed_there : c.reserve.new.self.items ≡ c.args.self.now.mail = c.in_ok-reserve.ensures.items ∙ ap (λ (exchange : ExchangeValue). exchange.mail) c.self.view_is in
+    let mail : c.push_reserved.new.self.items ≡ c.args.self.now.mail ++ MailedCall c.in-Ok.packet ∷ [] = c.push_reserved.ensures.items ∙ ap (λ (items : List Mailed). items ++ MailedCall c.in-Ok.packet ∷ []) mailed_there in
+    let count : c.len-i.result ≡ length c.reserve.new.self.items = grind (arith, common_steps) in
+    let counted : c.len-i.result ≡ length c.args.self.now.mail = count ∙ ap (λ (items : List Mailed). length items) mailed_there in
+    let h = history casts before in
+    subst (λ (exchange : ExchangeValue). (Ok (did.Mail c.len-i.result) ≡ outcome_of h (event.Send c.args.c c.args.k)) × Ties (after h (event.Send c.args.c c.args.k)) (record { exchange = record exchange { owners = slice_set exchange.owners c.in-Some.place c.packet.new.self; mail = c.push_reserved.new.self.items }; slots = slots })) (sym c.self.view_is)
+    (send_follows h c.args.self.now slots c.args.c c.args.k c.in-Some.place c.len-i.result owner c.packet.new.self c.in-Ok.packet c.push_reserved.new.self.items (world_lawful casts before) stands sees
+    c.in-Ok.ensures.accepted c.in-Ok.ensures.value c.in-Ok.ensures.ok counted mail)

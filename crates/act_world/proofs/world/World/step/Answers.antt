@@ -1,0 +1,35 @@
+use Rattle.std.proofs.Common.{map}
+use Rattle.act_rules.specs.declared.event.Event.TheVariants as event
+use Rattle.act_world.specs.Value.{slot_seen}
+use Rattle.act_world.proofs.Playing.{there, ok_there, last_there}
+use Rattle.act_world.proofs.world.World.step.Goals as goal
+
+pub returns-in-Submit-clause-ok : goal.returns-in-Submit-clause-ok
+returns-in-Submit-clause-ok g c = ok_there (map (slot_seen g.K.Actor.state) c.args.self.now.slots) (event.Submit c.in-Submit.c c.in-Submit.a c.in-Submit.method c.in-Submit.args) c.args.event.now _ c.submit.new.self c.submit.result c.in-Submit.is c.submit.ensures.ok
+
+pub returns-in-Submit-clause-last : goal.returns-in-Submit-clause-last
+returns-in-Submit-clause-last g c = last_there (map (slot_seen g.K.Actor.state) c.args.self.now.slots) (event.Submit c.in-Submit.c c.in-Submit.a c.in-Submit.method c.in-Submit.args) c.args.event.now _ c.submit.result c.in-Submit.is c.submit.ensures.last
+
+pub returns-in-Release-clause-ok : goal.returns-in-Release-clause-ok
+returns-in-Release-clause-ok g c = ok_there (map (slot_seen g.K.Actor.state) c.args.self.now.slots) (event.Release c.in-Release.c c.in-Release.a) c.args.event.now _ c.release.new.self c.release.result c.in-Release.is c.release.ensures.ok
+
+pub returns-in-Release-clause-last : goal.returns-in-Release-clause-last
+returns-in-Release-clause-last g c = last_there (map (slot_seen g.K.Actor.state) c.args.self.now.slots) (event.Release c.in-Release.c c.in-Release.a) c.args.event.now _ c.release.result c.in-Release.is c.release.ensures.last
+
+pub returns-in-Send-clause-ok : goal.returns-in-Send-clause-ok
+returns-in-Send-clause-ok g c = ok_there (map (slot_seen g.K.Actor.state) c.args.self.now.slots) (event.Send c.in-Send.c c.in-Send.k) c.args.event.now _ c.send.new.self c.send.result c.in-Send.is c.send.ensures.ok
+
+pub returns-in-Send-clause-last : goal.returns-in-Send-clause-last
+returns-in-Send-clause-last g c = last_there (map (slot_seen g.K.Actor.state) c.args.self.now.slots) (event.Send c.in-Send.c c.in-Send.k) c.args.event.now _ c.send.result c.in-Send.is c.send.ensures.last
+
+pub returns-in-Collect-clause-ok : goal.returns-in-Collect-clause-ok
+returns-in-Collect-clause-ok g c = ok_there (map (slot_seen g.K.Actor.state) c.args.self.now.slots) (event.Collect c.in-Collect.j) c.args.event.now _ c.collect.new.self c.collect.result c.in-Collect.is c.collect.ensures.ok
+
+pub returns-in-Collect-clause-last : goal.returns-in-Collect-clause-last
+returns-in-Collect-clause-last g c = last_there (map (slot_seen g.K.Actor.state) c.args.self.now.slots) (event.Collect c.in-Collect.j) c.args.event.now _ c.collect.result c.in-Collect.is c.collect.ensures.last
+
+pub returns-in-Copy-clause-ok : goal.returns-in-Copy-clause-ok
+returns-in-Copy-clause-ok g c = there (map (slot_seen g.K.Actor.state) c.args.self.now.slots) (event.Copy c.in-Copy.c c.in-Copy.a) c.args.event.now _ c.copy.new.self c.copy.result c.in-Copy.is c.copy.ensures.follows
+
+pub returns-in-AskKill-clause-ok : goal.returns-in-AskKill-clause-ok
+returns-in-AskKill-clause-ok g c = there (map (slot_seen g.K.Actor.state) c.args.self.now.slots) (event.AskKill c.in-AskKill.c c.in-AskKill.a) c.args.event.now _ c.ask_kill.new.self c.ask_kill.result c.in-AskKill.is c.ask_kill.ensures.follows

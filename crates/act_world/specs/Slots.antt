@@ -1,0 +1,87 @@
+-- What happens to an actor in its slot.
+use Rattle.std.specs.Prelude.{◌≡◌, ℕ, List, slice_index_or, slice_set, Bool, true, false, Option, option_map, IfNone, IfSome, Result, Ok, Err}
+use Rattle.act_types.specs.declared.message.Packet.{Packet}
+use Rattle.act_types.specs.declared.message.ReleaseNote.{ReleaseNote}
+use Rattle.act_world.specs.declared.exchange.Mailed.{Mailed}
+use Rattle.act_world.specs.declared.exchange.Mailed.TheVariants.{Call as MailedCall, Note as MailedNote}
+use Rattle.act_types.specs.declared.message.Reply.{Reply}
+use Rattle.act_rules.specs.declared.outcome.Arrival.{Arrival}
+use Rattle.act_rules.specs.declared.outcome.Did.TheVariants.{Arrived, Dead, Retired}
+use Rattle.act_rules.specs.declared.outcome.HandleRefusal.TheVariants.{NoActor}
+use Rattle.act_rules.specs.declared.outcome.WorldRefusal.{WorldRefusal}
+use Rattle.act_rules.specs.declared.outcome.WorldRefusal.TheVariants.{Handle, ActorEnded, NoKill, NotDrained}
+use Rattle.act_rules.specs.Rules.{Outcome}
+use Rattle.act_inbox.specs.Inbox.{waiting, waiting_after, next_of, note_of, note_after, IsDrained}
+use Rattle.act_actor.specs.Value.{ActorSeen}
+use Rattle.act_actor.specs.Actor.{arrival_at, note_arrival_at, reply_to, HasRun}
+use Rattle.act_world.specs.Value.{SlotSeen, Runs, Died, Ended, Vacant}
+
+abbrev pub IsLiveSeen : SlotSeen → Type 0
+IsLiveSeen (Runs live) = Unit {0}
+IsLiveSeen slot = ⊥
+
+abbrev pub is_live_seen : SlotSeen → Bool
+is_live_seen (Runs live) = true
+is_live_seen slot = false
+
+abbrev pub is_dead_seen : SlotSeen → Bool
+is_dead_seen (Died dead) = true
+is_dead_seen slot = false
+
+-- the running actor took a packet in
+pub record HasTaken (packet : Packet) (arrival : Arrival) (old new : ActorSeen) : Type 0 where
+  pub arrival_is : arrival ≡ arrival_at old.id old.inbox packet
+  pub same : new ≡ record old { inbox = new.inbox }
+  pub lanes : new.inbox.lanes ≡ old.inbox.lanes
+  pub notes : (c : ℕ) → note_of new.inbox c ≡ note_of old.inbox c
+  pub waits : (c n : ℕ) → waiting new.inbox c n ≡ waiting_after arrival packet old.inbox c n
+
+-- the running actor took a release note in
+pub record HasNoted (note : ReleaseNote) (arrival : Arrival) (old new : ActorSeen) : Type 0 where
+  pub arrival_is : arrival ≡ note_arrival_at old.id old.inbox note
+  pub same : new ≡ record old { inbox = new.inbox }
+  pub lanes : new.inbox.lanes ≡ old.inbox.lanes
+  pub held : new.inbox.held ≡ old.inbox.held
+  pub notes : (c : ℕ) → note_of new.inbox c ≡ note_after arrival note old.inbox c
+
+-- the running actor took a letter in
+abbrev pub HasArrived : Mailed → Arrival → ActorSeen → ActorSeen → Type 0
+HasArrived (MailedCall packet) arrival old new = HasTaken packet arrival old new
+HasArrived (MailedNote note) arrival old new = HasNoted note arrival old new
+
+-- the letter came to a running actor, or its actor has ended
+abbrev pub IsBrought : Mailed → SlotSeen → SlotSeen → Outcome → Type 0
+IsBrought letter (Runs old) (Runs new) (Ok (Arrived arrival)) = HasArrived letter arrival old new
+IsBrought letter (Runs old) new told = ⊥
+IsBrought letter old new told = (new ≡ old) × (told ≡ Err ActorEnded)
+
+-- the running actor ran the caller's next call, or it has not arrived
+pub record HasRunNext (c : ℕ) (reply : Option Reply) (old new : ActorSeen) : Type 0 where
+  pub reply_is : reply ≡ option_map (reply_to old) (next_of old.inbox c)
+  pub gap : IfNone reply (new ≡ old)
+  pub ran : IfSome (next_of old.inbox c) (λ packet. HasRun c packet old new)
+
+abbrev pub IsRun : ℕ → SlotSeen → SlotSeen → Result (Option Reply) WorldRefusal → Type 0
+IsRun c (Runs old) (Runs new) (Ok reply) = HasRunNext c reply old new
+IsRun c (Runs old) new told = ⊥
+IsRun c old new told = (new ≡ old) × (told ≡ Err ActorEnded)
+
+-- in a list of actors one ran, and the others stay
+pub record IsRunAt (c a : ℕ) (old new : List SlotSeen) (told : Result (Option Reply) WorldRefusal) : Type 0 where
+  pub ran : IsRun c (slice_index_or old a Vacant) (slice_index_or new a Vacant) told
+  pub others : new ≡ slice_set old a (slice_index_or new a Vacant)
+
+-- the actor's slot after it took a kill, if one was asked, and what is told
+abbrev pub killed : Bool → SlotSeen → SlotSeen × Outcome
+killed true (Runs live) = (Died (record { id = live.id; log = live.log }), Ok Dead)
+killed false (Runs live) = (Runs live, Err NoKill)
+killed asked Vacant = (Vacant, Err (Handle NoActor))
+killed asked (Died dead) = (Died dead, Err ActorEnded)
+killed asked (Ended retired) = (Ended retired, Err ActorEnded)
+
+-- the actor retired where it was drained, and else it is as it was
+abbrev pub IsRetiredIn : SlotSeen → SlotSeen → Outcome → Type 0
+IsRetiredIn (Runs live) (Ended retired) (Ok Retired) = IsDrained live.inbox × (retired ≡ record { id = live.id; log = live.log; state = live.state })
+IsRetiredIn (Runs live) new told = (IsDrained live.inbox → ⊥) × (new ≡ Runs live) × (told ≡ Err NotDrained)
+IsRetiredIn Vacant new told = (new ≡ Vacant) × (told ≡ Err (Handle NoActor))
+IsRetiredIn old new told = (new ≡ old) × (told ≡ Err ActorEnded)

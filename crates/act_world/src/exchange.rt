@@ -1,0 +1,134 @@
+//! The callers, and what is on its way between them and the actors.
+
+ghost use Rattle.std.specs.Prelude.{◌≡◌, find, position, option_copied, option_map, slice_get, is_some, unwrap_or, false, IfOk};
+ghost use Rattle.act_handles.specs.Handles.{copies_in};
+ghost use Rattle.act_world.specs.Exchange.{is_owner, mailed_to};
+
+use act_owner::{HandleRefusal, Owner};
+use act_types::{ActorId, CallerId, CopyOf, NoMemory, Notice, Packet, ReleaseNote};
+use std::alloc::Global;
+use std::marker::Model;
+
+/// A letter of the mail, with what it carries.
+#[derive(Drop)]
+pub(crate) enum Mailed {
+    Call(Packet),
+    Note(ReleaseNote),
+}
+
+impl Mailed {
+    /// The actor that it is for.
+    pub(crate) fn actor(&self) -> ActorId
+        ensures { result ≡ mailed_to self.now }
+    {
+        match self {
+            Mailed::Call(packet) => packet.actor,
+            Mailed::Note(note) => note.actor,
+        }
+    }
+}
+
+impl CopyOf for Mailed {
+    fn copy_of(&self, alloc: Global) -> Result<Mailed, NoMemory> {
+        match self {
+            Mailed::Call(packet) => Ok(Mailed::Call(packet.copy_of(alloc)?)),
+            Mailed::Note(note) => Ok(Mailed::Note(*note)),
+        }
+    }
+}
+
+/// A notice, and the caller that it is for.
+#[derive(Drop)]
+pub(crate) struct Posted {
+    pub(crate) caller: CallerId,
+    pub(crate) notice: Notice,
+}
+
+/// The callers, all letters that were sent, all notices that were posted, and whether a kill of
+/// each actor, by its number, was asked.
+#[derive(Drop)]
+pub(crate) struct Exchange {
+    pub(crate) owners: Vec<Owner>,
+    pub(crate) mail: Vec<Mailed>,
+    pub(crate) replies: Vec<Posted>,
+    pub(crate) asked: [bool; 9],
+}
+
+impl Model for Exchange {
+    ghost use Rattle.act_world.specs.Exchange.{ExchangeValue};
+
+    ghost Value = { ExchangeValue };
+
+    ghost view = { λ exchange. record {
+      owners = exchange.owners.items;
+      mail = exchange.mail.items;
+      replies = exchange.replies.items;
+      asked = exchange.asked;
+    } };
+}
+
+/// The caller's place among the callers.
+pub(crate) fn place_of(owners: &[Owner], c: CallerId) -> Option<usize>
+    ensures { result ≡ position (is_owner c) owners.now }
+{
+    owners.iter().position(|owner| owner.id() == c)
+}
+
+/// Whether the actor is one of the caller's.
+pub(crate) fn names(owner: &Owner, a: ActorId) -> bool
+    ensures { result ≡ is_some (copies_in a owner.now.handles) }
+{
+    match owner.ask_kill(a) {
+        Err(HandleRefusal::NoActor) => false,
+        _ => true,
+    }
+}
+
+impl Exchange {
+    /// Where it asks for memory.
+    pub(crate) fn alloc(&self) -> Global {
+        *self.mail.allocator()
+    }
+
+    /// A caller, where it is one of these.
+    pub(crate) fn owner(&self, c: CallerId) -> Option<&Owner>
+        ensures { option_copied result ≡ find (is_owner c) self.now.owners }
+    {
+        let Some(place) = place_of(&self.owners, c) else {
+            return None;
+        };
+        Some(&self.owners[place])
+    }
+
+    /// The actor of the letter at a place of the mail.
+    pub(crate) fn addressee(&self, i: u32) -> Option<ActorId>
+        ensures { result ≡ option_map mailed_to (slice_get self.now.mail i) }
+    {
+        let letter = self.mail.get(i as usize)?;
+        Some(letter.actor())
+    }
+
+    /// A copy of the letter at a place of the mail.
+    pub(crate) fn letter(&self, i: u32) -> Result<Option<Mailed>, NoMemory>
+        ensures { IfOk result (λ letter. letter ≡ slice_get self.now.mail i) }
+    {
+        let Some(letter) = self.mail.get(i as usize) else {
+            return Ok(None);
+        };
+        Ok(Some(letter.copy_of(self.alloc())?))
+    }
+
+    /// Whether a kill of the actor was asked.
+    pub(crate) fn is_asked(&self, a: ActorId) -> bool
+        ensures { result ≡ unwrap_or (slice_get self.now.asked a) false }
+    {
+        self.asked[a.number() as usize]
+    }
+
+    /// The notice at a place of the replies.
+    pub(crate) fn notice(&self, j: u32) -> Option<&Posted>
+        ensures { option_copied result ≡ slice_get self.now.replies j }
+    {
+        self.replies.get(j as usize)
+    }
+}

@@ -1,0 +1,17 @@
+//! A world of callers and actors: events, what each of them tells, and what stands after them.
+#![tactic(auto)]
+
+mod callers;
+mod collecting;
+mod exchange;
+pub mod laws;
+mod opening;
+mod slot;
+#[cfg(test)]
+mod tests;
+mod world;
+
+pub use act_actor::{Cast, cast_fits};
+pub use act_rules::{Did, Event, Outcome, WorldRefusal};
+pub use slot::Stage;
+pub use world::World;

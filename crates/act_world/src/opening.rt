@@ -1,0 +1,152 @@
+//! A world at its opening.
+
+ghost use Rattle.std.specs.Prelude.{◌≡◌, ◌≢◌, ◌+◌, ◌++◌, ◌∷◌, [], ℕ, List, IfOk, OnOk, AllPairs, length, map, replicate, slice_get, Some, ◌==◌, if◌then◌else◌};
+ghost use Rattle.act_rules.specs.History.{opening};
+ghost use Rattle.act_actor.specs.Cast.{ActorsDiffer, IsFitting};
+ghost use Rattle.act_actor.specs.Seen.{live_seen};
+ghost use Rattle.act_owner.specs.Owner.{opened};
+ghost use Rattle.act_world.specs.Value.{Runs, Vacant, slot_seen, world_seen};
+ghost use Rattle.act_world.specs.Ties.{IsStage};
+ghost use Rattle.act_world.specs.Stands.{Stands};
+ghost use Rattle.act_world.specs.Openings.{casting, callers_named, actors_naming, HasOwners};
+
+use crate::World;
+use crate::exchange::{Exchange, place_of};
+use crate::slot::{Slot, slot_of};
+use act_actor::{Cast, Live};
+use act_kinds::Actor;
+use act_owner::Owner;
+use act_types::{ActorId, CallerId, NoMemory};
+use std::alloc::Global;
+
+/// The actors whose casts name the caller.
+fn actors_of<K>(alloc: Global, casts: &[Cast<K>], c: CallerId) -> Result<Vec<ActorId>, NoMemory>
+    ensures { IfOk result (λ actors. actors.items ≡ actors_naming c casts.now) }
+{
+    let actors = casts
+        .iter()
+        .filter(|cast| cast.callers.as_slice().contains(&c))
+        .map(|cast| cast.actor)
+        .collect(alloc)?;
+    Ok(actors)
+}
+
+/// A caller with its first handles.
+fn opened_owner<K>(alloc: Global, casts: &[Cast<K>], c: CallerId) -> Result<Owner, NoMemory>
+    requires distinct { ActorsDiffer casts.now }
+    ensures { IfOk result (λ owner. owner ≡ opened c (actors_naming c casts.now)) }
+{
+    let actors = actors_of(alloc, casts, c)?;
+    Owner::open(alloc, c, actors.as_slice())
+}
+
+/// Adds a caller that isn't there yet.
+fn add_owner<K>(
+    alloc: Global,
+    owners: &mut Vec<Owner>,
+    casts: &[Cast<K>],
+    c: CallerId,
+) -> Result<(), NoMemory>
+    requires distinct { ActorsDiffer casts.now }
+    ensures { OnOk result ((callers : List ℕ) → HasOwners casts.now callers owners.old.items → HasOwners casts.now (callers ++ c ∷ []) owners.new.items) }
+{
+    if place_of(owners.as_slice(), c).is_some() {
+        return Ok(());
+    }
+    let owner = opened_owner(alloc, casts, c)?;
+    owners.push(owner)?;
+    Ok(())
+}
+
+/// Adds those of these callers that aren't there yet.
+fn add_owners<K>(
+    alloc: Global,
+    owners: &mut Vec<Owner>,
+    casts: &[Cast<K>],
+    these: &[CallerId],
+) -> Result<(), NoMemory>
+    requires distinct { ActorsDiffer casts.now }
+    ensures { OnOk result ((callers : List ℕ) → HasOwners casts.now callers owners.old.items → HasOwners casts.now (callers ++ these.now) owners.new.items) }
+{
+    for c in these {
+        add_owner(alloc, owners, casts, *c)?;
+    }
+    Ok(())
+}
+
+/// The callers that the casts name.
+fn owners_of<K>(alloc: Global, casts: &[Cast<K>]) -> Result<Vec<Owner>, NoMemory>
+    requires distinct { ActorsDiffer casts.now }
+    ensures { IfOk result (λ owners. HasOwners casts.now (callers_named casts.now) owners.items) }
+{
+    let mut owners = Vec::new(alloc);
+    for cast in casts {
+        add_owners(alloc, &mut owners, casts, cast.callers.as_slice())?;
+    }
+    Ok(owners)
+}
+
+/// Slots with no actors.
+fn vacant<K: Actor>() -> [Slot<K>; 9]
+    ensures { map (slot_seen K.state) result ≡ replicate 9 Vacant }
+{
+    [
+        Slot::Vacant,
+        Slot::Vacant,
+        Slot::Vacant,
+        Slot::Vacant,
+        Slot::Vacant,
+        Slot::Vacant,
+        Slot::Vacant,
+        Slot::Vacant,
+        Slot::Vacant,
+    ]
+}
+
+/// Puts an actor in its slot.
+fn seat<K: Actor>(slots: &mut [Slot<K>; 9], a: ActorId, live: Live<K>)
+    ensures { (b : ℕ) → slice_get (map (slot_seen K.state) slots.new) b ≡ (if a == b then Some (Runs (live_seen K.state live)) else slice_get (map (slot_seen K.state) slots.old) b) }
+{
+    slots[slot_of(a)] = Slot::Live(live);
+}
+
+/// The actors, each in its opening state.
+fn slots_of<K: Actor>(alloc: Global, casts: Vec<Cast<K>>) -> Result<[Slot<K>; 9], NoMemory>
+    requires fit { IsFitting casts.items }
+    ensures { IfOk result (λ slots. (a : ℕ) → IsStage (opening (map (casting K.state) casts.items)) a (slice_get (map (slot_seen K.state) slots) a)) }
+{
+    let mut slots = vacant();
+    for cast in casts {
+        let Cast {
+            actor,
+            callers,
+            kind,
+        } = cast;
+        let live = Live::open(alloc, actor, callers.as_slice(), kind)?;
+        seat(&mut slots, actor, live);
+    }
+    Ok(slots)
+}
+
+impl<K: Actor> World<K> {
+    /// A world of these actors, each in its opening state, and of the callers that they name, each
+    /// with one copy of the handle of every actor that names it.
+    pub fn open(alloc: Global, casts: Vec<Cast<K>>) -> Result<World<K>, NoMemory>
+        requires fit { IsFitting casts.items }
+        ensures stands { IfOk result (λ world. Stands (map (casting K.state) casts.items) [] (world_seen K.state world)) }
+        // The room that events ask for is there.
+        ensures empty { IfOk result (λ world. length (world_seen K.state world).exchange.mail + length (world_seen K.state world).exchange.replies ≡ 0) }
+    {
+        let owners = owners_of(alloc, casts.as_slice())?;
+        let slots = slots_of(alloc, casts)?;
+        Ok(World {
+            exchange: Exchange {
+                owners,
+                mail: Vec::new(alloc),
+                replies: Vec::new(alloc),
+                asked: [false; 9],
+            },
+            slots,
+        })
+    }
+}

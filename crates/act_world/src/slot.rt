@@ -1,0 +1,155 @@
+//! Where an actor is.
+
+ghost use Rattle.std.specs.Prelude.{◌≡◌, ◌<◌, ℕ, map, IfOk, OnErr, false};
+ghost use Rattle.act_actor.specs.Seen.{live_seen};
+ghost use Rattle.act_world.specs.Value.{slot_seen};
+ghost use Rattle.act_world.specs.Stands.{is_memory};
+ghost use Rattle.act_world.specs.Slots.{IsLiveSeen, is_live_seen, is_dead_seen, HasArrived, IsBrought, IsRun, IsRunAt, IsRetiredIn, killed};
+
+use crate::exchange::Mailed;
+use act_actor::{Dead, Live, Retired};
+use act_kinds::{Actor, Boxed};
+use act_rules::{Arrival, Did, HandleRefusal, Outcome, WorldRefusal};
+use act_types::{ActorId, CallerId, NoMemory, Reply};
+use std::mem;
+
+/// An actor in one of its states. A slot is vacant where there is no such actor, and while an actor
+/// is moved from one state to the next.
+#[derive(Drop)]
+pub(crate) enum Slot<K = Boxed> {
+    Live(Live<K>),
+    Dead(Dead),
+    Retired(Retired<K>),
+    Vacant,
+}
+
+/// An actor in one of its states, lent.
+#[derive(Clone, Copy)]
+pub enum Stage<'a, K = Boxed> {
+    Live(&'a Live<K>),
+    Dead(&'a Dead),
+    Retired(&'a Retired<K>),
+}
+
+/// The place of an actor's slot.
+pub(crate) fn slot_of(a: ActorId) -> usize
+    ensures value { result ≡ a }
+    ensures below { result < 9 }
+{
+    a.number() as usize
+}
+
+/// Brings a letter to the actor.
+pub(crate) fn bring<K: Actor>(slot: &mut Slot<K>, letter: Mailed) -> Result<Outcome, NoMemory>
+    ensures ok { IfOk result (IsBrought letter (slot_seen K.state slot.old) (slot_seen K.state slot.new)) }
+    ensures told { IfOk result (λ told. is_memory told ≡ false) }
+    ensures err { OnErr result (slot_seen K.state slot.new ≡ slot_seen K.state slot.old) }
+{
+    let Slot::Live(live) = slot else {
+        return Ok(Err(WorldRefusal::ActorEnded));
+    };
+    let arrival = arrive(live, letter)?;
+    Ok(Ok(Did::Arrived(arrival)))
+}
+
+/// The actor takes a letter in.
+fn arrive<K: Actor>(live: &mut Live<K>, letter: Mailed) -> Result<Arrival, NoMemory>
+    ensures ok { IfOk result (λ arrival. HasArrived letter arrival (live_seen K.state live.old) (live_seen K.state live.new)) }
+    ensures err { OnErr result (live_seen K.state live.new ≡ live_seen K.state live.old) }
+{
+    let packet = match letter {
+        Mailed::Call(packet) => packet,
+        Mailed::Note(note) => return Ok(live.released(note)),
+    };
+    let Ok(arrival) = live.arrive(packet) else {
+        return Err(NoMemory);
+    };
+    Ok(arrival)
+}
+
+/// The actor runs the caller's next call, if it has arrived.
+fn run_in<K: Actor>(
+    slot: &mut Slot<K>,
+    c: CallerId,
+) -> Result<Result<Option<Reply>, WorldRefusal>, NoMemory>
+    ensures ok { IfOk result (IsRun c (slot_seen K.state slot.old) (slot_seen K.state slot.new)) }
+    ensures last { OnErr result (IsLiveSeen (slot_seen K.state slot.old)) }
+    ensures err { OnErr result (slot_seen K.state slot.new ≡ slot_seen K.state slot.old) }
+{
+    let Slot::Live(live) = slot else {
+        return Ok(Err(WorldRefusal::ActorEnded));
+    };
+    Ok(Ok(live.run(c)?))
+}
+
+/// The actor with this number runs the caller's next call, if it has arrived.
+pub(crate) fn run_at<K: Actor>(
+    slots: &mut [Slot<K>; 9],
+    a: ActorId,
+    c: CallerId,
+) -> Result<Result<Option<Reply>, WorldRefusal>, NoMemory>
+    ensures ok { IfOk result (IsRunAt c a (map (slot_seen K.state) slots.old) (map (slot_seen K.state) slots.new)) }
+    ensures err { OnErr result (map (slot_seen K.state) slots.new ≡ map (slot_seen K.state) slots.old) }
+{
+    run_in(&mut slots[slot_of(a)], c)
+}
+
+/// Ends the actor where its kill was asked.
+pub(crate) fn kill_in<K: Actor>(slot: &mut Slot<K>, asked: bool) -> Outcome
+    ensures killed { (slot_seen K.state slot.new, result) ≡ killed asked (slot_seen K.state slot.old) }
+    ensures told { is_memory result ≡ false }
+{
+    match mem::replace(slot, Slot::Vacant) {
+        Slot::Live(live) => {
+            if !asked {
+                *slot = Slot::Live(live);
+                return Err(WorldRefusal::NoKill);
+            }
+            *slot = Slot::Dead(live.kill());
+            Ok(Did::Dead)
+        }
+        Slot::Vacant => Err(WorldRefusal::Handle(HandleRefusal::NoActor)),
+        ended => {
+            *slot = ended;
+            Err(WorldRefusal::ActorEnded)
+        }
+    }
+}
+
+/// Whether the actor died.
+pub(crate) fn is_dead_in<K: Actor>(slot: &Slot<K>) -> bool
+    ensures { result ≡ is_dead_seen (slot_seen K.state slot.now) }
+{
+    matches!(slot, Slot::Dead(_))
+}
+
+/// Whether the actor runs.
+pub(crate) fn is_live_in<K: Actor>(slot: &Slot<K>) -> bool
+    ensures { result ≡ is_live_seen (slot_seen K.state slot.now) }
+{
+    matches!(slot, Slot::Live(_))
+}
+
+/// The actor ends by itself, where it is drained.
+pub(crate) fn retire_in<K: Actor>(slot: &mut Slot<K>) -> Outcome
+    ensures retired { IsRetiredIn (slot_seen K.state slot.old) (slot_seen K.state slot.new) result }
+    ensures told { is_memory result ≡ false }
+{
+    match mem::replace(slot, Slot::Vacant) {
+        Slot::Live(live) => match live.retire() {
+            Ok(retired) => {
+                *slot = Slot::Retired(retired);
+                Ok(Did::Retired)
+            }
+            Err(live) => {
+                *slot = Slot::Live(live);
+                Err(WorldRefusal::NotDrained)
+            }
+        },
+        Slot::Vacant => Err(WorldRefusal::Handle(HandleRefusal::NoActor)),
+        ended => {
+            *slot = ended;
+            Err(WorldRefusal::ActorEnded)
+        }
+    }
+}

@@ -1,0 +1,232 @@
+//! Callers, actors, and the events between them.
+//!
+//! `K` is the kind, mostly a box. A clause names what is seen of a world by `world_seen` at the
+//! kind's state.
+
+ghost use Rattle.std.specs.Prelude.{◌≡◌, ◌<◌, ◌++◌, ◌∷◌, [], ℕ, List, Option, Some, None, IfOk, IfErr, OnOk, OnErr, true, false, length, take, option_copied};
+ghost use Rattle.std.specs.Option.{option_map};
+ghost use Rattle.act_rules.specs.declared.event.Event.{Event as Happening};
+ghost use Rattle.act_rules.specs.declared.event.Event.TheVariants as event;
+ghost use Rattle.act_rules.specs.History.{Casting};
+ghost use Rattle.act_rules.specs.Laws.{world as history};
+ghost use Rattle.act_rules.specs.Rules.{outcome_of, refusal_of};
+ghost use Rattle.act_world.specs.Value.{world_seen, stage_seen};
+ghost use Rattle.act_world.specs.Ties.{IsOwnerAt, IsStage};
+ghost use Rattle.act_world.specs.Headline.{IsConsistent};
+ghost use Rattle.act_world.specs.Stands.{Stands, is_memory, HasRoom, IsGrown, IsGrownBy, Follows, IsUnrefused, Played};
+
+use crate::exchange::{Exchange, Posted, names, place_of};
+use crate::slot::{
+    Slot, Stage, bring, is_dead_in, is_live_in, kill_in, retire_in, run_at, slot_of,
+};
+use act_kinds::{Actor, Boxed};
+use act_owner::{HandleRefusal, Owner};
+use act_rules::{Did, Event, Outcome, WorldRefusal};
+use act_types::{ActorId, CallerId, CopyOf, NoMemory, Notice};
+
+/// A world of callers and actors.
+#[derive(Drop)]
+pub struct World<K = Boxed> {
+    pub(crate) exchange: Exchange,
+    /// The actors, by their numbers.
+    pub(crate) slots: [Slot<K>; 9],
+}
+
+/// Whether memory was refused.
+fn is_memory(told: &Outcome) -> bool
+    ensures { result ≡ is_memory told.now }
+{
+    matches!(told, Err(WorldRefusal::NoMemory))
+}
+
+impl<K: Actor> World<K> {
+    /// A letter is brought to its actor once more.
+    fn deliver(&mut self, i: u32) -> Result<Outcome, NoMemory>
+        ensures ok { IfOk result (Follows (event.Deliver i) (world_seen K.state self.old) (world_seen K.state self.new)) }
+        ensures told { IfOk result (λ told. is_memory told ≡ false) }
+        ensures grown { IsGrown (world_seen K.state self.old).exchange (world_seen K.state self.new).exchange }
+        ensures last { OnErr result (IsUnrefused (event.Deliver i) (world_seen K.state self.old)) }
+        ensures err { OnErr result (world_seen K.state self.new ≡ world_seen K.state self.old) }
+    {
+        let Some(a) = self.exchange.addressee(i) else {
+            return Ok(Err(WorldRefusal::NoMail));
+        };
+        let at = slot_of(a);
+        if !is_live_in(&self.slots[at]) {
+            return Ok(Err(WorldRefusal::ActorEnded));
+        }
+        let Some(letter) = self.exchange.letter(i)? else {
+            return Ok(Err(WorldRefusal::NoMail));
+        };
+        bring(&mut self.slots[at], letter)
+    }
+
+    /// The actor runs the caller's next call, if it has arrived, and tells the caller.
+    fn run(&mut self, a: ActorId, c: CallerId) -> Result<Outcome, NoMemory>
+        requires room { HasRoom 1 (world_seen K.state self.old).exchange }
+        ensures ok { IfOk result (Follows (event.Run a c) (world_seen K.state self.old) (world_seen K.state self.new)) }
+        ensures told { IfOk result (λ told. is_memory told ≡ false) }
+        ensures grown { IsGrown (world_seen K.state self.old).exchange (world_seen K.state self.new).exchange }
+        ensures last { OnErr result (IsUnrefused (event.Run a c) (world_seen K.state self.old)) }
+        ensures err { OnErr result (world_seen K.state self.new ≡ world_seen K.state self.old) }
+    {
+        let is_live = is_live_in(&self.slots[slot_of(a)]);
+        let Some(place) = place_of(&self.exchange.owners, c) else {
+            return Ok(Err(WorldRefusal::NoCaller));
+        };
+        if !names(&self.exchange.owners[place], a) {
+            return Ok(Err(WorldRefusal::Handle(HandleRefusal::NoActor)));
+        }
+        if !is_live {
+            return Ok(Err(WorldRefusal::ActorEnded));
+        }
+        self.exchange.replies.reserve(1)?;
+        let Ok(reply) = run_at(&mut self.slots, a, c)? else {
+            return Ok(Err(WorldRefusal::ActorEnded));
+        };
+        let Some(reply) = reply else {
+            return Ok(Ok(Did::Gap));
+        };
+        let place = reply.place;
+        let j = self.exchange.replies.len() as u32;
+        self.exchange.replies.push_reserved(Posted {
+            caller: c,
+            notice: Notice::Answered(reply),
+        });
+        Ok(Ok(Did::Ran(place, j)))
+    }
+
+    /// The actor takes a kill, if one was asked.
+    fn take_kill(&mut self, a: ActorId) -> Outcome
+        ensures follows { Follows (event.TakeKill a) (world_seen K.state self.old) (world_seen K.state self.new) result }
+        ensures told { is_memory result ≡ false }
+        ensures grown { IsGrown (world_seen K.state self.old).exchange (world_seen K.state self.new).exchange }
+    {
+        let asked = self.exchange.is_asked(a);
+        kill_in(&mut self.slots[slot_of(a)], asked)
+    }
+
+    /// The dead actor tells the caller its death.
+    fn tell(&mut self, a: ActorId, c: CallerId) -> Result<Outcome, NoMemory>
+        requires room { HasRoom 1 (world_seen K.state self.old).exchange }
+        ensures ok { IfOk result (Follows (event.Tell a c) (world_seen K.state self.old) (world_seen K.state self.new)) }
+        ensures told { IfOk result (λ told. is_memory told ≡ false) }
+        ensures grown { IsGrown (world_seen K.state self.old).exchange (world_seen K.state self.new).exchange }
+        ensures last { OnErr result (IsUnrefused (event.Tell a c) (world_seen K.state self.old)) }
+        ensures err { OnErr result (world_seen K.state self.new ≡ world_seen K.state self.old) }
+    {
+        let is_dead = is_dead_in(&self.slots[slot_of(a)]);
+        let Some(place) = place_of(&self.exchange.owners, c) else {
+            return Ok(Err(WorldRefusal::NoCaller));
+        };
+        if !names(&self.exchange.owners[place], a) {
+            return Ok(Err(WorldRefusal::Handle(HandleRefusal::NoActor)));
+        }
+        if !is_dead {
+            return Ok(Err(WorldRefusal::NotDead));
+        }
+        self.exchange.replies.reserve(1)?;
+        let j = self.exchange.replies.len() as u32;
+        self.exchange.replies.push_reserved(Posted {
+            caller: c,
+            notice: Notice::Death(a),
+        });
+        Ok(Ok(Did::Told(j)))
+    }
+
+    /// The actor ends by itself, where it is drained.
+    fn retire(&mut self, a: ActorId) -> Outcome
+        ensures follows { Follows (event.Retire a) (world_seen K.state self.old) (world_seen K.state self.new) result }
+        ensures told { is_memory result ≡ false }
+        ensures grown { IsGrown (world_seen K.state self.old).exchange (world_seen K.state self.new).exchange }
+    {
+        retire_in(&mut self.slots[slot_of(a)])
+    }
+
+    /// One event. An `Err` leaves the world as it was.
+    fn step(&mut self, event: &Event) -> Result<Outcome, NoMemory>
+        requires room { HasRoom 1 (world_seen K.state self.old).exchange }
+        ensures ok { IfOk result (Follows event.now (world_seen K.state self.old) (world_seen K.state self.new)) }
+        ensures told { IfOk result (λ told. is_memory told ≡ false) }
+        ensures grown { IsGrown (world_seen K.state self.old).exchange (world_seen K.state self.new).exchange }
+        ensures last { OnErr result (IsUnrefused event.now (world_seen K.state self.old)) }
+        ensures err { OnErr result (world_seen K.state self.new ≡ world_seen K.state self.old) }
+    {
+        match event {
+            Event::Submit(c, a, method, args) => self.exchange.submit(*c, *a, *method, args),
+            Event::Copy(c, a) => Ok(self.exchange.copy(*c, *a)),
+            Event::Release(c, a) => self.exchange.release(*c, *a),
+            Event::Send(c, k) => self.exchange.send(*c, *k),
+            Event::Deliver(i) => self.deliver(*i),
+            Event::Run(a, c) => self.run(*a, *c),
+            Event::Collect(j) => self.exchange.collect(*j),
+            Event::AskKill(c, a) => Ok(self.exchange.ask_kill(*c, *a)),
+            Event::TakeKill(a) => Ok(self.take_kill(*a)),
+            Event::Tell(a, c) => self.tell(*a, *c),
+            Event::Retire(a) => Ok(self.retire(*a)),
+        }
+    }
+
+    /// Does an event, and tells what it did or the first refusal that met it.
+    pub fn apply(&mut self, event: &Event) -> Result<Did, WorldRefusal>
+        requires room { HasRoom 1 (world_seen K.state self.old).exchange }
+        ensures outcome { is_memory result ≡ false → (casts : List Casting) (before : List Happening) → Stands casts before (world_seen K.state self.old) → result ≡ outcome_of (history casts before) event.now }
+        ensures stands { is_memory result ≡ false → (casts : List Casting) (before : List Happening) → Stands casts before (world_seen K.state self.old) → Stands casts (before ++ event.now ∷ []) (world_seen K.state self.new) }
+        ensures grown { IsGrown (world_seen K.state self.old).exchange (world_seen K.state self.new).exchange }
+        // Want of memory comes last, and leaves the world as it was.
+        ensures last { is_memory result ≡ true → (casts : List Casting) (before : List Happening) → Stands casts before (world_seen K.state self.old) → refusal_of (history casts before) event.now ≡ None }
+        ensures memory { is_memory result ≡ true → world_seen K.state self.new ≡ world_seen K.state self.old }
+    {
+        match self.step(event) {
+            Err(NoMemory) => Err(WorldRefusal::NoMemory),
+            Ok(outcome) => outcome,
+        }
+    }
+
+    /// Does events in order, and adds what is told of each. It stops only where memory is refused,
+    /// and tells at which place.
+    pub fn play(&mut self, events: &[Event], told: &mut Vec<Outcome>) -> Result<(), u32>
+        requires room { HasRoom (length events.now) (world_seen K.state self.old).exchange }
+        ensures ok { OnOk result (Played events.now (world_seen K.state self.old) (world_seen K.state self.new) told.old.items told.new.items) }
+        ensures grown { IsGrownBy (length events.now) (world_seen K.state self.old).exchange (world_seen K.state self.new).exchange }
+        ensures place { IfErr result (λ i. i < length events.now) }
+        ensures err { IfErr result (λ i. Played (take i events.now) (world_seen K.state self.old) (world_seen K.state self.new) told.old.items told.new.items) }
+    {
+        for (i, event) in events.iter().enumerate() {
+            let Ok(()) = told.reserve(1) else {
+                return Err(i as u32);
+            };
+            let Ok(outcome) = self.step(event) else {
+                return Err(i as u32);
+            };
+            told.push_reserved(outcome);
+        }
+        Ok(())
+    }
+
+    /// A standing world is consistent: each actor ran a front of what each of its callers submitted
+    /// to it, in order, each call once, and each answer kept is that of the call's place in a run
+    /// list, or a dead actor's fault.
+    pub fn consistent(&self)
+        ensures { (casts : List Casting) (events : List Happening) → Stands casts events (world_seen K.state self.now) → IsConsistent casts (world_seen K.state self.now) }
+    {}
+
+    /// A caller, where some cast names it.
+    pub fn owner(&self, c: CallerId) -> Option<&Owner>
+        ensures { (casts : List Casting) (events : List Happening) → Stands casts events (world_seen K.state self.now) → IsOwnerAt (history casts events) c (option_copied result) }
+    {
+        self.exchange.owner(c)
+    }
+
+    /// An actor in the state that it is in, where it has a cast.
+    pub fn stage(&self, a: ActorId) -> Option<Stage<'_, K>>
+        ensures { (casts : List Casting) (events : List Happening) → Stands casts events (world_seen K.state self.now) → IsStage (history casts events) a (option_map (stage_seen K.state) result) }
+    {
+        match &self.slots[slot_of(a)] {
+            Slot::Live(live) => Some(Stage::Live(live)),
+            Slot::Dead(dead) => Some(Stage::Dead(dead)),
+            Slot::Retired(retired) => Some(Stage::Retired(retired)),
+            Slot::Vacant => None,
+        }
+    }
+}
