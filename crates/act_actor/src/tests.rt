@@ -1,7 +1,7 @@
-//! Worked calls, each with its answer.
+//! Worked calls, each with its answer; and calls for which memory is refused.
 
 use crate::{Arrival, Cast, Live, cast_fits};
-use act_kinds::{Actor, Boxed, Counter, Table};
+use act_kinds::{Actor, Boxed, Counter, ListKind, Table};
 use act_types::{
     ActorId, CallerId, Fault, FutureId, ListOf, Method, NoMemory, Packet, ReleaseNote, Reply,
     Settled, Text, Value,
@@ -222,5 +222,89 @@ fn casts_that_fit(rt: HostRuntime) -> Result<(), Fail> {
         }
         assert_eq!(rt; cast_fits(casts.as_slice()), fits);
     }
+    Ok(())
+}
+
+/// The state's text, which is asked for once more where memory is refused.
+fn text_of<K: Actor>(rt: &impl Abort, alloc: Global, live: &Live<K>) -> Result<String, NoMemory> {
+    let mut text = String::new(alloc);
+    text.push_str("is ")?;
+    if live.state_text(&mut text).is_err() {
+        assert_eq!(rt; text.as_str(), "is ");
+        assert!(rt; live.state_text(&mut text).is_ok());
+    }
+    Ok(text)
+}
+
+/// Brings a call, and what came back of it where memory is refused.
+fn bring<K: Actor>(
+    rt: &impl Abort,
+    alloc: Global,
+    live: &mut Live<K>,
+    row: &Row,
+) -> Result<(), NoMemory> {
+    let caller = CallerId::new(1).unwrap();
+    let packet = packet_of(alloc, row)?;
+    let before = live.has_next(caller);
+    if let Err(back) = live.arrive(packet_of(alloc, row)?) {
+        assert_eq!(rt; back, packet);
+        assert_eq!(rt; live.has_next(caller), before);
+        assert_eq!(rt; live.arrive(back), Ok(Arrival::New));
+    }
+    assert_eq!(rt; live.arrive(packet), Ok(Arrival::Repeat));
+    Ok(())
+}
+
+/// Runs the call that comes next, and once more where memory is refused.
+fn run_next<K: Actor>(
+    rt: &impl Abort,
+    alloc: Global,
+    live: &mut Live<K>,
+) -> Result<Option<Reply>, NoMemory> {
+    let caller = CallerId::new(1).unwrap();
+    let before = text_of(rt, alloc, live)?;
+    let place = live.log().len();
+    let mut ran = live.run(caller);
+    if ran.is_err() {
+        assert_eq!(rt; (live.has_next(caller), live.log().len()), (true, place));
+        assert_eq!(rt; text_of(rt, alloc, live)?, before);
+        ran = live.run(caller);
+        assert!(rt; ran.is_ok());
+    }
+    ran
+}
+
+/// Memory is refused from outside, at most once.
+#[test]
+fn refused_memory_changes_nothing(rt: HostRuntime) -> Result<(), Fail> {
+    let alloc = rt.alloc();
+    let a1 = ActorId::new(1).unwrap();
+    let callers = [CallerId::new(1).unwrap()];
+    let mut opened = Live::open(alloc, a1, &callers, ListKind::open(alloc));
+    if opened.is_err() {
+        opened = Live::open(alloc, a1, &callers, ListKind::open(alloc));
+        assert!(rt; opened.is_ok());
+    }
+    let mut live = opened?;
+    let rows: [Row; 5] = [
+        (0, Method::Push, &[Given::Text("x")], Ok(1)),
+        (1, Method::Push, &[Given::Int(7)], Ok(2)),
+        (2, Method::At, &[Given::Int(1)], Ok(7)),
+        (
+            3,
+            Method::Push,
+            &[Given::Bad(0)],
+            Err(Fault::Dependency(FutureId::new(0))),
+        ),
+        (4, Method::Push, &[Given::Text("y")], Ok(3)),
+    ];
+    for row in rows.iter().rev() {
+        bring(&rt, alloc, &mut live, row)?;
+    }
+    for row in &rows {
+        assert_eq!(rt; run_next(&rt, alloc, &mut live)?, Some(reply_of(row)));
+    }
+    let text = text_of(&rt, alloc, &live)?;
+    assert_eq!(rt; text.as_str(), "is list \"x\" 7 \"y\"");
     Ok(())
 }
