@@ -11,7 +11,9 @@ import tempfile
 
 from refusing import TOP, Refusing
 
-TESTS = [(crate, "tests::refused_memory_changes_nothing") for crate in ["act_owner", "act_replies", "act_resolver"]]
+PARTS = ["act_inbox", "act_replies", "act_resolver", "act_owner", "act_actor"]
+TESTS = [(crate, "tests::refused_memory_changes_nothing") for crate in PARTS]
+TESTS.append(("act_world", "tests::refused_memory_stops_at_its_event"))
 PASSED = 0
 ERROR = 101
 

@@ -1,4 +1,4 @@
-//! Worked lists of events, each with what is told of it.
+//! Worked lists of events, each with what is told of it, also where memory is refused.
 
 use crate::{Cast, Did, Event, Outcome, Stage, World, WorldRefusal, cast_fits};
 use act_kinds::{Actor, Boxed, Counter};
@@ -59,6 +59,20 @@ fn casts_of<K: Actor>(alloc: Global, kind: K) -> Result<Vec<Cast<K>>, NoMemory> 
     Ok(casts)
 }
 
+/// The rows' events, and what is wanted to be told of them.
+fn lists_of(
+    alloc: Global,
+    rows: &[(Step, Outcome)],
+) -> Result<(Vec<Event>, Vec<Outcome>), NoMemory> {
+    let mut events = Vec::new(alloc);
+    let mut wanted = Vec::new(alloc);
+    for (step, outcome) in rows {
+        events.push(event_of(alloc, *step)?)?;
+        wanted.push(*outcome)?;
+    }
+    Ok((events, wanted))
+}
+
 /// Plays the rows, each with what is wanted to be told of it.
 fn played<K: Actor>(
     rt: &impl Abort,
@@ -69,15 +83,34 @@ fn played<K: Actor>(
     let casts = casts_of(alloc, kind)?;
     assert!(rt; cast_fits(casts.as_slice()));
     let mut world = World::open(alloc, casts)?;
-    let mut events = Vec::new(alloc);
-    let mut wanted = Vec::new(alloc);
-    for (step, outcome) in rows {
-        events.push(event_of(alloc, *step)?)?;
-        wanted.push(*outcome)?;
-    }
+    let (events, wanted) = lists_of(alloc, rows)?;
     assert!(rt; events.len() <= 100);
     let mut told = Vec::new(alloc);
     assert_eq!(rt; world.play(events.as_slice(), &mut told), Ok(()));
+    assert_eq!(rt; told.as_slice(), wanted.as_slice());
+    Ok(world)
+}
+
+/// Plays the rows where memory may be refused once: then the world stops at the event that wanted
+/// it, and plays on from there.
+fn played_on<K: Actor>(
+    rt: &impl Abort,
+    alloc: Global,
+    kind: K,
+    rows: &[(Step, Outcome)],
+) -> Result<World<K>, NoMemory> {
+    let casts = casts_of(alloc, kind)?;
+    assert!(rt; cast_fits(casts.as_slice()));
+    let mut world = World::open(alloc, casts)?;
+    let (events, wanted) = lists_of(alloc, rows)?;
+    assert!(rt; events.len() <= 100);
+    let mut told = Vec::new(alloc);
+    if let Err(i) = world.play(events.as_slice(), &mut told) {
+        let stop = i as usize;
+        assert!(rt; stop < wanted.len());
+        assert_eq!(rt; told.as_slice(), &wanted[..stop]);
+        assert_eq!(rt; world.play(&events[stop..], &mut told), Ok(()));
+    }
     assert_eq!(rt; told.as_slice(), wanted.as_slice());
     Ok(world)
 }
@@ -161,5 +194,58 @@ fn released_and_retired(rt: HostRuntime) -> Result<(), Fail> {
     }
     assert_eq!(rt; text.as_str(), "counter 2");
     world.consistent();
+    Ok(())
+}
+
+/// Memory is refused from outside, at most once.
+#[test]
+fn refused_memory_stops_at_its_event(rt: HostRuntime) -> Result<(), Fail> {
+    let alloc = rt.alloc();
+    let c = CallerId::new(1).unwrap();
+    let k = FutureId::new(0);
+    let lists: [(&[(Step, Outcome)], Option<Result<i64, Fault>>); 3] = [
+        (
+            &[
+                (Step::Add(5), Ok(Did::Future(c, k))),
+                (Step::Send, Ok(Did::Mail(0))),
+                (Step::Deliver(0), Ok(Did::Arrived(Arrival::New))),
+                (Step::Run, Ok(Did::Ran(0, 0))),
+                (Step::Copy, Ok(Did::Copies(2))),
+                (Step::Release, Ok(Did::Copies(1))),
+                (Step::AskKill, Ok(Did::Asked)),
+                (Step::Release, Ok(Did::Mail(1))),
+                (Step::Deliver(1), Ok(Did::Arrived(Arrival::New))),
+                (Step::TakeKill, Ok(Did::Dead)),
+                (Step::Tell, Ok(Did::Told(1))),
+                (Step::Retire, Err(WorldRefusal::ActorEnded)),
+                (Step::Collect(1), Ok(Did::Died(1))),
+                (Step::Collect(0), Ok(Did::Late(c, k))),
+            ],
+            Some(Err(Fault::ActorDied)),
+        ),
+        (
+            &[
+                (Step::AskKill, Ok(Did::Asked)),
+                (Step::TakeKill, Ok(Did::Dead)),
+                (Step::Tell, Ok(Did::Told(0))),
+                (Step::Collect(0), Ok(Did::Died(0))),
+                (Step::Add(1), Ok(Did::Future(c, k))),
+            ],
+            Some(Err(Fault::ActorDied)),
+        ),
+        (
+            &[
+                (Step::Release, Ok(Did::Mail(0))),
+                (Step::Deliver(0), Ok(Did::Arrived(Arrival::New))),
+                (Step::Retire, Ok(Did::Retired)),
+            ],
+            None,
+        ),
+    ];
+    for (rows, answer) in &lists {
+        let kind: Boxed = Box::new(alloc, Counter::open())?;
+        let world = played_on(&rt, alloc, kind, rows)?;
+        assert_eq!(rt; first_answer(&world), *answer);
+    }
     Ok(())
 }
