@@ -159,34 +159,34 @@ fn ran_and_yet_died(rt: HostRuntime) -> Result<(), Fail> {
     Ok(())
 }
 
+/// Of a caller that releases its handle, and an actor that ends by itself.
+fn retiring() -> [(Step, Outcome); 14] {
+    let c = CallerId::new(1).unwrap();
+    let k = FutureId::new(0);
+    [
+        (Step::Add(2), Ok(Did::Future(c, k))),
+        (Step::Send, Ok(Did::Mail(0))),
+        (Step::Copy, Ok(Did::Copies(2))),
+        (Step::Release, Ok(Did::Copies(1))),
+        (Step::Release, Ok(Did::Mail(1))),
+        (Step::Retire, Err(WorldRefusal::NotDrained)),
+        (Step::Deliver(1), Ok(Did::Arrived(Arrival::New))),
+        (Step::Retire, Err(WorldRefusal::NotDrained)),
+        (Step::Deliver(1), Ok(Did::Arrived(Arrival::Repeat))),
+        (Step::Run, Ok(Did::Gap)),
+        (Step::Deliver(0), Ok(Did::Arrived(Arrival::New))),
+        (Step::Run, Ok(Did::Ran(0, 0))),
+        (Step::Retire, Ok(Did::Retired)),
+        (Step::Collect(0), Ok(Did::Kept(c, k))),
+    ]
+}
+
 #[test]
 fn released_and_retired(rt: HostRuntime) -> Result<(), Fail> {
     let alloc = rt.alloc();
-    let c = CallerId::new(1).unwrap();
     let a = ActorId::new(1).unwrap();
-    let k = FutureId::new(0);
     let kind: Boxed = Box::new(alloc, Counter::open())?;
-    let world = played(
-        &rt,
-        alloc,
-        kind,
-        &[
-            (Step::Add(2), Ok(Did::Future(c, k))),
-            (Step::Send, Ok(Did::Mail(0))),
-            (Step::Copy, Ok(Did::Copies(2))),
-            (Step::Release, Ok(Did::Copies(1))),
-            (Step::Release, Ok(Did::Mail(1))),
-            (Step::Retire, Err(WorldRefusal::NotDrained)),
-            (Step::Deliver(1), Ok(Did::Arrived(Arrival::New))),
-            (Step::Retire, Err(WorldRefusal::NotDrained)),
-            (Step::Deliver(1), Ok(Did::Arrived(Arrival::Repeat))),
-            (Step::Run, Ok(Did::Gap)),
-            (Step::Deliver(0), Ok(Did::Arrived(Arrival::New))),
-            (Step::Run, Ok(Did::Ran(0, 0))),
-            (Step::Retire, Ok(Did::Retired)),
-            (Step::Collect(0), Ok(Did::Kept(c, k))),
-        ],
-    )?;
+    let world = played(&rt, alloc, kind, &retiring())?;
     assert_eq!(rt; first_answer(&world), Some(Ok(2)));
     let mut text = String::new(alloc);
     if let Some(Stage::Retired(retired)) = world.stage(a) {
@@ -203,7 +203,9 @@ fn refused_memory_stops_at_its_event(rt: HostRuntime) -> Result<(), Fail> {
     let alloc = rt.alloc();
     let c = CallerId::new(1).unwrap();
     let k = FutureId::new(0);
-    let lists: [(&[(Step, Outcome)], Option<Result<i64, Fault>>); 3] = [
+    let retiring = retiring();
+    let lists: [(&[(Step, Outcome)], Option<Result<i64, Fault>>); 4] = [
+        (&retiring, Some(Ok(2))),
         (
             &[
                 (Step::Add(5), Ok(Did::Future(c, k))),
