@@ -2,9 +2,10 @@
 """Refuses each request for memory of some proved tests in turn.
 
 Each of these tests makes calls that may want memory. Where a call is refused it must have changed
-nothing, and it succeeds when it is made again, so the test passes; where the test itself is refused
-while it sets things up, its result is an error. Anything else is a failure, and so is a test of
-which no call is refused. The requests are refused from outside, by tools/refuse.c.
+nothing, and it succeeds when it is made again; a world stops at the event, and plays on from there.
+So the test passes; where the test itself is refused while it sets things up, its result is an
+error. Anything else is a failure, and so is a test of which no call is refused. The requests are
+refused from outside, by tools/refuse.c.
 """
 import sys
 import tempfile
