@@ -1,5 +1,7 @@
 //! A script as it comes from a reader.
-ghost use Rattle.std.specs.Prelude.{IfOk, IfErr};
+ghost use Rattle.std.specs.Prelude.{◌≡◌, IfOk, IfErr};
+ghost use Rattle.std.specs.Io.{ReadsAtMost};
+ghost use Rattle.std.specs.Io.KnownBytes.{ReadConsumes};
 ghost use Rattle.act_console.specs.Input.{IsWholeInput};
 ghost use Rattle.act_console.specs.Output.{IsBeforeWriting};
 
@@ -12,6 +14,18 @@ pub(crate) const MOST_READ: usize = 1_048_577;
 
 const CHUNK: usize = 4096;
 
+/// The reader's next bytes, of which there are none at its end. Any failed read is `Reading`.
+fn read_some<R: Read>(reader: &mut R, chunk: &mut [u8]) -> Result<usize, ConsoleFault>
+    ensures bound { ReadsAtMost result chunk.new }
+    ensures bytes { ReadConsumes (R.remaining reader.old) (R.remaining reader.new) result chunk.new }
+    ensures fault { IfErr result (λ fault. fault ≡ ConsoleFault.Reading) }
+{
+    let Ok(count) = reader.read(chunk) else {
+        return Err(ConsoleFault::Reading);
+    };
+    Ok(count)
+}
+
 /// All that the reader has or, where it has more, its first bytes up to the limit.
 pub(crate) fn read_whole<R: Read>(alloc: Global, reader: &mut R) -> Result<Vec<u8>, ConsoleFault>
     ensures ok { IfOk result (λ bytes. IsWholeInput MOST_READ (R.remaining reader.old) (R.remaining reader.new) bytes.items) }
@@ -21,13 +35,13 @@ pub(crate) fn read_whole<R: Read>(alloc: Global, reader: &mut R) -> Result<Vec<u
     let mut chunk = [0u8; CHUNK];
     while bytes.len() < MOST_READ {
         let room = CHUNK.min(MOST_READ - bytes.len());
-        match reader.read(&mut chunk[..room]) {
-            Ok(0) => break,
-            Ok(count) => bytes
-                .extend_from_slice(&chunk[..count])
-                .map_err(|_| ConsoleFault::Memory)?,
-            Err(_) => return Err(ConsoleFault::Reading),
+        let count = read_some(reader, &mut chunk[..room])?;
+        if count == 0 {
+            break;
         }
+        bytes
+            .extend_from_slice(&chunk[..count])
+            .map_err(|_| ConsoleFault::Memory)?;
     }
     Ok(bytes)
 }
