@@ -1,0 +1,497 @@
+#!/usr/bin/env python3
+"""Compares the proved program with a second reading of the rules, on random scripts.
+
+    tools/fuzz.py [--seed N] [--count N] [--program PATH]
+
+A seed gives the same scripts each time. Two in three are valid and go where something can happen, the
+others are damaged. Beside them stand scripts with one word nearly right, a worked script cut after
+each of its bytes, and all worked scripts, whose reports the reading itself must give. Fails also where
+the scripts came too seldom to what they should try.
+"""
+import argparse
+import collections
+import concurrent.futures
+import pathlib
+import random
+import subprocess
+import sys
+import tempfile
+
+import reading_of_rules as reading
+
+TOP = pathlib.Path(__file__).resolve().parent.parent
+ROWS = TOP / "crates/ray_actors/rows"
+CUT = ROWS / "one_packet_for_good.actors"
+PROGRAM = TOP / "crates/ray_actors/out/ray_actors"
+
+MOST_SHOWN = 5
+
+EDGE_INTS = [0, 1, -1, 2**63 - 1, 2**63 - 2, -(2**63), -(2**63) + 1]
+EDGE_NUMBERS = [0, 1, 2, 65_535, 65_536, 2**31, 2**32 - 1]
+KEYS = ['"k"', '"x"', '"y"', '"""', '"a"b"', '"%s"' % ("~" * 64), '"!"', '"@0"', '"unit"']
+# Words that nearly spell what stands at a place, or do so at an edge, by the first byte of the word there.
+NEARLY = {
+    "c": ["c0", "c17", "c01", "c16", "c1", "c99", "C1", "c", "c160"],
+    "a": ["a0", "a9", "a8", "a10", "a01", "A1", "a", "a1 "],
+    '"': ['"', '""', '"x', 'x"', '"%s"' % ("x" * 64), '"%s"' % ("x" * 65), '"""', '"a"b"', '"\x7f"', '"x y"', "'x'"],
+    "@": ["@", "@00", "@01", "@-1", "@+1", "@4294967295", "@4294967296", "@@0", "@c1.0", "@ 0"],
+    "0": ["05", "00", "-0", "+1", "-", "1.0", "0x1", "1_0", "4294967295", "4294967296", "-1", "-01"],
+    "9": ["9223372036854775807", "9223372036854775808", "-9223372036854775808", "-9223372036854775809", "unit", "Unit", "9" * 400],
+    "w": ["await", "terminate", "unit", "counters", "Get", "ge", "list", "#", "actor", "take"],
+}
+COMMENT_BYTES = "\0\x08\t\r\x1f ~\x7f\x80\xff#"
+FOREIGN = ["await c1 0", "submit c1 a1 terminate", "actor a1 counter", "actor", "run", "retire a1 ", " take a1", "take a1 a2"]
+ODD_BYTES = b" \n\t\r\0\x1f\x7e\x7f\x80\xff#\"@-+.019ac"
+
+# Each event: how often it is tried, and what follows its word: a caller, an actor or a number.
+EVENTS = {
+    "submit": (24, "ca"), "send": (22, "cn"), "deliver": (22, "n"), "run": (22, "ac"), "collect": (16, "n"), "copy": (2, "ca"),
+    "release": (2, "ca"), "kill": (3, "ca"), "take": (6, "a"), "tell": (12, "ac"), "retire": (3, "a"),
+}  # fmt: skip
+
+
+class Author:
+    """Writes a valid script, with the reading's world beside it to see what can happen next."""
+
+    def __init__(self, chance):
+        self.chance = chance
+        self.lines = []
+        self.pool = chance.sample(range(1, 17), chance.choice([1, 1, 2, 2, 3, 5]))
+        actors = chance.sample(range(1, 9), chance.choice([1, 1, 2, 2, 3, 5]))
+        self.world = reading.World([self.role(actor) for actor in actors])
+        self.pairs = [(caller, actor) for caller, named in self.world.callers.items() for actor in named.copies]
+        self.collected = set()
+        self.eager = chance.choice([0, 0.2, 0.5, 0.8])
+        self.futures = chance.choice([0, 0.1, 0.4])
+
+    def role(self, actor):
+        kind = self.chance.choice(sorted(reading.KINDS))
+        callers = self.chance.sample(self.pool, self.chance.randint(1, len(self.pool)))
+        self.lines.append(" ".join(["actor", f"a{actor}", kind, *(f"c{caller}" for caller in callers)]))
+        return actor, kind, callers
+
+    def write(self, line):
+        self.lines.append(line)
+        return self.world.after(*reading.read_words(line.split(" ")))
+
+    # What can happen next.
+
+    def is_new(self, letter):
+        """It would arrive, and hasn't yet."""
+        actor = self.world.actors[letter.actor]
+        if actor.stage != "live":
+            return False
+        if isinstance(letter, reading.Note):
+            return letter.caller not in actor.notes
+        return (letter.caller, letter.number) not in actor.arrived
+
+    def urgency(self, call):
+        """How much there is in sending this call: most where it can go, a little where it was never sent."""
+        calls = self.world.callers[call.caller].calls
+        waits = any(isinstance(each, reading.Future) and calls[each.number].kept is None for each in call.arguments)
+        return 0 if call.sent else 1 if waits or call.kept is not None else 4
+
+    def standing(self, stage):
+        return [(caller, actor) for caller, actor in self.pairs if self.world.actors[actor].stage == stage]
+
+    def prospects(self):
+        """For each event what may follow its word, so that it does something."""
+        world = self.world
+        held = [(caller, actor) for caller, actor in self.pairs if world.callers[caller].copies[actor]]
+        live = {name: actor for name, actor in world.actors.items() if actor.stage == "live"}
+        calls = [call for caller in world.callers.values() for call in caller.calls]
+        return {
+            "submit": held,
+            "copy": held,
+            "release": held,
+            "kill": held,
+            "send": [(call.caller, call.future) for call in calls for _ in range(self.urgency(call))],
+            "deliver": [(place,) for place, letter in enumerate(world.mail) if self.is_new(letter)],
+            "run": [(actor, caller) for caller, actor in self.standing("live") if live[actor].next_call(caller)],
+            "collect": [(place,) for place in range(len(world.notices)) if place not in self.collected],
+            "take": [(name,) for name, actor in live.items() if actor.kill_asked],
+            "tell": [(actor, caller) for caller, actor in self.standing("dead")],
+            "retire": [(name,) for name, actor in live.items() if actor.is_drained()],
+        }
+
+    def astray(self, form):
+        """Anything that may follow: what is there, or what isn't."""
+        most = len(self.world.mail) + 2
+        choices = {
+            "c": [*self.pool, *self.pool, self.chance.randint(1, 16)],
+            "a": [*self.world.actors, *self.world.actors, self.chance.randint(1, 8)],
+            "n": [self.chance.randrange(most), self.chance.randrange(most), self.chance.choice(EDGE_NUMBERS)],
+        }
+        return [self.chance.choice(choices[each]) for each in form]
+
+    # The events.
+
+    def number(self):
+        """Mostly a small one, so that balances and places meet their edges."""
+        small = [self.chance.randint(-1, 3), self.chance.randint(1, 3), self.chance.randint(-9, 99)]
+        return self.chance.choice([*small, self.chance.choice(EDGE_INTS)])
+
+    def future(self, calls):
+        """A future of these calls, and rather one that has an answer or even a fault."""
+        answered = [call for call in calls if call.kept is not None]
+        failed = [call for call in answered if isinstance(call.kept, reading.Fault)]
+        return self.chance.choice(self.chance.choice([calls, answered or calls, failed or calls, failed or calls])).future
+
+    def argument(self, form, calls):
+        """An argument of that form; at times a future, or one of another form."""
+        if calls and self.chance.random() < self.futures:
+            return f"@{self.future(calls)}"
+        draw = self.chance.random()
+        if draw < 0.02:
+            return f"@{self.chance.choice([len(calls), len(calls) + 1, 2**32 - 1])}"
+        if draw < 0.09:
+            return self.chance.choice(["unit", "unit", '"t"', "1"])
+        if form == "k" or form == "v" and draw < 0.5:
+            return self.chance.choice(KEYS[:2] if self.chance.random() < 0.7 else KEYS)
+        return str(self.number())
+
+    def submit(self, caller, actor):
+        methods = self.world.actors[actor].kind.methods if actor in self.world.actors else {}
+        known = methods and self.chance.random() < 0.93
+        growing = [each for each in ("add", "put", "deposit", "push") if each in methods]
+        method = self.chance.choice(sorted(methods) + 2 * growing if known else sorted(reading.METHODS))
+        forms = methods[method][0] if method in methods else "n"
+        if self.chance.random() < 0.08:
+            forms += "nkvnkvnkv"[: self.chance.choice([1, 1, 1, 2, 3, 4, 9])]
+        elif self.chance.random() < 0.03:
+            forms = forms[1:]
+        calls = self.world.callers[caller].calls if caller in self.world.callers else []
+        arguments = [self.argument(form, calls) for form in forms]
+        return self.write(" ".join(["submit", f"c{caller}", f"a{actor}", method, *arguments]))
+
+    def through(self):
+        """A call from its submission to its kept answer, as far as it comes."""
+        held = [(caller, actor) for caller, actor in self.standing("live") if self.world.callers[caller].copies[actor]]
+        if not held:
+            return
+        caller, actor = self.chance.choice(held)
+        if self.submit(caller, actor).startswith("future"):
+            future = len(self.world.callers[caller].calls) - 1
+            if self.write(f"send c{caller} {future}").startswith("mail"):
+                self.write(f"deliver {len(self.world.mail) - 1}")
+                if self.write(f"run a{actor} c{caller}").startswith("place") and self.chance.random() < 0.8:
+                    self.write(f"collect {len(self.world.notices) - 1}")
+
+    def event(self, weights):
+        prospects = self.prospects()
+        sorts = [sort for sort in EVENTS if prospects[sort] or self.chance.random() < 0.1]
+        sort = self.chance.choices(sorts, [weights[sort] for sort in sorts])[0] if sorts else "submit"
+        form = EVENTS[sort][1]
+        good = prospects[sort] and self.chance.random() < 0.9
+        values = self.chance.choice(prospects[sort]) if good else self.astray(form)
+        if sort == "submit":
+            return self.submit(*values)
+        if sort == "collect":
+            self.collected.add(*values)
+        words = [str(value) if each == "n" else f"{each}{value}" for each, value in zip(form, values)]
+        return self.write(" ".join([sort, *words]))
+
+    def events(self, count):
+        """Up to that many lines; each script likes some sorts of events more than others."""
+        weights = {sort: weight * self.chance.choice([0.3, 1, 1, 3]) for sort, (weight, _) in EVENTS.items()}
+        while len(self.lines) < count:
+            self.event(weights)
+            if self.chance.random() < self.eager:
+                self.through()
+            if self.chance.random() < 0.02:
+                self.lines.append(self.chance.choice(["", "#", "# a remark", "#" + "x" * 511]))
+
+    def closing(self):
+        """Releases all, brings all, runs what it can, and lets actors retire."""
+        for caller, actor in self.pairs:
+            for _ in range(self.world.callers[caller].copies[actor]):
+                self.write(f"release c{caller} a{actor}")
+        for caller, future in sorted(set(self.prospects()["send"])):
+            self.write(f"send c{caller} {future}")
+        for (place,) in self.prospects()["deliver"]:
+            self.write(f"deliver {place}")
+        while self.prospects()["run"]:
+            self.write("run a%d c%d" % self.prospects()["run"][0])
+        for actor in self.world.actors:
+            self.write(f"retire a{actor}")
+
+    def script(self):
+        self.events(self.chance.randint(0, 70))
+        if self.chance.random() < 0.15:
+            self.closing()
+        return "\n".join(self.lines) + ("" if self.chance.random() < 0.1 else "\n")
+
+
+# Damage. Each takes lines and gives lines, but the last two, which take and give bytes.
+
+
+def changed_words(change):
+    """Damage to the words of one line."""
+
+    def damage(chance, lines):
+        place = chance.randrange(len(lines))
+        words = lines[place].split(" ")
+        change(chance, words)
+        return lines[:place] + [" ".join(words)] + lines[place + 1 :]
+
+    return damage
+
+
+def swap_words(chance, words):
+    one, other = chance.randrange(len(words)), chance.randrange(len(words))
+    words[one], words[other] = words[other], words[one]
+
+
+def drop_word(chance, words):
+    words.pop(chance.randrange(len(words)))
+
+
+def sorts_of(word, place):
+    """The lists of nearly right words for this one, at its place in the line."""
+    first = word[:1]
+    if first.isdigit() or first == "-":
+        return ["0", "9"]
+    of_its_own = first in NEARLY and (first in '"@' or word[1:].isdigit())
+    return [first] if place and of_its_own else ["w"]
+
+
+def near_word(chance, words):
+    place = chance.randrange(len(words))
+    words[place] = chance.choice(NEARLY[chance.choice(sorts_of(words[place], place))])
+
+
+def double_word(chance, words):
+    words.append(words[chance.randrange(len(words))])
+
+
+def add_space(chance, words):
+    words.insert(chance.choice([0, len(words), chance.randint(0, len(words))]), "")
+
+
+def pad(chance, words):
+    """Makes the line as long as a line may be, or one byte longer, with words that any call may have."""
+    length = chance.choice([512, 513])
+    words[:] = [LONG_CALL[:length] if chance.random() < 0.5 else ("#" + "x" * 600)[:length]]
+
+
+def double_caller(chance, lines):
+    """A caller twice in the first role."""
+    words = lines[0].split(" ")
+    words.insert(chance.randint(3, len(words)) if len(words) > 3 else 0, words[-1])
+    return [" ".join(words), *lines[1:]]
+
+
+def double_line(chance, lines):
+    line = chance.choice(lines)
+    at = chance.randint(0, len(lines))
+    return lines[:at] + [line] + lines[at:]
+
+
+def swap_lines(chance, lines):
+    lines = list(lines)
+    one, other = chance.randrange(len(lines)), chance.randrange(len(lines))
+    lines[one], lines[other] = lines[other], lines[one]
+    return lines
+
+
+def another_role(chance, lines):
+    """A role late, or beside the others: often of an actor that has one, with callers that may stand twice."""
+    role = lines[0].split(" ")[:2] if chance.random() < 0.6 else ["actor", f"a{chance.randint(1, 8)}"]
+    callers = [f"c{chance.randint(1, 16)}" for _ in range(chance.choice([1, 2, 6]))]
+    line = " ".join([*role, chance.choice(sorted(reading.KINDS)), *callers, *callers[: chance.randint(0, 1)]])
+    at = chance.choice([1, chance.randint(0, len(lines))])
+    return lines[:at] + [line] + lines[at:]
+
+
+def odd_comment(chance, lines):
+    at = chance.randint(0, len(lines))
+    return lines[:at] + [f"# {chance.choice(COMMENT_BYTES)}"] + lines[at:]
+
+
+def odd_end(chance, lines):
+    """A line that ends with a byte too many."""
+    at = chance.randrange(len(lines))
+    return lines[:at] + [lines[at] + chance.choice(COMMENT_BYTES)] + lines[at + 1 :]
+
+
+def foreign_line(chance, lines):
+    line = chance.choice(FOREIGN)
+    at = chance.randint(0, len(lines))
+    return lines[:at] + [line] + lines[at:]
+
+
+def change_byte(chance, data):
+    at = chance.randrange(len(data))
+    byte = chance.choice(ODD_BYTES) if chance.random() < 0.7 else chance.randrange(256)
+    return data[:at] + bytes([byte]) + data[at + chance.randint(0, 1) :]
+
+
+def cut(chance, data):
+    return data[: chance.randrange(len(data))]
+
+
+TO_WORDS = [swap_words, drop_word, near_word, near_word, near_word, near_word, double_word, add_space, pad]
+DAMAGE_TO_LINES = [changed_words(change) for change in TO_WORDS]
+DAMAGE_TO_LINES += [double_caller, odd_comment, odd_end, double_line, swap_lines, another_role, another_role, foreign_line]
+DAMAGE_TO_BYTES = [change_byte, change_byte, cut]
+
+
+def damaged(chance, text):
+    lines = text.split("\n")
+    for _ in range(chance.choice([0, 1, 1, 1, 2])):
+        lines = chance.choice(DAMAGE_TO_LINES)(chance, lines)
+    data = "\n".join(lines).encode("latin-1")
+    if data and chance.random() < 0.3:
+        data = chance.choice(DAMAGE_TO_BYTES)(chance, data)
+    return data
+
+
+def random_script(seed, place):
+    chance = random.Random(f"{seed}.{place}")
+    text = Author(chance).script()
+    return damaged(chance, text) if chance.random() < 1 / 3 else text.encode()
+
+
+EVERY_FORM = """actor a1 counter c1
+actor a2 table c1 c2
+submit c1 a1 add 5
+submit c1 a2 put "k" @0
+copy c1 a1
+release c1 a1
+send c1 0
+deliver 0
+run a1 c1
+collect 0
+kill c1 a1
+take a1
+tell a1 c1
+retire a2"""
+
+
+LONG_CALL = "submit c1 a1 push" + " 1" * 300
+
+
+def near_misses():
+    """The script above with each word in turn left out, doubled or nearly right; and with an odd last line."""
+    lines = EVERY_FORM.split("\n")
+    for at, line in enumerate(lines):
+        words = line.split(" ")
+        for place, word in enumerate(words):
+            near = [[each] for sort in sorts_of(word, place) for each in NEARLY[sort]]
+            for instead in [*near, [], [word, word], ["", word], [word, ""]]:
+                changed = " ".join(words[:place] + instead + words[place + 1 :])
+                script = "\n".join(lines[:at] + [changed] + lines[at + 1 :])
+                yield f"line {at + 1} as {changed!r}", script.encode("latin-1")
+    for byte in COMMENT_BYTES:
+        for line in f"# {byte}", f"take a1{byte}", byte:
+            yield f"a last line {line!r}", f"{EVERY_FORM}\n{line}".encode("latin-1")
+    for line in "#" + "x" * 511, "#" + "x" * 512, LONG_CALL[:512], LONG_CALL[:513]:
+        yield f"a last line of {len(line)} bytes, {line[:6]}", f"{EVERY_FORM}\n{line}\n".encode()
+
+
+# What the scripts come to: of a thousand random ones, at least so many must tell each of these. About half of what they do.
+FLOORS = {
+    "future": 400, "copies": 100, "mail": 400, "new": 350, "repeat": 30, "place": 300, "gap": 150, "reply": 60, "kept": 250,
+    "late": 100, "died": 40, "asked": 150, "dead": 80, "retired": 60,
+    "BadLine": 90, "LateActor": 3, "TwiceActor": 2, "TwiceCaller": 6,
+    "refused NoCaller": 120, "refused NoActor": 100, "refused NoHandle": 25, "refused TooManyArgs": 50, "refused BadFuture": 35,
+    "refused NoFuture": 60, "refused NotReady": 60, "refused Answered": 15, "refused NoMail": 80, "refused ActorEnded": 40,
+    "refused NoReply": 80, "refused NoKill": 20, "refused NotDead": 40, "refused NotDrained": 30,
+    "answer NoMethod": 20, "answer BadArgs": 50, "answer Overflow": 3, "answer NoKey": 20, "answer BadAmount": 15,
+    "answer Insufficient": 8, "answer NoItems": 10, "answer NoItem": 12, "answer Dependency": 10, "answer ActorDied": 30, "answer unit": 30,
+}  # fmt: skip
+
+
+def reached(report):
+    """The sorts of lines in a report."""
+    for line in report.decode().splitlines():
+        head, _, rest = line.partition(": ")
+        if rest:
+            words = rest.split(" ")
+            yield rest if words[0] == "refused" else words[0]
+        elif " = " in line:
+            yield "answer " + line.split(" = ")[1].partition("(")[0]
+
+
+def too_seldom(reports):
+    """What fewer of the reports tell than should."""
+    tallies = collections.Counter(sort for report in reports for sort in set(reached(report)))
+    for sort, floor in FLOORS.items():
+        if tallies[sort] < floor * len(reports) // 1000:
+            yield f"only {tallies[sort]} of {len(reports)} scripts came to '{sort}'"
+
+
+# The comparison.
+
+
+def worked_rows():
+    """Where the reading itself goes wrong on a worked script, and how many there are."""
+    rows = sorted(ROWS.glob("*.actors"))
+    wrong = []
+    for path in rows:
+        status = path.with_suffix(".status")
+        wanted = path.with_suffix(".report").read_bytes(), int(status.read_text()) if status.exists() else 0
+        got = reading.play(path.read_bytes())
+        if got != wanted:
+            wrong.append(f"the reading goes wrong on {path.name}: got {got!r:.600}, wanted {wanted!r:.600}")
+    return len(rows), wrong
+
+
+def run(program, script):
+    """Report and status of one run of the program; with what stood on standard error, where there was any."""
+    try:
+        done = subprocess.run([program, "play"], input=script, capture_output=True, timeout=60)
+    except subprocess.TimeoutExpired:
+        return b"", "no end within 60 seconds"
+    return done.stdout, done.returncode if not done.stderr else (done.returncode, done.stderr)
+
+
+def show(name, script, got, wanted):
+    """Keeps a script on which the two differ, and prints what each makes of it."""
+    with tempfile.NamedTemporaryFile(prefix="fuzz-", suffix=".actors", delete=False) as kept:
+        kept.write(script)
+    print(f"{name} differs; the script is {kept.name}")
+    for who, (report, status) in ("the program", got), ("the reading", wanted):
+        print(f"  {who}, status {status}:")
+        print("".join(f"    {line!r}\n" for line in report.split(b"\n")), end="")
+
+
+def differences(program, scripts):
+    """How many scripts the program and the reading differ on; the first few are shown."""
+    differing = 0
+    with concurrent.futures.ThreadPoolExecutor(max_workers=4) as pool:
+        gots = pool.map(lambda script: run(program, script), scripts.values())
+        for (name, script), got in zip(scripts.items(), gots):
+            wanted = reading.play(script)
+            if got != wanted:
+                differing += 1
+                if differing <= MOST_SHOWN:
+                    show(name, script, got, wanted)
+    return differing
+
+
+def main():
+    options = argparse.ArgumentParser(description=__doc__.splitlines()[0])
+    options.add_argument("--seed", type=int, default=1)
+    options.add_argument("--count", type=int, default=600)
+    options.add_argument("--program", type=pathlib.Path, default=PROGRAM)
+    chosen = options.parse_args()
+    if chosen.count < 100:
+        options.error("fewer than 100 scripts don't come to all that they should try")
+    if not chosen.program.exists():
+        sys.exit(f"fuzz: {chosen.program} is not built: run `rt ci` first")
+    rows, failures = worked_rows()
+    random_scripts = {f"script {place} of seed {chosen.seed}": random_script(chosen.seed, place) for place in range(chosen.count)}
+    whole = CUT.read_bytes()
+    cuts = {f"{CUT.name} cut after {length} bytes": whole[:length] for length in range(len(whole) + 1)}
+    misses = dict(near_misses())
+    failures += too_seldom([reading.play(script)[0] for script in random_scripts.values()])
+    print("".join(f"{failure}\n" for failure in failures), end="")
+    failed = len(failures) + differences(chosen.program.resolve(), random_scripts | misses | cuts)
+    passed = rows + len(FLOORS) + len(random_scripts) + len(misses) + len(cuts) - failed
+    print(f"fuzz: {passed} passed, {failed} failed")
+    sys.exit(1 if failed else 0)
+
+
+if __name__ == "__main__":
+    main()

@@ -1,0 +1,617 @@
+#!/usr/bin/env python3
+"""A second reading of docs/rules.md: from the bytes of a script to the bytes of its report, and the status.
+
+It was written from the rules and not from the program, and shares no code with it; tools/fuzz.py
+compares the two. Alone it plays a script:  python3 tools/reading_of_rules.py < examples/one_call.actors
+"""
+import re
+import sys
+from dataclasses import dataclass, field
+
+LONGEST_SCRIPT = 1_048_576
+LONGEST_LINE = 512
+MOST_ARGUMENTS = 4
+MOST_CALLS = 65_536
+MOST_COPIES = 65_535
+MOST_KEYS = 1_024
+MOST_ITEMS = 4_096
+LEAST_INT, LARGEST_INT = -(2**63), 2**63 - 1
+LARGEST_NUMBER = 2**32 - 1
+
+
+# Values and answers. An `Int` is a Python int, a `Text` a str, and `Unit` the one value below.
+
+
+class Unit:
+    def __repr__(self):
+        return "unit"
+
+
+UNIT = Unit()
+
+
+class Fault(Exception):
+    """What a call answers where it has no value."""
+
+
+@dataclass(frozen=True)
+class Future:
+    """A future of the submitting caller, where an argument stands."""
+
+    number: int
+
+
+def is_good_text(value):
+    return isinstance(value, str) and 1 <= len(value) <= 64 and all("\x21" <= byte <= "\x7e" for byte in value)
+
+
+def is_int(value):
+    return isinstance(value, int)
+
+
+def spelled(answer):
+    return f'"{answer}"' if isinstance(answer, str) else str(answer)
+
+
+# The kinds. Each lists its methods with the form of their arguments: n an Int, k a good text, v either.
+
+FORM_OF_ARGUMENT = {"n": is_int, "k": is_good_text, "v": lambda value: is_int(value) or is_good_text(value)}
+
+
+def in_range(number):
+    if not LEAST_INT <= number <= LARGEST_INT:
+        raise Fault("Overflow")
+    return number
+
+
+class Counter:
+    def __init__(self):
+        self.number = 0
+
+    def add(self, more):
+        self.number = in_range(self.number + more)
+        return self.number
+
+    def get(self):
+        return self.number
+
+    def text(self):
+        return f"counter {self.number}"
+
+    methods = {"add": ("n", add), "get": ("", get)}
+
+
+class Table:
+    def __init__(self):
+        self.pairs = {}  # a dict keeps the order in which its keys came
+
+    def put(self, key, value):
+        if key not in self.pairs and len(self.pairs) == MOST_KEYS:
+            raise Fault("KindFull")
+        self.pairs[key] = value
+        return UNIT
+
+    def get(self, key):
+        if key not in self.pairs:
+            raise Fault("NoKey")
+        return self.pairs[key]
+
+    def delete(self, key):
+        if key not in self.pairs:
+            raise Fault("NoKey")
+        return self.pairs.pop(key)
+
+    def size(self):
+        return len(self.pairs)
+
+    def text(self):
+        return "table" + "".join(f" {spelled(key)} {spelled(value)}" for key, value in self.pairs.items())
+
+    methods = {"put": ("kv", put), "get": ("k", get), "del": ("k", delete), "size": ("", size)}
+
+
+class Account:
+    def __init__(self):
+        self.amount = 0
+
+    def deposit(self, more):
+        if more <= 0:
+            raise Fault("BadAmount")
+        self.amount = in_range(self.amount + more)
+        return self.amount
+
+    def withdraw(self, less):
+        if less <= 0:
+            raise Fault("BadAmount")
+        if less > self.amount:
+            raise Fault("Insufficient")
+        self.amount -= less
+        return self.amount
+
+    def balance(self):
+        return self.amount
+
+    def text(self):
+        return f"account {self.amount}"
+
+    methods = {"deposit": ("n", deposit), "withdraw": ("n", withdraw), "balance": ("", balance)}
+
+
+class ItemList:
+    def __init__(self):
+        self.items = []
+
+    def push(self, item):
+        if len(self.items) == MOST_ITEMS:
+            raise Fault("KindFull")
+        self.items.append(item)
+        return len(self.items)
+
+    def pop(self):
+        if not self.items:
+            raise Fault("NoItems")
+        return self.items.pop()
+
+    def at(self, place):
+        if not 0 <= place < len(self.items):
+            raise Fault("NoItem")
+        return self.items[place]
+
+    def length(self):
+        return len(self.items)
+
+    def text(self):
+        return "list" + "".join(f" {spelled(item)}" for item in self.items)
+
+    methods = {"push": ("v", push), "pop": ("", pop), "at": ("n", at), "len": ("", length)}
+
+
+KINDS = {"counter": Counter, "table": Table, "account": Account, "list": ItemList}
+METHODS = {method for kind in KINDS.values() for method in kind.methods}
+
+
+def ask(kind, method, values):
+    """What the kind answers; a fault leaves its state, since each method faults before it changes it."""
+    try:
+        if method not in kind.methods:
+            raise Fault("NoMethod")
+        forms, body = kind.methods[method]
+        if len(values) != len(forms) or not all(FORM_OF_ARGUMENT[form](value) for form, value in zip(forms, values)):
+            raise Fault("BadArgs")
+        return body(kind, *values)
+    except Fault as fault:
+        return fault
+
+
+# The words of a script.
+
+
+class BadWord(Exception):
+    """The word doesn't spell what stands at its place, or a word is missing or too much."""
+
+
+def read_id(letter, most):
+    def read(word):
+        if not re.fullmatch(letter + "[1-9][0-9]?", word) or int(word[1:]) > most:
+            raise BadWord
+        return int(word[1:])
+
+    return read
+
+
+def read_name(names):
+    def read(word):
+        if word not in names:
+            raise BadWord
+        return word
+
+    return read
+
+
+def read_number(word):
+    if not re.fullmatch("0|[1-9][0-9]*", word) or int(word) > LARGEST_NUMBER:
+        raise BadWord
+    return int(word)
+
+
+def read_value(word):
+    if word == "unit":
+        return UNIT
+    if len(word) >= 2 and word[0] == word[-1] == '"' and is_good_text(word[1:-1]):
+        return word[1:-1]
+    if re.fullmatch("0|-?[1-9][0-9]*", word) and LEAST_INT <= int(word) <= LARGEST_INT:
+        return int(word)
+    raise BadWord
+
+
+def read_argument(word):
+    return Future(read_number(word[1:])) if word.startswith("@") else read_value(word)
+
+
+read_caller = read_id("c", 16)
+read_actor = read_id("a", 8)
+
+# Each form of line: its first word, the words after it, and for two of them what may follow, at least so often.
+FORMS = {
+    "actor": [read_actor, read_name(KINDS)],
+    "submit": [read_caller, read_actor, read_name(METHODS)],
+    "copy": [read_caller, read_actor],
+    "release": [read_caller, read_actor],
+    "kill": [read_caller, read_actor],
+    "send": [read_caller, read_number],
+    "deliver": [read_number],
+    "run": [read_actor, read_caller],
+    "collect": [read_number],
+    "take": [read_actor],
+    "tell": [read_actor, read_caller],
+    "retire": [read_actor],
+}
+FOLLOWED = {"actor": (read_caller, 1), "submit": (read_argument, 0)}
+
+
+def read_words(words):
+    """The first word of a line, and what its other words spell."""
+    verb, *rest = words
+    if verb not in FORMS:
+        raise BadWord
+    readers = FORMS[verb]
+    fixed, more = rest[: len(readers)], rest[len(readers) :]
+    if len(fixed) < len(readers):
+        raise BadWord
+    spelt = [read(word) for read, word in zip(readers, fixed)]
+    if verb in FOLLOWED:
+        read, least = FOLLOWED[verb]
+        if len(more) < least:
+            raise BadWord
+        spelt.append([read(word) for word in more])
+    elif more:
+        raise BadWord
+    return verb, spelt
+
+
+# A script: its roles, and its events.
+
+
+class ScriptFault(Exception):
+    def __init__(self, line, name):
+        super().__init__(f"line {line}: {name}\n")
+
+
+@dataclass
+class Script:
+    roles: list = field(default_factory=list)  # actor, kind, callers
+    events: list = field(default_factory=list)  # first word of the line, and what its other words spell
+
+    def enter(self, verb, spelt):
+        """Takes a line of good form, or names what else is wrong with it."""
+        if verb != "actor":
+            self.events.append((verb, spelt))
+            return None
+        actor, _, callers = spelt
+        if self.events:
+            return "LateActor"
+        if any(actor == earlier for earlier, _, _ in self.roles):
+            return "TwiceActor"
+        if len(set(callers)) < len(callers):
+            return "TwiceCaller"
+        self.roles.append(spelt)
+        return None
+
+
+def words_of(line):
+    """The words of a line; none where it is skipped."""
+    if len(line) > LONGEST_LINE or any(not 0x20 <= byte <= 0x7E for byte in line):
+        raise BadWord
+    if not line or line.startswith(b"#"):
+        return []
+    return line.decode("ascii").split(" ")  # an empty word, from a space too many, spells nothing
+
+
+def read_script(data):
+    if len(data) > LONGEST_SCRIPT:
+        raise ScriptFault(0, "TooLong")
+    script = Script()
+    for number, line in enumerate(data.split(b"\n"), 1):
+        try:
+            words = words_of(line)
+            wrong = script.enter(*read_words(words)) if words else None
+        except BadWord:
+            wrong = "BadLine"
+        if wrong:
+            raise ScriptFault(number, wrong)
+    return script
+
+
+# The world.
+
+
+class Refused(Exception):
+    """The event adds nothing, and this is told."""
+
+
+@dataclass
+class Call:
+    caller: int
+    future: int
+    actor: int
+    number: int  # its place among the caller's calls to that actor
+    method: str
+    arguments: list
+    sent: bool = False
+    kept: object = None  # a value or a fault, once it is kept
+
+    def spelled_future(self):
+        return f"c{self.caller}.{self.future}"
+
+
+@dataclass
+class Caller:
+    copies: dict = field(default_factory=dict)  # of each actor whose cast names the caller
+    calls: list = field(default_factory=list)
+    known_dead: set = field(default_factory=set)
+
+    def calls_to(self, actor):
+        return [call for call in self.calls if call.actor == actor]
+
+    def settled(self, call):
+        """Each argument as its value, or as its future where that is kept as a fault."""
+        for argument in call.arguments:
+            kept = self.calls[argument.number].kept if isinstance(argument, Future) else argument
+            yield argument if isinstance(kept, Fault) else kept
+
+
+@dataclass
+class Item:
+    """A call that ran."""
+
+    call: Call
+    arguments: list
+    answer: object
+
+    def spelled(self):
+        words = [self.call.spelled_future(), self.call.method]
+        words += [f"!{each.number}" if isinstance(each, Future) else spelled(each) for each in self.arguments]
+        return " ".join(words)
+
+
+@dataclass
+class Actor:
+    kind: object
+    callers: list
+    stage: str = "live"
+    kill_asked: bool = False
+    arrived: dict = field(default_factory=dict)  # by caller and number: that call
+    notes: dict = field(default_factory=dict)  # by caller: the number of its calls
+    ran: list = field(default_factory=list)
+
+    def ran_of(self, caller):
+        return sum(item.call.caller == caller for item in self.ran)
+
+    def next_call(self, caller):
+        """The call that runs next, or none where it hasn't arrived."""
+        return self.arrived.get((caller, self.ran_of(caller)))
+
+    def is_drained(self):
+        return all(caller in self.notes and self.ran_of(caller) == self.notes[caller] for caller in self.callers)
+
+    def must_live(self):
+        if self.stage != "live":
+            raise Refused("ActorEnded")
+
+
+@dataclass
+class Note:
+    """The note of a last release."""
+
+    caller: int
+    actor: int
+    calls: int
+
+
+@dataclass
+class Death:
+    caller: int
+    actor: int
+
+
+class World:
+    def __init__(self, roles):
+        self.actors = {}
+        self.callers = {}
+        self.mail = []  # calls and notes
+        self.notices = []  # items that ran, and deaths
+        for name, kind, callers in roles:
+            self.actors[name] = Actor(KINDS[kind](), callers)
+            for caller in callers:
+                self.callers.setdefault(caller, Caller()).copies[name] = 1
+
+    def after(self, verb, spelt):
+        """Does one event and gives its outcome."""
+        try:
+            return getattr(self, verb)(*spelt)
+        except Refused as refused:
+            return f"refused {refused}"
+
+    # What an event needs to be there, in the order of the checks.
+
+    def a_caller(self, caller):
+        if caller not in self.callers:
+            raise Refused("NoCaller")
+        return self.callers[caller]
+
+    def an_actor(self, actor):
+        if actor not in self.actors:
+            raise Refused("NoActor")
+        return self.actors[actor]
+
+    def both(self, caller, actor):
+        named = self.a_caller(caller)
+        if actor not in named.copies:
+            raise Refused("NoActor")
+        return named, self.actors[actor]
+
+    def with_handle(self, caller, actor):
+        both = self.both(caller, actor)
+        if both[0].copies[actor] == 0:
+            raise Refused("NoHandle")
+        return both
+
+    # A caller's events.
+
+    def submit(self, caller, actor, method, arguments):
+        submitter, _ = self.with_handle(caller, actor)
+        future = len(submitter.calls)
+        if len(arguments) > MOST_ARGUMENTS:
+            raise Refused("TooManyArgs")
+        if any(isinstance(each, Future) and each.number >= future for each in arguments):
+            raise Refused("BadFuture")
+        if future == MOST_CALLS:
+            raise Refused("TooManyCalls")
+        call = Call(caller, future, actor, len(submitter.calls_to(actor)), method, arguments)
+        if actor in submitter.known_dead:
+            call.kept = Fault("ActorDied")
+        submitter.calls.append(call)
+        return f"future {call.spelled_future()}"
+
+    def copy(self, caller, actor):
+        holder, _ = self.with_handle(caller, actor)
+        if holder.copies[actor] == MOST_COPIES:
+            raise Refused("TooManyCopies")
+        holder.copies[actor] += 1
+        return f"copies {holder.copies[actor]}"
+
+    def release(self, caller, actor):
+        holder, _ = self.with_handle(caller, actor)
+        holder.copies[actor] -= 1
+        if holder.copies[actor]:
+            return f"copies {holder.copies[actor]}"
+        return self.post(Note(caller, actor, len(holder.calls_to(actor))))
+
+    def kill(self, caller, actor):
+        _, victim = self.with_handle(caller, actor)
+        victim.kill_asked = True
+        return "asked"
+
+    def send(self, caller, future):
+        sender = self.a_caller(caller)
+        if future >= len(sender.calls):
+            raise Refused("NoFuture")
+        call = sender.calls[future]
+        if any(isinstance(each, Future) and sender.calls[each.number].kept is None for each in call.arguments):
+            raise Refused("NotReady")
+        if call.kept is not None and not call.sent:
+            raise Refused("Answered")
+        call.sent = True
+        return self.post(call)
+
+    def post(self, letter):
+        self.mail.append(letter)
+        return f"mail {len(self.mail) - 1}"
+
+    # An actor's events.
+
+    def deliver(self, place):
+        if place >= len(self.mail):
+            raise Refused("NoMail")
+        letter = self.mail[place]
+        actor = self.actors[letter.actor]
+        actor.must_live()
+        if isinstance(letter, Note):
+            there, key, content = actor.notes, letter.caller, letter.calls
+        else:
+            there, key, content = actor.arrived, (letter.caller, letter.number), letter
+        if key in there:
+            return "repeat"
+        there[key] = content
+        return "new"
+
+    def run(self, name, caller):
+        submitter, actor = self.both(caller, name)
+        actor.must_live()
+        call = actor.next_call(caller)
+        if call is None:
+            return "gap"
+        arguments = list(submitter.settled(call))
+        failed = [each.number for each in arguments if isinstance(each, Future)]
+        answer = Fault(f"Dependency({failed[0]})") if failed else ask(actor.kind, call.method, arguments)
+        item = Item(call, arguments, answer)
+        actor.ran.append(item)
+        return f"place {len(actor.ran) - 1} {self.notify(item)}"
+
+    def notify(self, notice):
+        self.notices.append(notice)
+        return f"reply {len(self.notices) - 1}"
+
+    def take(self, name):
+        actor = self.an_actor(name)
+        actor.must_live()
+        if not actor.kill_asked:
+            raise Refused("NoKill")
+        actor.stage = "dead"
+        return "dead"
+
+    def tell(self, name, caller):
+        _, actor = self.both(caller, name)
+        if actor.stage != "dead":
+            raise Refused("NotDead")
+        return self.notify(Death(caller, name))
+
+    def retire(self, name):
+        actor = self.an_actor(name)
+        actor.must_live()
+        if not actor.is_drained():
+            raise Refused("NotDrained")
+        actor.stage = "retired"
+        return "retired"
+
+    # What reaches a caller.
+
+    def collect(self, place):
+        if place >= len(self.notices):
+            raise Refused("NoReply")
+        notice = self.notices[place]
+        if isinstance(notice, Death):
+            return self.collect_death(self.callers[notice.caller], notice.actor)
+        call = notice.call
+        if call.kept is not None:
+            return f"late {call.spelled_future()}"
+        call.kept = notice.answer
+        return f"kept {call.spelled_future()}"
+
+    def collect_death(self, caller, actor):
+        caller.known_dead.add(actor)
+        still_open = [call for call in caller.calls_to(actor) if call.kept is None]
+        for call in still_open:
+            call.kept = Fault("ActorDied")
+        return f"died {len(still_open)}"
+
+    # The summary.
+
+    def summary(self):
+        for _, caller in sorted(self.callers.items()):
+            for call in caller.calls:
+                answer = "?" if call.kept is None else f"= {spelled(call.kept)}"
+                yield f"{call.spelled_future()} a{call.actor} {answer}"
+        for name, actor in sorted(self.actors.items()):
+            state = "" if actor.stage == "dead" else " " + actor.kind.text()
+            yield f"a{name} {actor.stage}{state}"
+            for place, item in enumerate(actor.ran):
+                yield f"a{name}.{place} {item.spelled()}"
+
+
+def play(data):
+    """The report of a script's bytes, or its first fault; and the status."""
+    try:
+        script = read_script(data)
+    except ScriptFault as fault:
+        return str(fault).encode(), 1
+    world = World(script.roles)
+    lines = [f"{place}: {world.after(*event)}" for place, event in enumerate(script.events)]
+    lines += world.summary()
+    return "".join(line + "\n" for line in lines).encode(), 0
+
+
+if __name__ == "__main__":
+    report, status = play(sys.stdin.buffer.read())
+    sys.stdout.buffer.write(report)
+    sys.exit(status)
