@@ -1,7 +1,8 @@
 -- Laws of the first item that passes a test.
-use Rattle.std.proofs.Common.{◌≡◌, ℕ, zero, suc, ◌<◌, List, [], ◌∷◌, length, Some, None, Bool, true, false, cond, nat_lt, refl, sym, ◌∙◌, ap, arith, get_or, remove, find, position}
+use Rattle.std.proofs.Common.{◌≡◌, ℕ, List, [], ◌∷◌, length, Option, Some, None, Bool, true, false, cond, nat_lt, refl, ◌∙◌, subst, get_or, find, position, All}
 use Rattle.std.specs.List.{position_or_len}
 use Rattle.std.proofs.lemmas.Bool.{ltb-false}
+use Rattle.std.proofs.lemmas.List.Elements.{All-head, All-tail}
 use Rattle.std.proofs.lemmas.List.Folds.{find_at}
 use Rattle.std.proofs.lemmas.List.Quantifiers.{position-Some}
 use Rattle.std.proofs.lemmas.Option.{slice_get-get_or, slice_get_past}
@@ -24,8 +25,11 @@ find-Some p xs i d e = rw (find_at p xs, position_or_len-Some p xs i e) (slice_g
 pub find-None : {X : Type 0} (p : X → Bool) (xs : List X) → position p xs ≡ None → find p xs ≡ None
 find-None p xs e = find_at p xs ∙ slice_get_past xs (position_or_len p xs) (ltb-false _ _ (no_place (nat_lt (position_or_len p xs) (length xs)) (position_or_len p xs) e))
 
--- an item that doesn't pass may go
-pub find-remove : {X : Type 0} (p : X → Bool) (xs : List X) (i : ℕ) (d : X) → i < length xs → p (get_or xs i d) ≡ false → find p (remove xs i) ≡ find p xs
-find-remove p [] i d within fails = absurd (omega arith)
-find-remove p (x ∷ xs) zero d within fails = sym (ap (λ b. cond b (Some x) (find p xs)) fails)
-find-remove p (x ∷ xs) (suc i) d within fails = ap (λ r. cond (p x) (Some x) r) (find-remove p xs i d (omega arith) fails)
+-- what is found passes, and is as all are
+found_by : {X : Type 0} (P : X → Type 0) (p : X → Bool) (b : Bool) (y x : X) (rest : Option X) → p y ≡ b → P y → (rest ≡ Some x → P x × (p x ≡ true)) → cond b (Some y) rest ≡ Some x → P x × (p x ≡ true)
+found_by P p true y x rest passes holds later e = let same : y ≡ x = cc in (subst P same holds, subst (λ z. p z ≡ true) same passes)
+found_by P p false y x rest passes holds later e = later e
+
+pub find-tells : {X : Type 0} (P : X → Type 0) (p : X → Bool) (xs : List X) (x : X) → All P xs → find p xs ≡ Some x → P x × (p x ≡ true)
+find-tells P p [] x all e = absurd (cc)
+find-tells P p (y ∷ xs) x all e = found_by P p (p y) y x (find p xs) refl (All-head P y xs all) (find-tells P p xs x (All-tail P y xs all)) e

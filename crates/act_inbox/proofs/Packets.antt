@@ -1,15 +1,13 @@
 -- What the packets that an inbox holds tell.
-use Rattle.std.proofs.Common.{◌≡◌, ℕ, ◌<◌, ◌≤◌, [], ◌∷◌, ◌++◌, Option, Some, None, Bool, true, false, ◌==◌, ◌&&◌, ◌||◌, is_some, nat_lt, if◌then◌else◌, refl, arith, find}
-use Rattle.std.specs.Option.{option_or}
+use Rattle.std.proofs.Common.{◌≡◌, ℕ, ◌<◌, ◌≤◌, Option, Some, None, Bool, true, false, ◌==◌, ◌&&◌, ◌||◌, is_some, nat_lt, if◌then◌else◌, refl, arith, find}
 use Rattle.std.proofs.lemmas.Bool.{lt-ltb, le-ltb, ltb-true, ltb-false}
 use Rattle.std.proofs.lemmas.Bool.Decides.{nat_tests}
-use Rattle.std.proofs.lemmas.List.Folds.{find-append}
 use Rattle.act_types.specs.declared.message.Packet.{Packet}
 use Rattle.act_rules.specs.declared.outcome.Arrival.TheVariants.{New, Repeat, Stranger}
 use Rattle.act_inbox.specs.declared.inbox.Lane.{Lane}
 use Rattle.act_inbox.specs.Inbox.{InboxValue, is_call, lane_of, is_listed, handed_of, was_handed, waiting, next_of, arrival_of, waiting_after}
 
-both_equal : (a b c d : ℕ) → ((a == b) && (c == d)) ≡ true → (a ≡ b) × (c ≡ d)
+pub both_equal : (a b c d : ℕ) → ((a == b) && (c == d)) ≡ true → (a ≡ b) × (c ≡ d)
 both_equal a b c d e = grind (arith, nat_tests)
 
 -- a call is known by its caller and number
@@ -50,20 +48,16 @@ new_tells inbox packet e =
     let told = arrival_tells (is_listed inbox packet.caller) (nat_lt packet.number 65536) (was_handed inbox packet.caller packet.number) (find (is_call packet.caller packet.number) inbox.held) e in
     (ltb-true _ _ told.0, ltb-false _ _ told.1, told.2)
 
-option_or-None : {X : Type 0} (o : Option X) → option_or o None ≡ o
-option_or-None None = refl
-option_or-None (Some x) = refl
-
 -- a packet that comes for the first time
-module _ (old new : InboxValue) (packet : Packet) (is_new : arrival_of old packet ≡ New) (lanes : new.lanes ≡ old.lanes) (held : new.held ≡ old.held ++ packet ∷ []) where
+module _ (old new : InboxValue) (packet : Packet) (is_new : arrival_of old packet ≡ New) (lanes : new.lanes ≡ old.lanes)
+    (held : (caller number : ℕ) → find (is_call caller number) new.held ≡ (if is_call caller number packet then Some packet else find (is_call caller number) old.held)) where
   waits_by : (caller number : ℕ) (b : Bool) → is_call caller number packet ≡ b → waiting new caller number ≡ (if b then Some packet else waiting old caller number)
   waits_by caller number true is =
       let told = is_call_tells caller number packet is in
       let before = new_tells old packet is_new in
       let past : handed_of old caller ≤ number = rw (← told.0, ← told.1) before.1 in
-      let none : find (is_call caller number) old.held ≡ None = rw (← told.0, ← told.1) before.2 in
-      rw (lanes, held, le-ltb number (handed_of old caller) past, find-append (is_call caller number) old.held (packet ∷ []), none, is) refl
-  waits_by caller number false is = rw (lanes, held, find-append (is_call caller number) old.held (packet ∷ []), is, option_or-None (find (is_call caller number) old.held)) refl
+      rw (lanes, le-ltb number (handed_of old caller) past) (rw is at (held caller number))
+  waits_by caller number false is = rw (lanes, rw is at (held caller number)) refl
 
   pub waits_then : (caller number : ℕ) → waiting new caller number ≡ waiting_after New packet old caller number
   waits_then caller number = waits_by caller number (is_call caller number packet) refl

@@ -1,17 +1,16 @@
 -- What handing out a caller's next call does.
-use Rattle.std.proofs.Common.{◌≡◌, ℕ, suc, ◌+◌, ◌<◌, ◌≤◌, length, Option, Some, None, Bool, true, false, ◌==◌, if◌then◌else◌, refl, sym, ◌∙◌, ap, subst, arith, get_or, take, drop, remove, inl, inr, find, position}
+use Rattle.std.proofs.Common.{◌≡◌, ℕ, ◌+◌, ◌<◌, ◌≤◌, Option, Some, None, Bool, true, false, ◌==◌, if◌then◌else◌, refl, sym, ◌∙◌, ap, subst, arith, get_or, inl, inr, find, position, All}
 use Rattle.std.specs.Prelude.{slice_set}
 use Rattle.std.proofs.Math.Seq.{map-set_same}
 use Rattle.std.proofs.lemmas.Bool.{lt-ltb, ltb-true, ltb-false}
 use Rattle.std.proofs.lemmas.Bool.Decides.{eqb_tells}
 use Rattle.std.proofs.lemmas.List.{length-set}
-use Rattle.std.proofs.lemmas.List.Elements.{All-set, All-append, All-take, All-drop}
-use Rattle.std.proofs.lemmas.List.Quantifiers.{position-Some}
+use Rattle.std.proofs.lemmas.List.Elements.{All-set}
 use Rattle.act_types.specs.declared.message.Packet.{Packet}
 use Rattle.act_inbox.specs.declared.inbox.Lane.{Lane}
 use Rattle.act_inbox.specs.Value.{IsInbox}
 use Rattle.act_inbox.specs.Inbox.{InboxValue, is_lane_of, is_call, lane_of, is_listed, handed_of, was_handed, next_of, IsNextTaken}
-use Rattle.act_inbox.proofs.Finding.{find-Some, find-remove}
+use Rattle.act_inbox.proofs.Finding.{find-tells}
 use Rattle.act_inbox.proofs.Lanes.{one_more, lane_is, caller_at, same_lane, lane_written, lane_left, in_all_written, in_all_bound}
 use Rattle.act_inbox.proofs.Packets.{is_call_tells, listed_next}
 
@@ -20,94 +19,86 @@ if_masked true b' x y low same = refl
 if_masked false true x y low same = let bad : false ≡ true = low refl in absurd (cc)
 if_masked false false x y low same = same refl
 
-module _ (old : InboxValue) (caller place call : ℕ) (lane : Lane) (packet : Packet)
+module _ (old : InboxValue) (caller place : ℕ) (lane : Lane) (packet : Packet)
     (at : position (is_lane_of caller) old.lanes ≡ Some place) (lane_stands : lane ≡ get_or old.lanes place lane)
-    (there : position (is_call caller lane.handed) old.held ≡ Some call) (stands : packet ≡ get_or old.held call packet) where
+    (found : find (is_call caller lane.handed) old.held ≡ Some packet) (sound : IsInbox old.lanes old.held) where
   listed : lane_of old caller ≡ Some lane
   listed = lane_is old caller place at lane lane_stands
 
   handed_is : handed_of old caller ≡ lane.handed
   handed_is = rw listed refl
 
-  within : call < length old.held
-  within = (position-Some (is_call caller lane.handed) old.held call packet there).0
-
-  mine : (packet.caller ≡ caller) × (packet.number ≡ lane.handed)
-  mine = is_call_tells caller lane.handed packet (subst (λ (p : Packet). is_call caller lane.handed p ≡ true) (sym stands) (position-Some (is_call caller lane.handed) old.held call packet there).1)
+  mine : (packet.number < 65536) × (packet.caller ≡ caller) × (packet.number ≡ lane.handed)
+  mine =
+      let told = find-tells (λ (each : Packet). each.number < 65536) (is_call caller lane.handed) old.held packet sound.numbered found in
+      let is = is_call_tells caller lane.handed packet told.1 in
+      (told.0, is.0, is.1)
 
   pub next_found : Some packet ≡ next_of old caller
-  next_found = sym (listed_next old caller lane listed ∙ find-Some (is_call caller lane.handed) old.held call packet there ∙ ap Some (sym stands))
+  next_found = sym (listed_next old caller lane listed ∙ found)
 
-  module _ (sound : IsInbox old.lanes old.held) where
-    -- its number is one that a call may have
-    number_small : lane.handed < 65536
-    number_small =
-        let here = sound.numbered call packet within in
-        let same : packet.number ≡ (get_or old.held call packet).number = ap (λ (p : Packet). p.number) stands in
+  module _ (new : InboxValue) (written : Lane) (written_stands : written ≡ get_or old.lanes place written)
+      (lanes : new.lanes ≡ slice_set old.lanes place (one_more written))
+      (held : (other number : ℕ) → is_call other number packet ≡ false → find (is_call other number) new.held ≡ find (is_call other number) old.held)
+      (numbered : All (λ each. each.number < 65536) new.held) (notes : new.notes ≡ old.notes) where
+    same : written.caller ≡ caller
+    same = ap (λ (l : Lane). l.caller) written_stands ∙ caller_at old caller place at written
+
+    more : written.handed + 1 ≡ lane.handed + 1
+    more = ap (λ (l : Lane). l.handed + 1) (same_lane old caller place at written lane written_stands lane_stands)
+
+    pub sound_then : IsInbox new.lanes new.held
+    sound_then =
         let is_mine = mine in
-        omega arith
+        let same_count = more in
+        let little : written.handed + 1 ≤ 65536 = omega arith in
+        record {
+          distinct = rw (lanes, map-set_same (λ (lane : Lane). lane.caller) old.lanes place (one_more written) written (ap (λ (l : Lane). l.caller) written_stands)) sound.distinct;
+          few = rw (lanes, length-set) sound.few;
+          counted = rw lanes (All-set (λ lane. lane.handed ≤ 65536) old.lanes place (one_more written) little sound.counted);
+          numbered = numbered;
+        }
 
-    module _ (new : InboxValue) (written : Lane) (written_stands : written ≡ get_or old.lanes place written)
-        (lanes : new.lanes ≡ slice_set old.lanes place (one_more written)) (held : new.held ≡ remove old.held call) (notes : new.notes ≡ old.notes) where
-      same : written.caller ≡ caller
-      same = ap (λ (l : Lane). l.caller) written_stands ∙ caller_at old caller place at written
+    handed_here : handed_of new caller ≡ handed_of old caller + 1
+    handed_here = rw (lanes, lane_written old caller place at (one_more written) same) more ∙ ap (λ n. n + 1) (sym handed_is)
 
-      more : written.handed + 1 ≡ lane.handed + 1
-      more = ap (λ (l : Lane). l.handed + 1) (same_lane old caller place at written lane written_stands lane_stands)
+    handed_then : (other : ℕ) → handed_of new other ≡ (if other == caller then handed_of old other + 1 else handed_of old other)
+    handed_then other = elim (eqb_tells other caller) [
+      | inl t ↦ rw t.0 (subst (λ (c : ℕ). handed_of new c ≡ handed_of old c + 1) (sym t.1) handed_here)
+      | inr f ↦ rw (f.0, lanes, lane_left old caller place at (one_more written) same other f.1) refl
+    ]
 
-      pub sound_then : IsInbox new.lanes new.held
-      sound_then =
-          let small = number_small in
-          let small_number = λ (packet : Packet). packet.number < 65536 in
-          let same_count = more in
-          let little : written.handed + 1 ≤ 65536 = omega arith in
-          record {
-            distinct = rw (lanes, map-set_same (λ (lane : Lane). lane.caller) old.lanes place (one_more written) written (ap (λ (l : Lane). l.caller) written_stands)) sound.distinct;
-            few = rw (lanes, length-set) sound.few;
-            counted = rw lanes (All-set (λ lane. lane.handed ≤ 65536) old.lanes place (one_more written) little sound.counted);
-            numbered = rw held (All-append small_number (take call old.held) (drop (suc call) old.held) (All-take small_number call old.held sound.numbered) (All-drop small_number (suc call) old.held sound.numbered));
-          }
+    listed_then : (other : ℕ) → is_listed new other ≡ is_listed old other
+    listed_then other = elim (eqb_tells other caller) [
+      | inl t ↦ subst (λ (c : ℕ). is_listed new c ≡ is_listed old c) (sym t.1) (rw (lanes, lane_written old caller place at (one_more written) same, listed) refl)
+      | inr f ↦ rw (lanes, lane_left old caller place at (one_more written) same other f.1) refl
+    ]
 
-      handed_here : handed_of new caller ≡ handed_of old caller + 1
-      handed_here = rw (lanes, lane_written old caller place at (one_more written) same) more ∙ ap (λ n. n + 1) (sym handed_is)
+    grows : (other : ℕ) → handed_of old other ≤ handed_of new other
+    grows other = elim (eqb_tells other caller) [
+      | inl t ↦ let e : handed_of new other ≡ handed_of old other + 1 = rw t.0 at (handed_then other) in omega arith
+      | inr f ↦ let e : handed_of new other ≡ handed_of old other = rw f.0 at (handed_then other) in omega arith
+    ]
 
-      handed_then : (other : ℕ) → handed_of new other ≡ (if other == caller then handed_of old other + 1 else handed_of old other)
-      handed_then other = elim (eqb_tells other caller) [
-        | inl t ↦ rw t.0 (subst (λ (c : ℕ). handed_of new c ≡ handed_of old c + 1) (sym t.1) handed_here)
-        | inr f ↦ rw (f.0, lanes, lane_left old caller place at (one_more written) same other f.1) refl
-      ]
+    held_same : (other number : ℕ) (b : Bool) → is_call other number packet ≡ b → handed_of new other ≤ number → find (is_call other number) new.held ≡ find (is_call other number) old.held
+    held_same other number false is past = held other number is
+    held_same other number true is past =
+        let is_mine = mine in
+        let theirs = is_call_tells other number packet is in
+        let here : handed_of new other ≡ handed_of old caller + 1 = subst (λ (c : ℕ). handed_of new c ≡ handed_of old caller + 1) (sym is_mine.1 ∙ theirs.0) handed_here in
+        let count = handed_is in
+        absurd (omega arith)
 
-      listed_then : (other : ℕ) → is_listed new other ≡ is_listed old other
-      listed_then other = elim (eqb_tells other caller) [
-        | inl t ↦ subst (λ (c : ℕ). is_listed new c ≡ is_listed old c) (sym t.1) (rw (lanes, lane_written old caller place at (one_more written) same, listed) refl)
-        | inr f ↦ rw (lanes, lane_left old caller place at (one_more written) same other f.1) refl
-      ]
-
-      grows : (other : ℕ) → handed_of old other ≤ handed_of new other
-      grows other = elim (eqb_tells other caller) [
-        | inl t ↦ let e : handed_of new other ≡ handed_of old other + 1 = rw t.0 at (handed_then other) in omega arith
-        | inr f ↦ let e : handed_of new other ≡ handed_of old other = rw f.0 at (handed_then other) in omega arith
-      ]
-
-      held_same : (other number : ℕ) (b : Bool) → is_call other number packet ≡ b → handed_of new other ≤ number → find (is_call other number) new.held ≡ find (is_call other number) old.held
-      held_same other number false is past = rw held (find-remove (is_call other number) old.held call packet within (subst (λ (p : Packet). is_call other number p ≡ false) stands is))
-      held_same other number true is past =
-          let is_mine = mine in
-          let theirs = is_call_tells other number packet is in
-          let here : handed_of new other ≡ handed_of old caller + 1 = subst (λ (c : ℕ). handed_of new c ≡ handed_of old caller + 1) (sym is_mine.0 ∙ theirs.0) handed_here in
-          let count = handed_is in
-          absurd (omega arith)
-
-      pub next_taken : IsNextTaken caller packet old new
-      next_taken = record {
-        of_caller = mine.0;
-        numbered = mine.1 ∙ sym handed_is;
-        listed = listed_then;
-        handed = handed_then;
-        in_all = rw lanes (in_all_written old caller place at (one_more written) same lane lane_stands more);
-        bound = in_all_bound new sound_then.few sound_then.counted;
-        waits = λ other number. if_masked (was_handed new other number) (was_handed old other number) (find (is_call other number) new.held) (find (is_call other number) old.held)
-            (λ below. let less : number < handed_of old other = ltb-true _ _ below in let up = grows other in lt-ltb _ _ (omega arith))
-            (λ past. held_same other number (is_call other number packet) refl (ltb-false _ _ past));
-        notes = λ other. rw notes refl;
-      }
+    pub next_taken : IsNextTaken caller packet old new
+    next_taken = record {
+      of_caller = mine.1;
+      numbered = mine.2 ∙ sym handed_is;
+      listed = listed_then;
+      handed = handed_then;
+      in_all = rw lanes (in_all_written old caller place at (one_more written) same lane lane_stands more);
+      bound = in_all_bound new sound_then.few sound_then.counted;
+      waits = λ other number. if_masked (was_handed new other number) (was_handed old other number) (find (is_call other number) new.held) (find (is_call other number) old.held)
+          (λ below. let less : number < handed_of old other = ltb-true _ _ below in let up = grows other in lt-ltb _ _ (omega arith))
+          (λ past. held_same other number (is_call other number packet) refl (ltb-false _ _ past));
+      notes = λ other. rw notes refl;
+    }

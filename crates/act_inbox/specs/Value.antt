@@ -1,4 +1,8 @@
-use Rattle.std.specs.Prelude.{◌≢◌, ℕ, ◌<◌, ◌≤◌, List, Option, All, AllPairs, length, map}
+use Rattle.std.specs.Prelude.{◌≡◌, ◌≢◌, ℕ, ◌<◌, ◌≤◌, List, Option, Some, All, AllPairs, length, map, slice_get, IsSomeAnd}
+use Rattle.std.specs.Option.{option_and_then}
+use Rattle.std.specs.Ordering.{nat_cmp}
+use Rattle.std.specs.BTreeMap.{BTreeMap, get as get_in_map}
+use Rattle.slab.specs.Slab.{Slab, get}
 use Rattle.act_types.specs.declared.message.Packet.{Packet}
 use Rattle.act_inbox.specs.declared.inbox.Lane.{Lane}
 
@@ -15,3 +19,13 @@ pub record IsInbox (lanes : List Lane) (held : List Packet) : Type 0 where
   pub few : length lanes ≤ 16
   pub counted : All (λ lane. lane.handed ≤ 65536) lanes
   pub numbered : All (λ packet. packet.number < 65536) held
+
+-- the key of the caller's call of this number, by the caller's index
+abbrev pub key_of : List (BTreeMap ℕ ℕ) → ℕ → ℕ → Option ℕ
+key_of keys caller number = option_and_then (λ index. get_in_map nat_cmp index number) (slice_get keys caller)
+
+-- each key in a caller's index names a held packet of that caller and number, and no other is held
+pub record IsHeld (packets : Slab Packet) (keys : List (BTreeMap ℕ ℕ)) : Type 0 where
+  pub one_each : length keys ≡ 17
+  pub named : (caller number key : ℕ) → key_of keys caller number ≡ Some key → IsSomeAnd (get packets key) (λ packet. (packet.caller ≡ caller) × (packet.number ≡ number))
+  pub indexed : (key : ℕ) (packet : Packet) → get packets key ≡ Some packet → key_of keys packet.caller packet.number ≡ Some key

@@ -5,6 +5,7 @@ ghost use Rattle.act_rules.specs.declared.outcome.Arrival.TheVariants.{New};
 ghost use Rattle.std.specs.Bool.{Decides};
 ghost use Rattle.act_inbox.specs.Inbox.{InboxValue, is_lane_of, is_call, lane_at_first, is_listed, handed_of, note_of, waiting, next_of, arrival_of, note_arrival, waiting_after, note_after, IsOpened, IsNextTaken, IsDrained};
 
+use crate::held::{CALLER_NUMBERS, HeldCalls};
 use act_rules::Arrival;
 use act_types::{CallerId, NoMemory, Packet, ReleaseNote};
 use std::alloc::{AllocError, Global};
@@ -12,9 +13,6 @@ use std::marker::Model;
 
 /// Each call of a caller has a number below this.
 const MOST_CALLS: u32 = 65536;
-
-/// Each caller has a number below this.
-const CALLER_NUMBERS: usize = 17;
 
 /// How many calls of a caller were handed out.
 #[derive(Clone, Copy)]
@@ -28,7 +26,7 @@ struct Lane {
 #[derive(Drop)]
 pub struct Inbox {
     lanes: Vec<Lane>,
-    held: Vec<Packet>,
+    held: HeldCalls,
     notes: [Option<u32>; CALLER_NUMBERS],
 }
 
@@ -37,9 +35,9 @@ impl Model for Inbox {
 
     ghost Value = { InboxValue };
 
-    ghost view = { λ inbox. record { lanes = inbox.lanes.items; held = inbox.held.items; notes = inbox.notes } };
+    ghost view = { λ inbox. record { lanes = inbox.lanes.items; held = inbox.held; notes = inbox.notes } };
 
-    ghost invariant = { λ inbox. IsInbox inbox.lanes.items inbox.held.items };
+    ghost invariant = { λ inbox. IsInbox inbox.lanes.items inbox.held };
 }
 
 /// A lane for each caller, with no calls handed out.
@@ -66,13 +64,6 @@ fn place_of_lane(lanes: &[Lane], caller: CallerId) -> Option<usize>
     lanes.iter().position(|lane| lane.caller == caller)
 }
 
-/// The place of the caller's call of this number.
-fn place_of_call(held: &[Packet], caller: CallerId, number: u32) -> Option<usize>
-    ensures { result ≡ position (is_call caller number) held.now }
-{
-    held.iter().position(|packet| packet.caller == caller && packet.number == number)
-}
-
 /// Whether each lane's caller left a note of as many calls as were handed out.
 fn are_done(lanes: &[Lane], notes: &[Option<u32>; CALLER_NUMBERS]) -> bool
     ensures { Decides result (All (λ lane. slice_index_or notes.now lane.caller None ≡ Some lane.handed) lanes.now) }
@@ -88,7 +79,7 @@ impl Inbox {
     {
         Ok(Inbox {
             lanes: lanes_of(alloc, callers)?,
-            held: Vec::new(alloc),
+            held: HeldCalls::new(alloc)?,
             notes: [None; CALLER_NUMBERS],
         })
     }
@@ -108,15 +99,13 @@ impl Inbox {
         let Arrival::New = arrival else {
             return Ok(arrival);
         };
-        if let Err(refused) = self.held.push(packet) {
-            return Err(refused.value);
-        }
+        self.held.insert(packet)?;
         Ok(arrival)
     }
 
-    /// What a packet is to the inbox, before it is taken in.
-    fn arrival(&self, packet: &Packet) -> Arrival
-        ensures { result ≡ arrival_of self.now packet.now }
+    /// What a packet is to the inbox, before it is taken in. It takes no memory.
+    pub fn arrival(&self, packet: &Packet) -> Arrival
+        ensures value { result ≡ arrival_of self.now packet.now }
     {
         let Some(place) = place_of_lane(&self.lanes, packet.caller) else {
             return Arrival::Stranger;
@@ -127,7 +116,7 @@ impl Inbox {
         if packet.number < self.lanes[place].handed {
             return Arrival::Repeat;
         }
-        match place_of_call(&self.held, packet.caller, packet.number) {
+        match self.held.get(packet.caller, packet.number) {
             Some(_) => Arrival::Repeat,
             None => Arrival::New,
         }
@@ -177,20 +166,19 @@ impl Inbox {
         ensures { option_copied result ≡ next_of self.now caller }
     {
         let place = place_of_lane(&self.lanes, caller)?;
-        let call = place_of_call(&self.held, caller, self.lanes[place].handed)?;
-        Some(&self.held[call])
+        self.held.get(caller, self.lanes[place].handed)
     }
 
-    /// Hands out the caller's next call, if it came.
+    /// Hands out the caller's next call, if it came. It takes no memory.
     pub fn next(&mut self, caller: CallerId) -> Option<Packet>
         ensures value { result ≡ next_of self.old caller }
         ensures none { IfNone result (self.new ≡ self.old) }
         ensures taken { IfSome result (λ packet. IsNextTaken caller packet self.old self.new) }
     {
         let place = place_of_lane(&self.lanes, caller)?;
-        let call = place_of_call(&self.held, caller, self.lanes[place].handed)?;
+        let packet = self.held.remove(caller, self.lanes[place].handed)?;
         self.lanes[place].handed += 1;
-        Some(self.held.remove(call))
+        Some(packet)
     }
 
     /// How many calls of the caller were handed out.

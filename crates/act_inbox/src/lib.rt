@@ -2,6 +2,7 @@
 //! each caller go out in the order in which they were submitted.
 #![tactic(auto)]
 
+mod held;
 mod inbox;
 #[cfg(test)]
 mod tests;

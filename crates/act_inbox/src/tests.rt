@@ -1,11 +1,12 @@
-//! The order in which calls come, and in which they are handed out; and calls that come where memory
-//! is refused.
+//! The order in which calls come, and in which they are handed out; calls that come where memory is
+//! refused; and an inbox beside a plain list of what it holds.
 
 use crate::{Arrival, Inbox};
 use act_types::{
     ActorId, CallerId, FutureId, ListOf, Method, NoMemory, Packet, ReleaseNote, Settled, Value,
 };
-use std::alloc::Global;
+use std::alloc::{AllocError, Global};
+use std::process::Abort;
 use std::test::Fail;
 
 #[test]
@@ -70,6 +71,27 @@ fn call_of(alloc: Global, number: u32) -> Result<Packet, NoMemory> {
     })
 }
 
+#[test]
+fn descending_numbers_go_out_ascending(rt: HostRuntime) -> Result<(), Fail> {
+    let alloc = rt.alloc();
+    let c1 = CallerId::new(1).unwrap();
+    let mut inbox = Inbox::open(alloc, &[c1])?;
+    for number in (0..1000).rev() {
+        assert_eq!(rt; inbox.arrive(call_of(alloc, number)?), Ok(Arrival::New));
+    }
+    for number in 0..1000 {
+        let taken = inbox.next(c1).map(|packet| packet.number);
+        assert_eq!(rt; taken, Some(number));
+    }
+    for number in 0..1000 {
+        assert_eq!(rt; inbox.arrive(call_of(alloc, number)?), Ok(Arrival::Repeat));
+    }
+    assert_eq!(rt; inbox.arrive(call_of(alloc, 1000)?), Ok(Arrival::New));
+    let taken = inbox.next(c1).map(|packet| packet.number);
+    assert_eq!(rt; taken, Some(1000));
+    Ok(())
+}
+
 /// Memory is refused from outside, at most once.
 #[test]
 fn refused_memory_changes_nothing(rt: HostRuntime) -> Result<(), Fail> {
@@ -81,19 +103,162 @@ fn refused_memory_changes_nothing(rt: HostRuntime) -> Result<(), Fail> {
         assert!(rt; opened.is_ok());
     }
     let mut inbox = opened?;
-    for number in [1, 2, 3, 4, 0, 5, 6, 7, 8] {
+    for number in (0..100).rev() {
         let call = call_of(alloc, number)?;
         let before = (inbox.has_next(c1), inbox.handed(c1));
         if let Err(back) = inbox.arrive(call_of(alloc, number)?) {
             assert_eq!(rt; back, call);
             assert_eq!(rt; (inbox.has_next(c1), inbox.handed(c1)), before);
+            assert_eq!(rt; inbox.arrival(&back), Arrival::New);
             assert_eq!(rt; inbox.arrive(back), Ok(Arrival::New));
         }
         assert_eq!(rt; inbox.arrive(call), Ok(Arrival::Repeat));
     }
-    for number in 0..9 {
+    for number in 0..100 {
         let taken = inbox.next(c1).map(|packet| packet.number);
         assert_eq!(rt; taken, Some(number));
+    }
+    Ok(())
+}
+
+/// A call, by what tells it from the others.
+#[derive(Clone, Copy, Debug, PartialEq, Eq)]
+struct Call {
+    caller: CallerId,
+    number: u32,
+    future: FutureId,
+}
+
+impl Call {
+    fn of(packet: &Packet) -> Call {
+        Call {
+            caller: packet.caller,
+            number: packet.number,
+            future: packet.future,
+        }
+    }
+
+    fn packet(&self, alloc: Global) -> Packet {
+        Packet {
+            caller: self.caller,
+            actor: ActorId::new(1).unwrap(),
+            number: self.number,
+            future: self.future,
+            method: Method::Get,
+            args: ListOf::new(alloc),
+        }
+    }
+}
+
+/// How many of a caller's calls were handed out, whether its next came, and which that is.
+type Seen = (u32, bool, Option<Call>);
+
+fn seen(inbox: &Inbox, caller: CallerId) -> Seen {
+    let next = inbox.peek(caller).map(|packet| Call::of(packet));
+    (inbox.handed(caller), inbox.has_next(caller), next)
+}
+
+/// The calls that wait, in the order in which they came, and by the callers' numbers how many were
+/// handed out.
+#[derive(Drop)]
+struct PlainInbox {
+    held: Vec<Call>,
+    handed: [u32; 17],
+}
+
+impl PlainInbox {
+    fn handed(&self, caller: CallerId) -> u32 {
+        self.handed[caller.number() as usize]
+    }
+
+    fn place(&self, caller: CallerId, number: u32) -> Option<usize> {
+        self.held
+            .iter()
+            .position(|call| call.caller == caller && call.number == number)
+    }
+
+    fn arrive(&mut self, call: Call) -> Result<Arrival, AllocError> {
+        let came = call.number < self.handed(call.caller)
+            || self.place(call.caller, call.number).is_some();
+        if came {
+            return Ok(Arrival::Repeat);
+        }
+        self.held.push(call)?;
+        Ok(Arrival::New)
+    }
+
+    fn peek(&self, caller: CallerId) -> Option<Call> {
+        let place = self.place(caller, self.handed(caller))?;
+        self.held.get(place).copied()
+    }
+
+    fn seen(&self, caller: CallerId) -> Seen {
+        let next = self.peek(caller);
+        (self.handed(caller), next.is_some(), next)
+    }
+
+    fn next(&mut self, caller: CallerId) -> Option<Call> {
+        let call = self.peek(caller)?;
+        self.held.retain(|other| *other != call);
+        let number = caller.number() as usize;
+        self.handed[number] = self.handed[number].saturating_add(1);
+        Some(call)
+    }
+}
+
+/// The next of a row of random words.
+fn word_after(word: u32) -> u32 {
+    let word = word ^ (word << 13);
+    let word = word ^ (word >> 17);
+    word ^ (word << 5)
+}
+
+/// Steps of an inbox and of a plain one, each drawn from the row of random words.
+fn random_run(rt: &impl Abort, alloc: Global, word: &mut u32) -> Result<(), Fail> {
+    let callers = [
+        CallerId::new(3).unwrap(),
+        CallerId::new(16).unwrap(),
+        CallerId::new(1).unwrap(),
+    ];
+    let mut inbox = Inbox::open(alloc, &callers)?;
+    let mut plain = PlainInbox {
+        held: Vec::new(alloc),
+        handed: [0; 17],
+    };
+    for step in 0..30 {
+        *word = word_after(*word);
+        let caller = callers[(*word % 3) as usize];
+        if *word / 3 % 3 == 0 {
+            let taken = inbox.next(caller).map(|packet| Call::of(&packet));
+            assert_eq!(rt; taken, plain.next(caller));
+        } else {
+            let least = plain.handed(caller).saturating_sub(3);
+            let number = least.saturating_add(*word / 9 % 8);
+            let future = FutureId::new(step);
+            let call = Call {
+                caller,
+                number,
+                future,
+            };
+            let arrival = plain.arrive(call)?;
+            let packet = call.packet(alloc);
+            assert_eq!(rt; inbox.arrival(&packet), arrival);
+            assert_eq!(rt; inbox.arrive(packet), Ok(arrival));
+        }
+        assert!(rt;
+            callers
+                .iter()
+                .all(|caller| seen(&inbox, *caller) == plain.seen(*caller))
+        );
+    }
+    Ok(())
+}
+
+#[test]
+fn random_runs_as_of_a_plain_list(rt: HostRuntime) -> Result<(), Fail> {
+    let mut word = 2463534242;
+    for _ in 0..2000 {
+        random_run(&rt, rt.alloc(), &mut word)?;
     }
     Ok(())
 }

@@ -1,7 +1,6 @@
 use Rattle.std.proofs.Common.{◌≡◌, Some, None, position, sym, ◌∙◌, refl}
 use Rattle.std.specs.Prelude.{slice_set}
-use Rattle.act_inbox.specs.Inbox.{InboxValue, is_lane_of, is_call}
-use Rattle.act_inbox.proofs.Finding.{find-None}
+use Rattle.act_inbox.specs.Inbox.{InboxValue, is_lane_of}
 use Rattle.act_inbox.proofs.Lanes.{one_more, lane_is, no_lane}
 use Rattle.act_inbox.proofs.Packets.{unlisted_next, listed_next}
 use Rattle.act_inbox.proofs.Taking.{next_found, next_taken, sound_then}
@@ -9,39 +8,35 @@ use Rattle.act_inbox.proofs.inbox.Inbox.next.Goals as goal
 
 pub returns-in_err-place-clause-value : goal.returns-in_err-place-clause-value
 returns-in_err-place-clause-value c =
-    let inbox : InboxValue = record { lanes = c.self.inside.lanes.items; held = c.self.inside.held.items; notes = c.self.inside.notes } in
+    let inbox : InboxValue = record { lanes = c.self.inside.lanes.items; held = c.self.inside.held; notes = c.self.inside.notes } in
     let at : position (is_lane_of c.args.caller) inbox.lanes ≡ None = rw c.deref.ensures.value at (sym c.place_of_lane.ensures ∙ c.in_err-place.was) in
     c.from_residual.ensures ∙ rw (← c.self.view_is) (sym (unlisted_next inbox c.args.caller (no_lane inbox c.args.caller at)))
 
-pub returns-in_err-call-clause-value : goal.returns-in_err-call-clause-value
-returns-in_err-call-clause-value c =
-    let inbox : InboxValue = record { lanes = c.self.inside.lanes.items; held = c.self.inside.held.items; notes = c.self.inside.notes } in
+pub returns-in_err-packet-clause-value : goal.returns-in_err-packet-clause-value
+returns-in_err-packet-clause-value c =
+    let inbox : InboxValue = record { lanes = c.self.inside.lanes.items; held = c.self.inside.held; notes = c.self.inside.notes } in
     let at : position (is_lane_of c.args.caller) inbox.lanes ≡ Some c.in_ok-place.place = rw c.deref.ensures.value at (sym c.place_of_lane.ensures ∙ c.in_ok-place.was) in
-    let there : position (is_call c.args.caller c.index.result.now.handed) inbox.held ≡ None = rw c.deref-2.ensures.value at (sym c.place_of_call.ensures ∙ c.in_err-call.was) in
-    let next = listed_next inbox c.args.caller c.index.result.now (lane_is inbox c.args.caller c.in_ok-place.place at c.index.result.now c.index.ensures) ∙ find-None (is_call c.args.caller c.index.result.now.handed) inbox.held there in
-    c.from_residual-in_err-call.ensures ∙ rw (← c.self.view_is) (sym next)
+    let next = listed_next inbox c.args.caller c.index.result.now (lane_is inbox c.args.caller c.in_ok-place.place at c.index.result.now c.index.ensures) ∙ sym c.in_err-packet.ensures.value in
+    c.from_residual-in_err-packet.ensures ∙ rw (← c.self.view_is) (sym next)
 
-pub invariant_of-self : goal.invariant_of-self
-invariant_of-self c =
-    let inbox : InboxValue = record { lanes = c.self.inside.lanes.items; held = c.self.inside.held.items; notes = c.self.inside.notes } in
+pub invariant_of-self-2 : goal.invariant_of-self-2
+invariant_of-self-2 c =
+    let inbox : InboxValue = record { lanes = c.self.inside.lanes.items; held = c.self.inside.held; notes = c.self.inside.notes } in
     let at : position (is_lane_of c.args.caller) inbox.lanes ≡ Some c.in_ok-place.place = rw c.deref.ensures.value at (sym c.place_of_lane.ensures ∙ c.in_ok-place.was) in
-    let there : position (is_call c.args.caller c.index.result.now.handed) inbox.held ≡ Some c.in_ok-call.call = rw c.deref-2.ensures.value at (sym c.place_of_call.ensures ∙ c.in_ok-call.was) in
-    let after : InboxValue = record { lanes = slice_set c.self.inside.lanes.items c.in_ok-place.place (one_more c.index_mut.result.now); held = c.remove.new.self.items; notes = c.self.inside.notes } in
-    sound_then inbox c.args.caller c.in_ok-place.place c.in_ok-call.call c.index.result.now c.remove.result at c.index.ensures there c.remove.ensures.value
-    c.self.invariant after c.index_mut.result.now c.index_mut.ensures.value refl c.remove.ensures.items refl
+    let after : InboxValue = record { lanes = slice_set c.self.inside.lanes.items c.in_ok-place.place (one_more c.index_mut.result.now); held = c.remove.new.self; notes = c.self.inside.notes } in
+    sound_then inbox c.args.caller c.in_ok-place.place c.index.result.now c.in_ok-packet.packet at c.index.ensures (sym c.in_ok-packet.ensures.value) c.self.invariant
+    after c.index_mut.result.now c.index_mut.ensures.value refl c.in_ok-packet.ensures.others (c.remove.ensures.numbered c.self.invariant.numbered) refl
 
 pub returns-clause-value : goal.returns-clause-value
 returns-clause-value c =
-    let inbox : InboxValue = record { lanes = c.self.inside.lanes.items; held = c.self.inside.held.items; notes = c.self.inside.notes } in
+    let inbox : InboxValue = record { lanes = c.self.inside.lanes.items; held = c.self.inside.held; notes = c.self.inside.notes } in
     let at : position (is_lane_of c.args.caller) inbox.lanes ≡ Some c.in_ok-place.place = rw c.deref.ensures.value at (sym c.place_of_lane.ensures ∙ c.in_ok-place.was) in
-    let there : position (is_call c.args.caller c.index.result.now.handed) inbox.held ≡ Some c.in_ok-call.call = rw c.deref-2.ensures.value at (sym c.place_of_call.ensures ∙ c.in_ok-call.was) in
-    rw (← c.self.view_is) (next_found inbox c.args.caller c.in_ok-place.place c.in_ok-call.call c.index.result.now c.remove.result at c.index.ensures there c.remove.ensures.value)
+    rw (← c.self.view_is) (next_found inbox c.args.caller c.in_ok-place.place c.index.result.now c.in_ok-packet.packet at c.index.ensures (sym c.in_ok-packet.ensures.value) c.self.invariant)
 
 pub returns-clause-taken : goal.returns-clause-taken
 returns-clause-taken c =
-    let inbox : InboxValue = record { lanes = c.self.inside.lanes.items; held = c.self.inside.held.items; notes = c.self.inside.notes } in
+    let inbox : InboxValue = record { lanes = c.self.inside.lanes.items; held = c.self.inside.held; notes = c.self.inside.notes } in
     let at : position (is_lane_of c.args.caller) inbox.lanes ≡ Some c.in_ok-place.place = rw c.deref.ensures.value at (sym c.place_of_lane.ensures ∙ c.in_ok-place.was) in
-    let there : position (is_call c.args.caller c.index.result.now.handed) inbox.held ≡ Some c.in_ok-call.call = rw c.deref-2.ensures.value at (sym c.place_of_call.ensures ∙ c.in_ok-call.was) in
-    let after : InboxValue = record { lanes = slice_set c.self.inside.lanes.items c.in_ok-place.place (one_more c.index_mut.result.now); held = c.remove.new.self.items; notes = c.self.inside.notes } in
-    rw (← c.self.view_is) (next_taken inbox c.args.caller c.in_ok-place.place c.in_ok-call.call c.index.result.now c.remove.result at c.index.ensures there c.remove.ensures.value
-    c.self.invariant after c.index_mut.result.now c.index_mut.ensures.value refl c.remove.ensures.items refl)
+    let after : InboxValue = record { lanes = slice_set c.self.inside.lanes.items c.in_ok-place.place (one_more c.index_mut.result.now); held = c.remove.new.self; notes = c.self.inside.notes } in
+    rw (← c.self.view_is) (next_taken inbox c.args.caller c.in_ok-place.place c.index.result.now c.in_ok-packet.packet at c.index.ensures (sym c.in_ok-packet.ensures.value) c.self.invariant
+    after c.index_mut.result.now c.index_mut.ensures.value refl c.in_ok-packet.ensures.others (c.remove.ensures.numbered c.self.invariant.numbered) refl)

@@ -1,29 +1,18 @@
 use Rattle.std.proofs.Common.{◌≡◌, Some, None, position, sym, ◌∙◌, ap}
 use Rattle.std.specs.Option.{option_copied}
-use Rattle.act_inbox.specs.Inbox.{InboxValue, is_lane_of, is_call}
-use Rattle.act_inbox.proofs.Finding.{find-Some, find-None}
+use Rattle.act_inbox.specs.Inbox.{InboxValue, is_lane_of}
 use Rattle.act_inbox.proofs.Lanes.{lane_is, no_lane}
 use Rattle.act_inbox.proofs.Packets.{unlisted_next, listed_next}
 use Rattle.act_inbox.proofs.inbox.Inbox.peek.Goals as goal
 
 pub returns-in_err-place : goal.returns-in_err-place
 returns-in_err-place c =
-    let inbox : InboxValue = record { lanes = c.self.inside.lanes.items; held = c.self.inside.held.items; notes = c.self.inside.notes } in
+    let inbox : InboxValue = record { lanes = c.self.inside.lanes.items; held = c.self.inside.held; notes = c.self.inside.notes } in
     let at : position (is_lane_of c.args.caller) inbox.lanes ≡ None = rw c.deref.ensures.value at (sym c.place_of_lane.ensures ∙ c.in_err-place.was) in
     ap option_copied c.from_residual.ensures ∙ rw (← c.self.view_is) (sym (unlisted_next inbox c.args.caller (no_lane inbox c.args.caller at)))
 
-pub returns-in_err-call : goal.returns-in_err-call
-returns-in_err-call c =
-    let inbox : InboxValue = record { lanes = c.self.inside.lanes.items; held = c.self.inside.held.items; notes = c.self.inside.notes } in
-    let at : position (is_lane_of c.args.caller) inbox.lanes ≡ Some c.in_ok-place.place = rw c.deref.ensures.value at (sym c.place_of_lane.ensures ∙ c.in_ok-place.was) in
-    let there : position (is_call c.args.caller c.index.result.now.handed) inbox.held ≡ None = rw c.deref-2.ensures.value at (sym c.place_of_call.ensures ∙ c.in_err-call.was) in
-    let next = listed_next inbox c.args.caller c.index.result.now (lane_is inbox c.args.caller c.in_ok-place.place at c.index.result.now c.index.ensures) ∙ find-None (is_call c.args.caller c.index.result.now.handed) inbox.held there in
-    ap option_copied c.from_residual-in_err-call.ensures ∙ rw (← c.self.view_is) (sym next)
-
 pub returns : goal.returns
 returns c =
-    let inbox : InboxValue = record { lanes = c.self.inside.lanes.items; held = c.self.inside.held.items; notes = c.self.inside.notes } in
+    let inbox : InboxValue = record { lanes = c.self.inside.lanes.items; held = c.self.inside.held; notes = c.self.inside.notes } in
     let at : position (is_lane_of c.args.caller) inbox.lanes ≡ Some c.in_ok-place.place = rw c.deref.ensures.value at (sym c.place_of_lane.ensures ∙ c.in_ok-place.was) in
-    let there : position (is_call c.args.caller c.index.result.now.handed) inbox.held ≡ Some c.in_ok-call.call = rw c.deref-2.ensures.value at (sym c.place_of_call.ensures ∙ c.in_ok-call.was) in
-    let next = listed_next inbox c.args.caller c.index.result.now (lane_is inbox c.args.caller c.in_ok-place.place at c.index.result.now c.index.ensures) ∙ find-Some (is_call c.args.caller c.index.result.now.handed) inbox.held c.in_ok-call.call c.index-2.result.now there in
-    rw (← c.self.view_is) (ap Some c.index-2.ensures ∙ sym next)
+    rw (← c.self.view_is) (c.get.ensures ∙ sym (listed_next inbox c.args.caller c.index.result.now (lane_is inbox c.args.caller c.in_ok-place.place at c.index.result.now c.index.ensures)))
