@@ -1,1 +1,4 @@
+pub mod Counts
+pub mod Least
 pub mod Resolver
+pub mod Waiters

@@ -3,9 +3,11 @@
 #![tactic(auto)]
 
 mod futures;
+mod least;
 mod resolver;
 #[cfg(test)]
 mod tests;
+mod waiters;
 
 pub use futures::Futures;
 pub use resolver::Resolver;

@@ -1,11 +1,14 @@
 //! The calls of one caller, and which of them may be sent next.
 
-ghost use Rattle.std.specs.Prelude.{◌≡◌, ◌+◌, ◌<◌, ◌≤◌, [], ◌∷◌, ◌++◌, length, All, IsOk, OnOk, OnErr, slice_get};
-ghost use Rattle.std.specs.List.{list_all};
-ghost use Rattle.std.specs.Option.{option_copied};
-ghost use Rattle.act_resolver.specs.Resolver.{new_call, is_told, is_sent, is_known, is_ready, first_ready, with_told, with_sent};
+ghost use Rattle.std.specs.Prelude.{◌≡◌, ℕ, ◌+◌, ◌-◌, ◌<◌, ◌≤◌, ◌==◌, ◌&&◌, not, false, [], ◌∷◌, ◌++◌, if◌then◌else◌, length, All, IsOk, OnOk, OnErr, slice_get, slice_set, slice_index};
+ghost use Rattle.std.specs.Option.{option_copied, option_map_or};
+ghost use Rattle.act_resolver.specs.Resolver.{new_call, is_told, is_sent, is_known, first_ready, with_told, with_sent};
+ghost use Rattle.act_resolver.specs.Counts.{is_free, times, untold_of};
+ghost use Rattle.act_resolver.specs.Waiters.{waiting};
 
 use crate::futures::Futures;
+use crate::least::LeastSet;
+use crate::waiters::Waiters;
 use act_types::{FutureId, NoMemory};
 use std::alloc::Global;
 use std::marker::Model;
@@ -31,20 +34,25 @@ impl Model for Call {
 #[derive(Drop)]
 pub struct Resolver {
     calls: Vec<Call>,
+    /// Of each call, how many places among its arguments weren't told.
+    untold: Vec<u8>,
+    waiters: Waiters,
+    ready: LeastSet,
 }
 
 impl Model for Resolver {
-    ghost use Rattle.std.specs.Prelude.{◌-◌, ◌≤◌, vec_len, vec_capacity};
+    ghost use Rattle.std.specs.Prelude.{◌-◌, ◌/◌, min, length, vec_len, vec_capacity};
+    ghost use Rattle.act_resolver.specs.Counts.{IsResolver};
     ghost use Rattle.act_resolver.specs.Resolver.{ResolverValue};
 
     ghost Value = { ResolverValue };
 
     ghost view = { λ resolver. record {
       calls = resolver.calls.items;
-      spare = vec_capacity resolver.calls - vec_len resolver.calls;
+      spare = min (min (vec_capacity resolver.calls - vec_len resolver.calls) (vec_capacity resolver.untold - vec_len resolver.untold)) (min (min resolver.waiters.future_room (resolver.waiters.place_room / 4)) (length resolver.ready - vec_len resolver.calls));
     } };
 
-    ghost invariant = { λ resolver. vec_len resolver.calls ≤ 65536 };
+    ghost invariant = { λ resolver. IsResolver resolver.calls.items resolver.untold.items resolver.waiters.lists resolver.ready };
 }
 
 impl Resolver {
@@ -54,6 +62,9 @@ impl Resolver {
     {
         Resolver {
             calls: Vec::new(alloc),
+            untold: Vec::new(alloc),
+            waiters: Waiters::new(alloc),
+            ready: LeastSet::new(alloc),
         }
     }
 
@@ -65,6 +76,9 @@ impl Resolver {
         ensures spare { self.old.spare ≤ self.new.spare }
     {
         self.calls.reserve(1)?;
+        self.untold.reserve(1)?;
+        self.waiters.reserve_one()?;
+        self.ready.make_room(self.calls.len() + 1)?;
         Ok(())
     }
 
@@ -82,22 +96,33 @@ impl Resolver {
         ensures spare { self.old.spare ≤ self.new.spare + 1 }
     {
         prove_eq!(k.number() as usize, self.calls.len());
-        self.calls.push(Call {
+        self.reserve_one()?;
+        self.waiters.add_future();
+        let untold = add_places(&self.calls, &mut self.waiters, k, futures);
+        self.calls.push_reserved(Call {
             futures: Futures::new(futures),
             told: false,
             sent: false,
-        })?;
+        });
+        self.untold.push_reserved(untold);
+        self.ready.set(k.number() as usize, untold == 0);
         Ok(())
     }
 
-    /// Call `k` is answered, so it is never ready again, and no call waits for it.
+    /// Call `k` is answered, so it is never ready again, and no call waits for it. It costs the places
+    /// that waited for it, and a logarithm of the calls for each call that gets ready.
     pub fn told(&mut self, k: FutureId)
         requires { k < length self.old.calls }
         ensures calls { self.new.calls ≡ with_told self.old.calls k }
         ensures spare { self.old.spare ≤ self.new.spare }
     {
-        let call = &mut self.calls[k.number() as usize];
+        let place = k.number() as usize;
+        let call = &mut self.calls[place];
         call.told = true;
+        self.ready.set(place, false);
+        while let Some(waiter) = self.waiters.pop(k) {
+            tell_place(&self.calls, &mut self.untold, &mut self.ready, waiter);
+        }
     }
 
     /// Call `k` was sent, so it is never ready again.
@@ -106,8 +131,10 @@ impl Resolver {
         ensures calls { self.new.calls ≡ with_sent self.old.calls k }
         ensures spare { self.old.spare ≤ self.new.spare }
     {
-        let call = &mut self.calls[k.number() as usize];
+        let place = k.number() as usize;
+        let call = &mut self.calls[place];
         call.sent = true;
+        self.ready.set(place, false);
     }
 
     /// The least call that may be sent: every future among its arguments was told, and it was
@@ -115,9 +142,7 @@ impl Resolver {
     pub fn ready(&self) -> Option<FutureId>
         ensures { result ≡ first_ready self.now.calls }
     {
-        (0..self.calls.len() as u32)
-            .map(FutureId::new)
-            .find(|k| self.is_ready(*k))
+        self.ready.least().map(FutureId::new)
     }
 
     /// Whether call `k` was entered and sent.
@@ -131,26 +156,7 @@ impl Resolver {
     pub fn is_known(&self, k: FutureId) -> bool
         ensures { result ≡ is_known self.now.calls k }
     {
-        self.call(k)
-            .is_some_and(|call| self.are_told(call.futures.as_slice()))
-    }
-
-    fn are_told(&self, futures: &[FutureId]) -> bool
-        ensures { result ≡ list_all (is_told self.now.calls) futures.now }
-    {
-        futures.iter().all(|future| self.is_told(*future))
-    }
-
-    fn is_told(&self, k: FutureId) -> bool
-        ensures { result ≡ is_told self.now.calls k }
-    {
-        self.call(k).is_some_and(|call| call.told)
-    }
-
-    fn is_ready(&self, k: FutureId) -> bool
-        ensures { result ≡ is_ready self.now.calls k }
-    {
-        self.is_known(k) && !self.is_sent(k) && !self.is_told(k)
+        is_zero(&self.untold, k)
     }
 
     fn call(&self, k: FutureId) -> Option<&Call>
@@ -158,4 +164,60 @@ impl Resolver {
     {
         self.calls.get(k.number() as usize)
     }
+}
+
+/// Has call `k` wait at each place for whose future there is no answer yet, and counts them.
+fn add_places(calls: &[Call], waiters: &mut Waiters, k: FutureId, futures: &[FutureId]) -> u8
+    requires at_most_four { length futures.now ≤ 4 }
+    requires earlier { All (λ future. future < length waiters.old.lists) futures.now }
+    requires room { 4 ≤ waiters.old.place_room }
+
+    ensures count { result ≡ untold_of calls.now futures.now }
+    ensures lists { (future call : ℕ) →
+        times call (waiting waiters.new.lists future)
+        ≡ times call (waiting waiters.old.lists future)
+        + (if (call == k) && not (is_told calls.now future) then times future futures.now else 0) }
+    ensures length { length waiters.new.lists ≡ length waiters.old.lists }
+    ensures future_room { waiters.new.future_room ≡ waiters.old.future_room }
+    ensures place_room { waiters.old.place_room ≤ waiters.new.place_room + 4 }
+{
+    let mut untold = 0;
+    for future in futures {
+        if !is_told(calls, *future) {
+            waiters.add(*future, k);
+            untold += 1;
+        }
+    }
+    untold
+}
+
+fn is_told(calls: &[Call], k: FutureId) -> bool
+    ensures { result ≡ is_told calls.now k }
+{
+    calls.get(k.number() as usize).is_some_and(|call| call.told)
+}
+
+fn is_zero(counts: &[u8], k: FutureId) -> bool
+    ensures { result ≡ option_map_or (λ count. count == 0) (slice_get counts.now k) false }
+{
+    counts
+        .get(k.number() as usize)
+        .is_some_and(|count| *count == 0)
+}
+
+/// One place of call `k` waits no more.
+fn tell_place(calls: &[Call], untold: &mut [u8], ready: &mut LeastSet, k: FutureId)
+    requires entered { k < length calls.now }
+    requires counted { length untold.old ≡ length calls.now }
+    requires waits { 1 ≤ slice_index untold.old k }
+    requires room { length calls.now ≤ length ready.old }
+
+    ensures untold { untold.new ≡ slice_set untold.old k (slice_index untold.old k - 1) }
+    ensures ready { ready.new ≡ slice_set ready.old k (is_free calls.now untold.new k) }
+{
+    let place = k.number() as usize;
+    untold[place] -= 1;
+    let call = &calls[place];
+    let is_free = untold[place] == 0 && !call.sent && !call.told;
+    ready.set(place, is_free);
 }

@@ -1,9 +1,11 @@
-//! A worked example, and calls that are entered where memory is refused.
+//! A worked example, calls that are entered where memory is refused, and many calls beside a plain
+//! scan of them.
 
-ghost use Rattle.std.specs.Prelude.{◌≡◌, [], length, IfOk, OnErr};
+ghost use Rattle.std.specs.Prelude.{◌≡◌, ◌<◌, ◌≤◌, [], length, IfOk, OnErr};
 
-use crate::Resolver;
+use crate::{Futures, Resolver};
 use act_types::{FutureId, NoMemory};
+use std::alloc::Global;
 use std::process::Abort;
 use std::test::Fail;
 
@@ -136,6 +138,162 @@ fn refused_memory_changes_nothing(rt: HostRuntime) -> Result<(), Fail> {
         (c9, false, false),
     ] {
         assert_eq!(rt; (resolver.is_sent(k), resolver.is_known(k)), (sent, known));
+    }
+    Ok(())
+}
+
+#[test]
+fn a_thousand_calls_wait_for_one(rt: HostRuntime) -> Result<(), Fail> {
+    let c0 = FutureId::new(0);
+    let mut resolver = Resolver::new(rt.alloc());
+    let mut entered = take(&rt, &mut resolver, 0, &Step::Enter(&[]))?;
+    for _ in 0..1000 {
+        entered = take(&rt, &mut resolver, entered, &Step::Enter(&[c0]))?;
+    }
+    assert_eq!(rt; resolver.ready(), Some(c0));
+    take(&rt, &mut resolver, entered, &Step::Told(c0))?;
+    assert_eq!(rt; resolver.ready(), Some(FutureId::new(1)));
+    Ok(())
+}
+
+/// A call as the plain scan sees it.
+#[derive(Drop)]
+struct Scanned {
+    futures: Futures,
+    told: bool,
+    sent: bool,
+}
+
+fn is_told(calls: &[Scanned], k: FutureId) -> bool {
+    calls.get(k.number() as usize).is_some_and(|call| call.told)
+}
+
+fn is_sent(calls: &[Scanned], k: FutureId) -> bool {
+    calls.get(k.number() as usize).is_some_and(|call| call.sent)
+}
+
+/// Asks each argument of the call.
+fn is_known(calls: &[Scanned], k: FutureId) -> bool {
+    let Some(call) = calls.get(k.number() as usize) else {
+        return false;
+    };
+    call.futures
+        .as_slice()
+        .iter()
+        .all(|future| is_told(calls, *future))
+}
+
+/// Asks each call in turn.
+fn first_ready(calls: &[Scanned]) -> Option<FutureId>
+    requires { length calls.now ≤ 65536 }
+{
+    (0..calls.len() as u32).map(FutureId::new).find(|k| is_known(calls, *k)
+        && !is_sent(calls, *k)
+        && !is_told(calls, *k))
+}
+
+/// Takes the step as `take` does.
+fn scan_step(rt: &impl Abort, calls: &mut Vec<Scanned>, step: &Step) -> Result<(), NoMemory> {
+    match *step {
+        Step::Reserve => {}
+        Step::Enter(futures) => {
+            assert!(rt; futures.len() <= 4);
+            calls.push(Scanned {
+                futures: Futures::new(futures),
+                told: false,
+                sent: false,
+            })?;
+        }
+        Step::Told(k) => {
+            assert!(rt; (k.number() as usize) < calls.len());
+            let call = &mut calls[k.number() as usize];
+            call.told = true;
+        }
+        Step::Sent(k) => {
+            assert!(rt; (k.number() as usize) < calls.len());
+            let call = &mut calls[k.number() as usize];
+            call.sent = true;
+        }
+    }
+    Ok(())
+}
+
+/// The resolver answers as the plain scan does.
+fn assert_same(rt: &impl Abort, resolver: &Resolver, calls: &[Scanned]) {
+    assert!(rt; calls.len() <= 65_536);
+    assert_eq!(rt; resolver.ready(), first_ready(calls));
+    for k in (0..calls.len() as u32 + 1).map(FutureId::new) {
+        assert_eq!(rt; resolver.is_known(k), is_known(calls, k));
+        assert_eq!(rt; resolver.is_sent(k), is_sent(calls, k));
+    }
+}
+
+/// A xorshift generator.
+#[derive(Drop)]
+struct Random {
+    state: u32,
+}
+
+impl Random {
+    fn below(&mut self, bound: u32) -> u32
+        requires { 0 < bound }
+        ensures { result < bound }
+    {
+        self.state ^= self.state << 13;
+        self.state ^= self.state >> 17;
+        self.state ^= self.state << 5;
+        self.state % bound
+    }
+}
+
+/// Four futures of so many calls.
+fn random_futures(random: &mut Random, entered: u32) -> [FutureId; 4] {
+    let mut futures = [FutureId::new(0); 4];
+    for future in futures.iter_mut() {
+        *future = FutureId::new(random.below(entered.max(1)));
+    }
+    futures
+}
+
+/// A step that may be taken after so many calls, of which this one is ready.
+fn random_step<'a>(
+    random: &mut Random,
+    entered: u32,
+    ready: Option<FutureId>,
+    futures: &'a [FutureId; 4],
+) -> Step<'a> {
+    if entered == 0 {
+        return Step::Enter(&[]);
+    }
+    let k = FutureId::new(random.below(entered));
+    match random.below(4) {
+        0 => Step::Told(k),
+        1 => Step::Sent(k),
+        2 => Step::Sent(ready.unwrap_or(k)),
+        _ => Step::Enter(&futures[..random.below(5) as usize]),
+    }
+}
+
+/// Random steps of a resolver and of the plain calls.
+fn random_run(rt: &impl Abort, alloc: Global, random: &mut Random) -> Result<(), NoMemory> {
+    let mut resolver = Resolver::new(alloc);
+    let mut calls = Vec::new(alloc);
+    let mut entered = 0;
+    for _ in 0..40 {
+        let futures = random_futures(random, entered);
+        let step = random_step(random, entered, resolver.ready(), &futures);
+        entered = take(rt, &mut resolver, entered, &step)?;
+        scan_step(rt, &mut calls, &step)?;
+        assert_same(rt, &resolver, &calls);
+    }
+    Ok(())
+}
+
+#[test]
+fn random_runs_agree_with_a_plain_scan(rt: HostRuntime) -> Result<(), Fail> {
+    let mut random = Random { state: 2026 };
+    for _ in 0..2000 {
+        random_run(&rt, rt.alloc(), &mut random)?;
     }
     Ok(())
 }

@@ -1,0 +1,11 @@
+use Rattle.std.proofs.Common.{◌≡◌, ◌∙◌, ap, rules}
+use Rattle.act_resolver.specs.Resolver.{first_ready}
+use Rattle.act_resolver.proofs.Counting.{first_ready_is}
+use Rattle.act_resolver.proofs.resolver.Resolver.ready.Goals as goal
+
+pub returns : goal.returns
+returns c =
+    let same : c.map.result ≡ c.least.result = search rules in
+    same
+    ∙ first_ready_is c.self.inside.calls.items c.self.inside.untold.items c.self.inside.ready c.least.result c.self.invariant.4 c.self.invariant.6 c.least.ensures
+    ∙ ap (λ v. first_ready v.calls) c.self.view_is

@@ -1,0 +1,19 @@
+use Rattle.std.proofs.Common.{◌≡◌, length, vec_capacity, vec_len}
+use Rattle.act_resolver.specs.Counts.{IsTelling}
+use Rattle.act_resolver.specs.Waiters.{waiting}
+use Rattle.act_resolver.proofs.resolver.Resolver.told.Given as goal
+
+-- the calls that wait are yet to be counted down, and the room stays
+abbrev pub invariant-loop-waiter : goal.invariant-loop-waiter
+invariant-loop-waiter l = record {
+  telling : IsTelling l.k l.self-inside.calls.items l.self-inside.untold.items l.self-inside.waiters.lists l.self-inside.ready;
+  calls : l.self-inside.calls ≡ l.initial.self-inside.calls;
+  untold_len : vec_len l.self-inside.untold ≡ vec_len l.initial.self-inside.untold;
+  untold_room : vec_capacity l.self-inside.untold ≡ vec_capacity l.initial.self-inside.untold;
+  future_room : l.self-inside.waiters.future_room ≡ l.initial.self-inside.waiters.future_room;
+  place_room : l.self-inside.waiters.place_room ≡ l.initial.self-inside.waiters.place_room;
+  ready_room : length l.self-inside.ready ≡ length l.initial.self-inside.ready;
+}
+
+abbrev pub decreases-loop-waiter : goal.decreases-loop-waiter
+decreases-loop-waiter l = length (waiting l.self-inside.waiters.lists l.k)

@@ -1,0 +1,44 @@
+-- What a resolver keeps beside its calls: counts, the calls that wait for each future, and the calls that are ready.
+use Rattle.std.specs.Prelude.{◌≡◌, ℕ, ◌+◌, ◌≤◌, ◌==◌, ◌&&◌, Bool, true, false, not, if◌then◌else◌, List, [], length, slice_get, slice_index, slice_index_or, count_by}
+use Rattle.std.specs.Option.{option_map_or}
+use Rattle.act_resolver.specs.Resolver.{Entered, is_told}
+use Rattle.act_resolver.specs.Waiters.{waiting}
+
+-- the futures among the arguments of call k
+abbrev pub futures_of : List Entered → ℕ → List ℕ
+futures_of calls k = option_map_or (λ call. call.futures) (slice_get calls k) []
+
+-- how many of these futures weren't told, each counted as often as it is named
+abbrev pub untold_of : List Entered → List ℕ → ℕ
+untold_of calls futures = count_by (λ future. not (is_told calls future)) futures
+
+-- how often k is among these numbers
+abbrev pub times : ℕ → List ℕ → ℕ
+times k numbers = count_by (λ number. number == k) numbers
+
+-- how many places of call k wait for a future: none once it was told
+abbrev pub places_for : List Entered → ℕ → ℕ → ℕ
+places_for calls future k = if is_told calls future then 0 else times future (futures_of calls k)
+
+-- whether call k was entered, none of its places waits, and it was neither sent nor told
+abbrev pub is_free : List Entered → List ℕ → ℕ → Bool
+is_free calls counts k = option_map_or (λ call. (slice_index counts k == 0) && not call.sent && not call.told) (slice_get calls k) false
+
+-- the count of each call is the number of its places that weren't told
+abbrev pub AreCounted : List Entered → List ℕ → Type 0
+AreCounted calls counts = (k : ℕ) → slice_index counts k ≡ untold_of calls (futures_of calls k)
+
+-- a call stands among those that wait for a future as often as its places wait for it
+abbrev pub AreWaiting : List Entered → List (List ℕ) → Type 0
+AreWaiting calls lists = (future k : ℕ) → times k (waiting lists future) ≡ places_for calls future k
+
+-- the set has the free calls
+abbrev pub AreFree : List Entered → List ℕ → List Bool → Type 0
+AreFree calls counts ready = (k : ℕ) → slice_index_or ready k false ≡ is_free calls counts k
+
+abbrev pub IsResolver : List Entered → List ℕ → List (List ℕ) → List Bool → Type 0
+IsResolver calls counts lists ready = (length calls ≤ 65536) × (length counts ≡ length calls) × (length lists ≡ length calls) × (length calls ≤ length ready) × AreCounted calls counts × AreWaiting calls lists × AreFree calls counts ready
+
+-- while future k is being told: each call that waits for it is yet to be counted down, and all else is as it should be
+abbrev pub IsTelling : ℕ → List Entered → List ℕ → List (List ℕ) → List Bool → Type 0
+IsTelling k calls counts lists ready = (length calls ≤ 65536) × (length counts ≡ length calls) × (length lists ≡ length calls) × (length calls ≤ length ready) × ((call : ℕ) → slice_index counts call ≡ untold_of calls (futures_of calls call) + times call (waiting lists k)) × ((future call : ℕ) → (future ≡ k → ⊥) → times call (waiting lists future) ≡ places_for calls future call) × (is_told calls k ≡ true) × AreFree calls counts ready
