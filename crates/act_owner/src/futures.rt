@@ -1,15 +1,14 @@
 //! Changes of a caller's futures, each told by what was there before.
 
-ghost use Rattle.std.specs.Prelude.{◌≡◌, ◌≤◌, ◌<◌, ◌++◌, ◌∷◌, [], true, length, map, option_copied};
+ghost use Rattle.std.specs.Prelude.{◌≡◌, ◌≤◌, ◌<◌, ◌++◌, ◌∷◌, [], true, length, map, count_by};
 ghost use Rattle.std.specs.List.{list_all};
 ghost use Rattle.act_rules.specs.Submissions.{is_earlier};
-ghost use Rattle.act_replies.specs.Table.{after_death};
-ghost use Rattle.act_owner.specs.Owner.{submission_of, futures_of, waits_for, answered_row, entered_call, IsTold};
+ghost use Rattle.act_replies.specs.Table.{waits_for, after_death};
+ghost use Rattle.act_owner.specs.Owner.{futures_of, answered_row, entered_call, IsTold};
 
-use crate::owner::Call;
 use act_replies::ReplyTable;
 use act_resolver::{Futures, Resolver};
-use act_types::{ActorId, Answer, Arg, Fault, FutureId, ListOf};
+use act_types::{ActorId, Arg, Fault, FutureId, ListOf};
 
 /// The futures among the arguments of a call.
 fn futures_of(args: &ListOf<Arg>) -> Futures
@@ -56,26 +55,20 @@ pub(crate) fn enter(table: &mut ReplyTable, a: ActorId, is_dead: bool) -> Future
     k
 }
 
-/// Whether the call is of this actor and has no answer yet.
-fn waits_for(a: ActorId, call: &Call, answer: Option<&Answer>) -> bool
-    ensures { result ≡ waits_for a (submission_of call.now, option_copied answer.entry) }
-{
-    call.actor == a && answer.is_none()
-}
-
-/// Tells the resolver the futures that the actor's death answers.
-pub(crate) fn tell_death(resolver: &mut Resolver, calls: &[Call], table: &ReplyTable, a: ActorId)
-    requires limit { length calls.now ≤ 65536 }
-    requires actors { map (λ row. row.actor) table.now.rows ≡ map (λ call. call.actor) calls.now }
-    requires told { IsTold resolver.old.calls table.now.rows }
-    ensures told { IsTold resolver.new.calls (after_death a table.now.rows) }
+/// Answers each future of the actor that has no answer yet with `ActorDied`, tells the resolver of
+/// it, and gives their number. It passes over no other call.
+pub(crate) fn answer_death(table: &mut ReplyTable, resolver: &mut Resolver, a: ActorId) -> u32
+    requires told { IsTold resolver.old.calls table.old.rows }
+    ensures value { result ≡ count_by (waits_for a) table.old.rows }
+    ensures rows { table.new.rows ≡ after_death a table.old.rows }
+    ensures told { IsTold resolver.new.calls (after_death a table.old.rows) }
     ensures futures { map (λ call. call.futures) resolver.new.calls ≡ map (λ call. call.futures) resolver.old.calls }
     ensures sent { map (λ call. call.sent) resolver.new.calls ≡ map (λ call. call.sent) resolver.old.calls }
 {
-    for (place, call) in calls.iter().enumerate() {
-        let k = FutureId::new(place as u32);
-        if waits_for(a, call, table.answer(k)) {
-            resolver.told(k);
-        }
+    let before = table.unanswered();
+    while let Some(future) = table.waiting_of(a) {
+        table.keep(future, Err(Fault::ActorDied));
+        resolver.told(future);
     }
+    before - table.unanswered()
 }

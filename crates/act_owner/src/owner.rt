@@ -10,7 +10,7 @@ ghost use Rattle.act_owner.specs.Owner.{OwnerValue, opened, with_handles, releas
 ghost use Rattle.act_types.specs.declared.message.Notice.TheVariants.{Death};
 
 use crate::args::{all_settled, are_earlier};
-use crate::futures::{enter, enter_call, tell_death};
+use crate::futures::{answer_death, enter, enter_call};
 use act_handles::{HandleRefusal, Handles};
 use act_replies::ReplyTable;
 use act_resolver::Resolver;
@@ -396,8 +396,7 @@ impl Owner {
             return Collected::Stray;
         }
         self.dead[a.number() as usize] = true;
-        tell_death(&mut self.resolver, &self.calls, &self.table, a);
-        Collected::Died(self.table.died(a))
+        Collected::Died(answer_death(&mut self.table, &mut self.resolver, a))
     }
 
     /// Takes what an actor's side tells. A reply's answer is kept where its future has none yet,

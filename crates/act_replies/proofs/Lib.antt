@@ -1,2 +1,4 @@
-pub mod Counts
+pub mod Chains
+pub mod Deaths
+pub mod Links
 pub mod Lookups

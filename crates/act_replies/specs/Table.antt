@@ -1,5 +1,6 @@
 -- What contracts say of a caller's futures and their answers.
-use Rattle.std.specs.Prelude.{◌≡◌, ℕ, ◌≤◌, ◌==◌, ◌&&◌, Bool, not, if◌then◌else◌, List, map, length, slice_get, slice_set, count_by, Option, Some, None, is_some, option_and_then, Result, Err}
+use Rattle.std.specs.Prelude.{◌≡◌, ℕ, ◌≤◌, ◌==◌, ◌&&◌, Bool, false, not, if◌then◌else◌, List, map, length, slice_get, slice_set, count_by, Option, Some, None, is_some, option_and_then, Result, Err}
+use Rattle.std.specs.Option.{option_map_or}
 use Rattle.act_types.specs.declared.value.Value.{Value}
 use Rattle.act_types.specs.declared.fault.Fault.{Fault}
 use Rattle.act_types.specs.declared.fault.Fault.TheVariants.{ActorDied}
@@ -19,6 +20,10 @@ is_open row = not (is_some row.answer)
 -- whether it has no answer yet and is of this actor
 abbrev pub waits_for : ℕ → Row → Bool
 waits_for a row = (row.actor == a) && is_open row
+
+-- whether future k has no answer yet and is of this actor
+abbrev pub waits_at : ℕ → List Row → ℕ → Bool
+waits_at a rows k = option_map_or (waits_for a) (slice_get rows k) false
 
 -- a new future of an actor
 abbrev pub unanswered_row : ℕ → Row
@@ -57,3 +62,11 @@ after_death a rows = map (row_after_death a) rows
 -- the number of futures without an answer is counted, and there are few enough futures
 abbrev pub IsTable : List Row → ℕ → Type 0
 IsTable rows unanswered = (unanswered ≡ count_by is_open rows) × (length rows ≤ 65536)
+
+-- the actor that a future waits for, none once it has its answer
+abbrev pub actor_of : Row → Option ℕ
+actor_of row = if is_open row then Some row.actor else None
+
+-- of each future it is known which actor it waits for
+abbrev pub IsKnown : List Row → List (Option ℕ) → Type 0
+IsKnown rows actors = actors ≡ map actor_of rows

@@ -4,5 +4,6 @@
 mod table;
 #[cfg(test)]
 mod tests;
+mod waiting;
 
 pub use table::{Kept, ReplyTable, Row};

@@ -1,8 +1,9 @@
 //! The table of a caller's futures.
 
-ghost use Rattle.std.specs.Prelude.{◌≡◌, ℕ, ◌+◌, ◌<◌, ◌≤◌, [], ◌∷◌, ◌++◌, map, length, count_by, IfOk, OnOk, OnErr, IsOk, option_copied};
-ghost use Rattle.act_replies.specs.Table.{is_open, waits_for, unanswered_row, answer_of, kept, after_keep, row_after_death, after_death};
+ghost use Rattle.std.specs.Prelude.{◌≡◌, ◌+◌, ◌<◌, ◌≤◌, [], ◌∷◌, ◌++◌, length, drop, count_by, true, IfOk, IfNone, IfSome, OnOk, OnErr, IsOk, option_copied};
+ghost use Rattle.act_replies.specs.Table.{is_open, waits_for, waits_at, unanswered_row, answer_of, kept, after_keep, after_death};
 
+use crate::waiting::Waiting;
 use act_types::{ActorId, Answer, Fault, FutureId, NoMemory};
 use std::alloc::Global;
 use std::marker::Model;
@@ -29,45 +30,22 @@ pub struct Row {
 #[derive(Drop)]
 pub struct ReplyTable {
     rows: Vec<Row>,
+    waiting: Waiting,
     unanswered: u32,
 }
 
 impl Model for ReplyTable {
-    ghost use Rattle.std.specs.Prelude.{◌-◌, vec_len, vec_capacity};
-    ghost use Rattle.act_replies.specs.Table.{TableValue, IsTable};
+    ghost use Rattle.std.specs.Prelude.{◌-◌, min, vec_len, vec_capacity};
+    ghost use Rattle.act_replies.specs.Table.{TableValue, IsTable, IsKnown};
 
     ghost Value = { TableValue };
 
-    ghost view = { λ table. record { rows = table.rows.items; spare = vec_capacity table.rows - vec_len table.rows } };
+    ghost view = { λ table. record {
+      rows = table.rows.items;
+      spare = min (vec_capacity table.rows - vec_len table.rows) table.waiting.spare;
+    } };
 
-    ghost invariant = { λ table. IsTable table.rows.items table.unanswered };
-}
-
-/// Gives the future the answer that its actor died, if it is of this actor and has none yet.
-fn mark_row(row: &mut Row, actor: ActorId) -> bool
-    ensures value { result ≡ waits_for actor row.old }
-    ensures row { row.new ≡ row_after_death actor row.old }
-{
-    if row.actor != actor || row.answer.is_some() {
-        return false;
-    }
-    row.answer = Some(Err(Fault::ActorDied));
-    true
-}
-
-/// Does so for each of the futures, and counts those that it changed.
-fn mark_rows(rows: &mut [Row], actor: ActorId) -> u32
-    requires { length rows.old ≤ 65536 }
-    ensures value { result ≡ count_by (waits_for actor) rows.old }
-    ensures rows { rows.new ≡ after_death actor rows.old }
-{
-    let mut marked = 0;
-    for row in rows.iter_mut() {
-        if mark_row(row, actor) {
-            marked += 1;
-        }
-    }
-    marked
+    ghost invariant = { λ table. IsTable table.rows.items table.unanswered × IsKnown table.rows.items table.waiting.actors };
 }
 
 impl ReplyTable {
@@ -77,6 +55,7 @@ impl ReplyTable {
     {
         ReplyTable {
             rows: Vec::new(alloc),
+            waiting: Waiting::new(alloc),
             unanswered: 0,
         }
     }
@@ -89,6 +68,7 @@ impl ReplyTable {
         ensures spare { self.old.spare ≤ self.new.spare }
     {
         self.rows.reserve(1)?;
+        self.waiting.reserve_one()?;
         Ok(())
     }
 
@@ -101,11 +81,13 @@ impl ReplyTable {
         ensures room { 1 ≤ self.old.spare → IsOk result }
         ensures spare { self.old.spare ≤ self.new.spare + 1 }
     {
+        self.reserve_one()?;
         let number = self.rows.len();
-        self.rows.push(Row {
+        self.rows.push_reserved(Row {
             actor,
             answer: None,
-        })?;
+        });
+        self.waiting.push(actor);
         self.unanswered += 1;
         Ok(FutureId::new(number as u32))
     }
@@ -124,20 +106,32 @@ impl ReplyTable {
             return Kept::Late;
         }
         self.rows[place].answer = Some(answer);
+        self.waiting.remove(future);
         self.unanswered -= 1;
         Kept::First
     }
 
     /// Answers each future of the actor that has no answer yet with `ActorDied`, and gives their
-    /// number.
+    /// number. It passes over no other future.
     pub fn died(&mut self, actor: ActorId) -> u32
         ensures value { result ≡ count_by (waits_for actor) self.old.rows }
         ensures rows { self.new.rows ≡ after_death actor self.old.rows }
         ensures spare { self.new.spare ≡ self.old.spare }
     {
-        let marked = mark_rows(&mut self.rows, actor);
-        self.unanswered -= marked;
-        marked
+        let before = self.unanswered();
+        while let Some(future) = self.waiting_of(actor) {
+            self.keep(future, Err(Fault::ActorDied));
+        }
+        before - self.unanswered()
+    }
+
+    /// The last future of the actor that has no answer yet. It is known without a search.
+    pub fn waiting_of(&self, actor: ActorId) -> Option<FutureId>
+        ensures waits { IfSome result (λ k. waits_at actor self.now.rows k ≡ true) }
+        ensures last { IfSome result (λ k. count_by (waits_for actor) (drop (k + 1) self.now.rows) ≡ 0) }
+        ensures none { IfNone result (count_by (waits_for actor) self.now.rows ≡ 0) }
+    {
+        self.waiting.last_of(actor)
     }
 
     /// The answer that is kept for a future.

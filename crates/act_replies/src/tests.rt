@@ -1,8 +1,9 @@
-//! Three futures of two actors, with an answer, a death, and replies that come too late; and a table
-//! that grows where memory is refused.
+//! Three futures of two actors, with an answer, a death, and replies that come too late; a table
+//! that grows where memory is refused; and random steps that compare a table with a plain list.
 
 use crate::{Kept, ReplyTable};
-use act_types::{ActorId, Fault, FutureId, Value};
+use act_types::{ActorId, Answer, Fault, FutureId, NoMemory, Value};
+use std::process::Abort;
 use std::test::Fail;
 
 #[test]
@@ -65,6 +66,118 @@ fn refused_memory_changes_nothing(rt: HostRuntime) -> Result<(), Fail> {
     }
     for (k, want) in [(1, None), (2, Some(Ok(Value::Int(5)))), (16, None)] {
         assert_eq!(rt; table.answer(FutureId::new(k)), want.as_ref(), "at {k}");
+    }
+    Ok(())
+}
+
+/// A future as a plain list has it.
+#[derive(Drop)]
+struct Plain {
+    actor: ActorId,
+    answer: Option<Answer>,
+}
+
+fn waits(future: &Plain, actor: ActorId) -> bool {
+    future.actor == actor && future.answer.is_none()
+}
+
+/// What the plain list makes of an answer.
+fn keep_plainly(futures: &mut [Plain], place: usize, answer: Answer) -> Kept {
+    let Some(future) = futures.get_mut(place) else {
+        return Kept::Stray;
+    };
+    if future.answer.is_some() {
+        return Kept::Late;
+    }
+    future.answer = Some(answer);
+    Kept::First
+}
+
+/// Answers the futures of a death in the plain list, and gives their number.
+fn die_plainly(futures: &mut [Plain], actor: ActorId) -> usize {
+    let count = futures.iter().filter(|future| waits(future, actor)).count();
+    for future in futures.iter_mut() {
+        if waits(future, actor) {
+            future.answer = Some(Err(Fault::ActorDied));
+        }
+    }
+    count
+}
+
+/// The next number of a fixed sequence that looks random.
+fn shuffled(number: u32) -> u32 {
+    let number = number ^ (number << 13);
+    let number = number ^ (number >> 17);
+    number ^ (number << 5)
+}
+
+/// Takes a step that the number chooses in the table and in the plain list, and compares what both
+/// tell of it.
+fn take_step(
+    rt: &impl Abort,
+    table: &mut ReplyTable,
+    futures: &mut Vec<Plain>,
+    number: u32,
+) -> Result<(), NoMemory> {
+    let actor = ActorId::new((number % 3) as u8 + 1).unwrap();
+    match number / 3 % 32 {
+        0 => {
+            let told = die_plainly(futures, actor);
+            assert_eq!(rt; table.died(actor) as usize, told);
+        }
+        1..=12 => {
+            assert!(rt; table.count() < 65_536);
+            let future = table.enter(actor)?;
+            assert_eq!(rt; future.number() as usize, futures.len());
+            futures.push(Plain {
+                actor,
+                answer: None,
+            })?;
+        }
+        _ => {
+            let future = FutureId::new(number / 96 % (table.count() + 2));
+            let answer = i64::from(number);
+            let told = keep_plainly(futures, future.number() as usize, Ok(Value::Int(answer)));
+            assert_eq!(rt; table.keep(future, Ok(Value::Int(answer))), told);
+        }
+    }
+    Ok(())
+}
+
+/// Compares which futures wait.
+fn assert_waiting(rt: &impl Abort, table: &ReplyTable, futures: &[Plain]) {
+    let open = futures
+        .iter()
+        .filter(|future| future.answer.is_none())
+        .count();
+    assert_eq!(rt; table.unanswered() as usize, open);
+    for number in 1..4 {
+        let actor = ActorId::new(number).unwrap();
+        let last = futures.iter().rposition(|future| waits(future, actor));
+        let told = table
+            .waiting_of(actor)
+            .map(|future| future.number() as usize);
+        assert_eq!(rt; told, last, "of {actor}");
+    }
+}
+
+#[test]
+fn the_same_as_a_plain_list(rt: HostRuntime) -> Result<(), Fail> {
+    let mut table = ReplyTable::new(rt.alloc());
+    let mut futures = Vec::new(rt.alloc());
+    let mut number = 2_463_534_242;
+    for _ in 0..4_000 {
+        number = shuffled(number);
+        take_step(&rt, &mut table, &mut futures, number)?;
+        assert_waiting(&rt, &table, &futures);
+    }
+    assert_eq!(rt; table.count() as usize, futures.len());
+    for (k, future) in (0..table.count()).zip(futures.iter()) {
+        assert_eq!(rt;
+            table.answer(FutureId::new(k)),
+            future.answer.as_ref(),
+            "at {k}"
+        );
     }
     Ok(())
 }

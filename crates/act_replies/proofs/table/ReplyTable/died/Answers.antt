@@ -1,10 +1,27 @@
-use Rattle.act_replies.proofs.Counts.{marked_few, marked_fine}
+use Rattle.std.proofs.Common.{◌∙◌, Err, count_by, sym, ap, arith}
+use Rattle.act_types.specs.declared.fault.Fault.TheVariants.{ActorDied}
+use Rattle.act_replies.specs.Table.{is_open, waits_for, after_death}
+use Rattle.act_replies.proofs.Deaths.{death-after_keep, count-after_keep, count_open-after_keep, death-none}
 use Rattle.act_replies.proofs.table.ReplyTable.died.Goals as goal
 
-pub overflow_sub-self : goal.overflow_sub-self
-overflow_sub-self c =
-    marked_few c.args.actor c.self.inside.rows.items c.deref_mut.result.now c.self.inside.unanswered c.mark_rows-marked.result c.self.invariant c.deref_mut.ensures.value c.mark_rows-marked.ensures.value
+pub loop-future-smaller : goal.loop-future-smaller
+loop-future-smaller c =
+    omega (arith, count-after_keep c.args.actor c.in-Some.future (Err ActorDied) c.loop-future.self.rows c.in-Some.ensures.waits, ap (count_by (waits_for c.args.actor)) c.keep.ensures.rows)
 
-pub invariant_of-self : goal.invariant_of-self
-invariant_of-self c =
-    marked_fine c.args.actor c.self.inside.rows.items c.deref_mut.result.now c.mark_rows-marked.new.rows c.self.inside.rows.len c.self.inside.unanswered c.mark_rows-marked.result c.self.invariant c.self.inside.rows.ok.0 c.deref_mut.ensures.value c.mark_rows-marked.ensures.rows c.mark_rows-marked.ensures.value
+pub loop-future-preserved : goal.loop-future-preserved
+loop-future-preserved c = record {
+  rows = ap (after_death c.args.actor) c.keep.ensures.rows ∙ death-after_keep c.args.actor c.in-Some.future c.loop-future.self.rows c.in-Some.ensures.waits ∙ c.loop-future.invariant.rows;
+  counted = omega (
+    arith,
+    c.loop-future.invariant.counted,
+    count-after_keep c.args.actor c.in-Some.future (Err ActorDied) c.loop-future.self.rows c.in-Some.ensures.waits,
+    ap (count_by (waits_for c.args.actor)) c.keep.ensures.rows,
+    count_open-after_keep c.args.actor c.in-Some.future (Err ActorDied) c.loop-future.self.rows c.in-Some.ensures.waits,
+    ap (count_by is_open) c.keep.ensures.rows,
+  );
+  spare = c.keep.ensures.spare ∙ c.loop-future.invariant.spare;
+}
+
+pub returns-clause-rows : goal.returns-clause-rows
+returns-clause-rows c =
+    sym (death-none c.args.actor c.loop-future.self.rows c.in_default.ensures.none) ∙ c.loop-future.invariant.rows

@@ -1,0 +1,141 @@
+//! Which futures have no answer yet, those of each actor linked to one another.
+
+ghost use Rattle.std.specs.Prelude.{◌≡◌, ◌+◌, ◌<◌, ◌≤◌, [], ◌∷◌, ◌++◌, length, slice_set, None, Some, IfSome, OnOk, IsOk};
+ghost use Rattle.act_replies.specs.Chains.{with_found, actors_of, before_of, after_of, IsLastBelow};
+
+use act_types::{ActorId, FutureId, NoMemory};
+use std::alloc::Global;
+use std::marker::Model;
+
+/// A future: the actor that it waits for, none once it has its answer, and the nearest futures of
+/// that actor that wait too.
+#[derive(Clone, Copy)]
+struct Link {
+    actor: Option<ActorId>,
+    before: Option<FutureId>,
+    after: Option<FutureId>,
+}
+
+/// The futures of one caller, and which of them wait for an answer.
+#[derive(Drop)]
+pub(crate) struct Waiting {
+    links: Vec<Link>,
+    /// The last future that waits for each actor, by the actor's number.
+    last: [Option<FutureId>; 9],
+}
+
+impl Model for Waiting {
+    ghost use Rattle.std.specs.Prelude.{◌-◌, vec_len, vec_capacity};
+    ghost use Rattle.act_replies.specs.Chains.{WaitingValue, actors_of, IsLinked};
+
+    ghost Value = { WaitingValue };
+
+    ghost view = { λ waiting. record {
+      actors = actors_of waiting.links.items;
+      spare = vec_capacity waiting.links - vec_len waiting.links;
+    } };
+
+    ghost invariant = { λ waiting. IsLinked waiting.links.items waiting.last };
+}
+
+/// Writes what stands before a future, where there is one.
+fn set_before(links: &mut [Link], future: Option<FutureId>, before: Option<FutureId>)
+    requires { IfSome future (λ k. k < length links.old) }
+    ensures actors { actors_of links.new ≡ actors_of links.old }
+    ensures before { before_of links.new ≡ with_found (before_of links.old) future before }
+    ensures after { after_of links.new ≡ after_of links.old }
+{
+    if let Some(k) = future {
+        links[k.number() as usize].before = before;
+    }
+}
+
+/// Writes what stands after a future, where there is one.
+fn set_after(links: &mut [Link], future: Option<FutureId>, after: Option<FutureId>)
+    requires { IfSome future (λ k. k < length links.old) }
+    ensures actors { actors_of links.new ≡ actors_of links.old }
+    ensures before { before_of links.new ≡ before_of links.old }
+    ensures after { after_of links.new ≡ with_found (after_of links.old) future after }
+{
+    if let Some(k) = future {
+        links[k.number() as usize].after = after;
+    }
+}
+
+/// Links the futures on the two sides of this one to each other, as far as there are two.
+fn bypass(links: &mut [Link], link: &Link)
+    requires before { IfSome link.now.before (λ k. k < length links.old) }
+    requires after { IfSome link.now.after (λ k. k < length links.old) }
+    ensures actors { actors_of links.new ≡ actors_of links.old }
+    ensures before { before_of links.new ≡ with_found (before_of links.old) link.now.after link.now.before }
+    ensures after { after_of links.new ≡ with_found (after_of links.old) link.now.before link.now.after }
+{
+    set_after(links, link.before, link.after);
+    set_before(links, link.after, link.before);
+}
+
+impl Waiting {
+    /// No futures.
+    pub(crate) fn new(alloc: Global) -> Waiting
+        ensures { result.actors ≡ [] }
+    {
+        Waiting {
+            links: Vec::new(alloc),
+            last: [None; 9],
+        }
+    }
+
+    /// Makes room for one more future, unless there is some.
+    pub(crate) fn reserve_one(&mut self) -> Result<(), NoMemory>
+        ensures room { OnOk result (1 ≤ self.new.spare) }
+        ensures enough { 1 ≤ self.old.spare → IsOk result }
+        ensures actors { self.new.actors ≡ self.old.actors }
+        ensures spare { self.old.spare ≤ self.new.spare }
+    {
+        self.links.reserve(1)?;
+        Ok(())
+    }
+
+    /// Adds a future that waits for this actor.
+    pub(crate) fn push(&mut self, actor: ActorId)
+        requires room { 1 ≤ self.old.spare }
+        requires limit { length self.old.actors < 65536 }
+        ensures actors { self.new.actors ≡ self.old.actors ++ Some actor ∷ [] }
+        ensures spare { self.old.spare ≡ self.new.spare + 1 }
+    {
+        let future = FutureId::new(self.links.len() as u32);
+        let link = Link {
+            actor: Some(actor),
+            before: self.last[actor.number() as usize],
+            after: None,
+        };
+        set_after(&mut self.links, link.before, Some(future));
+        self.links.push_reserved(link);
+        self.last[actor.number() as usize] = Some(future);
+    }
+
+    /// The future waits no more.
+    pub(crate) fn remove(&mut self, future: FutureId)
+        requires { future < length self.old.actors }
+        ensures actors { self.new.actors ≡ slice_set self.old.actors future None }
+        ensures spare { self.new.spare ≡ self.old.spare }
+    {
+        let place = future.number() as usize;
+        let link = self.links[place];
+        let Some(actor) = link.actor else {
+            return;
+        };
+        self.links[place].actor = None;
+        bypass(&mut self.links, &link);
+        if link.after.is_none() {
+            self.last[actor.number() as usize] = link.before;
+        }
+    }
+
+    /// The last future that waits for the actor.
+    pub(crate) fn last_of(&self, actor: ActorId) -> Option<FutureId>
+        ensures { IsLastBelow self.now.actors actor (length self.now.actors) result }
+    {
+        self.last[actor.number() as usize]
+    }
+}
