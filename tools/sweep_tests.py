@@ -14,7 +14,8 @@ from refusing import TOP, Refusing
 
 PARTS = ["act_inbox", "act_replies", "act_resolver", "act_owner", "act_actor"]
 TESTS = [(crate, "tests::refused_memory_changes_nothing") for crate in PARTS]
-TESTS.append(("act_world", "tests::refused_memory_stops_at_its_event"))
+ROWS = ["another_caller_passes", "one_packet_for_good", "release_and_retire", "ran_and_yet_died"]
+TESTS += [("act_world", f"tests::{row}") for row in ROWS]
 PASSED = 0
 ERROR = 101
 

@@ -97,6 +97,16 @@ impl Book {
         self.inbox.arrive(packet)
     }
 
+    /// What a packet is to the actor, before it is taken in.
+    pub(crate) fn arrival(&self, packet: &Packet) -> Arrival
+        ensures value { result ≡ arrival_at self.now.id self.now.inbox packet.now }
+    {
+        if packet.actor != self.id {
+            return Arrival::Stranger;
+        }
+        self.inbox.arrival(packet)
+    }
+
     /// Takes in that a caller's last handle copy is gone. Only its first note counts.
     pub(crate) fn released(&mut self, note: ReleaseNote) -> Arrival
         ensures arrival { result ≡ note_arrival_at self.old.id self.old.inbox note }

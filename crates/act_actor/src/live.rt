@@ -87,6 +87,13 @@ impl<K: Actor> Live<K> {
         self.book.arrive(packet)
     }
 
+    /// What a packet is to the actor, before it is taken in.
+    pub fn arrival(&self, packet: &Packet) -> Arrival
+        ensures value { let now = live_seen K.state self.now in result ≡ arrival_at now.id now.inbox packet.now }
+    {
+        self.book.arrival(packet)
+    }
+
     /// Takes in that a caller's last handle copy is gone. Only its first note counts.
     pub fn released(&mut self, note: ReleaseNote) -> Arrival
         ensures arrival { let before = live_seen K.state self.old in result ≡ note_arrival_at before.id before.inbox note }

@@ -246,6 +246,7 @@ fn bring<K: Actor>(
     let caller = CallerId::new(1).unwrap();
     let packet = packet_of(alloc, row)?;
     let before = live.has_next(caller);
+    assert_eq!(rt; live.arrival(&packet), Arrival::New);
     if let Err(back) = live.arrive(packet_of(alloc, row)?) {
         assert_eq!(rt; back, packet);
         assert_eq!(rt; live.has_next(caller), before);

@@ -1,6 +1,7 @@
 -- A kill that is asked.
 use Rattle.std.proofs.Common.{◌≡◌, ℕ, ◌<◌, Bool, true, false, List, [], ◌∷◌, ◌++◌, length, Some, None, Ok, Err, inl, inr, refl, sym, ◌∙◌, subst, get_or}
 use Rattle.std.specs.Prelude.{◌==◌, ◌||◌, position, slice_get, slice_set, unwrap_or}
+use Rattle.std.proofs.Math.Bool.{or-true, or-false}
 use Rattle.std.proofs.lemmas.Bool.{ne_eqb, eq-eqb}
 use Rattle.std.proofs.lemmas.Bool.Decides.{eqb_tells}
 use Rattle.std.proofs.lemmas.List.{get_or-set_same, get_or-set_other}
@@ -20,9 +21,10 @@ use Rattle.act_owner.specs.Owner.{OwnerValue, kill_told}
 use Rattle.act_world.specs.Exchange.{ExchangeValue, is_owner}
 use Rattle.act_world.specs.Value.{SlotSeen}
 use Rattle.act_world.specs.Ties.{Ties}
+use Rattle.act_world.proofs.Changes.{refused_follows, accepted_follows}
 use Rattle.act_world.proofs.Lawful.{IsLawful}
 use Rattle.act_world.proofs.Frames.{same_caller, owners_stay, mail_stays}
-use Rattle.act_world.proofs.OneCaller.{refused_follows, accepted_follows, or_else-Ok, or_else-Err, caller_here, handle_refused, callers_tie}
+use Rattle.act_world.proofs.OneCaller.{or_else-Ok, or_else-Err, caller_here, handle_refused, callers_tie}
 
 -- one number more
 contains-push : (b a : ℕ) (ns : List ℕ) → contains b (ns ++ a ∷ []) ≡ (contains b ns || ((a == b) || false))
@@ -33,18 +35,10 @@ asked_after : (asked : List Bool) (numbers : List ℕ) (a : ℕ) → a < length 
     → (b : ℕ) → unwrap_or (slice_get (slice_set asked a true) b) false ≡ contains b (numbers ++ a ∷ [])
 asked_after asked numbers a within all b = unwrap_or-slice_get (slice_set asked a true) b false ∙ elim (eqb_tells a b) [
   | inl t ↦ subst (λ (x : ℕ). get_or (slice_set asked a true) x false ≡ contains x (numbers ++ a ∷ [])) t.1
-      (get_or-set_same asked a true false within ∙ sym (contains-push a a numbers ∙ rw (eq-eqb a a refl) (or_true (contains a numbers))))
+      (get_or-set_same asked a true false within ∙ sym (contains-push a a numbers ∙ rw (eq-eqb a a refl) (or-true (contains a numbers))))
   | inr f ↦ get_or-set_other asked a b true false (λ same. f.1 (sym same)) ∙ sym (unwrap_or-slice_get asked b false) ∙ all b
-      ∙ sym (contains-push b a numbers ∙ rw (ne_eqb a b f.1) (or_false (contains b numbers)))
+      ∙ sym (contains-push b a numbers ∙ rw (ne_eqb a b f.1) (or-false (contains b numbers)))
 ]
-  where
-    or_true : (x : Bool) → (x || true) ≡ true
-    or_true true = refl
-    or_true false = refl
-
-    or_false : (x : Bool) → (x || false) ≡ x
-    or_false true = refl
-    or_false false = refl
 
 pub ask_follows : (h : History) (old : ExchangeValue) (slots : List SlotSeen) (c a place : ℕ) (note : KillNote) (owner : OwnerValue) → IsLawful h → Ties h (record { exchange = old; slots = slots })
     → position (is_owner c) old.owners ≡ Some place → owner ≡ get_or old.owners place owner → Ok note ≡ kill_told owner a → a < length old.asked

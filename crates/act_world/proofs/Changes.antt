@@ -7,25 +7,27 @@ use Rattle.act_rules.specs.declared.event.Event.{Event}
 use Rattle.act_rules.specs.declared.outcome.Did.{Did}
 use Rattle.act_rules.specs.declared.outcome.WorldRefusal.{WorldRefusal}
 use Rattle.act_rules.specs.History.{Casting, History, cast_of, names, is_ended}
-use Rattle.act_rules.specs.Rules.{refusal_of, did, added, outcome_by, after_by, outcome_of, after}
+use Rattle.act_rules.specs.Rules.{refusal_of, did, added, outcome_of, after}
 use Rattle.act_world.specs.Value.{SlotSeen, Runs, Died, Ended, Vacant, WorldSeen}
 use Rattle.act_world.specs.Slots.{is_live_seen}
 use Rattle.act_world.specs.Ties.{IsStage, Ties}
 
 -- ---- what is told, and what stands after
 
--- an event that is refused leaves the world
-pub refused : (h : History) (event : Event) (refusal : WorldRefusal) (world : WorldSeen) → refusal_of h event ≡ Some refusal → Ties h world → (Err refusal ≡ outcome_of h event) × Ties (after h event) world
-refused h event refusal world e ties = (
-  ap (outcome_by h event) (sym e),
-  subst (λ (r : Option WorldRefusal). Ties (after_by h event r) world) (sym e) ties,
-)
+-- an event that is refused leaves the world as it was
+pub refused_follows : (h : History) (event : Event) (refusal : WorldRefusal) (world : WorldSeen) → refusal_of h event ≡ Some refusal → Ties h world
+    → (Err refusal ≡ outcome_of h event) × Ties (after h event) world
+refused_follows h event refusal world refused ties = rw refused (refl, ties)
 
-pub accepted : (h : History) (event : Event) (told : Did) (world : WorldSeen) → refusal_of h event ≡ None → told ≡ did h event → Ties (added h event) world → (Ok told ≡ outcome_of h event) × Ties (after h event) world
-accepted h event told world e same ties = (
-  ap (λ (d : Did). Ok d) same ∙ ap (outcome_by h event) (sym e),
-  subst (λ (r : Option WorldRefusal). Ties (after_by h event r) world) (sym e) ties,
-)
+-- an event that nothing refuses
+pub accepted_follows : (h : History) (event : Event) (told : Did) (world : WorldSeen) → refusal_of h event ≡ None → told ≡ did h event → Ties (added h event) world
+    → (Ok told ≡ outcome_of h event) × Ties (after h event) world
+accepted_follows h event told world accepted same ties = rw accepted (ap Ok same, ties)
+
+-- what holds holds of an error
+pub on_err : {A E P : Type 0} (result : Result A E) → P → OnErr result P
+on_err (Ok value) holds = tt
+on_err (Err error) holds = holds
 
 -- ---- slots
 
@@ -86,7 +88,3 @@ slot_there {S = S} f slots h a x all cast is = slice_get-map f slots a ∙ ap (o
 -- the slot of an actor, in a list that is long enough
 pub slot_within : {S : Type 0} (f : S → SlotSeen) (slots : List S) (a : ℕ) (x : S) → a < length slots → x ≡ get_or slots a x → slice_get (map f slots) a ≡ Some (f x)
 slot_within {S = S} f slots a x within is = slice_get-map f slots a ∙ ap (option_map f) (slice_get-get_or slots a x within) ∙ ap (λ (y : S). Some (f y)) (sym is)
-
-pub on_err : {X Y : Type 0} {P : Type 0} (r : Result X Y) → P → OnErr r P
-on_err (Ok x) p = tt
-on_err (Err y) p = p

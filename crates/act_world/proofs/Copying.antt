@@ -20,9 +20,10 @@ use Rattle.act_owner.specs.Owner.{OwnerValue, with_handles}
 use Rattle.act_world.specs.Exchange.{ExchangeValue, is_owner}
 use Rattle.act_world.specs.Value.{SlotSeen}
 use Rattle.act_world.specs.Ties.{Ties, IsOwnerOf}
+use Rattle.act_world.proofs.Changes.{refused_follows, accepted_follows}
 use Rattle.act_world.proofs.Lawful.{IsLawful}
 use Rattle.act_world.proofs.Frames.{SameCaller, owners_change, mail_stays}
-use Rattle.act_world.proofs.OneCaller.{refused_follows, accepted_follows, needs_holds, or_else-Ok, or_else-Err, IsHere, caller_here, written_back, callers_tie, sent_stays, times-same, times-other_caller, times-other_actor}
+use Rattle.act_world.proofs.OneCaller.{needs_holds, or_else-Ok, or_else-Err, IsHere, caller_here, written_back, callers_tie, sent_stays, times-same, times-other_caller, times-other_actor}
 
 -- a copy is refused as the handles say
 copy_refused : (h : History) (c a : ℕ) (owner : OwnerValue) (refusal : Option HandleRefusal) → IsHere h c owner → copy_refusal (copies_in a owner.handles) ≡ refusal → refusal_of h (Copy c a) ≡ option_map Handle refusal

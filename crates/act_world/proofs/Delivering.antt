@@ -2,7 +2,7 @@
 use Rattle.std.proofs.Common.{◌≡◌, ◌≢◌, ℕ, suc, ◌<◌, ◌≤◌, Bool, true, false, cond, List, [], ◌∷◌, ◌++◌, length, map, get_or, Some, None, inl, inr, refl, ap, sym, ◌∙◌, subst, arith}
 use Rattle.std.specs.Prelude.{Option, Ok, Err, ◌==◌, ◌||◌, ◌&&◌, slice_get, slice_set, option_map, option_and_then, is_some, nat_lt, not, filter}
 use Rattle.std.specs.List.{enumerate_from}
-use Rattle.std.proofs.Math.Bool.{or-false}
+use Rattle.std.proofs.Math.Bool.{or-true, or-false}
 use Rattle.std.proofs.lemmas.Bool.{eqb-true, eq-eqb, ltb-true, lt-ltb, and_parts, and_from}
 use Rattle.std.proofs.lemmas.Bool.Decides.{eqb_tells}
 use Rattle.std.proofs.lemmas.Option.{slice_get_within}
@@ -31,12 +31,12 @@ use Rattle.act_world.specs.declared.exchange.Mailed.{Mailed}
 use Rattle.act_world.specs.declared.exchange.Mailed.TheVariants.{Call as MailedCall, Note as MailedNote}
 use Rattle.act_world.specs.Exchange.{ExchangeValue, mailed_to}
 use Rattle.act_world.specs.Value.{SlotSeen, Runs, Died, Ended, Vacant, WorldSeen}
-use Rattle.act_world.specs.Slots.{is_live_seen, HasTaken, HasNoted, HasArrived, IsBrought}
+use Rattle.act_world.specs.Slots.{is_live_seen, HasTaken, HasNoted, HasArrived, IsNewCall, IsBrought}
 use Rattle.act_world.specs.Ties.{packet_as, packet_of, mailed, held_packet, is_note, IsLive, IsStage, Ties}
 use Rattle.act_world.specs.Stands.{Follows, IsUnrefused}
 use Rattle.act_world.proofs.Lawful.{IsLawful, world_lawful, IsNamedLetter, has_letter-last, is_letter-same}
 use Rattle.act_world.proofs.Frames.{owners_stay}
-use Rattle.act_world.proofs.Changes.{refused, accepted, set-same, stages_change, has_ended, not_ended, named_cast, slot_there}
+use Rattle.act_world.proofs.Changes.{refused_follows, accepted_follows, set-same, stages_change, has_ended, not_ended, named_cast, slot_there}
 
 -- ---- letters
 
@@ -60,11 +60,7 @@ has_again x letter xs there = has_letter-last x letter xs ∙ go (is_letter x le
     go false e = or-false (has_letter x xs)
 
 has_last : (letter : Letter) (xs : List Letter) → has_letter letter (xs ++ letter ∷ []) ≡ true
-has_last letter xs = has_letter-last letter letter xs ∙ ap (λ (b : Bool). has_letter letter xs || b) (is_letter-same letter) ∙ or_true (has_letter letter xs)
-  where
-    or_true : (b : Bool) → (b || true) ≡ true
-    or_true true = refl
-    or_true false = refl
+has_last letter xs = has_letter-last letter letter xs ∙ ap (λ (b : Bool). has_letter letter xs || b) (is_letter-same letter) ∙ or-true (has_letter letter xs)
 
 -- a letter that the history holds at a place, and what it carries
 pub record IsLetterAt (h : History) (i : ℕ) (m : Mailed) : Type 0 where
@@ -332,7 +328,7 @@ deliver_ended h world i m slot lawful ties is at off =
     let there : slice_get world.slots (actor_of here.letter) ≡ Some slot = ap (slice_get world.slots) to ∙ at in
     let stage : IsStage h (actor_of here.letter) (Some slot) = subst (IsStage h (actor_of here.letter)) there (ties.actors (actor_of here.letter)) in
     let ended : is_ended (actor_of here.letter) h ≡ true = has_ended h (actor_of here.letter) slot stage off (letter_cast h here.letter here.named) in
-    refused h (Deliver i) ActorEnded world (ap (λ (o : Option Letter). deliver_refusal o h) here.at ∙ ap (λ (b : Bool). needs (not b) ActorEnded None) ended) ties
+    refused_follows h (Deliver i) ActorEnded world (ap (λ (o : Option Letter). deliver_refusal o h) here.at ∙ ap (λ (b : Bool). needs (not b) ActorEnded None) ended) ties
 
 -- the letter was brought
 pub deliver_follows : (h : History) (old : WorldSeen) (i : ℕ) (m : Mailed) (slot new : SlotSeen) (told : Outcome) → IsLawful h → Ties h old → slice_get old.exchange.mail i ≡ Some m
@@ -355,7 +351,7 @@ deliver_follows h old i m slot new told lawful ties is at went = go slot new tol
         let told : Arrived arrival ≡ did h (Deliver i) = ap (λ (x : Arrival). Arrived x) come.told ∙ ap (did_deliver h) (sym here.at) in
         let free : refusal_of h (Deliver i) ≡ None = ap (λ (o : Option Letter). deliver_refusal o h) here.at ∙ ap (λ (b : Bool). needs (not b) ActorEnded None) lives.runs in
         let after_it : Ties (brought h here.letter) (record { exchange = old.exchange; slots = slice_set old.slots (actor_of here.letter) (Runs new) }) = brought_ties h here.letter old (Runs live) (Runs new) ties there come.live in
-        accepted h (Deliver i) (Arrived arrival) (record { exchange = old.exchange; slots = slice_set old.slots (mailed_to m) (Runs new) }) free told
+        accepted_follows h (Deliver i) (Arrived arrival) (record { exchange = old.exchange; slots = slice_set old.slots (mailed_to m) (Runs new) }) free told
         (subst (λ (o : Option Letter). Ties (record h { arrived = and_also h.arrived o }) (record { exchange = old.exchange; slots = slice_set old.slots (mailed_to m) (Runs new) })) (sym here.at)
         (subst (λ (a : ℕ). Ties (brought h here.letter) (record { exchange = old.exchange; slots = slice_set old.slots a (Runs new) })) to after_it))
 
@@ -384,50 +380,32 @@ deliver_free h world i m slot lawful ties is at on =
 
 -- ---- the same of what is seen of slots
 
-pub record IsAddressed (mail : List Mailed) (i a : ℕ) : Type 0 where
-  pub letter : Mailed
-  pub at : slice_get mail i ≡ Some letter
-  pub to : mailed_to letter ≡ a
-
-addressed : (mail : List Mailed) (i a : ℕ) → Some a ≡ option_map mailed_to (slice_get mail i) → IsAddressed mail i a
-addressed mail i a e = go (slice_get mail i) refl e
-  where
-    go : (o : Option Mailed) → slice_get mail i ≡ o → Some a ≡ option_map mailed_to o → IsAddressed mail i a
-    go None at e = cc
-    go (Some letter) at e = record { letter = letter; at = at; to = cc }
-
 addressed_cast : (h : History) (world : WorldSeen) (i : ℕ) (m : Mailed) → IsLawful h → Ties h world → slice_get world.exchange.mail i ≡ Some m → cast_of (mailed_to m) h ≡ None → ⊥
 addressed_cast h world i m lawful ties is none =
     let here = letter_at h world i m lawful ties is in
     letter_cast h here.letter here.named (ap (λ (a : ℕ). cast_of a h) (carried_to h here.letter m here.sound here.carries) ∙ none)
 
-module _ {S : Type 0} (f : S → SlotSeen) (exchange : ExchangeValue) (slots : List S) (i a : ℕ) (x : S) (to : Some a ≡ option_map mailed_to (slice_get exchange.mail i)) (is : x ≡ get_or slots a x) where
-  at_slot : (h : History) (letter : Mailed) → IsLawful h → Ties h (record { exchange = exchange; slots = map f slots }) → slice_get exchange.mail i ≡ Some letter → mailed_to letter ≡ a → slice_get (map f slots) (mailed_to letter) ≡ Some (f x)
-  at_slot h letter lawful ties at same =
-      slot_there f slots h (mailed_to letter) x ties.actors (addressed_cast h (record { exchange = exchange; slots = map f slots }) i letter lawful ties at) (subst (λ (b : ℕ). x ≡ get_or slots b x) (sym same) is)
+-- an actor that takes a new call in runs
+takes_lives : (letter : Mailed) (slot : SlotSeen) → IsNewCall letter slot → is_live_seen slot ≡ true
+takes_lives (MailedCall packet) (Runs live) is = refl
+takes_lives letter slot is = absurd is
 
-  pub off_follows : is_live_seen (f x) ≡ false → Follows (Deliver i) (record { exchange = exchange; slots = map f slots }) (record { exchange = exchange; slots = map f slots }) (Err ActorEnded)
-  off_follows off casts before ties =
+module _ {S : Type 0} (f : S → SlotSeen) (exchange : ExchangeValue) (slots : List S) (i a : ℕ) (letter : Mailed) (x : S) (at : Some letter ≡ slice_get exchange.mail i) (to : a ≡ mailed_to letter) (is : x ≡ get_or slots a x) where
+  at_slot : (h : History) → IsLawful h → Ties h (record { exchange = exchange; slots = map f slots }) → slice_get (map f slots) (mailed_to letter) ≡ Some (f x)
+  at_slot h lawful ties =
+      slot_there f slots h (mailed_to letter) x ties.actors (addressed_cast h (record { exchange = exchange; slots = map f slots }) i letter lawful ties (sym at)) (subst (λ (b : ℕ). x ≡ get_or slots b x) to is)
+
+  pub new_unrefused : IsNewCall letter (f x) → IsUnrefused (Deliver i) (record { exchange = exchange; slots = map f slots })
+  new_unrefused takes casts before ties =
       let h = history casts before in
       let lawful = world_lawful casts before in
-      let here = addressed exchange.mail i a to in
-      deliver_ended h (record { exchange = exchange; slots = map f slots }) i here.letter (f x) lawful ties here.at (at_slot h here.letter lawful ties here.at here.to) off
+      deliver_free h (record { exchange = exchange; slots = map f slots }) i letter (f x) lawful ties (sym at) (at_slot h lawful ties) (takes_lives letter (f x) takes)
 
-  pub on_unrefused : is_live_seen (f x) ≡ true → IsUnrefused (Deliver i) (record { exchange = exchange; slots = map f slots })
-  on_unrefused on casts before ties =
-      let h = history casts before in
-      let lawful = world_lawful casts before in
-      let here = addressed exchange.mail i a to in
-      deliver_free h (record { exchange = exchange; slots = map f slots }) i here.letter (f x) lawful ties here.at (at_slot h here.letter lawful ties here.at here.to) on
-
-  pub on_follows : (letter : Mailed) (y : S) (told : Outcome) → slice_get exchange.mail i ≡ Some letter → IsBrought letter (f x) (f y) told
+  pub brought_follows : (y : S) (told : Outcome) → IsBrought letter (f x) (f y) told
       → Follows (Deliver i) (record { exchange = exchange; slots = map f slots }) (record { exchange = exchange; slots = map f (slice_set slots a y) }) told
-  on_follows letter y told at went casts before ties =
+  brought_follows y told went casts before ties =
       let h = history casts before in
       let lawful = world_lawful casts before in
-      let here = addressed exchange.mail i a to in
-      let same : here.letter ≡ letter = (let both : Some here.letter ≡ Some letter = sym here.at ∙ at in cc) in
-      let mine : mailed_to letter ≡ a = ap mailed_to (sym same) ∙ here.to in
-      let follows = deliver_follows h (record { exchange = exchange; slots = map f slots }) i letter (f x) (f y) told lawful ties at (at_slot h letter lawful ties at mine) went in
-      let slots_are : slice_set (map f slots) (mailed_to letter) (f y) ≡ map f (slice_set slots a y) = ap (λ (b : ℕ). slice_set (map f slots) b (f y)) mine ∙ sym (map-set f slots a y) in
+      let follows = deliver_follows h (record { exchange = exchange; slots = map f slots }) i letter (f x) (f y) told lawful ties (sym at) (at_slot h lawful ties) went in
+      let slots_are : slice_set (map f slots) (mailed_to letter) (f y) ≡ map f (slice_set slots a y) = ap (λ (b : ℕ). slice_set (map f slots) b (f y)) (sym to) ∙ sym (map-set f slots a y) in
       (follows.0, subst (λ (seen : List SlotSeen). Ties (after h (Deliver i)) (record { exchange = exchange; slots = seen })) slots_are follows.1)

@@ -102,15 +102,15 @@ no_runs h a (item ∷ items) is lawful uncast =
 
 -- ---- what the world shows is what the history tells
 
-calls_are : (h : History) (c : ℕ) (owner : Option OwnerValue) → IsLawful h → IsOwnerAt h c owner → calls_of c h ≡ option_map_or (λ (o : OwnerValue). o.calls) owner []
+pub calls_are : (h : History) (c : ℕ) (owner : Option OwnerValue) → IsLawful h → IsOwnerAt h c owner → calls_of c h ≡ option_map_or (λ (o : OwnerValue). o.calls) owner []
 calls_are h c None lawful is = no_calls h c (calls_of c h) refl lawful is
 calls_are h c (Some owner) lawful is = sym is.1.calls
 
-kept_are : (h : History) (c : ℕ) (owner : Option OwnerValue) → IsLawful h → IsOwnerAt h c owner → kept_of c h ≡ option_map_or (λ (o : OwnerValue). o.kept) owner []
+pub kept_are : (h : History) (c : ℕ) (owner : Option OwnerValue) → IsLawful h → IsOwnerAt h c owner → kept_of c h ≡ option_map_or (λ (o : OwnerValue). o.kept) owner []
 kept_are h c None lawful is = ap (λ (calls : List Submission). map (first_answer h c) (enumerate_from 0 calls)) (no_calls h c (calls_of c h) refl lawful is)
 kept_are h c (Some owner) lawful is = sym is.1.kept
 
-logs_are : (h : History) (a : ℕ) (slot : Option SlotSeen) → IsLawful h → IsStage h a slot → runs_of a h ≡ option_map_or log_of slot []
+pub logs_are : (h : History) (a : ℕ) (slot : Option SlotSeen) → IsLawful h → IsStage h a slot → runs_of a h ≡ option_map_or log_of slot []
 logs_are h a None lawful is = no_runs h a (runs_of a h) refl lawful is
 logs_are h a (Some Vacant) lawful is = no_runs h a (runs_of a h) refl lawful is
 logs_are h a (Some (Runs live)) lawful is = sym is.log

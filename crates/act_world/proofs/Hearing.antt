@@ -2,6 +2,7 @@
 use Rattle.std.proofs.Common.{◌≡◌, ◌≢◌, ℕ, zero, suc, ◌+◌, ◌<◌, Bool, true, false, cond, List, [], ◌∷◌, ◌++◌, length, map, Some, None, inl, inr, refl, ap, sym, ◌∙◌, subst, arith, Ok, Err, length-set}
 use Rattle.std.specs.Prelude.{Option, ◌==◌, ◌&&◌, ◌||◌, not, filter, take, zip, count_by, slice_get, slice_set, position, option_map, option_and_then, unwrap_or, is_some, is_none}
 use Rattle.std.specs.List.{list_any, enumerate_from}
+use Rattle.std.proofs.Math.Bool.{or-true, or-false}
 use Rattle.std.proofs.lemmas.Bool.{eq-eqb, ne_eqb}
 use Rattle.std.proofs.lemmas.Bool.Decides.{eqb_tells}
 use Rattle.std.proofs.lemmas.List.{length-map}
@@ -25,7 +26,7 @@ use Rattle.act_rules.specs.declared.outcome.Did.TheVariants.{Kept, Late as DidLa
 use Rattle.act_rules.specs.RunList.{Answer, answer_at, items_of}
 use Rattle.act_rules.specs.Submissions.{calls_to, number_of, kept_at}
 use Rattle.act_rules.specs.History.{History, is_caller, calls_of, kept_of, runs_of, ran_count, opening_of, answer_of, answer_in, is_call, first_answer, has_letter}
-use Rattle.act_rules.specs.Rules.{Outcome, refusal_of, outcome_of, did_reply, did_collect, unanswered, added, after, and_also, was_sent}
+use Rattle.act_rules.specs.Rules.{did, Outcome, refusal_of, outcome_of, did_reply, did_collect, unanswered, added, after, and_also, was_sent}
 use Rattle.act_rules.proofs.Lists.{slice_get-map, slice_get-enumerate_from, slice_get-filter, All_at}
 use Rattle.act_rules.proofs.Growth.{Grows, added_grows}
 use Rattle.act_rules.proofs.Posts.{IsSoundPost}
@@ -41,10 +42,10 @@ use Rattle.act_world.specs.declared.exchange.Posted.{Posted}
 use Rattle.act_world.specs.Exchange.{ExchangeValue, is_owner, told_collected}
 use Rattle.act_world.specs.Value.{SlotSeen, WorldSeen}
 use Rattle.act_world.specs.Ties.{IsOwnerOf, is_death_to, reply_as, reply_at, posted, Ties}
+use Rattle.act_world.proofs.Changes.{accepted_follows, get_set-same, get_set-other}
 use Rattle.act_world.proofs.Lawful.{IsLawful, IsNamedPost, named_caller}
 use Rattle.act_world.proofs.Frames.{SameCaller, owners_change, owner_absent, mail_stays, replies_stay, stages_stay}
-use Rattle.act_world.proofs.Killing.{accepted, or_true, or_false, set_here, set_there}
-use Rattle.act_world.proofs.Telling.{is_named}
+use Rattle.act_world.proofs.Seeing.{is_named}
 use Rattle.act_world.proofs.Sending.{SeesOwner, seen_owner}
 
 eq_turned : (m n : ℕ) → (m == n) ≡ (n == m)
@@ -109,7 +110,7 @@ others h post d apart = record {
   sent = λ k. same_sent k (slice_get (calls_of d h) k);
   kept = kept_of-collected h d post ∙ sym (table_is (kept_of d h) (calls_of d h) (λ (call : ℕ × Submission). or_else (first_answer h d call) (answer_in h d call.0 call.1.actor post)) (kept_long h d)
       (λ j x e. kept_there h d j x e ∙ ap (λ (o : Option Answer). Some o) (or_else_none (first_answer h d (j, x)) ∙ ap (λ (o : Option Answer). or_else (first_answer h d (j, x)) o) (sym (no_answer h d j x.actor post apart)))));
-  deaths = λ b. list_any-append (is_death_to d b) h.collected (post ∷ []) ∙ ap (λ (t : Bool). list_any (is_death_to d b) h.collected || (t || false)) (no_death d b post apart) ∙ or_false (list_any (is_death_to d b) h.collected);
+  deaths = λ b. list_any-append (is_death_to d b) h.collected (post ∷ []) ∙ ap (λ (t : Bool). list_any (is_death_to d b) h.collected || (t || false)) (no_death d b post apart) ∙ or-false (list_any (is_death_to d b) h.collected);
 }
   where
     same_sent : (k : ℕ) (call : Option Submission) → was_sent d k call (heard h post) ≡ was_sent d k call h
@@ -141,7 +142,7 @@ heard_grows h j post at = subst (Grows h) (collect_adds h j post at) (added_grow
 
 finish : (h : History) (j : ℕ) (post : Post) (told : Outcome) (world : WorldSeen) → slice_get h.posts j ≡ Some post → told ≡ Ok (did_collect h (Some post)) → Ties (heard h post) world → (told ≡ outcome_of h (Collect j)) × Ties (after h (Collect j)) world
 finish h j post told world at told_is ties =
-    let both = accepted h (Collect j) world (collect_unrefused h j post at) (subst (λ (g : History). Ties g world) (sym (collect_adds h j post at)) ties) in
+    let both = accepted_follows h (Collect j) (did h (Collect j)) world (collect_unrefused h j post at) refl (subst (λ (g : History). Ties g world) (sym (collect_adds h j post at)) ties) in
     (told_is ∙ ap (λ (o : Option Post). Ok (did_collect h o)) (sym at) ∙ both.0, both.1)
 
 -- ---- a death
@@ -188,17 +189,17 @@ death_table h c a owner is = rw (is.calls, is.kept) (table ∙ sym (kept_of-coll
 death_known : (h : History) (c a b : ℕ) (owner : OwnerValue) → IsOwnerOf h c owner → knows_dead (with_death owner a) a ≡ true → knows_dead (with_death owner a) b ≡ list_any (is_death_to c b) (h.collected ++ DeathPost c a ∷ [])
 death_known h c a b owner is known = elim (eqb_tells a b) [
   | inl t ↦ subst (λ (x : ℕ). knows_dead (with_death owner a) x ≡ list_any (is_death_to c x) (h.collected ++ DeathPost c a ∷ [])) t.1 (known ∙ sym itself)
-  | inr f ↦ ap (λ (o : Option Bool). unwrap_or o false) (set_there owner.dead a b true f.1) ∙ is.deaths b ∙ sym (other f.0)
+  | inr f ↦ ap (λ (o : Option Bool). unwrap_or o false) (get_set-other owner.dead a b true f.1) ∙ is.deaths b ∙ sym (other f.0)
 ]
   where
     mine : (c == c) ≡ true
     mine = eq-eqb c c refl
 
     itself : list_any (is_death_to c a) (h.collected ++ DeathPost c a ∷ []) ≡ true
-    itself = let same : (a == a) ≡ true = eq-eqb a a refl in list_any-append (is_death_to c a) h.collected (DeathPost c a ∷ []) ∙ rw (mine, same) (or_true (list_any (is_death_to c a) h.collected))
+    itself = let same : (a == a) ≡ true = eq-eqb a a refl in list_any-append (is_death_to c a) h.collected (DeathPost c a ∷ []) ∙ rw (mine, same) (or-true (list_any (is_death_to c a) h.collected))
 
     other : (a == b) ≡ false → list_any (is_death_to c b) (h.collected ++ DeathPost c a ∷ []) ≡ list_any (is_death_to c b) h.collected
-    other apart = list_any-append (is_death_to c b) h.collected (DeathPost c a ∷ []) ∙ rw (mine, apart) (or_false (list_any (is_death_to c b) h.collected))
+    other apart = list_any-append (is_death_to c b) h.collected (DeathPost c a ∷ []) ∙ rw (mine, apart) (or-false (list_any (is_death_to c b) h.collected))
 
 bereaved : (h : History) (c a : ℕ) (owner : OwnerValue) → IsOwnerOf h c owner → knows_dead (with_death owner a) a ≡ true → IsOwnerOf (heard h (DeathPost c a)) c (with_death owner a)
 bereaved h c a owner is known = record {
@@ -393,13 +394,13 @@ first_table h c a place item answer at caller answered empty =
   where
     itself : (x : Submission) → slice_get (calls_of c h) item.future ≡ Some x → slice_get (slice_set (kept_of c h) item.future (Some answer)) item.future ≡ Some (or_else (first_answer h c (item.future, x)) (answer_in h c item.future x.actor (ReplyPost c a place)))
     itself x e =
-        set_here (kept_of c h) item.future (first_answer h c (item.future, x)) (Some answer) (kept_there h c item.future x e)
+        get_set-same (kept_of c h) item.future (first_answer h c (item.future, x)) (Some answer) (kept_there h c item.future x e)
         ∙ ap (λ (o : Option Answer). Some o) (sym (ap (λ (o : Option Answer). or_else o (answer_in h c item.future x.actor (ReplyPost c a place))) (kept_first h c item.future x None e empty) ∙ answers_same h c a place x.actor item answer at caller answered))
 
     one : (j : ℕ) (x : Submission) → slice_get (calls_of c h) j ≡ Some x → slice_get (slice_set (kept_of c h) item.future (Some answer)) j ≡ Some (or_else (first_answer h c (j, x)) (answer_in h c j x.actor (ReplyPost c a place)))
     one j x e = elim (eqb_tells item.future j) [
       | inl t ↦ subst (λ (i : ℕ). slice_get (calls_of c h) i ≡ Some x → slice_get (slice_set (kept_of c h) item.future (Some answer)) i ≡ Some (or_else (first_answer h c (i, x)) (answer_in h c i x.actor (ReplyPost c a place)))) t.1 (itself x) e
-      | inr f ↦ set_there (kept_of c h) item.future j (Some answer) f.1 ∙ kept_there h c j x e
+      | inr f ↦ get_set-other (kept_of c h) item.future j (Some answer) f.1 ∙ kept_there h c j x e
           ∙ ap (λ (o : Option Answer). Some o) (or_else_none (first_answer h c (j, x)) ∙ ap (λ (o : Option Answer). or_else (first_answer h c (j, x)) o) (sym (answers_other h c a place j x.actor item answer at caller answered f.0)))
     ]
 
@@ -433,7 +434,7 @@ answered_owner h c a place owner kept is kept_is = record {
   marks = is.marks;
   sent = λ k. is.sent k ∙ same_sent k (slice_get (calls_of c h) k);
   kept = kept_is;
-  deaths = λ b. is.deaths b ∙ sym (list_any-append (is_death_to c b) h.collected (ReplyPost c a place ∷ []) ∙ or_false (list_any (is_death_to c b) h.collected));
+  deaths = λ b. is.deaths b ∙ sym (list_any-append (is_death_to c b) h.collected (ReplyPost c a place ∷ []) ∙ or-false (list_any (is_death_to c b) h.collected));
 }
   where
     same_sent : (k : ℕ) (call : Option Submission) → was_sent c k call h ≡ was_sent c k call (heard h (ReplyPost c a place))

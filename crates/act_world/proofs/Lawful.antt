@@ -2,6 +2,7 @@
 use Rattle.std.proofs.Common.{◌≡◌, ℕ, zero, suc, ◌+◌, ◌-◌, ◌<◌, ◌≤◌, Bool, true, false, cond, List, [], ◌∷◌, ◌++◌, length, Some, None, inl, inr, refl, ap, sym, ◌∙◌, subst, arith, length-append}
 use Rattle.std.specs.Prelude.{Option, ◌==◌, ◌||◌, filter, find, slice_get, option_map, is_some, nat_lt, nat_le}
 use Rattle.std.specs.List.{AllByRecursion, list_all, list_any}
+use Rattle.std.proofs.Math.Bool.{or-false}
 use Rattle.std.proofs.lemmas.Bool.{eqb-true, eq-eqb, ltb-true}
 use Rattle.std.proofs.lemmas.Bool.Decides.{leb_tells}
 use Rattle.std.proofs.lemmas.List.{append-nil}
@@ -87,11 +88,7 @@ pub has_letter-more : (letter : Letter) (xs ys : List Letter) → has_letter let
 has_letter-more letter xs ys e = rw (list_any-append (is_letter letter) xs ys, e) refl
 
 pub has_letter-last : (letter other : Letter) (xs : List Letter) → has_letter letter (xs ++ other ∷ []) ≡ (has_letter letter xs || is_letter letter other)
-has_letter-last letter other xs = list_any-append (is_letter letter) xs (other ∷ []) ∙ ap (λ (b : Bool). has_letter letter xs || b) (or_false (is_letter letter other))
-  where
-    or_false : (b : Bool) → (b || false) ≡ b
-    or_false true = refl
-    or_false false = refl
+has_letter-last letter other xs = list_any-append (is_letter letter) xs (other ∷ []) ∙ ap (λ (b : Bool). has_letter letter xs || b) (or-false (is_letter letter other))
 
 -- a letter is itself
 pub is_letter-same : (letter : Letter) → is_letter letter letter ≡ true

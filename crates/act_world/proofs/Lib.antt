@@ -11,6 +11,7 @@ pub mod Killing
 pub mod Sending
 pub mod Telling
 pub mod Changes
+pub mod Seeing
 pub mod Delivering
 pub mod Running
 pub mod Retiring

@@ -1,40 +1,30 @@
 -- What an event of a caller leaves in place.
 use Rattle.std.proofs.Common.{◌≡◌, ◌≢◌, ℕ, ◌+◌, Bool, true, false, cond, List, [], ◌∷◌, ◌++◌, length, Some, None, Ok, Err, refl, ap, sym, ◌∙◌, subst, arith, length-append, get_or}
-use Rattle.std.specs.Prelude.{Option, Result, ◌==◌, ◌&&◌, find, position, slice_get, slice_set, option_map, option_and_then, unwrap_or, OnErr}
+use Rattle.std.specs.Prelude.{Option, ◌==◌, ◌&&◌, find, position, slice_get, slice_set, option_map, option_and_then, unwrap_or}
 use Rattle.std.proofs.lemmas.Bool.{eq-eqb, ne_eqb}
 use Rattle.std.proofs.lemmas.List.{set-get_or, append-nil}
 use Rattle.std.proofs.lemmas.List.Elements.{filter-append}
 use Rattle.act_rules.specs.declared.history.Submission.{Submission}
 use Rattle.act_rules.specs.declared.history.Letter.TheVariants.{Call as CallLetter}
 use Rattle.act_rules.specs.declared.event.Event.{Event}
-use Rattle.act_rules.specs.declared.outcome.Did.{Did}
 use Rattle.act_rules.specs.declared.outcome.HandleRefusal.{HandleRefusal}
 use Rattle.act_rules.specs.declared.outcome.WorldRefusal.{WorldRefusal}
 use Rattle.act_rules.specs.declared.outcome.WorldRefusal.TheVariants.{NoCaller, Handle}
 use Rattle.act_rules.specs.Submissions.{needs, number_of, handle_refusal}
 use Rattle.act_rules.specs.History.{History, contains, under, times, is_caller, calls_of, copies_of, has_letter}
-use Rattle.act_rules.specs.Rules.{refusal_of, did, added, outcome_of, after, was_sent}
+use Rattle.act_rules.specs.Rules.{refusal_of, outcome_of, after, was_sent}
 use Rattle.act_rules.proofs.Growth.{Grows}
 use Rattle.act_rules.proofs.Ended.{under-push}
 use Rattle.act_handles.specs.Handles.{copies_in, or_else}
 use Rattle.act_owner.specs.Owner.{OwnerValue}
 use Rattle.act_world.specs.Exchange.{ExchangeValue, is_owner}
-use Rattle.act_world.specs.Value.{SlotSeen, WorldSeen}
+use Rattle.act_world.specs.Value.{SlotSeen}
 use Rattle.act_world.specs.Ties.{Ties, IsOwnerOf, IsOwnerAt, mailed}
+use Rattle.act_world.proofs.Changes.{refused_follows}
 use Rattle.act_world.proofs.Lawful.{IsLawful}
 use Rattle.act_world.proofs.Frames.{owner_here, owner_absent, replies_stay, stages_stay}
 
--- ---- what is told, and what stands after
-
--- an event that is refused leaves the world as it was
-pub refused_follows : (h : History) (event : Event) (refusal : WorldRefusal) (world : WorldSeen) → refusal_of h event ≡ Some refusal → Ties h world
-    → (Err refusal ≡ outcome_of h event) × Ties (after h event) world
-refused_follows h event refusal world refused ties = rw refused (refl, ties)
-
--- an event that nothing refuses
-pub accepted_follows : (h : History) (event : Event) (told : Did) (world : WorldSeen) → refusal_of h event ≡ None → told ≡ did h event → Ties (added h event) world
-    → (Ok told ≡ outcome_of h event) × Ties (after h event) world
-accepted_follows h event told world accepted same ties = rw accepted (ap Ok same, ties)
+-- ---- what refuses an event
 
 -- the needed conditions that hold, and the first that fails
 pub needs_holds : {R : Type 0} (b : Bool) (r : R) (next : Option R) → b ≡ true → needs b r next ≡ next
@@ -42,11 +32,6 @@ needs_holds b r next e = rw e refl
 
 pub needs_fails : {R : Type 0} (b : Bool) (r : R) (next : Option R) → b ≡ false → needs b r next ≡ Some r
 needs_fails b r next e = rw e refl
-
--- what holds holds of an error
-pub on_err : {A E P : Type 0} (result : Result A E) → P → OnErr result P
-on_err (Ok value) holds = tt
-on_err (Err error) holds = holds
 
 -- an answer of the handles: nothing refused it, or what did
 pub or_else-Ok : {X : Type 0} (refusal : Option HandleRefusal) (value told : X) → Ok told ≡ or_else refusal value → (refusal ≡ None) × (told ≡ value)

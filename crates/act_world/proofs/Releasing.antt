@@ -1,6 +1,7 @@
 -- A copy of a handle that is released, and the note after the last one.
 use Rattle.std.proofs.Common.{◌≡◌, ◌≢◌, ℕ, ◌+◌, ◌-◌, ◌<◌, Bool, true, false, cond, List, [], ◌∷◌, ◌++◌, length, Some, None, Ok, Err, inl, inr, refl, ap, sym, ◌∙◌, subst, arith, length-append, get_or}
-use Rattle.std.specs.Prelude.{Option, ◌==◌, ◌||◌, position, slice_get, slice_set, option_map, option_and_then}
+use Rattle.std.specs.Prelude.{Option, ◌==◌, position, slice_get, slice_set, option_map, option_and_then}
+use Rattle.std.proofs.Math.Bool.{or-false}
 use Rattle.std.proofs.lemmas.Bool.Decides.{eqb_tells}
 use Rattle.std.proofs.lemmas.List.{get_or-set_same}
 use Rattle.std.proofs.lemmas.List.Quantifiers.{position-Some}
@@ -24,9 +25,10 @@ use Rattle.act_world.specs.declared.exchange.Mailed.TheVariants.{Note as MailedN
 use Rattle.act_world.specs.Exchange.{ExchangeValue, is_owner}
 use Rattle.act_world.specs.Value.{SlotSeen}
 use Rattle.act_world.specs.Ties.{Ties, IsOwnerOf, mailed}
+use Rattle.act_world.proofs.Changes.{refused_follows, accepted_follows}
 use Rattle.act_world.proofs.Lawful.{IsLawful, has_letter-last}
 use Rattle.act_world.proofs.Frames.{SameCaller, owners_change, mail_stays, go_together}
-use Rattle.act_world.proofs.OneCaller.{refused_follows, accepted_follows, or_else-Ok, or_else-Err, caller_here, handle_refused, written_back, callers_tie, sent_stays, times-same, times-other_caller, times-other_actor}
+use Rattle.act_world.proofs.OneCaller.{or_else-Ok, or_else-Err, caller_here, handle_refused, written_back, callers_tie, sent_stays, times-same, times-other_caller, times-other_actor}
 
 -- ---- what the caller tells
 
@@ -82,12 +84,8 @@ copies_after h c a owner is b = elim (eqb_tells a b) [
 no_call : (h : History) (c a d b n : ℕ) → has_letter (CallLetter d b n) (and_also h.mail (note_if h c a (is_last c a h))) ≡ has_letter (CallLetter d b n) h.mail
 no_call h c a d b n = go (is_last c a h)
   where
-    or_false : (x : Bool) → (x || false) ≡ x
-    or_false true = refl
-    or_false false = refl
-
     go : (last : Bool) → has_letter (CallLetter d b n) (and_also h.mail (note_if h c a last)) ≡ has_letter (CallLetter d b n) h.mail
-    go true = has_letter-last (CallLetter d b n) (note_letter h c a) h.mail ∙ or_false (has_letter (CallLetter d b n) h.mail)
+    go true = has_letter-last (CallLetter d b n) (note_letter h c a) h.mail ∙ or-false (has_letter (CallLetter d b n) h.mail)
     go false = refl
 
 released_owner : (h : History) (c a : ℕ) (owner : OwnerValue) → IsLawful h → IsOwnerOf h c owner → IsOwnerOf (added h (Release c a)) c (with_handles owner (without_copy a owner.handles))

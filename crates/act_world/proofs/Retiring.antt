@@ -25,7 +25,7 @@ use Rattle.act_world.specs.Ties.{is_note, IsLive, IsRetired, IsStage, Ties}
 use Rattle.act_world.specs.Stands.{Follows}
 use Rattle.act_world.proofs.Lawful.{IsLawful, world_lawful}
 use Rattle.act_world.proofs.Frames.{same_caller, owners_stay, stage_stays}
-use Rattle.act_world.proofs.Changes.{refused, accepted, set-same, stages_change, slot_within}
+use Rattle.act_world.proofs.Changes.{refused_follows, accepted_follows, set-same, stages_change, slot_within}
 
 -- ---- drained, as the actor and as the history tells
 
@@ -127,7 +127,7 @@ retire_follows h old a slot new told lawful ties at went = go slot new told at (
     stays : (slot new : SlotSeen) (told : Outcome) (refusal : WorldRefusal) → slice_get old.slots a ≡ Some slot → new ≡ slot → told ≡ Err refusal → refusal_of h (Retire a) ≡ Some refusal
         → (told ≡ outcome_of h (Retire a)) × Ties (after h (Retire a)) (record { exchange = old.exchange; slots = slice_set old.slots a new })
     stays slot new told refusal at same told_is e =
-        let left = refused h (Retire a) refusal old e ties in
+        let left = refused_follows h (Retire a) refusal old e ties in
         let as_it_was : slice_set old.slots a new ≡ old.slots = ap (slice_set old.slots a) same ∙ set-same old.slots a slot at in
         (told_is ∙ left.0, subst (λ (slots : List SlotSeen). Ties (after h (Retire a)) (record { exchange = old.exchange; slots = slots })) (sym as_it_was) left.1)
 
@@ -138,7 +138,7 @@ retire_follows h old a slot new told lawful ties at went = go slot new told at (
     by_drained : (live : ActorSeen) (retired : RetiredSeen) → slice_get old.slots a ≡ Some (Runs live) → IsLive h a live → IsDrained live.inbox → retired ≡ record { id = live.id; log = live.log; state = live.state }
         → (Ok Retired ≡ outcome_of h (Retire a)) × Ties (after h (Retire a)) (record { exchange = old.exchange; slots = slice_set old.slots a (Ended retired) })
     by_drained live retired at is drained same =
-        accepted h (Retire a) Retired (record { exchange = old.exchange; slots = slice_set old.slots a (Ended retired) })
+        accepted_follows h (Retire a) Retired (record { exchange = old.exchange; slots = slice_set old.slots a (Ended retired) })
         (retire_refusal h a true false true (ap is_some is.cast_is) is.runs (drained_there h a live is drained)) refl
         (retired_ties h a old (Runs live) (Ended retired) lawful ties at (live_retired h a live retired is same))
 

@@ -22,7 +22,7 @@ use Rattle.act_rules.specs.declared.outcome.WorldRefusal.TheVariants.{NoCaller, 
 use Rattle.act_rules.specs.Laws.{world as history}
 use Rattle.act_rules.specs.RunList.{Answer, after_item, answers_from, answer_at, state_after, items_of}
 use Rattle.act_rules.specs.Submissions.{calls_to, needs}
-use Rattle.act_rules.specs.History.{Casting, History, cast_of, names, is_caller, calls_of, copies_of, runs_of, ran_count, kept_of, answer_of, is_ended, has_letter, run_item, next_item}
+use Rattle.act_rules.specs.History.{Casting, History, cast_of, names, is_caller, calls_of, runs_of, ran_count, kept_of, answer_of, is_ended, has_letter, run_item, next_item}
 use Rattle.act_rules.specs.Rules.{refusal_of, did, did_run, added, after_run, outcome_of, after}
 use Rattle.act_rules.proofs.Lists.{slice_get_last}
 use Rattle.act_rules.proofs.Growth.{Grows, after_run_grows}
@@ -41,8 +41,9 @@ use Rattle.act_world.specs.Slots.{is_live_seen, HasRunNext, IsRun, IsRunAt}
 use Rattle.act_world.specs.Ties.{packet_as, packet_of, held_packet, is_note, reply_as, reply_at, posted, IsLive, IsStage, Ties}
 use Rattle.act_world.specs.Stands.{Follows, IsUnrefused}
 use Rattle.act_world.proofs.Lawful.{IsLawful, world_lawful}
-use Rattle.act_world.proofs.Frames.{same_caller, owners_stay, owner_here, owner_absent, packet_stays, mail_stays, replies_stay, go_together, stage_stays}
-use Rattle.act_world.proofs.Changes.{refused, accepted, set-same, stages_change, has_ended, not_ended, named_cast, slot_within, get_set-same}
+use Rattle.act_world.proofs.Frames.{same_caller, owners_stay, owner_absent, packet_stays, mail_stays, replies_stay, go_together, stage_stays}
+use Rattle.act_world.proofs.Seeing.{WorldSees, known}
+use Rattle.act_world.proofs.Changes.{refused_follows, accepted_follows, get_set-same, set-same, stages_change, has_ended, not_ended, named_cast, slot_within}
 
 -- ---- what runs next, as the actor and as the history tells
 
@@ -253,7 +254,7 @@ run_follows h old a c live new reply lawful ties caller named at next = go (next
         let place : reply.place ≡ length (runs_of a h) = ap (λ (r : Reply). r.place) same ∙ ap (λ (items : List RunItem). length items) is.log in
         let did_it : Ran reply.place (length old.exchange.replies) ≡ did h (Run a c) =
         ap (λ (p : ℕ). Ran p (length old.exchange.replies)) place ∙ ap (λ (j : ℕ). Ran (length (runs_of a h)) j) ties.reply_count ∙ ap (did_run a h) (sym item) in
-        accepted h (Run a c) (Ran reply.place (length old.exchange.replies)) (world reply) (run_refusal h a c true true false caller named is.runs) did_it
+        accepted_follows h (Run a c) (Ran reply.place (length old.exchange.replies)) (world reply) (run_refusal h a c true true false caller named is.runs) did_it
         (subst (λ (r : Reply). Ties (added h (Run a c)) (world r)) (sym same)
         (subst (λ (o : Option RunItem). Ties (after_run a c h o) (world (reply_to live packet))) (sym item) (ran_ties h old a c packet live new lawful ties at is ran)))
 
@@ -272,18 +273,10 @@ gap_follows h old a c live new lawful ties caller named at next = go (next_of li
         → (Ok Gap ≡ outcome_of h (Run a c)) × Ties (after h (Run a c)) (record { exchange = old.exchange; slots = slice_set old.slots a (Runs new) })
     go None e told =
         let item : next_item a c h ≡ None = item_is h a c ∙ ap (option_map item_of) (sym (next_is h a c live is named) ∙ e) in
-        let follows = accepted h (Run a c) Gap old (run_refusal h a c true true false caller named is.runs) (ap (did_run a h) (sym item))
+        let follows = accepted_follows h (Run a c) Gap old (run_refusal h a c true true false caller named is.runs) (ap (did_run a h) (sym item))
         (subst (λ (o : Option RunItem). Ties (after_run a c h o) old) (sym item) ties) in
         (follows.0, subst (λ (slots : List SlotSeen). Ties (after h (Run a c)) (record { exchange = old.exchange; slots = slots })) (sym as_it_was) follows.1)
     go (Some packet) e told = cc
-
--- a caller that the actor's cast names, and one that it doesn't
-named_is : (h : History) (c a : ℕ) (copies : Option ℕ) → copies ≡ copies_of c a h → is_some copies ≡ names c (cast_of a h)
-named_is h c a copies e = ap (λ (o : Option ℕ). is_some o) e ∙ go (names c (cast_of a h)) _
-  where
-    go : (named : Bool) (n : ℕ) → is_some (cond named (Some n) None) ≡ named
-    go true n = refl
-    go false n = refl
 
 -- ---- the same of what is seen of slots
 
@@ -304,55 +297,34 @@ ran_there f slots c a x y told within is went = record {
     new_is = ap (λ (seen : List SlotSeen). get_or seen a Vacant) (map-set f slots a y)
         ∙ get_or_from_slice_get (slice_set (map f slots) a (f y)) a (f y) Vacant (get_set-same (map f slots) a (f x) (f y) here)
 
--- ---- what the world sees on its way
-
--- the caller at its place, and the slot of the actor
-pub record RunSees (exchange : ExchangeValue) (slots : List SlotSeen) (a c place : ℕ) (owner : OwnerValue) (slot : SlotSeen) : Type 0 where
-  pub place_is : position (is_owner c) exchange.owners ≡ Some place
-  pub owner_is : owner ≡ get_or exchange.owners place owner
-  pub slot_is : slice_get slots a ≡ Some slot
-
--- what is read inside the world is so of the world
-pub run_sees : {W S : Type 0} (f : S → SlotSeen) (exchange_of : W → ExchangeValue) (slots_of : W → List S) (inside now : W) (a c at place : ℕ) (owner : OwnerValue) (slot : S) → inside ≡ now → at ≡ a → at < length (slots_of now)
-    → slot ≡ get_or (slots_of inside) at slot → Some place ≡ position (is_owner c) (exchange_of inside).owners → owner ≡ get_or (exchange_of inside).owners place owner
-    → RunSees (exchange_of now) (map f (slots_of now)) a c place owner (f slot)
-run_sees {W = W} f exchange_of slots_of inside now a c at place owner slot same value within read found owner_is = record {
-  place_is = sym (found ∙ ap (λ (world : W). position (is_owner c) (exchange_of world).owners) same);
-  owner_is = owner_is ∙ ap (λ (world : W). get_or (exchange_of world).owners place owner) same;
-  slot_is = subst (λ (x : ℕ). slice_get (map f (slots_of now)) x ≡ Some (f slot)) value (slot_within f (slots_of now) at slot within (read ∙ ap (λ (world : W). get_or (slots_of world) at slot) same));
-}
+-- ---- the event as the world sees it
 
 pub run_no_caller : (exchange : ExchangeValue) (slots : List SlotSeen) (a c : ℕ) → position (is_owner c) exchange.owners ≡ None
     → Follows (Run a c) (record { exchange = exchange; slots = slots }) (record { exchange = exchange; slots = slots }) (Err NoCaller)
 run_no_caller exchange slots a c none casts before ties =
     let h = history casts before in
-    refused h (Run a c) NoCaller (record { exchange = exchange; slots = slots })
+    refused_follows h (Run a c) NoCaller (record { exchange = exchange; slots = slots })
     (run_refusal h a c false (names c (cast_of a h)) (is_ended a h) (owner_absent h exchange.owners c ties.owners none) refl refl) ties
 
-module _ (exchange : ExchangeValue) (slots : List SlotSeen) (a c place : ℕ) (owner : OwnerValue) (slot : SlotSeen) (sees : RunSees exchange slots a c place owner slot) where
-  known : (h : History) → Ties h (record { exchange = exchange; slots = slots }) → (is_caller c h ≡ true) × (is_some (copies_in a owner.handles) ≡ names c (cast_of a h))
-  known h ties =
-      let here = owner_here h exchange.owners c place owner ties.owners sees.place_is in
-      (here.0, named_is h c a (copies_in a owner.handles) (ap (λ (o : OwnerValue). copies_in a o.handles) sees.owner_is ∙ here.1.copies a))
-
+module _ (exchange : ExchangeValue) (slots : List SlotSeen) (a c place : ℕ) (owner : OwnerValue) (slot : SlotSeen) (sees : WorldSees exchange slots a c place owner slot) where
   pub run_stranger : is_some (copies_in a owner.handles) ≡ false → Follows (Run a c) (record { exchange = exchange; slots = slots }) (record { exchange = exchange; slots = slots }) (Err (Handle NoActor))
   run_stranger none casts before ties =
       let h = history casts before in
-      let here = known h ties in
-      refused h (Run a c) (Handle NoActor) (record { exchange = exchange; slots = slots }) (run_refusal h a c true false (is_ended a h) here.0 (sym here.1 ∙ none) refl) ties
+      let here = known h exchange slots a c place owner slot sees ties in
+      refused_follows h (Run a c) (Handle NoActor) (record { exchange = exchange; slots = slots }) (run_refusal h a c true false (is_ended a h) here.0 (sym here.1 ∙ none) refl) ties
 
   pub run_ended : is_some (copies_in a owner.handles) ≡ true → is_live_seen slot ≡ false → Follows (Run a c) (record { exchange = exchange; slots = slots }) (record { exchange = exchange; slots = slots }) (Err ActorEnded)
   run_ended some off casts before ties =
       let h = history casts before in
-      let here = known h ties in
+      let here = known h exchange slots a c place owner slot sees ties in
       let named : names c (cast_of a h) ≡ true = sym here.1 ∙ some in
       let ended : is_ended a h ≡ true = has_ended h a slot (subst (IsStage h a) sees.slot_is (ties.actors a)) off (named_cast c a h named) in
-      refused h (Run a c) ActorEnded (record { exchange = exchange; slots = slots }) (run_refusal h a c true true true here.0 named ended) ties
+      refused_follows h (Run a c) ActorEnded (record { exchange = exchange; slots = slots }) (run_refusal h a c true true true here.0 named ended) ties
 
   pub run_unrefused : is_some (copies_in a owner.handles) ≡ true → is_live_seen slot ≡ true → IsUnrefused (Run a c) (record { exchange = exchange; slots = slots })
   run_unrefused some on casts before ties =
       let h = history casts before in
-      let here = known h ties in
+      let here = known h exchange slots a c place owner slot sees ties in
       run_refusal h a c true true false here.0 (sym here.1 ∙ some) (not_ended h a slot (subst (IsStage h a) sees.slot_is (ties.actors a)) on)
 
   -- how the slot went on
@@ -377,7 +349,7 @@ module _ (exchange : ExchangeValue) (slots : List SlotSeen) (a c place : ℕ) (o
       go : (slot next : SlotSeen) → is_live_seen slot ≡ true → slice_get slots a ≡ Some slot → IsRun c slot next (Ok None) → new ≡ slice_set slots a next
           → (Ok Gap ≡ outcome_of (history casts before) (Run a c)) × Ties (after (history casts before) (Run a c)) (record { exchange = exchange; slots = new })
       go (Runs live) (Runs next) on at went others =
-          let here = known h ties in
+          let here = known h exchange slots a c place owner slot sees ties in
           let follows = gap_follows h (record { exchange = exchange; slots = slots }) a c live next (world_lawful casts before) ties here.0 (sym here.1 ∙ some) at went in
           (follows.0, subst (λ (seen : List SlotSeen). Ties (after h (Run a c)) (record { exchange = exchange; slots = seen })) (sym others) follows.1)
       go (Runs live) next on at went others = absurd went
@@ -397,7 +369,7 @@ module _ (exchange : ExchangeValue) (slots : List SlotSeen) (a c place : ℕ) (o
       go : (slot next : SlotSeen) → is_live_seen slot ≡ true → slice_get slots a ≡ Some slot → IsRun c slot next (Ok (Some reply)) → new ≡ slice_set slots a next
           → (Ok (Ran reply.place (length exchange.replies)) ≡ outcome_of (history casts before) (Run a c)) × Ties (after (history casts before) (Run a c)) (world new)
       go (Runs live) (Runs next) on at went others =
-          let here = known h ties in
+          let here = known h exchange slots a c place owner slot sees ties in
           let follows = run_follows h (record { exchange = exchange; slots = slots }) a c live next reply (world_lawful casts before) ties here.0 (sym here.1 ∙ some) at went in
           (follows.0, subst (λ (seen : List SlotSeen). Ties (after h (Run a c)) (world seen)) (sym others) follows.1)
       go (Runs live) next on at went others = absurd went

@@ -1,6 +1,7 @@
 -- A call that its caller sends.
 use Rattle.std.proofs.Common.{◌≡◌, ◌≢◌, ℕ, ◌+◌, ◌<◌, Bool, true, false, List, [], ◌∷◌, ◌++◌, length, map, Some, None, inl, inr, refl, ap, sym, ◌∙◌, subst, arith, Ok, Err, length-append, length-set, get_or}
 use Rattle.std.specs.Prelude.{Option, ◌==◌, ◌||◌, slice_get, slice_set, position, option_map, unwrap_or}
+use Rattle.std.proofs.Math.Bool.{or-true, or-false}
 use Rattle.std.proofs.lemmas.Bool.{eq-eqb, ne_eqb}
 use Rattle.std.proofs.lemmas.Bool.Decides.{eqb_tells}
 use Rattle.std.proofs.lemmas.Option.{slice_get_within, slice_get-get_or}
@@ -15,7 +16,7 @@ use Rattle.act_rules.specs.declared.outcome.WorldRefusal.TheVariants.{NoCaller, 
 use Rattle.act_rules.specs.RunList.{Answer}
 use Rattle.act_rules.specs.Submissions.{calls_to, number_of, settled, send_refusal}
 use Rattle.act_rules.specs.History.{History, is_caller, calls_of, kept_of, has_letter, is_letter}
-use Rattle.act_rules.specs.Rules.{refusal_of, outcome_of, added, after, and_also, call_letter, was_sent}
+use Rattle.act_rules.specs.Rules.{did, refusal_of, outcome_of, added, after, and_also, call_letter, was_sent}
 use Rattle.act_rules.proofs.Growth.{Grows, added_grows}
 use Rattle.act_rules.proofs.Letters.{calls_to-number, letter_is}
 use Rattle.act_rules.proofs.Table.{kept_of-same}
@@ -25,9 +26,9 @@ use Rattle.act_world.specs.declared.exchange.Mailed.TheVariants.{Call as MailedC
 use Rattle.act_world.specs.Exchange.{ExchangeValue, is_owner}
 use Rattle.act_world.specs.Value.{SlotSeen, WorldSeen}
 use Rattle.act_world.specs.Ties.{IsOwnerOf, mailed, packet_as, Ties}
+use Rattle.act_world.proofs.Changes.{refused_follows, accepted_follows, get_set-same, get_set-other}
 use Rattle.act_world.proofs.Lawful.{IsLawful, has_letter-last, is_letter-same}
 use Rattle.act_world.proofs.Frames.{SameCaller, owners_change, owner_here, owner_absent, mail_stays, replies_stay, go_together, stages_stay}
-use Rattle.act_world.proofs.Killing.{refused, accepted, or_true, or_false, set_here, set_there}
 
 -- ---- the refusals
 
@@ -54,13 +55,13 @@ no_caller h c k e = rw e refl
 
 pub send_no_caller : (h : History) (exchange : ExchangeValue) (slots : List SlotSeen) (c k : ℕ) → Ties h (record { exchange = exchange; slots = slots }) → position (is_owner c) exchange.owners ≡ None
     → (Err NoCaller ≡ outcome_of h (Send c k)) × Ties (after h (Send c k)) (record { exchange = exchange; slots = slots })
-send_no_caller h exchange slots c k ties none = refused h (Send c k) NoCaller (record { exchange = exchange; slots = slots }) (no_caller h c k (owner_absent h exchange.owners c ties.owners none)) ties
+send_no_caller h exchange slots c k ties none = refused_follows h (Send c k) NoCaller (record { exchange = exchange; slots = slots }) (no_caller h c k (owner_absent h exchange.owners c ties.owners none)) ties
 
 pub send_refused : (h : History) (exchange : ExchangeValue) (slots : List SlotSeen) (c k place : ℕ) (owner : OwnerValue) (refusal : SendRefusal) → Ties h (record { exchange = exchange; slots = slots }) → SeesOwner exchange c place owner → sending_refusal owner k ≡ Some refusal
     → (Err (Sending refusal) ≡ outcome_of h (Send c k)) × Ties (after h (Send c k)) (record { exchange = exchange; slots = slots })
 send_refused h exchange slots c k place owner refusal ties sees e =
     let here = seen_owner h exchange slots c place owner ties sees in
-    refused h (Send c k) (Sending refusal) (record { exchange = exchange; slots = slots }) (send_refuses h c k owner here.0 here.1 ∙ ap (λ (o : Option SendRefusal). option_map Sending o) e) ties
+    refused_follows h (Send c k) (Sending refusal) (record { exchange = exchange; slots = slots }) (send_refuses h c k owner here.0 here.1 ∙ ap (λ (o : Option SendRefusal). option_map Sending o) e) ties
 
 pub send_unrefused : (h : History) (exchange : ExchangeValue) (slots : List SlotSeen) (c k place : ℕ) (owner : OwnerValue) → Ties h (record { exchange = exchange; slots = slots }) → SeesOwner exchange c place owner → sending_refusal owner k ≡ None → refusal_of h (Send c k) ≡ None
 send_unrefused h exchange slots c k place owner ties sees e =
@@ -93,7 +94,7 @@ other_marks : (h : History) (c d : ℕ) (a n : ℕ) → c ≢ d → (j : ℕ) (c
 other_marks h c d a n apart j None = refl
 other_marks h c d a n apart j (Some call) =
     let differs : (d == c) ≡ false = ne_eqb d c (λ same. apart (sym same)) in
-    has_letter-last (call_letter d j call h) (CallLetter c a n) h.mail ∙ rw differs (or_false (has_letter (call_letter d j call h) h.mail))
+    has_letter-last (call_letter d j call h) (CallLetter c a n) h.mail ∙ rw differs (or-false (has_letter (call_letter d j call h) h.mail))
 
 -- the marks of the caller's other calls stay
 call_marks : (h : History) (c k : ℕ) (call : Submission) → slice_get (calls_of c h) k ≡ Some call → (j : ℕ) → k ≢ j → (other : Option Submission) → slice_get (calls_of c h) j ≡ other → was_sent c j other (sent_more h (call_letter c k call h)) ≡ was_sent c j other h
@@ -101,24 +102,24 @@ call_marks h c k call at j apart None at_j = refl
 call_marks h c k call at j apart (Some other) at_j =
     has_letter-last (call_letter c j other h) (call_letter c k call h) h.mail
     ∙ ap (λ (b : Bool). has_letter (call_letter c j other h) h.mail || b) (letters_differ c j k (calls_of c h) other call at_j at apart)
-    ∙ or_false (has_letter (call_letter c j other h) h.mail)
+    ∙ or-false (has_letter (call_letter c j other h) h.mail)
 
 -- ---- the caller
 
 marked : (h : History) (c k : ℕ) (call : Submission) (owner : OwnerValue) → IsOwnerOf h c owner → slice_get (calls_of c h) k ≡ Some call → (j : ℕ) → is_sent (with_sent owner k) j ≡ was_sent c j (slice_get (calls_of c h) j) (sent_more h (call_letter c k call h))
 marked h c k call owner is at j = elim (eqb_tells k j) [
   | inl t ↦ subst (λ (x : ℕ). is_sent (with_sent owner k) x ≡ was_sent c x (slice_get (calls_of c h) x) (sent_more h (call_letter c k call h))) t.1 itself
-  | inr f ↦ ap (λ (o : Option Bool). unwrap_or o false) (set_there owner.sent k j true f.1) ∙ is.sent j ∙ sym (call_marks h c k call at j f.1 (slice_get (calls_of c h) j) refl)
+  | inr f ↦ ap (λ (o : Option Bool). unwrap_or o false) (get_set-other owner.sent k j true f.1) ∙ is.sent j ∙ sym (call_marks h c k call at j f.1 (slice_get (calls_of c h) j) refl)
 ]
   where
     within : k < length owner.sent
     within = let below = slice_get_within (calls_of c h) k call at in let marks = is.marks in omega arith
 
     written : slice_get (slice_set owner.sent k true) k ≡ Some true
-    written = set_here owner.sent k (get_or owner.sent k false) true (slice_get-get_or owner.sent k false within)
+    written = get_set-same owner.sent k (get_or owner.sent k false) true (slice_get-get_or owner.sent k false within)
 
     has : was_sent c k (Some call) (sent_more h (call_letter c k call h)) ≡ true
-    has = has_letter-last (call_letter c k call h) (call_letter c k call h) h.mail ∙ ap (λ (b : Bool). has_letter (call_letter c k call h) h.mail || b) (is_letter-same (call_letter c k call h)) ∙ or_true (has_letter (call_letter c k call h) h.mail)
+    has = has_letter-last (call_letter c k call h) (call_letter c k call h) h.mail ∙ ap (λ (b : Bool). has_letter (call_letter c k call h) h.mail || b) (is_letter-same (call_letter c k call h)) ∙ or-true (has_letter (call_letter c k call h) h.mail)
 
     itself : is_sent (with_sent owner k) k ≡ was_sent c k (slice_get (calls_of c h) k) (sent_more h (call_letter c k call h))
     itself = ap (λ (o : Option Bool). unwrap_or o false) written ∙ sym has ∙ ap (λ (o : Option Submission). was_sent c k o (sent_more h (call_letter c k call h))) (sym at)
@@ -193,7 +194,7 @@ pub send_follows : (h : History) (exchange : ExchangeValue) (slots : List SlotSe
     → sending_refusal owner k ≡ None → packet_at owner k ≡ Some packet → new ≡ with_sent owner k → i ≡ length exchange.mail → mail ≡ exchange.mail ++ MailedCall packet ∷ []
     → (Ok (Mail i) ≡ outcome_of h (Send c k)) × Ties (after h (Send c k)) (record { exchange = record exchange { owners = slice_set exchange.owners place new; mail = mail }; slots = slots })
 send_follows h exchange slots c k place i owner new packet mail lawful ties sees unrefused packet_is new_is i_is mail_is =
-    rw (i_is ∙ ties.mail_count, new_is, mail_is) (accepted h (Send c k) world (send_unrefused h exchange slots c k place owner ties sees unrefused) (go (slice_get (calls_of c h) k) refl (sym found ∙ packet_is)))
+    rw (i_is ∙ ties.mail_count, new_is, mail_is) (accepted_follows h (Send c k) (did h (Send c k)) world (send_unrefused h exchange slots c k place owner ties sees unrefused) refl (go (slice_get (calls_of c h) k) refl (sym found ∙ packet_is)))
   where
     found : packet_at owner k ≡ option_map (owner_packet owner k) (slice_get (calls_of c h) k)
     found = ap (λ (calls : List Submission). option_map (owner_packet owner k) (slice_get calls k)) (seen_owner h exchange slots c place owner ties sees).1.calls

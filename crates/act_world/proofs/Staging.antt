@@ -6,7 +6,7 @@ use Rattle.act_types.specs.KindState.{KindState}
 use Rattle.act_rules.specs.History.{History}
 use Rattle.act_rules.proofs.Lists.{slice_get-map}
 use Rattle.act_world.specs.declared.slot.Slot.{Slot}
-use Rattle.act_world.specs.Value.{slot_seen}
+use Rattle.act_world.specs.Value.{ExchangeValue, slot_seen, stage_of_slot, stage_in}
 use Rattle.act_world.specs.Ties.{IsStage}
 
 -- what is seen at the place of a slot
@@ -21,3 +21,9 @@ pub stage_at : {K : Type 0} (state : K → KindState) (slots : List (Slot K)) (h
     → IsStage h a (slice_get (map (slot_seen state) slots) a) → IsStage h a (Some (slot_seen state slot))
 stage_at state slots h a place slot same within at is =
     subst (IsStage h a) (ap (λ n. slice_get (map (slot_seen state) slots) n) (sym same) ∙ seen_at state slots place slot within at) is
+
+-- what the world shows of the actor is what is in the slot
+pub shown_at : {K : Type 0} (state : K → KindState) (slots : List (Slot K)) (exchange : ExchangeValue) (a place : ℕ) (slot : Slot K) → place ≡ a → place < length slots → slot ≡ slice_index_or slots place slot
+    → stage_of_slot (Some (slot_seen state slot)) ≡ stage_in (record { exchange = exchange; slots = map (slot_seen state) slots }) a
+shown_at state slots exchange a place slot same within at =
+    ap stage_of_slot (sym (seen_at state slots place slot within at) ∙ ap (λ n. slice_get (map (slot_seen state) slots) n) same)

@@ -33,9 +33,10 @@ use Rattle.act_owner.specs.Owner.{OwnerValue, submission_refusal, with_call}
 use Rattle.act_world.specs.Exchange.{ExchangeValue, is_owner}
 use Rattle.act_world.specs.Value.{SlotSeen}
 use Rattle.act_world.specs.Ties.{Ties, IsOwnerOf, is_death_to}
+use Rattle.act_world.proofs.Changes.{refused_follows, accepted_follows}
 use Rattle.act_world.proofs.Lawful.{IsLawful}
 use Rattle.act_world.proofs.Frames.{SameCaller, owners_change, mail_stays}
-use Rattle.act_world.proofs.OneCaller.{refused_follows, accepted_follows, needs_holds, IsHere, caller_here, callers_tie, sent_stays, under-other}
+use Rattle.act_world.proofs.OneCaller.{needs_holds, IsHere, caller_here, callers_tie, sent_stays, under-other}
 
 -- a submission is refused as the caller says
 pub submission_refused : (h : History) (c a : ℕ) (method : Method) (args : List Arg) (owner : OwnerValue) (refusal : Option SubmitRefusal) → IsHere h c owner → submission_refusal owner a args ≡ refusal

@@ -6,6 +6,7 @@ use Rattle.act_world.specs.declared.exchange.Mailed.{Mailed}
 use Rattle.act_world.specs.declared.exchange.Mailed.TheVariants.{Call as MailedCall, Note as MailedNote}
 use Rattle.act_types.specs.declared.message.Reply.{Reply}
 use Rattle.act_rules.specs.declared.outcome.Arrival.{Arrival}
+use Rattle.act_rules.specs.declared.outcome.Arrival.TheVariants.{New}
 use Rattle.act_rules.specs.declared.outcome.Did.TheVariants.{Arrived, Dead, Retired}
 use Rattle.act_rules.specs.declared.outcome.HandleRefusal.TheVariants.{NoActor}
 use Rattle.act_rules.specs.declared.outcome.WorldRefusal.{WorldRefusal}
@@ -48,6 +49,11 @@ pub record HasNoted (note : ReleaseNote) (arrival : Arrival) (old new : ActorSee
 abbrev pub HasArrived : Mailed → Arrival → ActorSeen → ActorSeen → Type 0
 HasArrived (MailedCall packet) arrival old new = HasTaken packet arrival old new
 HasArrived (MailedNote note) arrival old new = HasNoted note arrival old new
+
+-- the letter is a call that the running actor takes in
+abbrev pub IsNewCall : Mailed → SlotSeen → Type 0
+IsNewCall (MailedCall packet) (Runs live) = arrival_at live.id live.inbox packet ≡ New
+IsNewCall letter slot = ⊥
 
 -- the letter came to a running actor, or its actor has ended
 abbrev pub IsBrought : Mailed → SlotSeen → SlotSeen → Outcome → Type 0

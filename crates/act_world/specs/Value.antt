@@ -1,5 +1,5 @@
 -- What contracts see of a world.
-use Rattle.std.specs.Prelude.{List, map}
+use Rattle.std.specs.Prelude.{ℕ, List, map, slice_get, Option, Some, None}
 use Rattle.act_types.specs.KindState.{KindState}
 use Rattle.act_actor.specs.Value.{ActorSeen, DeadValue, RetiredSeen}
 use Rattle.act_actor.specs.Seen.{live_seen, retired_seen}
@@ -35,3 +35,12 @@ pub record WorldSeen : Type 0 where
 
 abbrev pub world_seen : {K : Type 0} → (K → KindState) → World K → WorldSeen
 world_seen state world = record { exchange = world.exchange; slots = map (slot_seen state) world.slots }
+
+-- the state that an actor is in, where there is such an actor
+abbrev pub stage_of_slot : Option SlotSeen → Option SlotSeen
+stage_of_slot None = None
+stage_of_slot (Some Vacant) = None
+stage_of_slot (Some slot) = Some slot
+
+abbrev pub stage_in : WorldSeen → ℕ → Option SlotSeen
+stage_in world a = stage_of_slot (slice_get world.slots a)

@@ -1,11 +1,11 @@
 //! The callers, and what is on its way between them and the actors.
 
-ghost use Rattle.std.specs.Prelude.{◌≡◌, find, position, option_copied, option_map, slice_get, is_some, unwrap_or, false, IfOk};
+ghost use Rattle.std.specs.Prelude.{◌≡◌, find, position, option_copied, slice_get, is_some, unwrap_or, false};
 ghost use Rattle.act_handles.specs.Handles.{copies_in};
 ghost use Rattle.act_world.specs.Exchange.{is_owner, mailed_to};
 
 use act_owner::{HandleRefusal, Owner};
-use act_types::{ActorId, CallerId, CopyOf, NoMemory, Notice, Packet, ReleaseNote};
+use act_types::{ActorId, CallerId, Notice, Packet, ReleaseNote};
 use std::alloc::Global;
 use std::marker::Model;
 
@@ -24,15 +24,6 @@ impl Mailed {
         match self {
             Mailed::Call(packet) => packet.actor,
             Mailed::Note(note) => note.actor,
-        }
-    }
-}
-
-impl CopyOf for Mailed {
-    fn copy_of(&self, alloc: Global) -> Result<Mailed, NoMemory> {
-        match self {
-            Mailed::Call(packet) => Ok(Mailed::Call(packet.copy_of(alloc)?)),
-            Mailed::Note(note) => Ok(Mailed::Note(*note)),
         }
     }
 }
@@ -100,22 +91,11 @@ impl Exchange {
         Some(&self.owners[place])
     }
 
-    /// The actor of the letter at a place of the mail.
-    pub(crate) fn addressee(&self, i: u32) -> Option<ActorId>
-        ensures { result ≡ option_map mailed_to (slice_get self.now.mail i) }
+    /// The letter at a place of the mail.
+    pub(crate) fn letter(&self, i: u32) -> Option<&Mailed>
+        ensures { option_copied result ≡ slice_get self.now.mail i }
     {
-        let letter = self.mail.get(i as usize)?;
-        Some(letter.actor())
-    }
-
-    /// A copy of the letter at a place of the mail.
-    pub(crate) fn letter(&self, i: u32) -> Result<Option<Mailed>, NoMemory>
-        ensures { IfOk result (λ letter. letter ≡ slice_get self.now.mail i) }
-    {
-        let Some(letter) = self.mail.get(i as usize) else {
-            return Ok(None);
-        };
-        Ok(Some(letter.copy_of(self.alloc())?))
+        self.mail.get(i as usize)
     }
 
     /// Whether a kill of the actor was asked.

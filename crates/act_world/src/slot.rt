@@ -1,16 +1,19 @@
 //! Where an actor is.
 
 ghost use Rattle.std.specs.Prelude.{◌≡◌, ◌<◌, ℕ, map, IfOk, OnErr, false};
+ghost use Rattle.act_rules.specs.declared.outcome.Arrival.TheVariants.{New};
+ghost use Rattle.act_actor.specs.Actor.{arrival_at};
 ghost use Rattle.act_actor.specs.Seen.{live_seen};
-ghost use Rattle.act_world.specs.Value.{slot_seen};
+ghost use Rattle.act_world.specs.Value.{Runs, slot_seen};
 ghost use Rattle.act_world.specs.Stands.{is_memory};
-ghost use Rattle.act_world.specs.Slots.{IsLiveSeen, is_live_seen, is_dead_seen, HasArrived, IsBrought, IsRun, IsRunAt, IsRetiredIn, killed};
+ghost use Rattle.act_world.specs.Slots.{IsLiveSeen, is_live_seen, is_dead_seen, HasTaken, HasArrived, IsNewCall, IsBrought, IsRun, IsRunAt, IsRetiredIn, killed};
 
 use crate::exchange::Mailed;
 use act_actor::{Dead, Live, Retired};
 use act_kinds::{Actor, Boxed};
 use act_rules::{Arrival, Did, HandleRefusal, Outcome, WorldRefusal};
-use act_types::{ActorId, CallerId, NoMemory, Reply};
+use act_types::{ActorId, CallerId, CopyOf, NoMemory, Packet, Reply};
+use std::alloc::Global;
 use std::mem;
 
 /// An actor in one of its states. A slot is vacant where there is no such actor, and while an actor
@@ -40,27 +43,51 @@ pub(crate) fn slot_of(a: ActorId) -> usize
 }
 
 /// Brings a letter to the actor.
-pub(crate) fn bring<K: Actor>(slot: &mut Slot<K>, letter: Mailed) -> Result<Outcome, NoMemory>
-    ensures ok { IfOk result (IsBrought letter (slot_seen K.state slot.old) (slot_seen K.state slot.new)) }
+pub(crate) fn bring<K: Actor>(
+    alloc: Global,
+    slot: &mut Slot<K>,
+    letter: &Mailed,
+) -> Result<Outcome, NoMemory>
+    ensures ok { IfOk result (IsBrought letter.now (slot_seen K.state slot.old) (slot_seen K.state slot.new)) }
     ensures told { IfOk result (λ told. is_memory told ≡ false) }
+    // Memory is asked for where the letter is a call that the actor takes in, and there alone.
+    ensures last { OnErr result (IsNewCall letter.now (slot_seen K.state slot.old)) }
     ensures err { OnErr result (slot_seen K.state slot.new ≡ slot_seen K.state slot.old) }
 {
     let Slot::Live(live) = slot else {
         return Ok(Err(WorldRefusal::ActorEnded));
     };
-    let arrival = arrive(live, letter)?;
+    let arrival = arrive(alloc, live, letter)?;
     Ok(Ok(Did::Arrived(arrival)))
 }
 
 /// The actor takes a letter in.
-fn arrive<K: Actor>(live: &mut Live<K>, letter: Mailed) -> Result<Arrival, NoMemory>
-    ensures ok { IfOk result (λ arrival. HasArrived letter arrival (live_seen K.state live.old) (live_seen K.state live.new)) }
+fn arrive<K: Actor>(alloc: Global, live: &mut Live<K>, letter: &Mailed) -> Result<Arrival, NoMemory>
+    ensures ok { IfOk result (λ arrival. HasArrived letter.now arrival (live_seen K.state live.old) (live_seen K.state live.new)) }
+    ensures last { OnErr result (IsNewCall letter.now (Runs (live_seen K.state live.old))) }
     ensures err { OnErr result (live_seen K.state live.new ≡ live_seen K.state live.old) }
 {
-    let packet = match letter {
-        Mailed::Call(packet) => packet,
-        Mailed::Note(note) => return Ok(live.released(note)),
+    match letter {
+        Mailed::Call(packet) => take_in(alloc, live, packet),
+        Mailed::Note(note) => Ok(live.released(*note)),
+    }
+}
+
+/// The actor takes a call in. Its packet is copied only where it is new.
+fn take_in<K: Actor>(
+    alloc: Global,
+    live: &mut Live<K>,
+    packet: &Packet,
+) -> Result<Arrival, NoMemory>
+    ensures ok { IfOk result (λ arrival. HasTaken packet.now arrival (live_seen K.state live.old) (live_seen K.state live.new)) }
+    ensures last { let before = live_seen K.state live.old in OnErr result (arrival_at before.id before.inbox packet.now ≡ New) }
+    ensures err { OnErr result (live_seen K.state live.new ≡ live_seen K.state live.old) }
+{
+    let arrival = live.arrival(packet);
+    let Arrival::New = arrival else {
+        return Ok(arrival);
     };
+    let packet = packet.copy_of(alloc)?;
     let Ok(arrival) = live.arrive(packet) else {
         return Err(NoMemory);
     };

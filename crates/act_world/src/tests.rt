@@ -1,69 +1,89 @@
-//! Worked lists of events, each with what is told of it, also where memory is refused.
+//! Worked rows of events, each with what is told of them and how the world ends, also where memory
+//! is refused.
 
 use crate::{Cast, Did, Event, Outcome, Stage, World, WorldRefusal, cast_fits};
-use act_kinds::{Actor, Boxed, Counter};
-use act_rules::Arrival;
-use act_types::{ActorId, Arg, CallerId, Fault, FutureId, ListOf, Method, NoMemory, Value};
+use act_kinds::{Actor, Boxed, Counter, ListKind};
+use act_owner::Owner;
+use act_rules::{Arrival, RunItem, SendRefusal};
+use act_types::{
+    ActorId, Answer, Arg, CallerId, FutureId, ListOf, Method, NoMemory, Settled, Value,
+};
 use std::alloc::Global;
 use std::process::Abort;
 use std::test::Fail;
 
-/// What a row does, by caller 1 to actor 1.
+/// What a call is submitted with.
+#[derive(Clone, Copy)]
+enum Given {
+    Nothing,
+    Int(i64),
+    Future(FutureId),
+}
+
+/// An event as a row writes it.
 #[derive(Clone, Copy)]
 enum Step {
-    Add(i64),
-    Copy,
-    Release,
-    Send,
+    Submit(CallerId, ActorId, Method, Given),
+    Copy(CallerId, ActorId),
+    Release(CallerId, ActorId),
+    Send(CallerId, FutureId),
     Deliver(u32),
-    Run,
+    Run(ActorId, CallerId),
     Collect(u32),
-    AskKill,
-    TakeKill,
-    Tell,
-    Retire,
+    AskKill(CallerId, ActorId),
+    TakeKill(ActorId),
+    Tell(ActorId, CallerId),
+    Retire(ActorId),
+}
+
+/// An event, and what is to be told of it.
+type Row = (Step, Outcome);
+
+fn args_of(alloc: Global, given: Given) -> Result<ListOf<Arg>, NoMemory> {
+    let mut args = ListOf::new(alloc);
+    match given {
+        Given::Nothing => {}
+        Given::Int(number) => args.push(Arg::Plain(Value::Int(number)))?,
+        Given::Future(future) => args.push(Arg::Fut(future))?,
+    }
+    Ok(args)
 }
 
 fn event_of(alloc: Global, step: Step) -> Result<Event, NoMemory> {
-    let c = CallerId::new(1).unwrap();
-    let a = ActorId::new(1).unwrap();
     Ok(match step {
-        Step::Add(number) => {
-            let mut args = ListOf::new(alloc);
-            args.push(Arg::Plain(Value::Int(number)))?;
-            Event::Submit(c, a, Method::Add, args)
-        }
-        Step::Copy => Event::Copy(c, a),
-        Step::Release => Event::Release(c, a),
-        Step::Send => Event::Send(c, FutureId::new(0)),
+        Step::Submit(c, a, method, given) => Event::Submit(c, a, method, args_of(alloc, given)?),
+        Step::Copy(c, a) => Event::Copy(c, a),
+        Step::Release(c, a) => Event::Release(c, a),
+        Step::Send(c, k) => Event::Send(c, k),
         Step::Deliver(i) => Event::Deliver(i),
-        Step::Run => Event::Run(a, c),
+        Step::Run(a, c) => Event::Run(a, c),
         Step::Collect(j) => Event::Collect(j),
-        Step::AskKill => Event::AskKill(c, a),
-        Step::TakeKill => Event::TakeKill(a),
-        Step::Tell => Event::Tell(a, c),
-        Step::Retire => Event::Retire(a),
+        Step::AskKill(c, a) => Event::AskKill(c, a),
+        Step::TakeKill(a) => Event::TakeKill(a),
+        Step::Tell(a, c) => Event::Tell(a, c),
+        Step::Retire(a) => Event::Retire(a),
     })
 }
 
-/// One actor of this kind, and one caller.
-fn casts_of<K: Actor>(alloc: Global, kind: K) -> Result<Vec<Cast<K>>, NoMemory> {
+fn cast_of<K: Actor>(
+    alloc: Global,
+    actor: ActorId,
+    names: &[CallerId],
+    kind: K,
+) -> Result<Cast<K>, NoMemory> {
     let mut callers = ListOf::new(alloc);
-    callers.push(CallerId::new(1).unwrap())?;
-    let mut casts = Vec::new(alloc);
-    casts.push(Cast {
-        actor: ActorId::new(1).unwrap(),
+    for c in names {
+        callers.push(*c)?;
+    }
+    Ok(Cast {
+        actor,
         callers,
         kind,
-    })?;
-    Ok(casts)
+    })
 }
 
-/// The rows' events, and what is wanted to be told of them.
-fn lists_of(
-    alloc: Global,
-    rows: &[(Step, Outcome)],
-) -> Result<(Vec<Event>, Vec<Outcome>), NoMemory> {
+/// The rows' events, and what is to be told of them.
+fn lists_of(alloc: Global, rows: &[Row]) -> Result<(Vec<Event>, Vec<Outcome>), NoMemory> {
     let mut events = Vec::new(alloc);
     let mut wanted = Vec::new(alloc);
     for (step, outcome) in rows {
@@ -73,33 +93,14 @@ fn lists_of(
     Ok((events, wanted))
 }
 
-/// Plays the rows, each with what is wanted to be told of it.
+/// Plays the rows where memory may be refused once: then the world stops at the event that wanted
+/// it, with the outcomes before it told, and plays on from there.
 fn played<K: Actor>(
     rt: &impl Abort,
     alloc: Global,
-    kind: K,
-    rows: &[(Step, Outcome)],
+    casts: Vec<Cast<K>>,
+    rows: &[Row],
 ) -> Result<World<K>, NoMemory> {
-    let casts = casts_of(alloc, kind)?;
-    assert!(rt; cast_fits(casts.as_slice()));
-    let mut world = World::open(alloc, casts)?;
-    let (events, wanted) = lists_of(alloc, rows)?;
-    assert!(rt; events.len() <= 100);
-    let mut told = Vec::new(alloc);
-    assert_eq!(rt; world.play(events.as_slice(), &mut told), Ok(()));
-    assert_eq!(rt; told.as_slice(), wanted.as_slice());
-    Ok(world)
-}
-
-/// Plays the rows where memory may be refused once: then the world stops at the event that wanted
-/// it, and plays on from there.
-fn played_on<K: Actor>(
-    rt: &impl Abort,
-    alloc: Global,
-    kind: K,
-    rows: &[(Step, Outcome)],
-) -> Result<World<K>, NoMemory> {
-    let casts = casts_of(alloc, kind)?;
     assert!(rt; cast_fits(casts.as_slice()));
     let mut world = World::open(alloc, casts)?;
     let (events, wanted) = lists_of(alloc, rows)?;
@@ -115,139 +116,293 @@ fn played_on<K: Actor>(
     Ok(world)
 }
 
-/// The answer of the caller's first call, as a number or a fault.
-fn first_answer<K: Actor>(world: &World<K>) -> Option<Result<i64, Fault>> {
-    let owner = world.owner(CallerId::new(1).unwrap())?;
-    match owner.answer(FutureId::new(0))? {
-        Ok(Value::Int(number)) => Some(Ok(*number)),
-        Ok(_) => None,
-        Err(fault) => Some(Err(*fault)),
+fn push_answer(text: &mut String, answer: Option<&Answer>) -> Result<(), NoMemory> {
+    match answer {
+        None => writeln!(text, " ?")?,
+        Some(Ok(value)) => writeln!(text, " = {value}")?,
+        Some(Err(fault)) => writeln!(text, " = {fault}")?,
+    }
+    Ok(())
+}
+
+/// Adds a caller's calls, each with its answer.
+fn push_calls(text: &mut String, owner: &Owner) -> Result<(), NoMemory> {
+    let caller = owner.id();
+    for place in 0..owner.count() {
+        let k = FutureId::new(place);
+        if let Some(call) = owner.call(k) {
+            let actor = call.actor;
+            write!(text, "{caller}.{k} {actor}")?;
+        }
+        push_answer(text, owner.answer(k))?;
+    }
+    Ok(())
+}
+
+fn push_args(text: &mut String, args: &[Settled]) -> Result<(), NoMemory> {
+    for arg in args {
+        write!(text, " {arg}")?;
+    }
+    writeln!(text)?;
+    Ok(())
+}
+
+/// Adds what an actor ran.
+fn push_log(text: &mut String, actor: ActorId, log: &[RunItem]) -> Result<(), NoMemory> {
+    for (place, item) in log.iter().enumerate() {
+        let caller = item.caller;
+        let k = item.future;
+        let method = item.method;
+        write!(text, "{actor}.{place} {caller}.{k} {method}")?;
+        push_args(text, item.args.as_slice())?;
+    }
+    Ok(())
+}
+
+/// Adds an actor's state, and what it ran.
+fn push_stage<K: Actor>(
+    text: &mut String,
+    actor: ActorId,
+    stage: &Stage<K>,
+) -> Result<(), NoMemory> {
+    match stage {
+        Stage::Live(live) => {
+            write!(text, "{actor} live ")?;
+            live.state_text(text)?;
+            writeln!(text)?;
+            push_log(text, actor, live.log())
+        }
+        Stage::Dead(dead) => {
+            writeln!(text, "{actor} dead")?;
+            push_log(text, actor, dead.log())
+        }
+        Stage::Retired(retired) => {
+            write!(text, "{actor} retired ")?;
+            retired.state_text(text)?;
+            writeln!(text)?;
+            push_log(text, actor, retired.log())
+        }
     }
 }
 
+fn push_callers<K: Actor>(
+    text: &mut String,
+    world: &World<K>,
+    callers: &[CallerId],
+) -> Result<(), NoMemory> {
+    for c in callers {
+        if let Some(owner) = world.owner(*c) {
+            push_calls(text, owner)?;
+        }
+    }
+    Ok(())
+}
+
+/// How the world ends, as a report has it.
+fn end_of<K: Actor>(
+    alloc: Global,
+    world: &World<K>,
+    callers: &[CallerId],
+    actors: &[ActorId],
+) -> Result<String, NoMemory> {
+    let mut text = String::new(alloc);
+    push_callers(&mut text, world, callers)?;
+    for a in actors {
+        if let Some(stage) = world.stage(*a) {
+            push_stage(&mut text, *a, &stage)?;
+        }
+    }
+    Ok(text)
+}
+
+/// A call that waits for an answer isn't sent, a later one waits at its actor, and another caller's
+/// passes it. Memory is refused from outside, at most once.
+#[test]
+fn another_caller_passes(rt: HostRuntime) -> Result<(), Fail> {
+    let alloc = rt.alloc();
+    let c1 = CallerId::new(1).unwrap();
+    let c2 = CallerId::new(2).unwrap();
+    let a1 = ActorId::new(1).unwrap();
+    let a2 = ActorId::new(2).unwrap();
+    let [k0, k1, k2] = [FutureId::new(0), FutureId::new(1), FutureId::new(2)];
+    let one: Boxed = Box::new(alloc, Counter::open())?;
+    let two: Boxed = Box::new(alloc, Counter::open())?;
+    let mut casts = Vec::new(alloc);
+    casts.push(cast_of(alloc, a1, &[c1, c2], one)?)?;
+    casts.push(cast_of(alloc, a2, &[c1], two)?)?;
+    let rows = [
+        (
+            Step::Submit(c1, a2, Method::Add, Given::Int(7)),
+            Ok(Did::Future(c1, k0)),
+        ),
+        (
+            Step::Submit(c1, a1, Method::Add, Given::Future(k0)),
+            Ok(Did::Future(c1, k1)),
+        ),
+        (
+            Step::Submit(c1, a1, Method::Add, Given::Int(1)),
+            Ok(Did::Future(c1, k2)),
+        ),
+        (
+            Step::Send(c1, k1),
+            Err(WorldRefusal::Sending(SendRefusal::NotReady)),
+        ),
+        (Step::Send(c1, k2), Ok(Did::Mail(0))),
+        (Step::Deliver(0), Ok(Did::Arrived(Arrival::New))),
+        (Step::Run(a1, c1), Ok(Did::Gap)),
+        (
+            Step::Submit(c2, a1, Method::Add, Given::Int(100)),
+            Ok(Did::Future(c2, k0)),
+        ),
+        (Step::Send(c2, k0), Ok(Did::Mail(1))),
+        (Step::Deliver(1), Ok(Did::Arrived(Arrival::New))),
+        (Step::Run(a1, c2), Ok(Did::Ran(0, 0))),
+        (Step::Send(c1, k0), Ok(Did::Mail(2))),
+        (Step::Deliver(2), Ok(Did::Arrived(Arrival::New))),
+        (Step::Run(a2, c1), Ok(Did::Ran(0, 1))),
+        (Step::Collect(1), Ok(Did::Kept(c1, k0))),
+        (Step::Send(c1, k1), Ok(Did::Mail(3))),
+        (Step::Deliver(3), Ok(Did::Arrived(Arrival::New))),
+        (Step::Run(a1, c1), Ok(Did::Ran(1, 2))),
+        (Step::Run(a1, c1), Ok(Did::Ran(2, 3))),
+        (Step::Collect(0), Ok(Did::Kept(c2, k0))),
+        (Step::Collect(2), Ok(Did::Kept(c1, k1))),
+        (Step::Collect(3), Ok(Did::Kept(c1, k2))),
+    ];
+    let world = played(&rt, alloc, casts, &rows)?;
+    let end = end_of(alloc, &world, &[c1, c2], &[a1, a2])?;
+    let wanted = "c1.0 a2 = 7\nc1.1 a1 = 107\nc1.2 a1 = 108\nc2.0 a1 = 100\n\
+        a1 live counter 108\na1.0 c2.0 add 100\na1.1 c1.1 add 7\na1.2 c1.2 add 1\n\
+        a2 live counter 7\na2.0 c1.0 add 7\n";
+    assert_eq!(rt; end.as_str(), wanted);
+    Ok(())
+}
+
+/// A death answers a call that ran, and the packet of a call that takes this answer stays as it is
+/// when the actor's own answer comes late. Memory is refused from outside, at most once.
+#[test]
+fn one_packet_for_good(rt: HostRuntime) -> Result<(), Fail> {
+    let alloc = rt.alloc();
+    let c1 = CallerId::new(1).unwrap();
+    let a1 = ActorId::new(1).unwrap();
+    let a2 = ActorId::new(2).unwrap();
+    let [k0, k1] = [FutureId::new(0), FutureId::new(1)];
+    let one: Boxed = Box::new(alloc, Counter::open())?;
+    let two: Boxed = Box::new(alloc, ListKind::open(alloc))?;
+    let mut casts = Vec::new(alloc);
+    casts.push(cast_of(alloc, a1, &[c1], one)?)?;
+    casts.push(cast_of(alloc, a2, &[c1], two)?)?;
+    let rows = [
+        (
+            Step::Submit(c1, a1, Method::Add, Given::Int(5)),
+            Ok(Did::Future(c1, k0)),
+        ),
+        (
+            Step::Submit(c1, a2, Method::Push, Given::Future(k0)),
+            Ok(Did::Future(c1, k1)),
+        ),
+        (Step::Send(c1, k0), Ok(Did::Mail(0))),
+        (Step::Deliver(0), Ok(Did::Arrived(Arrival::New))),
+        (Step::Run(a1, c1), Ok(Did::Ran(0, 0))),
+        (Step::AskKill(c1, a1), Ok(Did::Asked)),
+        (Step::TakeKill(a1), Ok(Did::Dead)),
+        (Step::Tell(a1, c1), Ok(Did::Told(1))),
+        (Step::Collect(1), Ok(Did::Died(1))),
+        (Step::Send(c1, k1), Ok(Did::Mail(1))),
+        (Step::Collect(0), Ok(Did::Late(c1, k0))),
+        (Step::Send(c1, k1), Ok(Did::Mail(2))),
+        (Step::Deliver(2), Ok(Did::Arrived(Arrival::New))),
+        (Step::Deliver(1), Ok(Did::Arrived(Arrival::Repeat))),
+        (Step::Run(a2, c1), Ok(Did::Ran(0, 2))),
+        (Step::Collect(2), Ok(Did::Kept(c1, k1))),
+    ];
+    let world = played(&rt, alloc, casts, &rows)?;
+    let end = end_of(alloc, &world, &[c1], &[a1, a2])?;
+    let wanted = "c1.0 a1 = ActorDied\nc1.1 a2 = Dependency(0)\n\
+        a1 dead\na1.0 c1.0 add 5\na2 live list\na2.0 c1.1 push !0\n";
+    assert_eq!(rt; end.as_str(), wanted);
+    Ok(())
+}
+
+/// An actor retires once its caller released its handle and its calls ran. Memory is refused from
+/// outside, at most once.
+#[test]
+fn release_and_retire(rt: HostRuntime) -> Result<(), Fail> {
+    let alloc = rt.alloc();
+    let c1 = CallerId::new(1).unwrap();
+    let a1 = ActorId::new(1).unwrap();
+    let k0 = FutureId::new(0);
+    let kind: Boxed = Box::new(alloc, Counter::open())?;
+    let mut casts = Vec::new(alloc);
+    casts.push(cast_of(alloc, a1, &[c1], kind)?)?;
+    let rows = [
+        (
+            Step::Submit(c1, a1, Method::Add, Given::Int(2)),
+            Ok(Did::Future(c1, k0)),
+        ),
+        (Step::Send(c1, k0), Ok(Did::Mail(0))),
+        (Step::Copy(c1, a1), Ok(Did::Copies(2))),
+        (Step::Release(c1, a1), Ok(Did::Copies(1))),
+        (Step::Release(c1, a1), Ok(Did::Mail(1))),
+        (Step::Retire(a1), Err(WorldRefusal::NotDrained)),
+        (Step::Deliver(1), Ok(Did::Arrived(Arrival::New))),
+        (Step::Retire(a1), Err(WorldRefusal::NotDrained)),
+        (Step::Deliver(1), Ok(Did::Arrived(Arrival::Repeat))),
+        (Step::Deliver(0), Ok(Did::Arrived(Arrival::New))),
+        (Step::Retire(a1), Err(WorldRefusal::NotDrained)),
+        (Step::Run(a1, c1), Ok(Did::Ran(0, 0))),
+        (Step::Retire(a1), Ok(Did::Retired)),
+        (Step::Deliver(0), Err(WorldRefusal::ActorEnded)),
+        (Step::Collect(0), Ok(Did::Kept(c1, k0))),
+    ];
+    let world = played(&rt, alloc, casts, &rows)?;
+    let end = end_of(alloc, &world, &[c1], &[a1])?;
+    let wanted = "c1.0 a1 = 2\na1 retired counter 2\na1.0 c1.0 add 2\n";
+    assert_eq!(rt; end.as_str(), wanted);
+    Ok(())
+}
+
+/// Of an actor that its caller knows dead an answer comes late, and a further call is answered at
+/// once. Memory is refused from outside, at most once.
 #[test]
 fn ran_and_yet_died(rt: HostRuntime) -> Result<(), Fail> {
     let alloc = rt.alloc();
-    let c = CallerId::new(1).unwrap();
-    let a = ActorId::new(1).unwrap();
-    let k = FutureId::new(0);
-    let kind: Boxed = Box::new(alloc, Counter::open())?;
-    let world = played(
-        &rt,
-        alloc,
-        kind,
-        &[
-            (Step::Add(5), Ok(Did::Future(c, k))),
-            (Step::Send, Ok(Did::Mail(0))),
-            (Step::Deliver(0), Ok(Did::Arrived(Arrival::New))),
-            (Step::Run, Ok(Did::Ran(0, 0))),
-            (Step::Tell, Err(WorldRefusal::NotDead)),
-            (Step::AskKill, Ok(Did::Asked)),
-            (Step::TakeKill, Ok(Did::Dead)),
-            (Step::Tell, Ok(Did::Told(1))),
-            (Step::Collect(1), Ok(Did::Died(1))),
-            (Step::Collect(0), Ok(Did::Late(c, k))),
-            (Step::Deliver(0), Err(WorldRefusal::ActorEnded)),
-        ],
-    )?;
-    assert_eq!(rt; first_answer(&world), Some(Err(Fault::ActorDied)));
-    let log = match world.stage(a) {
-        Some(Stage::Dead(dead)) => dead.log().len(),
-        _ => 0,
-    };
-    assert_eq!(rt; log, 1);
-    Ok(())
-}
-
-/// Of a caller that releases its handle, and an actor that ends by itself.
-fn retiring() -> [(Step, Outcome); 14] {
-    let c = CallerId::new(1).unwrap();
-    let k = FutureId::new(0);
-    [
-        (Step::Add(2), Ok(Did::Future(c, k))),
-        (Step::Send, Ok(Did::Mail(0))),
-        (Step::Copy, Ok(Did::Copies(2))),
-        (Step::Release, Ok(Did::Copies(1))),
-        (Step::Release, Ok(Did::Mail(1))),
-        (Step::Retire, Err(WorldRefusal::NotDrained)),
-        (Step::Deliver(1), Ok(Did::Arrived(Arrival::New))),
-        (Step::Retire, Err(WorldRefusal::NotDrained)),
-        (Step::Deliver(1), Ok(Did::Arrived(Arrival::Repeat))),
-        (Step::Run, Ok(Did::Gap)),
+    let c1 = CallerId::new(1).unwrap();
+    let a1 = ActorId::new(1).unwrap();
+    let [k0, k1] = [FutureId::new(0), FutureId::new(1)];
+    let mut casts = Vec::new(alloc);
+    casts.push(cast_of(alloc, a1, &[c1], Counter::open())?)?;
+    let rows = [
+        (
+            Step::Submit(c1, a1, Method::Add, Given::Int(5)),
+            Ok(Did::Future(c1, k0)),
+        ),
+        (Step::Send(c1, k0), Ok(Did::Mail(0))),
         (Step::Deliver(0), Ok(Did::Arrived(Arrival::New))),
-        (Step::Run, Ok(Did::Ran(0, 0))),
-        (Step::Retire, Ok(Did::Retired)),
-        (Step::Collect(0), Ok(Did::Kept(c, k))),
-    ]
-}
-
-#[test]
-fn released_and_retired(rt: HostRuntime) -> Result<(), Fail> {
-    let alloc = rt.alloc();
-    let a = ActorId::new(1).unwrap();
-    let kind: Boxed = Box::new(alloc, Counter::open())?;
-    let world = played(&rt, alloc, kind, &retiring())?;
-    assert_eq!(rt; first_answer(&world), Some(Ok(2)));
-    let mut text = String::new(alloc);
-    if let Some(Stage::Retired(retired)) = world.stage(a) {
-        retired.state_text(&mut text)?;
-    }
-    assert_eq!(rt; text.as_str(), "counter 2");
-    world.consistent();
-    Ok(())
-}
-
-/// Memory is refused from outside, at most once.
-#[test]
-fn refused_memory_stops_at_its_event(rt: HostRuntime) -> Result<(), Fail> {
-    let alloc = rt.alloc();
-    let c = CallerId::new(1).unwrap();
-    let k = FutureId::new(0);
-    let retiring = retiring();
-    let lists: [(&[(Step, Outcome)], Option<Result<i64, Fault>>); 4] = [
-        (&retiring, Some(Ok(2))),
+        (Step::Run(a1, c1), Ok(Did::Ran(0, 0))),
+        (Step::Tell(a1, c1), Err(WorldRefusal::NotDead)),
+        (Step::AskKill(c1, a1), Ok(Did::Asked)),
+        (Step::TakeKill(a1), Ok(Did::Dead)),
+        (Step::Tell(a1, c1), Ok(Did::Told(1))),
+        (Step::Collect(1), Ok(Did::Died(1))),
+        (Step::Collect(0), Ok(Did::Late(c1, k0))),
+        (Step::Deliver(0), Err(WorldRefusal::ActorEnded)),
+        (Step::Retire(a1), Err(WorldRefusal::ActorEnded)),
         (
-            &[
-                (Step::Add(5), Ok(Did::Future(c, k))),
-                (Step::Send, Ok(Did::Mail(0))),
-                (Step::Deliver(0), Ok(Did::Arrived(Arrival::New))),
-                (Step::Run, Ok(Did::Ran(0, 0))),
-                (Step::Copy, Ok(Did::Copies(2))),
-                (Step::Release, Ok(Did::Copies(1))),
-                (Step::AskKill, Ok(Did::Asked)),
-                (Step::Release, Ok(Did::Mail(1))),
-                (Step::Deliver(1), Ok(Did::Arrived(Arrival::New))),
-                (Step::TakeKill, Ok(Did::Dead)),
-                (Step::Tell, Ok(Did::Told(1))),
-                (Step::Retire, Err(WorldRefusal::ActorEnded)),
-                (Step::Collect(1), Ok(Did::Died(1))),
-                (Step::Collect(0), Ok(Did::Late(c, k))),
-            ],
-            Some(Err(Fault::ActorDied)),
+            Step::Submit(c1, a1, Method::Get, Given::Nothing),
+            Ok(Did::Future(c1, k1)),
         ),
         (
-            &[
-                (Step::AskKill, Ok(Did::Asked)),
-                (Step::TakeKill, Ok(Did::Dead)),
-                (Step::Tell, Ok(Did::Told(0))),
-                (Step::Collect(0), Ok(Did::Died(0))),
-                (Step::Add(1), Ok(Did::Future(c, k))),
-            ],
-            Some(Err(Fault::ActorDied)),
+            Step::Send(c1, k1),
+            Err(WorldRefusal::Sending(SendRefusal::Answered)),
         ),
-        (
-            &[
-                (Step::Release, Ok(Did::Mail(0))),
-                (Step::Deliver(0), Ok(Did::Arrived(Arrival::New))),
-                (Step::Retire, Ok(Did::Retired)),
-            ],
-            None,
-        ),
+        (Step::Release(c1, a1), Ok(Did::Mail(1))),
+        (Step::Deliver(1), Err(WorldRefusal::ActorEnded)),
     ];
-    for (rows, answer) in &lists {
-        let kind: Boxed = Box::new(alloc, Counter::open())?;
-        let world = played_on(&rt, alloc, kind, rows)?;
-        assert_eq!(rt; first_answer(&world), *answer);
-    }
+    let world = played(&rt, alloc, casts, &rows)?;
+    let end = end_of(alloc, &world, &[c1], &[a1])?;
+    let wanted = "c1.0 a1 = ActorDied\nc1.1 a1 = ActorDied\na1 dead\na1.0 c1.0 add 5\n";
+    assert_eq!(rt; end.as_str(), wanted);
+    world.consistent();
     Ok(())
 }

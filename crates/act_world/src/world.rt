@@ -3,14 +3,14 @@
 //! `K` is the kind, mostly a box. A clause names what is seen of a world by `world_seen` at the
 //! kind's state.
 
-ghost use Rattle.std.specs.Prelude.{◌≡◌, ◌<◌, ◌++◌, ◌∷◌, [], ℕ, List, Option, Some, None, IfOk, IfErr, OnOk, OnErr, true, false, length, take, option_copied};
+ghost use Rattle.std.specs.Prelude.{◌≡◌, ◌<◌, ◌++◌, ◌∷◌, [], ℕ, List, Option, Some, None, IfOk, IfErr, OnOk, OnErr, true, false, length, take, find, option_copied};
 ghost use Rattle.std.specs.Option.{option_map};
 ghost use Rattle.act_rules.specs.declared.event.Event.{Event as Happening};
 ghost use Rattle.act_rules.specs.declared.event.Event.TheVariants as event;
 ghost use Rattle.act_rules.specs.History.{Casting};
 ghost use Rattle.act_rules.specs.Laws.{world as history};
 ghost use Rattle.act_rules.specs.Rules.{outcome_of, refusal_of};
-ghost use Rattle.act_world.specs.Value.{world_seen, stage_seen};
+ghost use Rattle.act_world.specs.Value.{world_seen, stage_seen, is_owner, stage_in};
 ghost use Rattle.act_world.specs.Ties.{IsOwnerAt, IsStage};
 ghost use Rattle.act_world.specs.Headline.{IsConsistent};
 ghost use Rattle.act_world.specs.Stands.{Stands, is_memory, HasRoom, IsGrown, IsGrownBy, Follows, IsUnrefused, Played};
@@ -48,17 +48,15 @@ impl<K: Actor> World<K> {
         ensures last { OnErr result (IsUnrefused (event.Deliver i) (world_seen K.state self.old)) }
         ensures err { OnErr result (world_seen K.state self.new ≡ world_seen K.state self.old) }
     {
-        let Some(a) = self.exchange.addressee(i) else {
+        let World { exchange, slots } = self;
+        let Some(letter) = exchange.letter(i) else {
             return Ok(Err(WorldRefusal::NoMail));
         };
-        let at = slot_of(a);
-        if !is_live_in(&self.slots[at]) {
-            return Ok(Err(WorldRefusal::ActorEnded));
-        }
-        let Some(letter) = self.exchange.letter(i)? else {
-            return Ok(Err(WorldRefusal::NoMail));
-        };
-        bring(&mut self.slots[at], letter)
+        bring(
+            exchange.alloc(),
+            &mut slots[slot_of(letter.actor())],
+            letter,
+        )
     }
 
     /// The actor runs the caller's next call, if it has arrived, and tells the caller.
@@ -213,14 +211,16 @@ impl<K: Actor> World<K> {
 
     /// A caller, where some cast names it.
     pub fn owner(&self, c: CallerId) -> Option<&Owner>
-        ensures { (casts : List Casting) (events : List Happening) → Stands casts events (world_seen K.state self.now) → IsOwnerAt (history casts events) c (option_copied result) }
+        ensures shown { option_copied result ≡ find (is_owner c) (world_seen K.state self.now).exchange.owners }
+        ensures stands { (casts : List Casting) (events : List Happening) → Stands casts events (world_seen K.state self.now) → IsOwnerAt (history casts events) c (option_copied result) }
     {
         self.exchange.owner(c)
     }
 
     /// An actor in the state that it is in, where it has a cast.
     pub fn stage(&self, a: ActorId) -> Option<Stage<'_, K>>
-        ensures { (casts : List Casting) (events : List Happening) → Stands casts events (world_seen K.state self.now) → IsStage (history casts events) a (option_map (stage_seen K.state) result) }
+        ensures shown { option_map (stage_seen K.state) result ≡ stage_in (world_seen K.state self.now) a }
+        ensures stands { (casts : List Casting) (events : List Happening) → Stands casts events (world_seen K.state self.now) → IsStage (history casts events) a (option_map (stage_seen K.state) result) }
     {
         match &self.slots[slot_of(a)] {
             Slot::Live(live) => Some(Stage::Live(live)),

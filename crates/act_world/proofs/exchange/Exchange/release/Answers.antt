@@ -7,8 +7,9 @@ use Rattle.act_rules.specs.History.{copies_of}
 use Rattle.act_rules.specs.declared.event.Event.TheVariants as event
 use Rattle.act_rules.specs.declared.outcome.WorldRefusal.TheVariants.{Handle}
 use Rattle.act_world.specs.Exchange.{ExchangeValue, is_owner}
+use Rattle.act_world.proofs.Changes.{on_err}
 use Rattle.act_world.proofs.Lawful.{world_lawful}
-use Rattle.act_world.proofs.OneCaller.{no_caller_follows, on_err}
+use Rattle.act_world.proofs.OneCaller.{no_caller_follows}
 use Rattle.act_world.proofs.Releasing.{release_follows, last_follows, release_refused_follows, release_unrefused}
 use Rattle.act_world.proofs.exchange.Exchange.release.Goals.{then-holds-eq1+in_ok-reserve, else-holds-eq1}
 use Rattle.act_world.proofs.exchange.Exchange.release.Goals as goal

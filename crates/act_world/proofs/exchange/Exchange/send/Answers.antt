@@ -11,8 +11,8 @@ use Rattle.act_world.specs.declared.exchange.Mailed.TheVariants.{Call as MailedC
 use Rattle.act_world.specs.Exchange.{ExchangeValue, is_owner}
 use Rattle.act_world.specs.Stands.{IsUnrefusedThere}
 use Rattle.act_world.specs.Ties.{Ties}
+use Rattle.act_world.proofs.Changes.{on_err}
 use Rattle.act_world.proofs.Lawful.{world_lawful}
-use Rattle.act_world.proofs.Killing.{on_err}
 use Rattle.act_world.proofs.Sending.{SeesOwner, send_no_caller, send_refused, send_unrefused, send_follows}
 use Rattle.act_world.proofs.exchange.Exchange.send.Goals as goal
 
@@ -41,7 +41,7 @@ returns-in_err-reserve-clause-last c =
       owner_is = c.index.ensures ∙ ap (λ (exchange : ExchangeValue). get_or exchange.owners c.in-Some.place owner) c.self.view_is;
     } in
     let last : IsUnrefusedThere (event.Send c.args.c c.args.k) c.args.self.now = λ slots casts before stands. send_unrefused (history casts before) c.args.self.now slots c.args.c c.args.k c.in-Some.place owner stands sees (sym c.in_default-sending_refusal.ensures) in
-    on_err (IsUnrefusedThere (event.Send c.args.c c.args.k) c.args.self.now) c.from_residual.result last
+    on_err c.from_residual.result last
 
 pub returns-in_default-packet-clause-last : goal.returns-in_default-packet-clause-last
 returns-in_default-packet-clause-last c slots casts before stands =

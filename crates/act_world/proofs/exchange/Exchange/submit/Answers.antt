@@ -6,8 +6,9 @@ use Rattle.act_rules.specs.History.{calls_of, copies_of}
 use Rattle.act_rules.specs.declared.event.Event.TheVariants as event
 use Rattle.act_rules.specs.declared.outcome.WorldRefusal.TheVariants.{Submit}
 use Rattle.act_world.specs.Exchange.{ExchangeValue}
+use Rattle.act_world.proofs.Changes.{on_err}
 use Rattle.act_world.proofs.Lawful.{world_lawful}
-use Rattle.act_world.proofs.OneCaller.{no_caller_follows, on_err}
+use Rattle.act_world.proofs.OneCaller.{no_caller_follows}
 use Rattle.act_world.proofs.Submitting.{submit_follows, submit_refused_follows, submit_unrefused}
 use Rattle.act_world.proofs.exchange.Exchange.submit.Goals as goal
 

@@ -11,7 +11,8 @@ use Rattle.act_world.specs.Value.{slot_seen, world_seen}
 use Rattle.act_world.specs.Slots.{is_live_seen, IsRunAt}
 use Rattle.act_world.specs.Stands.{Follows}
 use Rattle.act_world.proofs.Changes.{on_err}
-use Rattle.act_world.proofs.Running.{run_sees, run_no_caller, run_stranger, run_ended, run_unrefused, run_not_refused, run_gap, run_ran}
+use Rattle.act_world.proofs.Seeing.{world_sees}
+use Rattle.act_world.proofs.Running.{run_no_caller, run_stranger, run_ended, run_unrefused, run_not_refused, run_gap, run_ran}
 use Rattle.act_world.proofs.world.World.run.Goals as goal
 
 pub returns-in_default-clause-ok : goal.returns-in_default-clause-ok
@@ -28,7 +29,7 @@ returns-then-not-names-clause-ok g c =
     let slot = slot_seen g.K.Actor.state c.index-self-slot_of.result in
     let long : length c.args.self.now.slots ≡ 9 = search rules in
     let within : c.slot_of.result < length c.args.self.now.slots = (let below = c.slot_of.ensures.below in omega arith) in
-    let sees = run_sees (slot_seen g.K.Actor.state) (λ (world : _). world.exchange) (λ (world : _). world.slots) _ c.args.self.now c.args.a c.args.c c.slot_of.result c.in-Some.place owner c.index-self-slot_of.result c.self.view_is
+    let sees = world_sees (slot_seen g.K.Actor.state) (λ (world : _). world.exchange) (λ (world : _). world.slots) _ c.args.self.now c.args.a c.args.c c.slot_of.result c.in-Some.place owner c.index-self-slot_of.result c.self.view_is
     c.slot_of.ensures.value within c.index-self-slot_of.is (c.in-Some.ensures ∙ ap (position (is_owner c.args.c)) c.deref.ensures.value) c.index.ensures in
     run_stranger old.exchange old.slots c.args.a c.args.c c.in-Some.place owner slot sees (sym c.names.ensures ∙ c.if-not-names.true)
 
@@ -40,7 +41,7 @@ returns-then-not-is_live-clause-ok g c =
     let slot = slot_seen g.K.Actor.state c.index-self-slot_of.result in
     let long : length c.args.self.now.slots ≡ 9 = search rules in
     let within : c.slot_of.result < length c.args.self.now.slots = (let below = c.slot_of.ensures.below in omega arith) in
-    let sees = run_sees (slot_seen g.K.Actor.state) (λ (world : _). world.exchange) (λ (world : _). world.slots) _ c.args.self.now c.args.a c.args.c c.slot_of.result c.in-Some.place owner c.index-self-slot_of.result c.self.view_is
+    let sees = world_sees (slot_seen g.K.Actor.state) (λ (world : _). world.exchange) (λ (world : _). world.slots) _ c.args.self.now c.args.a c.args.c c.slot_of.result c.in-Some.place owner c.index-self-slot_of.result c.self.view_is
     c.slot_of.ensures.value within c.index-self-slot_of.is (c.in-Some.ensures ∙ ap (position (is_owner c.args.c)) c.deref.ensures.value) c.index.ensures in
     let lives : c.is_live_in-is_live.result ≡ is_live_seen slot = c.is_live_in-is_live.ensures ∙ ap (λ (one : _). is_live_seen (slot_seen state one)) (sym c.index-self-slot_of.is) in
     run_ended old.exchange old.slots c.args.a c.args.c c.in-Some.place owner slot sees (sym c.names.ensures ∙ c.if-not-names.false) (sym lives ∙ c.if-not-is_live.true)
@@ -53,7 +54,7 @@ returns-in_err-reserve-clause-last g c =
     let slot = slot_seen g.K.Actor.state c.index-self-slot_of.result in
     let long : length c.args.self.now.slots ≡ 9 = search rules in
     let within : c.slot_of.result < length c.args.self.now.slots = (let below = c.slot_of.ensures.below in omega arith) in
-    let sees = run_sees (slot_seen g.K.Actor.state) (λ (world : _). world.exchange) (λ (world : _). world.slots) _ c.args.self.now c.args.a c.args.c c.slot_of.result c.in-Some.place owner c.index-self-slot_of.result c.self.view_is
+    let sees = world_sees (slot_seen g.K.Actor.state) (λ (world : _). world.exchange) (λ (world : _). world.slots) _ c.args.self.now c.args.a c.args.c c.slot_of.result c.in-Some.place owner c.index-self-slot_of.result c.self.view_is
     c.slot_of.ensures.value within c.index-self-slot_of.is (c.in-Some.ensures ∙ ap (position (is_owner c.args.c)) c.deref.ensures.value) c.index.ensures in
     let lives : c.is_live_in-is_live.result ≡ is_live_seen slot = c.is_live_in-is_live.ensures ∙ ap (λ (one : _). is_live_seen (slot_seen state one)) (sym c.index-self-slot_of.is) in
     on_err c.from_residual.result (run_unrefused old.exchange old.slots c.args.a c.args.c c.in-Some.place owner slot sees (sym c.names.ensures ∙ c.if-not-names.false) (sym lives ∙ c.if-not-is_live.false))
@@ -66,7 +67,7 @@ returns-in_err-reply-clause-last g c =
     let slot = slot_seen g.K.Actor.state c.index-self-slot_of.result in
     let long : length c.args.self.now.slots ≡ 9 = search rules in
     let within : c.slot_of.result < length c.args.self.now.slots = (let below = c.slot_of.ensures.below in omega arith) in
-    let sees = run_sees (slot_seen g.K.Actor.state) (λ (world : _). world.exchange) (λ (world : _). world.slots) _ c.args.self.now c.args.a c.args.c c.slot_of.result c.in-Some.place owner c.index-self-slot_of.result c.self.view_is
+    let sees = world_sees (slot_seen g.K.Actor.state) (λ (world : _). world.exchange) (λ (world : _). world.slots) _ c.args.self.now c.args.a c.args.c c.slot_of.result c.in-Some.place owner c.index-self-slot_of.result c.self.view_is
     c.slot_of.ensures.value within c.index-self-slot_of.is (c.in-Some.ensures ∙ ap (position (is_owner c.args.c)) c.deref.ensures.value) c.index.ensures in
     let lives : c.is_live_in-is_live.result ≡ is_live_seen slot = c.is_live_in-is_live.ensures ∙ ap (λ (one : _). is_live_seen (slot_seen state one)) (sym c.index-self-slot_of.is) in
     on_err c.from_residual-in_err-reply.result (run_unrefused old.exchange old.slots c.args.a c.args.c c.in-Some.place owner slot sees (sym c.names.ensures ∙ c.if-not-names.false) (sym lives ∙ c.if-not-is_live.false))
@@ -79,7 +80,7 @@ returns-in_default-2-clause-ok g c =
     let slot = slot_seen g.K.Actor.state c.index-self-slot_of.result in
     let long : length c.args.self.now.slots ≡ 9 = search rules in
     let within : c.slot_of.result < length c.args.self.now.slots = (let below = c.slot_of.ensures.below in omega arith) in
-    let sees = run_sees (slot_seen g.K.Actor.state) (λ (world : _). world.exchange) (λ (world : _). world.slots) _ c.args.self.now c.args.a c.args.c c.slot_of.result c.in-Some.place owner c.index-self-slot_of.result c.self.view_is
+    let sees = world_sees (slot_seen g.K.Actor.state) (λ (world : _). world.exchange) (λ (world : _). world.slots) _ c.args.self.now c.args.a c.args.c c.slot_of.result c.in-Some.place owner c.index-self-slot_of.result c.self.view_is
     c.slot_of.ensures.value within c.index-self-slot_of.is (c.in-Some.ensures ∙ ap (position (is_owner c.args.c)) c.deref.ensures.value) c.index.ensures in
     let lives : c.is_live_in-is_live.result ≡ is_live_seen slot = c.is_live_in-is_live.ensures ∙ ap (λ (one : _). is_live_seen (slot_seen state one)) (sym c.index-self-slot_of.is) in
     let ran = subst (λ (world : _). IsRunAt c.args.c c.args.a (map (slot_seen state) world.slots) (map (slot_seen state) c.run_at.new.slots) c.in_ok-reply.field-0) c.self.view_is c.in_ok-reply.ensures.ok in
@@ -94,7 +95,7 @@ returns-in_default-reply-clause-ok g c =
     let slot = slot_seen g.K.Actor.state c.index-self-slot_of.result in
     let long : length c.args.self.now.slots ≡ 9 = search rules in
     let within : c.slot_of.result < length c.args.self.now.slots = (let below = c.slot_of.ensures.below in omega arith) in
-    let sees = run_sees (slot_seen g.K.Actor.state) (λ (world : _). world.exchange) (λ (world : _). world.slots) _ c.args.self.now c.args.a c.args.c c.slot_of.result c.in-Some.place owner c.index-self-slot_of.result c.self.view_is
+    let sees = world_sees (slot_seen g.K.Actor.state) (λ (world : _). world.exchange) (λ (world : _). world.slots) _ c.args.self.now c.args.a c.args.c c.slot_of.result c.in-Some.place owner c.index-self-slot_of.result c.self.view_is
     c.slot_of.ensures.value within c.index-self-slot_of.is (c.in-Some.ensures ∙ ap (position (is_owner c.args.c)) c.deref.ensures.value) c.index.ensures in
     let lives : c.is_live_in-is_live.result ≡ is_live_seen slot = c.is_live_in-is_live.ensures ∙ ap (λ (one : _). is_live_seen (slot_seen state one)) (sym c.index-self-slot_of.is) in
     let ran = subst (λ (world : _). IsRunAt c.args.c c.args.a (map (slot_seen state) world.slots) (map (slot_seen state) c.run_at.new.slots) c.in_ok-reply.field-0) c.self.view_is c.in_ok-reply.ensures.ok in
@@ -111,7 +112,7 @@ returns-clause-ok g c =
     let slot = slot_seen g.K.Actor.state c.index-self-slot_of.result in
     let long : length c.args.self.now.slots ≡ 9 = search rules in
     let within : c.slot_of.result < length c.args.self.now.slots = (let below = c.slot_of.ensures.below in omega arith) in
-    let sees = run_sees (slot_seen g.K.Actor.state) (λ (world : _). world.exchange) (λ (world : _). world.slots) _ c.args.self.now c.args.a c.args.c c.slot_of.result c.in-Some.place owner c.index-self-slot_of.result c.self.view_is
+    let sees = world_sees (slot_seen g.K.Actor.state) (λ (world : _). world.exchange) (λ (world : _). world.slots) _ c.args.self.now c.args.a c.args.c c.slot_of.result c.in-Some.place owner c.index-self-slot_of.result c.self.view_is
     c.slot_of.ensures.value within c.index-self-slot_of.is (c.in-Some.ensures ∙ ap (position (is_owner c.args.c)) c.deref.ensures.value) c.index.ensures in
     let lives : c.is_live_in-is_live.result ≡ is_live_seen slot = c.is_live_in-is_live.ensures ∙ ap (λ (one : _). is_live_seen (slot_seen state one)) (sym c.index-self-slot_of.is) in
     let ran = subst (λ (world : _). IsRunAt c.args.c c.args.a (map (slot_seen state) world.slots) (map (slot_seen state) c.run_at.new.slots) c.in_ok-reply.field-0) c.self.view_is c.in_ok-reply.ensures.ok in
