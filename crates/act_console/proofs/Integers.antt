@@ -6,7 +6,7 @@ use Rattle.std.proofs.lemmas.Str.Parse.{parse_signed_minus, parse_signed_digits}
 use Rattle.std.proofs.lemmas.Bool.Decides.{nat_tests, eqb_tells}
 use Rattle.act_rules.specs.declared.script.Wrong.TheVariants.{BadLine}
 use Rattle.act_rules.specs.Words.{is_numeral, is_integer, int_at}
-use Rattle.act_console.proofs.Numbers.{own, numeral_is_digits}
+use Rattle.act_rules.proofs.Numbers.{own, numeral_is_digits}
 
 -- with a minus in front
 minus_at : (word : List ℕ) → slice_index word 0 ≡ 45 → is_integer word ≡ true → (is_numeral (drop 1 word) ≡ true) × (digits_value 10 (drop 1 word) ≤ 2 ^ 63 → int_at word ≡ Ok (neg_ℤ (pos (digits_value 10 (drop 1 word))))) × (¬ (digits_value 10 (drop 1 word) ≤ 2 ^ 63) → int_at word ≡ Err BadLine)

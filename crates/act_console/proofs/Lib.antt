@@ -6,4 +6,6 @@ pub mod Each
 pub mod Plain
 pub mod Lines
 pub mod Placed
-pub mod Joined
+pub mod Roles
+pub mod Stocked
+pub mod Shown

@@ -1,10 +1,9 @@
 -- A word without its first or its last byte.
-use Rattle.std.proofs.Common.{◌≡◌, ◌≢◌, ℕ, ◌+◌, ◌-◌, ◌<◌, ◌++◌, List, [], ◌∷◌, length, slice_index, take, Ok, Err, inl, inr, arith, refl, sym, ap, ◌∙◌}
+use Rattle.std.proofs.Common.{◌≡◌, ◌≢◌, ℕ, ◌-◌, ◌++◌, List, [], ◌∷◌, length, slice_index, take, Ok, Err, inl, inr, arith, refl, ap, ◌∙◌}
 use Rattle.std.proofs.lemmas.Bool.Decides.{nat_tests, eqb_tells}
-use Rattle.std.proofs.lemmas.List.{length_push, take_more}
-use Rattle.std.proofs.Math.Seq.{get_or-append_seam, take-append_seam, take-length}
 use Rattle.act_rules.specs.declared.script.Wrong.TheVariants.{BadLine}
 use Rattle.act_rules.specs.Words.{marked_at, closed_at}
+use Rattle.act_rules.proofs.Marks.{last_is, closed_some as closed_at_end}
 
 pub marked_some : (bs rest : List ℕ) (mark : ℕ) → bs ≡ mark ∷ rest → marked_at bs mark ≡ Ok rest
 marked_some bs rest mark h = rw h (grind (arith, nat_tests))
@@ -16,19 +15,8 @@ marked_none (b ∷ bs) mark h = elim (eqb_tells b mark) [
   | inr e ↦ rw e.0 refl
 ]
 
-closed_last : (bs : List ℕ) (mark n : ℕ) → length bs ≡ n + 1 → slice_index bs n ≡ mark → closed_at bs mark ≡ Ok (take n bs)
-unfolding closed_at
-closed_last bs mark n len last = let less : length bs - 1 ≡ n = omega arith in rw less (grind (arith, nat_tests))
-
 pub closed_some : (bs front : List ℕ) (mark : ℕ) → bs ≡ front ++ mark ∷ [] → closed_at bs mark ≡ Ok front
-closed_some bs front mark h =
-    rw h (closed_last (front ++ mark ∷ []) mark (length front) (length_push front mark) (get_or-append_seam front mark [] 0) ∙ ap Ok (take-append_seam front (mark ∷ [])))
-
-last_is : (bs : List ℕ) → 0 < length bs → bs ≡ take (length bs - 1) bs ++ slice_index bs (length bs - 1) ∷ []
-last_is bs h =
-    let whole : length bs - 1 + 1 ≡ length bs = omega arith in
-    let e = take_more bs (length bs - 1) 0 (omega arith) in
-    sym (take-length bs) ∙ sym (ap (λ (n : ℕ). take n bs) whole) ∙ e
+closed_some bs front mark h = ap (λ (bytes : List ℕ). closed_at bytes mark) h ∙ closed_at_end front mark
 
 pub closed_none : (bs : List ℕ) (mark : ℕ) → ((front : List ℕ) → bs ≢ front ++ mark ∷ []) → closed_at bs mark ≡ Err BadLine
 unfolding closed_at

@@ -1,27 +1,11 @@
 -- What `parse` says of a word that is a numeral.
-use Rattle.std.proofs.Common.{◌≡◌, ℕ, ◌^◌, ◌<◌, true, List, [], ◌∷◌, length, Result, Ok, Err, MatchResult, arith, rules, sym, ap, ◌∙◌}
-use Rattle.std.specs.List.{list_all}
-use Rattle.std.specs.Char.{is_ascii_digit}
+use Rattle.std.proofs.Common.{◌≡◌, ℕ, ◌^◌, ◌<◌, true, List, Result, Ok, Err, MatchResult, arith, sym, ap, ◌∙◌}
 use Rattle.std.specs.Str.Parse.{digits_value, ParsesUnsigned}
-use Rattle.std.proofs.lemmas.Str.Parse.{IsNumeralModel, IsDigitsTest, numerals_by_value, parse_digits}
+use Rattle.std.proofs.lemmas.Str.Parse.{parse_digits}
 use Rattle.std.proofs.lemmas.Bool.Decides.{nat_tests}
 use Rattle.act_rules.specs.declared.script.Wrong.TheVariants.{BadLine}
 use Rattle.act_rules.specs.Words.{is_numeral, number_at}
-
-digits_test : IsDigitsTest (λ ds. list_all is_ascii_digit ds ≡ true)
-digits_test = search rules
-
-pub own : IsNumeralModel (λ ds. list_all is_ascii_digit ds ≡ true) (digits_value 10)
-own = numerals_by_value _ digits_test
-
--- a digit 0 alone, or digits after another one
-numeral_cases : (d : ℕ) (ds : List ℕ) → is_numeral (d ∷ ds) ≡ true → list_all is_ascii_digit (d ∷ ds) ≡ true
-numeral_cases d [] h = grind (arith, nat_tests)
-numeral_cases d (e ∷ ds) h = grind (arith, nat_tests)
-
-pub numeral_is_digits : (word : List ℕ) → is_numeral word ≡ true → (list_all is_ascii_digit word ≡ true) × (0 < length word)
-numeral_is_digits [] h = cc
-numeral_is_digits (d ∷ ds) h = (numeral_cases d ds h, omega arith)
+use Rattle.act_rules.proofs.Numbers.{own, numeral_is_digits}
 
 number_from_test : (word : List ℕ) → is_numeral word ≡ true → (digits_value 10 word < 2 ^ 32 → number_at word ≡ Ok (digits_value 10 word)) × (¬ (digits_value 10 word < 2 ^ 32) → number_at word ≡ Err BadLine)
 unfolding number_at

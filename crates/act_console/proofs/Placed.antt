@@ -1,6 +1,9 @@
 -- Writing the members of a list one after the other, as a loop does.
-use Rattle.std.proofs.Common.{◌≡◌, refl, ℕ, map, [], ◌∷◌, ◌+◌, ◌<◌, ◌≤◌, List, ◌++◌, length, drop, get_or, sym, ap, ◌∙◌, append_assoc, add-one, drop-cons}
+use Rattle.std.proofs.Common.{◌≡◌, ℕ, Option, [], ◌∷◌, ◌+◌, ◌<◌, ◌≤◌, List, ◌++◌, length, drop, get_or, sym, ap, ◌∙◌, append_assoc, add-one, drop-cons, arith}
+use Rattle.std.specs.Prelude.{slice_get}
+use Rattle.std.specs.Option.{option_map_or}
 use Rattle.std.proofs.lemmas.List.{append-nil}
+use Rattle.std.proofs.lemmas.Option.{slice_get-get_or}
 use Rattle.std.proofs.Math.ListN.{drop_of_length-le}
 use Rattle.act_rules.specs.Report.{placed}
 
@@ -19,7 +22,8 @@ pub is_done : {X : Type 0} (line : ℕ → X → List ℕ) (old whole : List ℕ
 is_done line old whole xs i le so_far =
     sym (append-nil old) ∙ sym (ap (λ (left : List _). old ++ placed line i left) (drop_of_length-le xs le)) ∙ so_far
 
--- the members of a list that was made of another's
-pub placed_map : {X Y : Type 0} (line : ℕ → Y → List ℕ) (f : X → Y) (xs : List X) (i : ℕ) → placed line i (map f xs) ≡ placed (λ place x. line place (f x)) i xs
-placed_map line f [] i = refl
-placed_map line f (x ∷ xs) i = ap (λ (t : List ℕ). line i (f x) ++ t) (placed_map line f xs (i + 1))
+-- the same, where the member is found by its place
+pub goes_on_found : {X : Type 0} (line : ℕ → X → List ℕ) (old new whole : List ℕ) (xs : List X) (i : ℕ) → i < length xs → new ≡ old ++ option_map_or (line i) (slice_get xs i) [] → old ++ placed line i (drop i xs) ≡ whole → new ++ placed line (i + 1) (drop (i + 1) xs) ≡ whole
+goes_on_found line old new whole [] i lt h so_far = absurd (omega arith)
+goes_on_found line old new whole (x ∷ xs) i lt h so_far =
+    goes_on line old new whole (x ∷ xs) i x lt (h ∙ ap (λ (found : Option _). old ++ option_map_or (line i) found []) (slice_get-get_or (x ∷ xs) i x lt)) so_far

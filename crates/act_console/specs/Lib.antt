@@ -4,3 +4,5 @@ pub mod Gives
 pub mod Spelled
 pub mod Parts
 pub mod Console
+pub mod Stock
+pub mod Roles

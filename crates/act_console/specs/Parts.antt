@@ -1,20 +1,50 @@
 -- The parts of a report, as its text is made.
 
-use Rattle.std.specs.Prelude.{ℕ, List, ◌++◌, codes, decimal}
-use Rattle.act_types.specs.Texts.{space, actor_text, method_text}
-use Rattle.act_rules.specs.History.{History, calls_of, kept_of, runs_of}
-use Rattle.act_rules.specs.Report.{future_text, future_lines, actor_lines, stage_of}
+use Rattle.std.specs.Prelude.{ℕ, List, [], ◌++◌, codes, decimal, find, slice_get, Option, option_map}
+use Rattle.std.specs.Option.{option_map_or}
+use Rattle.act_types.specs.Texts.{space, actor_text, method_text, state_text}
+use Rattle.act_rules.specs.Report.{future_text, future_line, future_lines, actor_lines, outcome_lines, summary_of}
+use Rattle.act_rules.specs.Rules.{Outcome}
 use Rattle.act_rules.specs.declared.history.RunItem.{RunItem}
+use Rattle.act_owner.specs.Owner.{OwnerValue}
+use Rattle.act_world.specs.Value.{SlotSeen, Runs, Died, Ended, Vacant, WorldSeen, stage_in}
+use Rattle.act_world.specs.Headline.{calls_in, kept_in, log_of, log_in}
 
 -- the front of the line of a call that an actor ran, without its arguments
 abbrev pub item_head : ℕ → ℕ → RunItem → List ℕ
 item_head actor place item =
     actor_text actor ++ codes "." ++ decimal place ++ space ++ future_text item.caller item.future ++ space ++ method_text item.method
 
+-- the line of a caller's future, where it has it
+abbrev pub owner_line : OwnerValue → ℕ → List ℕ
+owner_line owner k = option_map_or (future_line owner.id owner.kept k) (slice_get owner.calls k) []
+
+-- the lines of a caller's futures
+abbrev pub owner_lines : OwnerValue → List ℕ
+owner_lines owner = future_lines owner.id owner.calls owner.kept
+
+-- how an actor stands
+abbrev pub standing_text : SlotSeen → List ℕ
+standing_text (Runs live) = codes "live " ++ state_text live.state
+standing_text (Died dead) = codes "dead"
+standing_text (Ended retired) = codes "retired " ++ state_text retired.state
+standing_text Vacant = []
+
+abbrev pub standing_in : WorldSeen → ℕ → Option (List ℕ)
+standing_in world a = option_map standing_text (stage_in world a)
+
 -- the lines of a caller's futures in a world
-unfoldable pub caller_lines : History → ℕ → List ℕ
-caller_lines h c = future_lines c (calls_of c h) (kept_of c h)
+unfoldable pub caller_lines : WorldSeen → ℕ → List ℕ
+caller_lines world c = future_lines c (calls_in world c) (kept_in world c)
 
 -- the lines of an actor in a world
-abbrev pub stage_lines : History → ℕ → List ℕ
-stage_lines h a = actor_lines a (runs_of a h) (stage_of a h)
+unfoldable pub stage_lines : WorldSeen → ℕ → List ℕ
+stage_lines world a = actor_lines a (log_in world a) (standing_in world a)
+
+-- what a world shows: the futures of each caller, and each actor with its run list
+unfoldable pub world_summary : WorldSeen → List ℕ
+world_summary world = summary_of (calls_in world) (kept_in world) (standing_in world) (log_in world)
+
+-- the report of what was told of events, and of the world after them
+abbrev pub world_report : List Outcome → WorldSeen → List ℕ
+world_report told world = outcome_lines told ++ world_summary world

@@ -8,6 +8,7 @@ mod line;
 mod reading;
 mod report;
 mod script;
+mod stock;
 #[cfg(test)]
 mod tests;
 mod words;
@@ -16,4 +17,6 @@ mod writing;
 pub use console::play_script;
 pub use fault::ConsoleFault;
 pub use line::ScriptFault;
+pub use report::play_report;
 pub use script::{Script, read_script};
+pub use stock::Stock;

@@ -1,15 +1,19 @@
 //! The text of a report.
-ghost use Rattle.std.specs.Prelude.{◌≡◌, ◌<◌, ◌≤◌, ◌^◌, ◌++◌, OnOk, IfOk, string_bytes, map, length, option_copied, Some};
+ghost use Rattle.std.specs.Prelude.{◌≡◌, ◌≤◌, ◌++◌, List, [], OnOk, OnErr, IfOk, string_bytes, length, option_copied};
 ghost use Rattle.std.specs.List.{flat_map};
-ghost use Rattle.act_types.specs.Texts.{space, settled_text};
-ghost use Rattle.act_rules.specs.Submissions.{kept_at};
-ghost use Rattle.act_rules.specs.Report.{line, placed, one_to, outcome_line, outcome_lines, kept_text, future_line, future_lines, item_line, actor_lines, report};
-ghost use Rattle.act_rules.specs.Scripts.{opened};
-ghost use Rattle.act_console.specs.Parts.{item_head, caller_lines, stage_lines};
+ghost use Rattle.act_types.specs.Texts.{space, actor_text, settled_text};
+ghost use Rattle.act_rules.specs.History.{Casting, opening};
+ghost use Rattle.act_rules.specs.Report.{line, placed, one_to, outcome_line, outcome_lines, future_text, kept_text, item_line, report};
+ghost use Rattle.act_world.specs.Value.{world_seen, stage_seen};
+ghost use Rattle.act_world.specs.Headline.{log_of};
+ghost use Rattle.act_world.specs.Stands.{Stands, HasRoom};
+ghost use Rattle.act_console.specs.Parts.{item_head, owner_line, owner_lines, standing_text, caller_lines, stage_lines, world_report};
 
-use act_plain::PlainWorld;
-use act_rules::{Event, Outcome, Role, RunItem, Submission};
-use act_types::{ActorId, Answer, CallerId, ListOf, NoMemory, Settled};
+use act_kinds::Actor;
+use act_owner::Owner;
+use act_rules::{Event, Outcome, RunItem};
+use act_types::{ActorId, Answer, CallerId, FutureId, NoMemory, Settled};
+use act_world::{Stage, World};
 use std::alloc::{AllocError, Global};
 
 /// Adds the line of an outcome.
@@ -23,7 +27,7 @@ fn push_outcome(text: &mut String, place: usize, outcome: &Outcome) -> Result<()
 }
 
 /// Adds a line for each outcome.
-pub(crate) fn push_outcomes(text: &mut String, outcomes: &[Outcome]) -> Result<(), AllocError>
+fn push_outcomes(text: &mut String, outcomes: &[Outcome]) -> Result<(), AllocError>
     ensures { OnOk result (string_bytes text.new ≡ string_bytes text.old ++ outcome_lines outcomes.now) }
 {
     for (place, outcome) in outcomes.iter().enumerate() {
@@ -43,39 +47,36 @@ fn push_kept(text: &mut String, kept: Option<&Answer>) -> Result<(), AllocError>
     }
 }
 
-/// The answer that is kept for a future.
-fn kept_for(kept: &[Option<Answer>], place: usize) -> Option<&Answer>
-    ensures { option_copied result ≡ kept_at kept.now place }
-{
-    kept.get(place)?.as_ref()
-}
-
-/// Adds the line of a caller's future: its actor, and what is kept.
-fn push_future(
+/// Adds the line of a future: its actor, and what is kept.
+fn push_line(
     text: &mut String,
     caller: CallerId,
-    place: usize,
-    call: &Submission,
-    kept: &[Option<Answer>],
+    k: FutureId,
+    actor: ActorId,
+    kept: Option<&Answer>,
 ) -> Result<(), AllocError>
-    ensures { OnOk result (string_bytes text.new ≡ string_bytes text.old ++ future_line caller kept.now place call.now) }
+    ensures { OnOk result (string_bytes text.new ≡ string_bytes text.old ++ line (future_text caller k ++ space ++ actor_text actor ++ kept_text (option_copied kept.entry))) }
 {
-    let actor = call.actor;
-    write!(text, "{caller}.{place} {actor}")?;
-    push_kept(text, kept_for(kept, place))
+    write!(text, "{caller}.{k} {actor}")?;
+    push_kept(text, kept)
+}
+
+/// Adds the line of a caller's future.
+fn push_future(text: &mut String, owner: &Owner, k: FutureId) -> Result<(), AllocError>
+    ensures { OnOk result (string_bytes text.new ≡ string_bytes text.old ++ owner_line owner.now k) }
+{
+    let Some(call) = owner.call(k) else {
+        return Ok(());
+    };
+    push_line(text, owner.id(), k, call.actor, owner.answer(k))
 }
 
 /// Adds a line for each future of a caller.
-pub(crate) fn push_futures(
-    text: &mut String,
-    caller: CallerId,
-    calls: &[&Submission],
-    kept: &[Option<Answer>],
-) -> Result<(), AllocError>
-    ensures { OnOk result (string_bytes text.new ≡ string_bytes text.old ++ future_lines caller (map (λ call. call.now) calls.now) kept.now) }
+fn push_futures(text: &mut String, owner: &Owner) -> Result<(), AllocError>
+    ensures { OnOk result (string_bytes text.new ≡ string_bytes text.old ++ owner_lines owner.now) }
 {
-    for (place, call) in calls.iter().enumerate() {
-        push_future(text, caller, place, call, kept)?;
+    for number in 0..owner.count() {
+        push_future(text, owner, FutureId::new(number))?;
     }
     Ok(())
 }
@@ -127,8 +128,8 @@ fn push_item(
 }
 
 /// Adds a line for each call that an actor ran.
-fn push_items(text: &mut String, actor: ActorId, items: &[&RunItem]) -> Result<(), AllocError>
-    ensures { OnOk result (string_bytes text.new ≡ string_bytes text.old ++ placed (item_line actor) 0 (map (λ item. item.now) items.now)) }
+fn push_items(text: &mut String, actor: ActorId, items: &[RunItem]) -> Result<(), AllocError>
+    ensures { OnOk result (string_bytes text.new ≡ string_bytes text.old ++ placed (item_line actor) 0 items.now) }
 {
     for (place, item) in items.iter().enumerate() {
         push_item(text, actor, place, item)?;
@@ -136,94 +137,141 @@ fn push_items(text: &mut String, actor: ActorId, items: &[&RunItem]) -> Result<(
     Ok(())
 }
 
-/// Adds the line of an actor, and a line for each call that it ran.
-pub(crate) fn push_actor(
-    text: &mut String,
-    actor: ActorId,
-    items: &[&RunItem],
-    stage: &str,
-) -> Result<(), AllocError>
-    ensures { OnOk result (string_bytes text.new ≡ string_bytes text.old ++ actor_lines actor (map (λ item. item.now) items.now) (Some stage.now)) }
+/// Adds how an actor stands.
+fn push_standing<K: Actor>(text: &mut String, stage: &Stage<'_, K>) -> Result<(), NoMemory>
+    ensures { OnOk result (string_bytes text.new ≡ string_bytes text.old ++ standing_text (stage_seen K.state stage.now)) }
 {
-    writeln!(text, "{actor} {stage}")?;
-    push_items(text, actor, items)
+    match *stage {
+        Stage::Live(live) => {
+            text.push_str("live ")?;
+            live.state_text(text)?;
+        }
+        Stage::Dead(_) => text.push_str("dead")?,
+        Stage::Retired(retired) => {
+            text.push_str("retired ")?;
+            retired.state_text(text)?;
+        }
+    }
+    Ok(())
 }
 
-/// Adds a line for each future of the caller of this number in a world.
-#[tactic(auto, using(crate::proofs::Joined::caller_part))]
-fn push_caller(
-    alloc: Global,
+/// What an actor ran, in whatever state it is.
+fn log_of<'a, K: Actor>(stage: &Stage<'a, K>) -> &'a [RunItem]
+    ensures { result.now ≡ log_of (stage_seen K.state stage.now) }
+{
+    match *stage {
+        Stage::Live(live) => live.log(),
+        Stage::Dead(dead) => dead.log(),
+        Stage::Retired(retired) => retired.log(),
+    }
+}
+
+/// Adds the line of an actor.
+fn push_actor<K: Actor>(
     text: &mut String,
-    world: &PlainWorld,
-    number: u8,
+    actor: ActorId,
+    stage: &Stage<'_, K>,
 ) -> Result<(), NoMemory>
+    ensures { OnOk result (string_bytes text.new ≡ string_bytes text.old ++ line (actor_text actor ++ space ++ standing_text (stage_seen K.state stage.now))) }
+{
+    write!(text, "{actor} ")?;
+    push_standing(text, stage)?;
+    text.push_str("\n")?;
+    Ok(())
+}
+
+/// Adds a line for each future of the caller of this number, where the world has it.
+fn push_caller<K: Actor>(text: &mut String, world: &World<K>, number: u8) -> Result<(), NoMemory>
     requires { (1 ≤ number) × (number ≤ 16) }
-    ensures { OnOk result (string_bytes text.new ≡ string_bytes text.old ++ caller_lines world.now number) }
+    ensures { OnOk result (string_bytes text.new ≡ string_bytes text.old ++ caller_lines (world_seen K.state world.now) number) }
 {
     let Some(caller) = CallerId::new(number) else {
         return Ok(());
     };
-    let calls = world.calls_of(alloc, caller)?;
-    let kept = world.kept_of(alloc, caller)?;
-    push_futures(text, caller, &calls, kept.as_slice())?;
+    let Some(owner) = world.owner(caller) else {
+        return Ok(());
+    };
+    push_futures(text, owner)?;
     Ok(())
 }
 
 /// Adds a line for each future, callers by rising number.
-fn push_callers(alloc: Global, text: &mut String, world: &PlainWorld) -> Result<(), NoMemory>
-    ensures { OnOk result (string_bytes text.new ≡ string_bytes text.old ++ flat_map (caller_lines world.now) (one_to 16)) }
+fn push_callers<K: Actor>(text: &mut String, world: &World<K>) -> Result<(), NoMemory>
+    ensures { OnOk result (string_bytes text.new ≡ string_bytes text.old ++ flat_map (caller_lines (world_seen K.state world.now)) (one_to 16)) }
 {
     for before in 0..16u8 {
-        push_caller(alloc, text, world, before + 1)?;
+        push_caller(text, world, before + 1)?;
     }
     Ok(())
 }
 
 /// Adds the lines of the actor of this number, where the world has it.
-fn push_stage(
-    alloc: Global,
-    text: &mut String,
-    world: &PlainWorld,
-    number: u8,
-) -> Result<(), NoMemory>
+fn push_stage<K: Actor>(text: &mut String, world: &World<K>, number: u8) -> Result<(), NoMemory>
     requires { (1 ≤ number) × (number ≤ 8) }
-    ensures { OnOk result (string_bytes text.new ≡ string_bytes text.old ++ stage_lines world.now number) }
+    ensures { OnOk result (string_bytes text.new ≡ string_bytes text.old ++ stage_lines (world_seen K.state world.now) number) }
 {
     let Some(actor) = ActorId::new(number) else {
         return Ok(());
     };
-    let Some(stage) = world.stage_of(alloc, actor)? else {
+    let Some(stage) = world.stage(actor) else {
         return Ok(());
     };
-    let items = world.runs_of(alloc, actor)?;
-    push_actor(text, actor, &items, &stage)?;
+    push_actor(text, actor, &stage)?;
+    push_items(text, actor, log_of(&stage))?;
     Ok(())
 }
 
 /// Adds the lines of each actor, by rising number.
-fn push_stages(alloc: Global, text: &mut String, world: &PlainWorld) -> Result<(), NoMemory>
-    ensures { OnOk result (string_bytes text.new ≡ string_bytes text.old ++ flat_map (stage_lines world.now) (one_to 8)) }
+fn push_stages<K: Actor>(text: &mut String, world: &World<K>) -> Result<(), NoMemory>
+    ensures { OnOk result (string_bytes text.new ≡ string_bytes text.old ++ flat_map (stage_lines (world_seen K.state world.now)) (one_to 8)) }
 {
     for before in 0..8u8 {
-        push_stage(alloc, text, world, before + 1)?;
+        push_stage(text, world, before + 1)?;
     }
     Ok(())
 }
 
-/// The report of a script's events, played in the world of its roles.
-#[tactic(auto, using(crate::proofs::Joined::all_parts))]
-pub(crate) fn report_of(
+/// The report of what was told of events, and of the world after them.
+#[tactic(auto, using(crate::proofs::Shown::all_parts))]
+fn text_of<K: Actor>(alloc: Global, world: &World<K>, told: &[Outcome]) -> Result<String, NoMemory>
+    ensures { IfOk result (λ text. string_bytes text ≡ world_report told.now (world_seen K.state world.now)) }
+{
+    let mut text = String::new(alloc);
+    push_outcomes(&mut text, told)?;
+    push_callers(&mut text, world)?;
+    push_stages(&mut text, world)?;
+    Ok(text)
+}
+
+/// Adds the report of what was told of events, and of the world after them: a line for each
+/// outcome, a line for each future, and the actors with what they ran. An `Err` leaves the text as
+/// it was.
+pub fn play_report<K: Actor>(
     alloc: Global,
-    roles: ListOf<Role>,
+    world: &World<K>,
+    told: &[Outcome],
+    text: &mut String,
+) -> Result<(), NoMemory>
+    ensures ok { OnOk result (string_bytes text.new ≡ string_bytes text.old ++ world_report told.now (world_seen K.state world.now)) }
+    ensures err { OnErr result (string_bytes text.new ≡ string_bytes text.old) }
+{
+    let report = text_of(alloc, world, told)?;
+    text.push_str(&report)?;
+    Ok(())
+}
+
+/// Plays events in a world, and gives the report of them and of the world after them.
+pub(crate) fn report_of<K: Actor>(
+    alloc: Global,
+    world: &mut World<K>,
     events: &[Event],
 ) -> Result<String, NoMemory>
-    requires { length events.now < 2 ^ 32 }
-    ensures { IfOk result (λ text. string_bytes text ≡ report (opened roles) events.now) }
+    requires room { HasRoom (length events.now) (world_seen K.state world.old).exchange }
+    ensures { IfOk result (λ text. (casts : List Casting) → Stands casts [] (world_seen K.state world.old) → string_bytes text ≡ report (opening casts) events.now) }
 {
-    let (world, told) = act_plain::play(alloc, roles, events)?;
-    let mut text = String::new(alloc);
-    push_outcomes(&mut text, told.as_slice())?;
-    push_callers(alloc, &mut text, &world)?;
-    push_stages(alloc, &mut text, &world)?;
-    Ok(text)
+    let mut told = Vec::new(alloc);
+    let Ok(()) = world.play(events, &mut told) else {
+        return Err(NoMemory);
+    };
+    text_of(alloc, world, &told)
 }

@@ -4,6 +4,8 @@ ghost use Rattle.std.specs.Prelude.{◌≡◌, ◌==◌, ◌≤◌, ◌<◌, ◌
 ghost use Rattle.std.specs.List.{list_all, list_any};
 ghost use Rattle.act_console.specs.Gives.{Gives};
 ghost use Rattle.act_console.specs.Spelled.{IsPlayed, Leaves, GivesScript, spelled_script, numbered};
+ghost use Rattle.act_rules.specs.Scripts.{casting};
+ghost use Rattle.act_console.specs.Roles.{AreFitting, AreSound};
 ghost use Rattle.act_rules.specs.declared.script.Mode.TheVariants.{Play};
 ghost use Rattle.act_rules.specs.Grammar.{is_plain_byte, plain_at, words_in, line_at, play_forms, no_lines, has_twice, role_fault, added, line_added, lines_in, spelled_from, spelled};
 
@@ -128,20 +130,30 @@ fn empty(alloc: Global) -> Script
     }
 }
 
+/// Adds a role, unless something refuses it.
+fn add_role(script: &mut Script, role: Role) -> Result<(), LineFault>
+    ensures sound { AreSound (map casting script.old.casts) → AreSound (map casting script.new.casts) }
+    ensures read { (n : ℕ) → Leaves result script.new (added (spelled_script script.old) n (Line.Role role)) }
+    ensures items { script.new.items ≡ script.old.items }
+{
+    // A script has eight actors at most, since there are eight numbers for them.
+    prove!(1 <= role.actor.number() && role.actor.number() <= 8);
+    if let Some(wrong) = fault_of(script, &role) {
+        return Err(LineFault::Wrong(wrong));
+    }
+    script.casts.push(role)?;
+    Ok(())
+}
+
 /// Adds what a line says.
 fn add(script: &mut Script, line: Line) -> Result<(), LineFault>
     requires { IsPlayed line }
+    ensures sound { AreSound (map casting script.old.casts) → AreSound (map casting script.new.casts) }
     ensures read { (n : ℕ) → Leaves result script.new (added (spelled_script script.old) n line) }
     ensures few { length script.new.items ≤ length script.old.items + 1 }
 {
     match line {
-        Line::Role(role) => {
-            if let Some(wrong) = fault_of(script, &role) {
-                return Err(LineFault::Wrong(wrong));
-            }
-            script.casts.push(role)?;
-            Ok(())
-        }
+        Line::Role(role) => add_role(script, role),
         Line::Event(event) => {
             script.items.push(event)?;
             Ok(())
@@ -152,6 +164,7 @@ fn add(script: &mut Script, line: Line) -> Result<(), LineFault>
 
 /// Adds what a line says, if it isn't skipped.
 fn add_line(alloc: Global, script: &mut Script, line: &[u8]) -> Result<(), LineFault>
+    ensures sound { AreSound (map casting script.old.casts) → AreSound (map casting script.new.casts) }
     ensures read { (n : ℕ) → Leaves result script.new (line_added play_forms (spelled_script script.old) n line.now) }
     ensures few { length script.new.items ≤ length script.old.items + 1 }
 {
@@ -174,6 +187,7 @@ fn fault_in(line: u32, fault: LineFault) -> ScriptFault
 /// What the lines of a script spell, or their first fault.
 fn read_lines(alloc: Global, bytes: &[u8]) -> Result<Script, ScriptFault>
     requires { length bytes.now ≤ MOST_BYTES }
+    ensures sound { IfOk result (λ script. AreSound (map casting script.casts)) }
     ensures spelled { GivesScript spelled_script result (spelled_from play_forms 1 no_lines (lines_in bytes.now)) }
     ensures few { IfOk result (λ script. length script.items < 2 ^ 32) }
 {
@@ -190,9 +204,11 @@ fn read_lines(alloc: Global, bytes: &[u8]) -> Result<Script, ScriptFault>
 }
 
 /// What a script of events spells, or its first fault.
-#[tactic(auto, unfolding(act_rules::specs::Grammar::spelled_by))]
+#[tactic(auto, using(crate::proofs::Roles::sound_fit), unfolding(act_rules::specs::Grammar::spelled_by))]
 pub fn read_script(alloc: Global, bytes: &[u8]) -> Result<Script, ScriptFault>
     ensures spelled { GivesScript spelled_script result (spelled Play bytes.now) }
+    // The roles can be opened: their actors are distinct, and the callers of each.
+    ensures roles { IfOk result (λ script. AreFitting (map casting script.casts)) }
     ensures few { IfOk result (λ script. length script.items < 2 ^ 32) }
 {
     if bytes.len() > MOST_BYTES {

@@ -1,11 +1,16 @@
 //! Readers and writers that are slow, or fail, and some scripts from bytes to bytes.
 mod fakes;
+mod rows;
 
 use crate::console::play_script;
 use crate::fault::ConsoleFault;
 use crate::reading::{MOST_READ, read_whole};
+use crate::stock::Stock;
 use crate::writing::write_whole;
+use act_kinds::{Account, Boxed, Counter, ListKind, Table};
 use fakes::{FakeReader, FakeWriter};
+use rows::{ROWS, Row};
+use std::alloc::Global;
 use std::test::Fail;
 
 const TEXT: &str = "run a1 c1\n";
@@ -52,29 +57,32 @@ fn each_write_fails_in_turn(rt: HostRuntime) -> Result<(), Fail> {
     Ok(())
 }
 
-const ONE_CALL: &str =
-    "actor a1 counter c1\nsubmit c1 a1 add 5\nsend c1 0\ndeliver 0\nrun a1 c1\ncollect 0\n";
-
-const ONE_CALL_REPORT: &str =
-    "0: future c1.0\n1: mail 0\n2: new\n3: place 0 reply 0\n4: kept c1.0\nc1.0 a1 = 5\na1 live counter 5\na1.0 c1.0 add 5\n";
+/// Plays a script with kinds that are made here, and tells whether it ends and is answered so.
+fn is_played(alloc: Global, row: &Row) -> Result<bool, ConsoleFault> {
+    let mut stock = Stock {
+        counters: Vec::new(alloc),
+        tables: Vec::new(alloc),
+        accounts: Vec::new(alloc),
+        lists: Vec::new(alloc),
+    };
+    for _ in 0..8u8 {
+        let counter: Boxed = Box::new(alloc, Counter::open())?;
+        let table: Boxed = Box::new(alloc, Table::open(alloc))?;
+        let account: Boxed = Box::new(alloc, Account::open())?;
+        let list: Boxed = Box::new(alloc, ListKind::open(alloc))?;
+        stock.add(counter, table, account, list)?;
+    }
+    let mut reader = FakeReader::new(row.script.as_bytes());
+    let mut writer = FakeWriter::new(alloc);
+    let answer = play_script(alloc, stock, &mut reader, &mut writer);
+    Ok(answer == row.answer && writer.written() == row.output.as_bytes())
+}
 
 #[test]
 fn scripts_are_played(rt: HostRuntime) -> Result<(), Fail> {
-    let table = [
-        ("", Ok(()), ""),
-        (ONE_CALL, Ok(()), ONE_CALL_REPORT),
-        (
-            "actor a1 counter",
-            Err(ConsoleFault::Script),
-            "line 1: BadLine\n",
-        ),
-    ];
-    for (script, answer, report) in table {
-        let mut reader = FakeReader::new(script.as_bytes());
-        let mut writer = FakeWriter::new(rt.alloc());
-        let played = play_script(rt.alloc(), &mut reader, &mut writer);
-        let seen = (played, writer.written());
-        assert_eq!(rt; seen, (answer, report.as_bytes()));
+    for row in &ROWS {
+        let played = is_played(rt.alloc(), row);
+        assert_eq!(rt; played, Ok(true), "{}", row.script);
     }
     Ok(())
 }

@@ -4,19 +4,44 @@
 mod command;
 mod status;
 
-use act_console::play_script;
+use act_console::{ConsoleFault, Stock, play_script};
+use act_kinds::{Account, Boxed, Counter, ListKind, Table};
 use command::{Mode, mode_given};
 use status::{Stop, exit_code};
+use std::alloc::Global;
 use std::io;
+use std::io::{Read, Write};
 use std::process::ExitCode;
 use std::rt::Env;
+
+/// Makes the kinds, eight of each, and plays the script with them.
+fn play<R: Read, W: Write>(
+    alloc: Global,
+    reader: &mut R,
+    writer: &mut W,
+) -> Result<(), ConsoleFault> {
+    let mut stock = Stock {
+        counters: Vec::new(alloc),
+        tables: Vec::new(alloc),
+        accounts: Vec::new(alloc),
+        lists: Vec::new(alloc),
+    };
+    for _ in 0..8u8 {
+        let counter: Boxed = Box::new(alloc, Counter::open())?;
+        let table: Boxed = Box::new(alloc, Table::open(alloc))?;
+        let account: Boxed = Box::new(alloc, Account::open())?;
+        let list: Boxed = Box::new(alloc, ListKind::open(alloc))?;
+        stock.add(counter, table, account, list)?;
+    }
+    play_script(alloc, stock, reader, writer)
+}
 
 fn run(rt: &(impl Env + AllocGlobal + Input + Print)) -> Result<(), Stop> {
     let mode = mode_given(rt)?;
     let mut reader = rt.reader();
     let mut writer = io::writer(rt);
     match mode {
-        Mode::Play => play_script(rt.alloc(), &mut reader, &mut writer)?,
+        Mode::Play => play(rt.alloc(), &mut reader, &mut writer)?,
         // Scripts for threads are not served yet.
         Mode::Threads => return Err(Stop::Usage),
     }

@@ -1,9 +1,17 @@
-use Rattle.std.proofs.Common.{string_bytes, ◌++◌, List, ℕ, ap, sym, ◌∙◌}
+use Rattle.std.proofs.Common.{◌<◌, ◌≤◌, ◌++◌, length, string_bytes, ap, ◌∙◌, arith}
 use Rattle.act_rules.specs.Report.{future_line}
-use Rattle.act_console.proofs.Placed.{is_done, placed_map}
+use Rattle.act_console.specs.Parts.{owner_line}
+use Rattle.act_console.proofs.Placed.{goes_on_found, is_done}
 use Rattle.act_console.proofs.report.push_futures.Goals as goal
+
+pub loop-number-preserved : goal.loop-number-preserved
+loop-number-preserved c =
+    let owner = c.args.owner.now in
+    let within : c.loop-number.number < length owner.calls = omega arith in
+    goes_on_found (future_line owner.id owner.kept) (string_bytes c.loop-number.text) (string_bytes c.push_future.new.text) _ owner.calls c.loop-number.number within (c.in_ok-push_future.ensures ∙ ap (λ k. string_bytes c.loop-number.text ++ owner_line owner k) c.new.ensures) c.loop-number.invariant
 
 pub returns : goal.returns
 returns c =
-    is_done (λ place call. future_line c.args.caller c.args.kept.now place call.now) (string_bytes c.loop-place.text) _ c.args.calls.now c.loop-place.place c.loop-place-test.false c.loop-place.invariant
-    ∙ ap (λ (t : List ℕ). string_bytes c.args.text.now ++ t) (sym (placed_map (future_line c.args.caller c.args.kept.now) (λ call. call.now) c.args.calls.now 0))
+    let owner = c.args.owner.now in
+    let all : length owner.calls ≤ c.loop-number.number = omega arith in
+    is_done (future_line owner.id owner.kept) (string_bytes c.loop-number.text) _ owner.calls c.loop-number.number all c.loop-number.invariant

@@ -4,6 +4,4 @@ use Rattle.act_console.proofs.report.push_items.Given as goal
 
 -- what is written so far, and what is still to be written
 abbrev pub invariant-loop-place : goal.invariant-loop-place
-invariant-loop-place l =
-    string_bytes l.text ++ placed (λ place item. item_line l.actor place item.now) l.place (drop l.place l.items)
-    ≡ string_bytes l.fn.text ++ placed (λ place item. item_line l.actor place item.now) 0 l.items
+invariant-loop-place l = string_bytes l.text ++ placed (item_line l.actor) l.place (drop l.place l.items) ≡ string_bytes l.fn.text ++ placed (item_line l.actor) 0 l.items

@@ -15,6 +15,7 @@ loop-line-preserved c =
     record {
       count = omega (arith, length_push c.loop-line.yielded c.in-Some.line);
       read = goes_on play_forms (c.loop-line.number + 1) (spelled_script c.loop-line.script) (spelled_script c.add_line.new.script) lines c.loop-line.number c.in-Some.line.now _ at (c.in-Ok.ensures.read (c.loop-line.number + 1)) c.loop-line.invariant.read;
+      sound = c.add_line.ensures.sound c.loop-line.invariant.sound;
       few = omega arith;
     }
 

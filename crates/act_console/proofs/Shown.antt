@@ -1,0 +1,137 @@
+-- What a world shows, as a report tells it.
+use Rattle.std.proofs.Common.{◌≡◌, ℕ, true, false, Bool, List, [], ◌∷◌, ◌++◌, ◌||◌, length, Option, Some, None, option_map, refl, ap, sym, ◌∙◌, subst, suc, ◌+◌, append_assoc, add-one}
+use Rattle.std.specs.Prelude.{find, slice_get, if◌then◌else◌}
+use Rattle.std.proofs.lemmas.Bool.{eqb-true}
+use Rattle.std.proofs.lemmas.Grind.{flat_map-append}
+use Rattle.std.proofs.lemmas.List.{append-nil}
+use Rattle.std.specs.Option.{option_map_or}
+use Rattle.std.specs.List.{flat_map}
+use Rattle.act_types.specs.KindState.{KindState}
+use Rattle.act_rules.specs.declared.event.Event.{Event}
+use Rattle.act_rules.specs.declared.history.RunItem.{RunItem}
+use Rattle.act_rules.specs.declared.history.Submission.{Submission}
+use Rattle.act_rules.specs.RunList.{Answer, state_after}
+use Rattle.act_rules.specs.History.{Casting, History, opening, calls_of, kept_of, runs_of, cast_of, is_dead, is_retired}
+use Rattle.act_rules.specs.Laws.{world as history}
+use Rattle.act_rules.specs.Report.{one_to, outcome_lines, placed, future_line, stage_of, stage_text, summary, summary_of, actor_lines, report}
+use Rattle.act_rules.specs.Rules.{Outcome, outcomes}
+use Rattle.act_owner.specs.Owner.{OwnerValue}
+use Rattle.act_world.specs.Exchange.{is_owner}
+use Rattle.act_world.specs.Value.{SlotSeen, Runs, Died, Ended, Vacant, WorldSeen, stage_of_slot, stage_in}
+use Rattle.act_world.specs.Ties.{IsOwnerAt, IsStage, Ties}
+use Rattle.act_world.specs.Stands.{Stands, Played}
+use Rattle.act_world.specs.Headline.{calls_in, kept_in, log_of, log_in}
+use Rattle.act_world.proofs.Lawful.{IsLawful, world_lawful}
+use Rattle.act_world.proofs.Headline.{calls_are, kept_are, logs_are}
+use Rattle.act_console.specs.Parts.{owner_lines, standing_text, standing_in, caller_lines, stage_lines, world_summary, world_report}
+
+-- ---- one caller, one actor
+
+-- a caller whom the world doesn't have
+pub no_owner : (world : WorldSeen) (c n : ℕ) → c ≡ n → find (is_owner c) world.exchange.owners ≡ None → caller_lines world n ≡ []
+unfolding caller_lines
+no_owner world c n is none =
+    ap (caller_lines world) (sym is)
+    ∙ ap (λ (owner : Option OwnerValue). placed (future_line c (option_map_or (λ o. o.kept) owner [])) 0 (option_map_or (λ o. o.calls) owner [])) none
+
+found_named : (c : ℕ) (owners : List OwnerValue) (owner : OwnerValue) → find (is_owner c) owners ≡ Some owner → owner.id ≡ c
+found_named c [] owner e = cc
+found_named c (one ∷ owners) owner e = go (is_owner c one) refl e (found_named c owners owner)
+  where
+    go : (b : Bool) → is_owner c one ≡ b → (if b then Some one else find (is_owner c) owners) ≡ Some owner → (find (is_owner c) owners ≡ Some owner → owner.id ≡ c) → owner.id ≡ c
+    go true is found rest = ap (λ (o : Option OwnerValue). option_map_or (λ o. o.id) o c) (sym found) ∙ eqb-true one.id c is
+    go false is found rest = rest found
+
+-- a caller whom the world has
+pub one_owner : (world : WorldSeen) (owner : OwnerValue) (c n : ℕ) → c ≡ n → find (is_owner c) world.exchange.owners ≡ Some owner → owner_lines owner ≡ caller_lines world n
+unfolding caller_lines
+one_owner world owner c n is found =
+    ap (λ (id : ℕ). placed (future_line id owner.kept) 0 owner.calls) (found_named c world.exchange.owners owner found)
+    ∙ ap (λ (found : Option OwnerValue). placed (future_line c (option_map_or (λ o. o.kept) found [])) 0 (option_map_or (λ o. o.calls) found [])) (sym found)
+    ∙ ap (caller_lines world) is
+
+-- an actor that the world doesn't have
+pub no_stage : (world : WorldSeen) (a n : ℕ) → a ≡ n → stage_in world a ≡ None → stage_lines world n ≡ []
+unfolding stage_lines
+no_stage world a n is none =
+    ap (stage_lines world) (sym is) ∙ ap (λ (stage : Option SlotSeen). actor_lines a (log_in world a) (option_map standing_text stage)) none
+
+in_slot : (slot : Option SlotSeen) (seen : SlotSeen) → stage_of_slot slot ≡ Some seen → slot ≡ Some seen
+in_slot None seen e = cc
+in_slot (Some Vacant) seen e = cc
+in_slot (Some (Runs live)) seen e = e
+in_slot (Some (Died dead)) seen e = e
+in_slot (Some (Ended retired)) seen e = e
+
+-- an actor that the world has
+pub one_stage : (world : WorldSeen) (seen : SlotSeen) (a n : ℕ) → a ≡ n → stage_in world a ≡ Some seen → actor_lines a (log_of seen) (Some (standing_text seen)) ≡ stage_lines world n
+unfolding stage_lines
+one_stage world seen a n is found =
+    ap (λ (slot : Option SlotSeen). actor_lines a (option_map_or log_of slot []) (Some (standing_text seen))) (sym (in_slot (slice_get world.slots a) seen found))
+    ∙ ap (λ (stage : Option SlotSeen). actor_lines a (log_in world a) (option_map standing_text stage)) (sym found)
+    ∙ ap (stage_lines world) is
+
+-- ---- all of them
+
+uncast : (h : History) (a : ℕ) → cast_of a h ≡ None → stage_of a h ≡ None
+uncast h a none = ap (λ (cast : Option Casting). option_map (λ state. stage_text (is_dead a h) (is_retired a h) (state_after state (runs_of a h))) (option_map (λ cast. cast.opening) cast)) none
+
+cast_at : (h : History) (a : ℕ) (cast : Casting) (dead retired : Bool) (state : KindState) → cast_of a h ≡ Some cast → is_dead a h ≡ dead → is_retired a h ≡ retired → state ≡ state_after cast.opening (runs_of a h) → stage_of a h ≡ Some (stage_text dead retired state)
+cast_at h a cast dead retired state is died ended same =
+    ap (λ (cast : Option Casting). option_map (λ state. stage_text (is_dead a h) (is_retired a h) (state_after state (runs_of a h))) (option_map (λ cast. cast.opening) cast)) is
+    ∙ ap (λ (b : Bool). Some (stage_text b (is_retired a h) (state_after cast.opening (runs_of a h)))) died
+    ∙ ap (λ (b : Bool). Some (stage_text dead b (state_after cast.opening (runs_of a h)))) ended
+    ∙ ap (λ (s : KindState). Some (stage_text dead retired s)) (sym same)
+
+neither : (x y : Bool) → (x || y) ≡ false → (x ≡ false) × (y ≡ false)
+neither true y e = cc
+neither false y e = (refl, e)
+
+stages_are : (h : History) (a : ℕ) (slot : Option SlotSeen) → IsStage h a slot → stage_of a h ≡ option_map standing_text (stage_of_slot slot)
+stages_are h a None is = uncast h a is
+stages_are h a (Some Vacant) is = uncast h a is
+stages_are h a (Some (Runs live)) is = let runs = neither (is_dead a h) (is_retired a h) is.runs in cast_at h a is.cast false false live.state is.cast_is runs.0 runs.1 is.state
+stages_are h a (Some (Died dead)) is = cast_at h a is.cast true (is_retired a h) (state_after is.cast.opening (runs_of a h)) is.cast_is is.died refl refl
+stages_are h a (Some (Ended retired)) is = cast_at h a is.cast false true retired.state is.cast_is is.lived is.ended is.state
+
+-- the lines of one number more
+pub next_lines : (lines : ℕ → List ℕ) (n : ℕ) (old new text : List ℕ) → new ≡ text ++ lines (n + 1) → text ≡ old ++ flat_map lines (one_to n) → new ≡ old ++ flat_map lines (one_to (n + 1))
+next_lines lines n old new text one so_far =
+    one
+    ∙ ap (λ (front : List ℕ). front ++ lines (n + 1)) so_far
+    ∙ append_assoc old (flat_map lines (one_to n)) (lines (n + 1))
+    ∙ ap (λ (m : ℕ). old ++ (flat_map lines (one_to n) ++ lines m)) (add-one n)
+    ∙ ap (λ (back : List ℕ). old ++ (flat_map lines (one_to n) ++ back)) (sym (append-nil (lines (suc n))))
+    ∙ ap (λ (all : List ℕ). old ++ all) (sym (flat_map-append lines (one_to n) (suc n ∷ [])))
+    ∙ ap (λ (m : ℕ). old ++ flat_map lines (one_to m)) (sym (add-one n))
+
+-- a text that was made part by part is the report
+pub all_parts : (world : WorldSeen) (told : List Outcome) (empty first second whole : List ℕ) → empty ≡ [] →
+    first ≡ empty ++ outcome_lines told →
+    second ≡ first ++ flat_map (caller_lines world) (one_to 16) →
+    whole ≡ second ++ flat_map (stage_lines world) (one_to 8) →
+    whole ≡ world_report told world
+unfolding caller_lines stage_lines world_summary
+all_parts world told empty first second whole none one two three =
+    three
+    ∙ ap (λ (text : List ℕ). text ++ flat_map (stage_lines world) (one_to 8)) (two ∙ ap (λ (text : List ℕ). text ++ flat_map (caller_lines world) (one_to 16)) (one ∙ ap (λ (text : List ℕ). text ++ outcome_lines told) none))
+    ∙ append_assoc (outcome_lines told) (flat_map (caller_lines world) (one_to 16)) (flat_map (stage_lines world) (one_to 8))
+
+-- a standing world shows what the history tells
+pub summary_is : (casts : List Casting) (events : List Event) (world : WorldSeen) → Stands casts events world → world_summary world ≡ summary (history casts events)
+unfolding world_summary
+summary_is casts events world ties =
+    let h = history casts events in
+    let lawful = world_lawful casts events in
+    sym
+    (subst (λ (f : ℕ → List Submission). summary h ≡ summary_of f (kept_in world) (standing_in world) (log_in world)) (λ i c. calls_are h c (find (is_owner c) world.exchange.owners) lawful (ties.owners c) i)
+    (subst (λ (f : ℕ → List (Option Answer)). summary h ≡ summary_of (λ c. calls_of c h) f (standing_in world) (log_in world)) (λ i c. kept_are h c (find (is_owner c) world.exchange.owners) lawful (ties.owners c) i)
+    (subst (λ (f : ℕ → Option (List ℕ)). summary h ≡ summary_of (λ c. calls_of c h) (λ c. kept_of c h) f (log_in world)) (λ i a. stages_are h a (slice_get world.slots a) (ties.actors a) i)
+    (subst (λ (f : ℕ → List RunItem). summary h ≡ summary_of (λ c. calls_of c h) (λ c. kept_of c h) (λ a. stage_of a h) f) (λ i a. logs_are h a (slice_get world.slots a) lawful (ties.actors a) i) refl))))
+
+-- the report of events that were told in full, and of the world after them
+pub report_is : (casts : List Casting) (events : List Event) (old new : WorldSeen) (empty told shown : List Outcome) → Stands casts [] old → Played events old new empty told → empty ≡ [] → shown ≡ told → world_report shown new ≡ report (opening casts) events
+report_is casts events old new empty told shown opened played none same =
+    let after = played casts [] opened in
+    ap (λ (told : List Outcome). world_report told new) (same ∙ after.1 ∙ ap (λ (front : List Outcome). front ++ outcomes (opening casts) events) none)
+    ∙ ap (λ (text : List ℕ). outcome_lines (outcomes (opening casts) events) ++ text) (summary_is casts events new after.0)

@@ -1,0 +1,46 @@
+-- Casts that are made of roles, one after the other, with kinds of a stock.
+use Rattle.std.proofs.Common.{◌≡◌, ℕ, suc, ◌+◌, ◌≤◌, List, [], ◌∷◌, ◌++◌, length, map, Option, Some, IfSome, ap, sym, ◌∙◌, subst, append_assoc, add-one, arith}
+use Rattle.std.proofs.lemmas.List.{append-nil, map-append}
+use Rattle.act_types.specs.KindState.{KindState}
+use Rattle.act_rules.specs.declared.script.KindName.{KindName}
+use Rattle.act_rules.specs.declared.script.Role.{Role}
+use Rattle.act_rules.specs.History.{Casting}
+use Rattle.act_rules.specs.Scripts.{casting as role_casting}
+use Rattle.act_actor.specs.declared.cast.Cast.{Cast}
+use Rattle.act_world.specs.Openings.{casting}
+use Rattle.act_console.specs.declared.stock.Stock.{Stock}
+use Rattle.act_console.specs.Stock.{HasOf, HasEach}
+
+fewer_of : {K : Type 0} (state : K → KindState) (name : KindName) (most count : ℕ) (kinds : List K) → count ≤ most → HasOf state name most kinds → HasOf state name count kinds
+fewer_of state name most count kinds fewer has = let enough = has.enough in record { enough = omega arith; opened = has.opened }
+
+-- what has more has less, too
+pub fewer : {K : Type 0} (state : K → KindState) (most count : ℕ) (stock : Stock K) → count ≤ most → HasEach state most stock → HasEach state count stock
+fewer state most count stock few has = record {
+  counters = fewer_of state _ most count stock.counters.items few has.counters;
+  tables = fewer_of state _ most count stock.tables.items few has.tables;
+  accounts = fewer_of state _ most count stock.accounts.items few has.accounts;
+  lists = fewer_of state _ most count stock.lists.items few has.lists;
+}
+
+-- one role of those that are left
+pub one_of : {K : Type 0} (state : K → KindState) (stock : Stock K) (role : Role) (old rest : List Role) → old ≡ role ∷ rest → HasEach state (length old) stock → HasEach state (length rest + 1) stock
+one_of state stock role old rest is has = subst (λ n. HasEach state n stock) (ap length is ∙ sym (add-one (length rest))) has
+
+-- one cast more
+pub one_made : {K : Type 0} (state : K → KindState) (made : List (Cast K)) (cast : Cast K) (role : Role) (old rest : List Role) (whole : List Casting) →
+    old ≡ role ∷ rest → casting state cast ≡ role_casting role → map (casting state) made ++ map role_casting old ≡ whole → map (casting state) (made ++ cast ∷ []) ++ map role_casting rest ≡ whole
+one_made state made cast role old rest whole is same so_far =
+    ap (λ (front : List Casting). front ++ map role_casting rest) (map-append (casting state) made (cast ∷ []))
+    ∙ append_assoc (map (casting state) made) (casting state cast ∷ []) (map role_casting rest)
+    ∙ ap (λ (c : Casting). map (casting state) made ++ c ∷ map role_casting rest) same
+    ∙ ap (λ (roles : List Role). map (casting state) made ++ map role_casting roles) (sym is)
+    ∙ so_far
+
+-- the casts of all roles
+pub all_made : {K : Type 0} (state : K → KindState) (made : List (Cast K)) (left : List Role) (whole : List Casting) → left ≡ [] → map (casting state) made ++ map role_casting left ≡ whole → map (casting state) made ≡ whole
+all_made state made left whole none so_far = sym (append-nil (map (casting state) made)) ∙ ap (λ (roles : List Role). map (casting state) made ++ map role_casting roles) (sym none) ∙ so_far
+
+-- the cast that was found
+pub found_cast : {K : Type 0} (P : Cast K → Type 0) (found : Option (Cast K)) (cast : Cast K) → found ≡ Some cast → IfSome found P → P cast
+found_cast P found cast is holds = subst (λ (o : Option (Cast _)). IfSome o P) is holds

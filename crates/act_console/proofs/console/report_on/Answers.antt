@@ -1,0 +1,25 @@
+use Rattle.std.proofs.Common.{List, map, ap, sym, ◌∙◌, arith}
+use Rattle.std.proofs.lemmas.Result.{IfOk-weaker}
+use Rattle.act_rules.specs.declared.event.Event.{Event}
+use Rattle.act_rules.specs.History.{Casting, opening}
+use Rattle.act_rules.specs.Report.{report}
+use Rattle.act_rules.specs.Scripts.{opened}
+use Rattle.act_world.specs.Openings.{casting}
+use Rattle.act_console.proofs.Roles.{casts_fit}
+use Rattle.act_console.proofs.console.report_on.Goals as goal
+
+pub open-requires : goal.open-requires
+open-requires g c = (
+  omega arith,
+  casts_fit (λ b. (goal.Actor-dyn g (b.vtable, b.value)).state b.value) c.in_ok-casts.casts.items c.args.script.casts c.in_ok-casts.ensures c.requires.roles,
+)
+
+pub returns : goal.returns
+returns g c =
+    let casts = map (casting (λ b. (goal.Actor-dyn g (b.vtable, b.value)).state b.value)) c.in_ok-casts.casts.items in
+    IfOk-weaker c.report_of.result _ _
+    (λ text written.
+    written casts c.in_ok-world.ensures.stands
+    ∙ ap (λ (casts : List Casting). report (opening casts) c.as_slice.result.now) c.in_ok-casts.ensures
+    ∙ ap (λ (events : List Event). report (opened c.args.script.casts) events) c.as_slice.ensures)
+    c.report_of.ensures

@@ -1,0 +1,94 @@
+//! The kinds that a play is made of.
+
+ghost use Rattle.std.specs.Prelude.{◌≡◌, ◌+◌, ◌≤◌, ℕ, length, map, IfOk, OnOk, IfSome, IsSome};
+ghost use Rattle.act_rules.specs.declared.script.KindName.TheVariants as kind;
+ghost use Rattle.act_rules.specs.Scripts.{opening_state, casting as role_casting};
+ghost use Rattle.act_world.specs.Openings.{casting};
+ghost use Rattle.act_console.specs.Stock.{HasEach, IsReady};
+
+use act_actor::Cast;
+use act_kinds::{Actor, Boxed};
+use act_rules::{KindName, Role};
+use act_types::{ListOf, NoMemory};
+use std::alloc::Global;
+
+/// Kinds for the actors of a script, which are eight at most: there are eight of each or more, and
+/// each is in its opening state.
+#[derive(Drop)]
+pub struct Stock<K = Boxed> {
+    pub counters: Vec<K>,
+    pub tables: Vec<K>,
+    pub accounts: Vec<K>,
+    pub lists: Vec<K>,
+}
+
+impl<K: Actor> Stock<K> {
+    /// Adds one kind of each name. Where memory is refused there may be less of some than of others.
+    pub fn add(&mut self, counter: K, table: K, account: K, list: K) -> Result<(), NoMemory>
+        requires counter { K.state counter ≡ opening_state kind.Counter }
+        requires table { K.state table ≡ opening_state kind.Table }
+        requires account { K.state account ≡ opening_state kind.Account }
+        requires list { K.state list ≡ opening_state kind.ListKind }
+        ensures { OnOk result ((n : ℕ) → HasEach K.state n self.old → HasEach K.state (n + 1) self.new) }
+    {
+        self.counters.push(counter)?;
+        self.tables.push(table)?;
+        self.accounts.push(account)?;
+        self.lists.push(list)?;
+        Ok(())
+    }
+}
+
+/// Takes a kind of this name.
+fn kind_for<K: Actor>(stock: &mut Stock<K>, name: KindName) -> Option<K>
+    ensures found { (n : ℕ) → HasEach K.state (n + 1) stock.old → IsSome result }
+    ensures state { (n : ℕ) → HasEach K.state n stock.old → IfSome result (λ kind. K.state kind ≡ opening_state name) }
+    ensures left { (n : ℕ) → HasEach K.state (n + 1) stock.old → HasEach K.state n stock.new }
+{
+    match name {
+        KindName::Counter => stock.counters.pop(),
+        KindName::Table => stock.tables.pop(),
+        KindName::Account => stock.accounts.pop(),
+        KindName::ListKind => stock.lists.pop(),
+    }
+}
+
+/// A role's cast, with a kind of the stock.
+fn cast_for<K: Actor>(stock: &mut Stock<K>, role: Role) -> Option<Cast<K>>
+    ensures found { (n : ℕ) → HasEach K.state (n + 1) stock.old → IsSome result }
+    ensures cast { (n : ℕ) → HasEach K.state n stock.old → IfSome result (λ cast. casting K.state cast ≡ role_casting role) }
+    ensures left { (n : ℕ) → HasEach K.state (n + 1) stock.old → HasEach K.state n stock.new }
+{
+    let Role {
+        actor,
+        callers,
+        kind: name,
+    } = role;
+    let Some(kind) = kind_for(stock, name) else {
+        return None;
+    };
+    Some(Cast {
+        actor,
+        callers,
+        kind,
+    })
+}
+
+/// A cast for each role, with kinds of the stock.
+pub(crate) fn casts_of<K: Actor>(
+    alloc: Global,
+    stock: Stock<K>,
+    roles: ListOf<Role>,
+) -> Result<Vec<Cast<K>>, NoMemory>
+    requires ready { IsReady K.state stock }
+    requires few { length roles ≤ 8 }
+    ensures { IfOk result (λ casts. map (casting K.state) casts.items ≡ map role_casting roles) }
+{
+    let mut stock = stock;
+    let mut casts = Vec::new(alloc);
+    for role in roles.into_vec() {
+        let cast = cast_for(&mut stock, role).unwrap();
+        casts.push(cast)?;
+    }
+    Ok(casts)
+}
