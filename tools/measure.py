@@ -1,0 +1,346 @@
+#!/usr/bin/env python3
+"""Measures the proved program: its time and memory on scripts of several shapes, by their number of events.
+
+    tools/measure.py [--quick] [--sizes N,N,..] [--program PATH]
+
+Prints a Markdown table, and fails where time grows faster than events, where a script of just under a
+megabyte takes too long, or where a script takes too much memory. A time is the least of five runs of
+the process, from its start to its end, with the script and the report in files; memory is the most
+that was resident in any of them. A run counts only where it ends with status 0, with one outcome for each
+event, none of which is a refusal or a gap. It needs some minutes, and a machine that does nothing else.
+"""
+import argparse
+import bisect
+import itertools
+import math
+import pathlib
+import subprocess
+import sys
+import tempfile
+from dataclasses import dataclass
+
+TOP = pathlib.Path(__file__).resolve().parent.parent
+PROGRAM = TOP / "crates/ray_actors/out/ray_actors"
+
+LONGEST_SCRIPT = 1_048_576
+SHORTEST_EVENT = len("deliver 0\n")
+SIZES = [5_000, 10_000, 20_000, 40_000]
+CALLERS = [1, 16]
+RUNS = 5
+
+MOST_FOR_DOUBLING = 2.3
+NOISE = 0.020  # seconds; less is taken for this much
+MOST_SECONDS = 2.0  # for a script of just under a megabyte
+MOST_MEMORY = 100  # bytes for each byte of a script
+LEAST_FOR_MEMORY = 100_000  # bytes of script; in a shorter one the program's start weighs too much
+SECONDS_OF_A_RUN = 60  # of the processor's time
+
+
+# The shapes. Each takes a number of callers, who take turns, and a number of events, and gives the
+# script's roles and its events. Where a shape's pieces don't fill the number, it gives a few events less.
+
+
+def roles(callers, *kinds):
+    """Actors a1, a2, .. of these kinds, which all callers may call."""
+    names = " ".join(f"c{number}" for number in range(1, callers + 1))
+    return [f"actor a{number} {kind} {names}" for number, kind in enumerate(kinds, 1)]
+
+
+@dataclass(frozen=True)
+class Turn:
+    """The call at a place of a script, where callers take turns in submitting."""
+
+    place: int
+    callers: int
+
+    @property
+    def caller(self):
+        return f"c{self.place % self.callers + 1}"
+
+    @property
+    def future(self):
+        return self.place // self.callers
+
+    def submit(self, words):
+        return f"submit {self.caller} {words}"
+
+    def send(self):
+        return f"send {self.caller} {self.future}"
+
+    def run(self):
+        return f"run a1 {self.caller}"
+
+
+def turns(callers, count):
+    return [Turn(place, callers) for place in range(count)]
+
+
+def through(calls):
+    """Each call sent, brought, run and collected, before the next one is sent."""
+    for call in calls:
+        yield from [call.send(), f"deliver {call.place}", call.run(), f"collect {call.place}"]
+
+
+def reversed_deliveries(callers, events):
+    """All calls are submitted, then sent, brought in reversed order, run, and collected."""
+    calls = turns(callers, events // 5)
+    lines = [call.submit("a1 add 1") for call in calls] + [call.send() for call in calls]
+    lines += [f"deliver {call.place}" for call in reversed(calls)]
+    return roles(callers, "counter"), lines + [call.run() for call in calls] + [f"collect {call.place}" for call in calls]
+
+
+def chains(callers, events):
+    """Each call waits for the answer of its caller's call before it, and all are submitted first."""
+    calls = turns(callers, events // 5)
+    lines = [call.submit(f"a1 add @{call.future - 1}" if call.future else "a1 add 0") for call in calls]
+    return roles(callers, "counter"), lines + list(through(calls))
+
+
+def one_awaited(callers, events):
+    """All calls of a caller wait for the answer of its first one, four times each."""
+    calls = turns(callers, events // 5)
+    lines = [call.submit("a1 push @0 @0 @0 @0" if call.future else "a1 len") for call in calls]
+    return roles(callers, "list"), lines + list(through(calls))
+
+
+def deaths(callers, events):
+    """An actor dies with half of the open futures, and its deaths are collected over and over."""
+    calls = turns(callers, (events - callers) // 2 - 1)
+    lines = [call.submit(f"a{1 + call.future % 2} get") for call in calls]
+    lines += ["kill c1 a1", "take a1", *(f"tell a1 c{number}" for number in range(1, callers + 1))]
+    return roles(callers, "counter", "counter"), lines + [f"collect {place % callers}" for place in range(events - len(lines))]
+
+
+def repeats(callers, events):
+    """Each call's letter arrives eight times before the call runs, and eight times after."""
+    lines = []
+    for call in turns(callers, events // 20):
+        brought = [f"deliver {call.place}"] * 8
+        lines += [call.submit("a1 add 1"), call.send(), *brought, call.run(), f"collect {call.place}", *brought]
+    return roles(callers, "counter"), lines
+
+
+def sent_again(callers, events):
+    """Each caller has one call, as long as a call may be, and sends it over and over."""
+    long_text = '"%s"' % ("x" * 64)
+    lines = [call.submit(f"a1 push {' '.join([long_text] * 4)}") for call in turns(callers, callers)]
+    return roles(callers, "list"), lines + [f"send c{place % callers + 1} 0" for place in range(events - callers)]
+
+
+def few_sent(callers, events):
+    """Nine events in ten are submissions; of these calls the first few go all the way."""
+    calls = turns(callers, events - events // 40 * 4)
+    return roles(callers, "list"), [call.submit("a1 len") for call in calls] + list(through(calls[: events // 40]))
+
+
+def submissions(callers, events):
+    """Submissions alone, of the shortest line."""
+    return roles(callers, "list"), [call.submit("a1 at") for call in turns(callers, events)]
+
+
+SHAPES = {
+    "reversed deliveries": reversed_deliveries,
+    "chains of futures": chains,
+    "one future awaited": one_awaited,
+    "deaths collected again": deaths,
+    "letters repeated": repeats,
+    "long calls sent again": sent_again,
+    "many calls, few sent": few_sent,
+    "submissions alone": submissions,
+}
+
+
+@dataclass
+class Script:
+    shape: str
+    callers: int
+    events: int
+    text: bytes
+
+    def __str__(self):
+        return f"{self.shape}, {self.callers} {'caller' if self.callers == 1 else 'callers'}, {self.events:,} events"
+
+
+def script(shape, callers, events):
+    header, lines = SHAPES[shape](callers, events)
+    return Script(shape, callers, len(lines), "".join(f"{line}\n" for line in header + lines).encode())
+
+
+def largest_script(shape, callers):
+    """The script of that shape with the most events that a script has room for."""
+    sizes = range(LONGEST_SCRIPT // SHORTEST_EVENT)
+    fitting = bisect.bisect_right(sizes, LONGEST_SCRIPT, lo=1_000, key=lambda events: len(script(shape, callers, events).text))
+    return script(shape, callers, fitting - 1)
+
+
+# The runs.
+
+
+class Failed(Exception):
+    """The program didn't do what the script says."""
+
+
+@dataclass
+class Measured:
+    script: Script
+    seconds: float
+    memory: int  # bytes
+
+    def for_each_byte(self):
+        """The bytes of memory for each byte of the script, where that tells something."""
+        size = len(self.script.text)
+        return self.memory / size if size >= LEAST_FOR_MEMORY else None
+
+
+class Runner:
+    """Runs the program, with files of its own in the folder."""
+
+    def __init__(self, folder, program):
+        self.timed = pathlib.Path(folder, "timed")
+        self.given = pathlib.Path(folder, "script")
+        self.report = pathlib.Path(folder, "report")
+        self.program = program
+        subprocess.run(["cc", "-O2", "-o", self.timed, TOP / "tools/timed.c"], check=True)
+
+    def run(self, events):
+        """Seconds and bytes of memory of one run."""
+        command = [self.timed, str(SECONDS_OF_A_RUN), self.given, self.report, self.program, "play"]
+        done = subprocess.run(command, stdout=subprocess.PIPE, check=True)
+        status, nanoseconds, memory = map(int, done.stdout.split())
+        if status:
+            raise Failed(f"status {status} after {nanoseconds / 1e9:.1f} seconds")
+        check_report(self.report, events)
+        return nanoseconds / 1e9, memory
+
+    def measure(self, chosen):
+        self.given.write_bytes(chosen.text)
+        runs = [self.run(chosen.events) for _ in range(RUNS)]
+        return Measured(chosen, min(seconds for seconds, _ in runs), max(memory for _, memory in runs))
+
+
+def check_report(path, events):
+    """Fails where the report has another number of outcomes, or one that no shape should come to."""
+    told = 0
+    with open(path, "rb") as report:
+        for line in report:
+            place, found, outcome = line.partition(b": ")
+            if not (found and place.isdigit()):
+                break  # the summary
+            if outcome.startswith((b"refused", b"gap")):
+                raise Failed(f"the outcome {line!r}")
+            told += 1
+    if told != events:
+        raise Failed(f"{told} outcomes for {events} events")
+
+
+# The verdict.
+
+
+def half_as_long(rows):
+    """The longest of the rows before the last one with at most half as many events."""
+    return next((row for row in reversed(rows[:-1]) if 2 * row.script.events <= rows[-1].script.events), None)
+
+
+def growth(before, row):
+    """How much time a doubling of events costs between two rows."""
+    doublings = math.log2(row.script.events / before.script.events)
+    return (max(row.seconds, NOISE) / max(before.seconds, NOISE)) ** (1 / doublings)
+
+
+def complaints(rows, is_largest):
+    """What is wrong with the last of the rows of a shape."""
+    row, before = rows[-1], half_as_long(rows)
+    if before and growth(before, row) > MOST_FOR_DOUBLING:
+        times = f"{before.seconds:.3f} s for {before.script.events:,} events, {row.seconds:.3f} s for {row.script.events:,}"
+        yield f"a doubling of events costs {growth(before, row):.2f} times ({times})"
+    if is_largest and row.seconds > MOST_SECONDS:
+        yield f"{len(row.script.text):,} bytes of script take {row.seconds:.2f} seconds"
+    if (row.for_each_byte() or 0) > MOST_MEMORY:
+        yield f"{row.for_each_byte():.0f} bytes of memory for each byte of the script"
+
+
+HEADINGS = ["Shape", "Callers", "Events", "Bytes of script", "Seconds", "For a doubling", "Memory, MB", "Memory for a byte"]
+
+
+def show_cells(cells):
+    print(f"| {' | '.join(cells)} |", flush=True)
+
+
+def show(rows):
+    """Prints the line of the last row."""
+    row, before = rows[-1], half_as_long(rows)
+    compared = before and max(before.seconds, row.seconds) > NOISE
+    doubling = f"{growth(before, row):.2f}" if compared else "-"
+    memory = f"{row.for_each_byte():.0f}" if row.for_each_byte() else "-"
+    sizes = [f"{row.script.events:,}", f"{len(row.script.text):,}", f"{row.seconds:.3f}"]
+    show_cells([row.script.shape, str(row.script.callers), *sizes, doubling, f"{row.memory / 1e6:.1f}", memory])
+
+
+def measure_shape(runner, shape, callers, sizes, with_largest):
+    """How many scripts of one shape were measured, and what is wrong; what is longer than a failed run isn't tried."""
+    wrong, rows = [], []
+    scripts = (script(shape, callers, events) for events in sizes)
+    largest = (largest_script(shape, callers) for _ in range(with_largest))
+    for chosen in itertools.chain(scripts, largest):
+        try:
+            rows.append(runner.measure(chosen))
+        except Failed as failed:
+            return len(rows), [*wrong, f"{chosen}: {failed}; longer ones aren't tried"]
+        show(rows)
+        is_largest = len(chosen.text) > LONGEST_SCRIPT - 1_000
+        wrong += [f"{chosen}: {complaint}" for complaint in complaints(rows, is_largest)]
+    return len(rows), wrong
+
+
+NOTES = f"""
+A doubling is told from the longest script of the shape with at most half as many events, where one of the two takes
+more than {NOISE * 1000:.0f} ms; a time below that is taken for {NOISE * 1000:.0f} ms. Memory for a byte is told of scripts of at least
+{LEAST_FOR_MEMORY:,} bytes."""
+NOTE_ON_LARGEST = f"""
+The last script of each shape has as many events as {LONGEST_SCRIPT:,} bytes have room for. That is fewer than 65,536 calls,
+a caller's most: the shortest submission has 16 bytes with its line end, so at most 65,534 of one caller fit beside a role,
+and fewer of sixteen callers, whose names are longer; where calls are sent too, there is room for fewer still."""
+
+
+def show_notes(with_largest):
+    print("\nShapes:")
+    print("".join(f"- {name}: {build.__doc__}\n" for name, build in SHAPES.items()), end="")
+    print(NOTES + (NOTE_ON_LARGEST if with_largest else ""))
+    print()
+
+
+def chosen_options():
+    options = argparse.ArgumentParser(description=__doc__.splitlines()[0])
+    options.add_argument("--quick", action="store_true", help="the two smallest sizes only")
+    options.add_argument("--sizes", default=",".join(map(str, SIZES)), help="numbers of events, in place of the usual ones")
+    options.add_argument("--program", type=pathlib.Path, default=PROGRAM)
+    chosen = options.parse_args()
+    chosen.sizes = sorted(int(size) for size in chosen.sizes.split(","))
+    if chosen.sizes[0] < 100:
+        options.error("a script of fewer than 100 events has no room for each shape")
+    if not chosen.program.exists():
+        sys.exit(f"measure: {chosen.program} is not built: run `rt ci` first")
+    return chosen
+
+
+def main():
+    chosen = chosen_options()
+    sizes = chosen.sizes[:2] if chosen.quick else chosen.sizes
+    with_largest = sizes == SIZES
+    measured, wrong = 0, []
+    show_cells(HEADINGS)
+    show_cells(["---", *["---:"] * (len(HEADINGS) - 1)])
+    with tempfile.TemporaryDirectory(prefix="measure-") as folder:
+        runner = Runner(folder, chosen.program.resolve())
+        for shape, callers in itertools.product(SHAPES, CALLERS):
+            more, complaints_of_shape = measure_shape(runner, shape, callers, sizes, with_largest)
+            measured += more
+            wrong += complaints_of_shape
+    show_notes(with_largest)
+    print("".join(f"{each}\n" for each in wrong), end="")
+    print(f"measure: {measured} scripts measured, {len(wrong)} failures")
+    sys.exit(1 if wrong else 0)
+
+
+if __name__ == "__main__":
+    main()
