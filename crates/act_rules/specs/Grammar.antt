@@ -1,6 +1,7 @@
 -- What the lines of a script say, and what a whole script spells: its roles and its events or steps, or its first fault.
 use Rattle.std.specs.Prelude.{ℕ, ◌+◌, ◌==◌, Bool, true, false, not, ◌&&◌, ◌||◌, if◌then◌else◌, nat_lt, nat_le, List, [], ◌∷◌, ◌++◌, length, find, Option, Some, None, Result, Ok, Err, bytes_eq, codes}
 use Rattle.std.specs.List.{list_all, list_any, slice_split}
+use Rattle.act_types.specs.declared.limits.TheConstants.{MOST_LINE_BYTES, MOST_SCRIPT_BYTES}
 use Rattle.act_types.specs.declared.call.Method.{Method}
 use Rattle.act_types.specs.declared.call.Arg.{Arg}
 use Rattle.act_rules.specs.declared.event.Event.{Event}
@@ -109,7 +110,7 @@ is_plain_byte b = nat_le 32 b && nat_le b 126
 
 -- the line itself, where it is short and plain
 abbrev pub plain_at : List ℕ → Result (List ℕ) Wrong
-plain_at text = if nat_lt 512 (length text) then Err BadLine else (if list_all is_plain_byte text then Ok text else Err BadLine)
+plain_at text = if nat_lt MOST_LINE_BYTES (length text) then Err BadLine else (if list_all is_plain_byte text then Ok text else Err BadLine)
 
 -- an empty line, and a comment
 abbrev pub is_skipped : List ℕ → Bool
@@ -182,7 +183,7 @@ lines_in bytes = slice_split (λ b. b == 10) bytes
 
 -- what bytes spell in lines of these forms, or the first fault with its line
 unfoldable pub spelled_by : List Form → List ℕ → Result Script (ℕ × Wrong)
-spelled_by forms bytes = if nat_lt 1048576 (length bytes) then Err (0, TooLong) else spelled_from forms 1 no_lines (lines_in bytes)
+spelled_by forms bytes = if nat_lt MOST_SCRIPT_BYTES (length bytes) then Err (0, TooLong) else spelled_from forms 1 no_lines (lines_in bytes)
 
 -- what bytes spell in a mode
 abbrev pub spelled : Mode → List ℕ → Result Script (ℕ × Wrong)

@@ -2,6 +2,7 @@
 use Rattle.std.specs.Prelude.{ℕ, ◌-◌, ℤ, pos, negsuc, ◌+ℤ◌, ◌-ℤ◌, int_lt, int_le, Bool, true, false, not, ◌&&◌, ◌||◌, if◌then◌else◌, nat_lt, List, [], ◌∷◌, ◌++◌, length, take, filter, slice_get, find, Option, Some, None, option_map, is_some, Result, Ok, Err, bytes_eq}
 use Rattle.act_types.specs.KindState.{KindState, CounterAt, TableOf, AccountAt, ItemsOf}
 use Rattle.act_types.specs.GoodText.{is_good_text}
+use Rattle.act_types.specs.declared.limits.TheConstants.{MOST_ITEMS, MOST_KEYS}
 use Rattle.act_types.specs.declared.value.Value.{Value}
 use Rattle.act_types.specs.declared.value.Value.TheVariants.{Unit as Nothing, Int, Text}
 use Rattle.act_types.specs.declared.fault.Fault.{Fault}
@@ -60,7 +61,7 @@ without_key key pairs = filter (λ pair. not (bytes_eq pair.0 key)) pairs
 abbrev pub table_reply : List (List ℕ × Value) → Method → List Value → Reply
 table_reply pairs Put (Text key ∷ value ∷ []) =
     need (is_good_text key && is_storable value) BadArgs (
-    need (is_some (value_at key pairs) || nat_lt (length pairs) 1024) KindFull (
+    need (is_some (value_at key pairs) || nat_lt (length pairs) MOST_KEYS) KindFull (
     Ok (TableOf (with_pair key value pairs), Nothing)))
 table_reply pairs Put args = Err BadArgs
 table_reply pairs Get (Text key ∷ []) = need (is_good_text key) BadArgs (look_up (TableOf pairs) NoKey (value_at key pairs))
@@ -95,7 +96,7 @@ item_at (negsuc i) items = None
 abbrev pub list_reply : List Value → Method → List Value → Reply
 list_reply items Push (value ∷ []) =
     need (is_storable value) BadArgs (
-    need (nat_lt (length items) 4096) KindFull (
+    need (nat_lt (length items) MOST_ITEMS) KindFull (
     Ok (ItemsOf (items ++ value ∷ []), count_value (items ++ value ∷ []))))
 list_reply items Push args = Err BadArgs
 list_reply items Pop [] = look_up (ItemsOf (take (length items - 1) items)) NoItems (slice_get items (length items - 1))

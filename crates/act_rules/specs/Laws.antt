@@ -1,5 +1,6 @@
 -- The laws of every run.
 use Rattle.std.specs.Prelude.{ℕ, ◌≡◌, ◌++◌, ◌^◌, ◌&&◌, Bool, true, nat_lt, nat_le, List, map, Some, Result, Ok, IsTrue, codes, decimal}
+use Rattle.act_types.specs.declared.limits.TheConstants.{MOST_ACTORS, MOST_CALLERS}
 use Rattle.act_types.specs.declared.value.Value.{Value}
 use Rattle.act_types.specs.declared.value.Value.TheVariants as value
 use Rattle.act_types.specs.declared.call.Arg.{Arg}
@@ -63,11 +64,11 @@ is_number n = nat_lt n (2 ^ 32)
 
 -- a caller's number
 abbrev pub is_caller_number : ℕ → Bool
-is_caller_number c = nat_le 1 c && nat_le c 16
+is_caller_number c = nat_le 1 c && nat_le c MOST_CALLERS
 
 -- an actor's number
 abbrev pub is_actor_number : ℕ → Bool
-is_actor_number a = nat_le 1 a && nat_le a 8
+is_actor_number a = nat_le 1 a && nat_le a MOST_ACTORS
 
 -- a value that a script can write: any number, and a good text
 abbrev pub is_sayable : Value → Bool

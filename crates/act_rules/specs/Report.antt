@@ -1,5 +1,6 @@
 -- The text of a report: a line for each outcome, a line for each future, and the actors with their run lists.
 use Rattle.std.specs.Prelude.{ℕ, suc, zero, ◌+◌, Bool, true, false, List, [], ◌∷◌, ◌++◌, map, flat_map, Option, Some, None, option_map, Ok, Err, codes, decimal}
+use Rattle.act_types.specs.declared.limits.TheConstants.{MOST_ACTORS, MOST_CALLERS}
 use Rattle.act_types.specs.Texts.{space, spaced, caller_text, actor_text, method_text, answer_text, settled_text, state_text}
 use Rattle.act_types.specs.KindState.{KindState}
 use Rattle.act_rules.specs.declared.history.RunItem.{RunItem}
@@ -161,8 +162,8 @@ actor_lines a items (Some stage) = line (actor_text a ++ space ++ stage) ++ plac
 -- the futures of each caller, and then each actor with its stage and its run list, by rising number
 abbrev pub summary_of : (ℕ → List Submission) → (ℕ → List (Option Answer)) → (ℕ → Option (List ℕ)) → (ℕ → List RunItem) → List ℕ
 summary_of calls kept stages runs =
-    flat_map (λ c. future_lines c (calls c) (kept c)) (one_to 16)
-    ++ flat_map (λ a. actor_lines a (runs a) (stages a)) (one_to 8)
+    flat_map (λ c. future_lines c (calls c) (kept c)) (one_to MOST_CALLERS)
+    ++ flat_map (λ a. actor_lines a (runs a) (stages a)) (one_to MOST_ACTORS)
 
 -- how the actor of a history stands, with its state after its run list
 abbrev pub stage_of : ℕ → History → Option (List ℕ)

@@ -1,6 +1,7 @@
 -- What a script plays, from bytes to bytes, and the faults that only threads have.
 use Rattle.std.specs.Prelude.{ℕ, ◌==◌, not, ◌||◌, if◌then◌else◌, nat_lt, Bool, List, [], ◌++◌, length, map, filter, filter_map, slice_get, Option, Some, None, option_map, option_and_then, Result, Ok, Err, pos}
 use Rattle.std.specs.List.{list_any}
+use Rattle.act_types.specs.declared.limits.TheConstants.{MOST_CALLERS}
 use Rattle.act_types.specs.KindState.{KindState, CounterAt, TableOf, AccountAt, ItemsOf}
 use Rattle.act_rules.specs.declared.script.Step.{Step}
 use Rattle.act_rules.specs.declared.script.Mode.TheVariants.{Play, Threads}
@@ -41,7 +42,7 @@ played bytes = text_of (spelled Play bytes)
 
 -- the callers that some role names
 abbrev pub callers_of : List Role → List ℕ
-callers_of roles = filter (λ c. list_any (λ role. contains c role.callers) roles) (one_to 16)
+callers_of roles = filter (λ c. list_any (λ role. contains c role.callers) roles) (one_to MOST_CALLERS)
 
 -- the actors whose roles name a caller
 abbrev pub actors_of : ℕ → List Role → List ℕ

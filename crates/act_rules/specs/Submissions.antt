@@ -1,6 +1,7 @@
 -- What one caller submits, and when a submission, a handle call or a sending is refused.
 use Rattle.std.specs.Prelude.{ℕ, ◌==◌, Bool, true, not, ◌||◌, if◌then◌else◌, nat_lt, nat_le, List, length, filter, take, slice_get, Option, Some, None, option_and_then, is_some, Ok}
 use Rattle.std.specs.List.{list_all, enumerate_from}
+use Rattle.act_types.specs.declared.limits.TheConstants.{MOST_ARGS, MOST_CALLS, MOST_COPIES}
 use Rattle.act_types.specs.declared.call.Arg.{Arg}
 use Rattle.act_types.specs.declared.call.Arg.TheVariants.{Plain, Fut}
 use Rattle.act_types.specs.declared.call.Settled.{Settled}
@@ -65,16 +66,16 @@ abbrev pub copy_refusal : Option ℕ → Option HandleRefusal
 copy_refusal copies =
     needs (is_some copies) NoActor (
     needs (nat_lt 0 (copies_held copies)) NoHandle (
-    needs (nat_lt (copies_held copies) 65535) TooManyCopies None))
+    needs (nat_lt (copies_held copies) MOST_COPIES) TooManyCopies None))
 
 -- a submission, after count others
 abbrev pub submit_refusal : Option ℕ → ℕ → List Arg → Option SubmitRefusal
 submit_refusal copies count args =
     needs (is_some copies) NoSuchActor (
     needs (nat_lt 0 (copies_held copies)) NoCopy (
-    needs (nat_le (length args) 4) TooManyArgs (
+    needs (nat_le (length args) MOST_ARGS) TooManyArgs (
     needs (list_all (is_earlier count) args) BadFuture (
-    needs (nat_lt count 65536) TooManyCalls None))))
+    needs (nat_lt count MOST_CALLS) TooManyCalls None))))
 
 -- the sending of call k, which was sent before or wasn't
 abbrev pub send_refusal : List (Option Answer) → ℕ → Bool → Option Submission → Option SendRefusal

@@ -3,6 +3,7 @@ use Rattle.std.specs.Prelude.{ℕ, ◌^◌, ◌==◌, ◌-◌, ◌&&◌, ℤ, po
 use Rattle.std.specs.List.{list_all}
 use Rattle.std.specs.Char.{is_ascii_digit}
 use Rattle.std.specs.Str.Parse.{digits_value}
+use Rattle.act_types.specs.declared.limits.TheConstants.{MOST_ACTORS, MOST_CALLERS}
 use Rattle.act_types.specs.GoodText.{is_good_text}
 use Rattle.act_types.specs.Texts.{method_text}
 use Rattle.act_types.specs.declared.value.Value.{Value}
@@ -88,14 +89,14 @@ unfoldable pub caller_at : Word → Result ℕ Wrong
 caller_at word = do
   digits ← marked_at word 99
   n ← number_at digits
-  if nat_lt n 1 then Err BadLine else (if nat_lt 16 n then Err BadLine else Ok n)
+  if nat_lt n 1 then Err BadLine else (if nat_lt MOST_CALLERS n then Err BadLine else Ok n)
 
 -- `a` and a number from 1 to 8
 unfoldable pub actor_at : Word → Result ℕ Wrong
 actor_at word = do
   digits ← marked_at word 97
   n ← number_at digits
-  if nat_lt n 1 then Err BadLine else (if nat_lt 8 n then Err BadLine else Ok n)
+  if nat_lt n 1 then Err BadLine else (if nat_lt MOST_ACTORS n then Err BadLine else Ok n)
 
 -- a good text between quotes
 unfoldable pub text_at : Word → Result (List ℕ) Wrong

@@ -3,6 +3,7 @@
 ghost use Rattle.std.specs.Prelude.{◌≡◌, ℕ, ◌≤◌, ◌↔◌, IsSome, IfSome, Some, decimal};
 ghost use Rattle.act_types.specs.Texts.{caller_text, actor_text};
 
+use crate::{MOST_ACTORS, MOST_CALLERS};
 use std::fmt;
 use std::marker::Model;
 
@@ -14,12 +15,13 @@ pub struct CallerId {
 
 impl Model for CallerId {
     ghost use Rattle.std.specs.Prelude.{ℕ, ◌≤◌};
+    ghost use Rattle.act_types.specs.declared.limits.TheConstants.{MOST_CALLERS};
 
     ghost Value = { ℕ };
 
     ghost view = { λ id. id.number };
 
-    ghost invariant = { λ id. (1 ≤ id.number) × (id.number ≤ 16) };
+    ghost invariant = { λ id. (1 ≤ id.number) × (id.number ≤ MOST_CALLERS) };
 
     ghost inverse = { λ number. record { number = number } };
 }
@@ -27,11 +29,11 @@ impl Model for CallerId {
 impl CallerId {
     /// The caller of a number from 1 to 16.
     pub fn new(number: u8) -> Option<CallerId>
-        ensures valid { IsSome result ↔ ((1 ≤ number) × (number ≤ 16)) }
+        ensures valid { IsSome result ↔ ((1 ≤ number) × (number ≤ MOST_CALLERS)) }
         ensures value { IfSome result (λ id. id ≡ number) }
     {
         match number {
-            1..=16 => Some(CallerId { number }),
+            1..=MOST_CALLERS => Some(CallerId { number }),
             _ => None,
         }
     }
@@ -39,7 +41,7 @@ impl CallerId {
     /// The caller's number.
     pub fn number(self) -> u8
         ensures value { result ≡ self }
-        ensures valid { (1 ≤ self) × (self ≤ 16) }
+        ensures valid { (1 ≤ self) × (self ≤ MOST_CALLERS) }
     {
         let CallerId { number } = self;
         number
@@ -63,12 +65,13 @@ pub struct ActorId {
 
 impl Model for ActorId {
     ghost use Rattle.std.specs.Prelude.{ℕ, ◌≤◌};
+    ghost use Rattle.act_types.specs.declared.limits.TheConstants.{MOST_ACTORS};
 
     ghost Value = { ℕ };
 
     ghost view = { λ id. id.number };
 
-    ghost invariant = { λ id. (1 ≤ id.number) × (id.number ≤ 8) };
+    ghost invariant = { λ id. (1 ≤ id.number) × (id.number ≤ MOST_ACTORS) };
 
     ghost inverse = { λ number. record { number = number } };
 }
@@ -76,11 +79,11 @@ impl Model for ActorId {
 impl ActorId {
     /// The actor of a number from 1 to 8.
     pub fn new(number: u8) -> Option<ActorId>
-        ensures valid { IsSome result ↔ ((1 ≤ number) × (number ≤ 8)) }
+        ensures valid { IsSome result ↔ ((1 ≤ number) × (number ≤ MOST_ACTORS)) }
         ensures value { IfSome result (λ id. id ≡ number) }
     {
         match number {
-            1..=8 => Some(ActorId { number }),
+            1..=MOST_ACTORS => Some(ActorId { number }),
             _ => None,
         }
     }
@@ -88,7 +91,7 @@ impl ActorId {
     /// The actor's number.
     pub fn number(self) -> u8
         ensures value { result ≡ self }
-        ensures valid { (1 ≤ self) × (self ≤ 8) }
+        ensures valid { (1 ≤ self) × (self ≤ MOST_ACTORS) }
     {
         let ActorId { number } = self;
         number

@@ -4,6 +4,7 @@
 mod call;
 mod fault;
 mod ids;
+mod limits;
 mod list_of;
 mod memory;
 mod message;
@@ -13,6 +14,10 @@ mod value;
 pub use call::{Arg, Method, Settled};
 pub use fault::{Answer, Fault};
 pub use ids::{ActorId, CallerId, FutureId};
+pub use limits::{
+    MOST_ACTORS, MOST_ARGS, MOST_CALLERS, MOST_CALLS, MOST_COPIES, MOST_ITEMS, MOST_KEYS,
+    MOST_LINE_BYTES, MOST_SCRIPT_BYTES, MOST_TEXT_BYTES,
+};
 pub use list_of::ListOf;
 pub use memory::{CopyOf, NoMemory};
 pub use message::{KillNote, Notice, Packet, ReleaseNote, Reply};

@@ -9,7 +9,7 @@ ghost use Rattle.act_types.specs.GoodText.{is_good_byte, is_good_text as is_good
 ghost use Rattle.std.proofs.Common.{rules};
 ghost use Rattle.std.specs.Cmp.Rules.{comparing, hashing};
 
-use crate::{CopyOf, NoMemory};
+use crate::{CopyOf, MOST_TEXT_BYTES, NoMemory};
 use std::alloc::Global;
 use std::fmt;
 use std::hash::{Hash, Hasher};
@@ -38,7 +38,7 @@ fn are_good_bytes(bytes: &[u8]) -> bool
 pub fn is_good_text(text: &str) -> bool
     ensures { result ≡ is_good text.now }
 {
-    (1..=64).contains(&text.len()) && are_good_bytes(text.as_bytes())
+    (1..=MOST_TEXT_BYTES).contains(&text.len()) && are_good_bytes(text.as_bytes())
 }
 
 impl Text {
@@ -54,6 +54,14 @@ impl Text {
         ensures { IfOk result (λ copy. copy ≡ text.now) }
     {
         Ok(Text::new(String::from_str(alloc, text)?))
+    }
+
+    /// The string that holds the text. It takes no memory.
+    pub fn into_string(self) -> String
+        ensures { string_bytes result ≡ self }
+    {
+        let Text { text } = self;
+        text
     }
 
     /// The text as Rust's slice of it.
