@@ -11,13 +11,10 @@ ghost use Rattle.act_rules.specs.RunList.{replied};
 use crate::Actor;
 use crate::actor::append;
 use crate::storable::is_storable;
-use act_types::{Answer, CopyOf, Fault, Method, NoMemory, Value};
+use act_types::{Answer, CopyOf, Fault, MOST_ITEMS, Method, NoMemory, Value};
 use std::alloc::Global;
 use std::fmt;
 use std::marker::Model;
-
-/// The most items that a list holds.
-const MOST_ITEMS: usize = 4096;
 
 /// A list, which contracts see as its items.
 #[derive(Debug, Drop)]
@@ -28,13 +25,14 @@ pub struct ListKind {
 
 impl Model for ListKind {
     ghost use Rattle.std.specs.Prelude.{List, length, ◌≤◌};
+    ghost use Rattle.act_types.specs.declared.limits.TheConstants.{MOST_ITEMS};
     ghost use Rattle.act_types.specs.declared.value.Value.{Value as Item};
 
     ghost Value = { List Item };
 
     ghost view = { λ list. list.items.items };
 
-    ghost invariant = { λ list. length list.items.items ≤ 4096 };
+    ghost invariant = { λ list. length list.items.items ≤ MOST_ITEMS };
 }
 
 impl ListKind {

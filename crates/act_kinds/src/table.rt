@@ -11,14 +11,11 @@ ghost use Rattle.act_rules.specs.RunList.{replied};
 use crate::Actor;
 use crate::actor::append;
 use crate::storable::is_storable;
-use act_types::{Answer, CopyOf, Fault, Method, NoMemory, Text, Value};
+use act_types::{Answer, CopyOf, Fault, MOST_KEYS, Method, NoMemory, Text, Value};
 use indexmap::IndexMap;
 use std::alloc::Global;
 use std::fmt;
 use std::marker::Model;
-
-/// The most keys that a table holds.
-const MOST_KEYS: usize = 1024;
 
 /// A table of distinct keys, each with its value, which contracts see as its pairs in order.
 #[derive(Drop)]
@@ -31,13 +28,14 @@ impl Model for Table {
     ghost use Rattle.std.specs.Prelude.{ℕ, List, length, ◌≤◌};
     ghost use Rattle.std.specs.Str.{bytes_eq};
     ghost use Rattle.indexmap.specs.IndexMap.{IsUnique};
+    ghost use Rattle.act_types.specs.declared.limits.TheConstants.{MOST_KEYS};
     ghost use Rattle.act_types.specs.declared.value.Value.{Value as Held};
 
     ghost Value = { List (List ℕ × Held) };
 
     ghost view = { λ table. table.pairs.entries };
 
-    ghost invariant = { λ table. (length table.pairs.entries ≤ 1024) × IsUnique bytes_eq table.pairs };
+    ghost invariant = { λ table. (length table.pairs.entries ≤ MOST_KEYS) × IsUnique bytes_eq table.pairs };
 }
 
 impl Table {
