@@ -18,3 +18,4 @@ pub mod Numbers
 pub mod Marks
 pub mod Spelling
 pub mod ReadingBack
+pub mod Planned

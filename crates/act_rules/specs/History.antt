@@ -73,6 +73,10 @@ callers_in (Some cast) = cast.callers
 abbrev pub names : ℕ → Option Casting → Bool
 names c cast = contains c (callers_in cast)
 
+-- the actors whose casts name the caller
+abbrev pub actors_naming : ℕ → List Casting → List ℕ
+actors_naming c casts = map (λ cast. cast.actor) (filter (λ cast. contains c cast.callers) casts)
+
 -- whether some cast names the caller
 abbrev pub is_caller : ℕ → History → Bool
 is_caller c h = list_any (λ cast. contains c cast.callers) h.casts

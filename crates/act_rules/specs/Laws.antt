@@ -1,5 +1,5 @@
 -- The laws of every run.
-use Rattle.std.specs.Prelude.{ℕ, ◌≡◌, ◌++◌, ◌^◌, ◌&&◌, Bool, true, nat_lt, nat_le, List, map, Some, Result, Ok, IsTrue, codes, decimal}
+use Rattle.std.specs.Prelude.{ℕ, ◌≡◌, ◌≢◌, ◌++◌, ◌^◌, ◌&&◌, Bool, true, nat_lt, nat_le, List, map, filter, AllPairs, Some, Result, Ok, IsTrue, codes, decimal}
 use Rattle.act_types.specs.declared.limits.TheConstants.{MOST_ACTORS, MOST_CALLERS}
 use Rattle.act_types.specs.declared.value.Value.{Value}
 use Rattle.act_types.specs.declared.value.Value.TheVariants as value
@@ -8,14 +8,18 @@ use Rattle.act_types.specs.declared.call.Arg.TheVariants.{Plain, Fut}
 use Rattle.act_types.specs.GoodText.{is_good_text}
 use Rattle.act_types.specs.Texts.{value_text}
 use Rattle.act_rules.specs.declared.event.Event.{Event}
+use Rattle.act_rules.specs.declared.script.Role.{Role}
+use Rattle.act_rules.specs.declared.script.Step.{Step}
 use Rattle.act_rules.specs.declared.script.Wrong.{Wrong}
 use Rattle.act_rules.specs.Words.{Word}
 use Rattle.act_rules.specs.Kinds.{is_in_range}
 use Rattle.act_rules.specs.RunList.{Answer, items_of}
 use Rattle.act_rules.specs.Submissions.{calls_to, kept_at}
 use Rattle.act_rules.specs.Consistent.{Consistent}
-use Rattle.act_rules.specs.History.{Casting, History, opening, opening_of, calls_of, runs_of, kept_of, is_dead, is_retired, is_ended}
+use Rattle.act_rules.specs.Plans.{planned, events_of, is_planned_by}
+use Rattle.act_rules.specs.History.{Casting, History, opening, opening_of, actors_naming, calls_of, runs_of, kept_of, is_dead, is_retired, is_ended}
 use Rattle.act_rules.specs.Rules.{after_all}
+use Rattle.act_rules.specs.Scripts.{casting, actors_of}
 
 -- what a world of these actors is after the events
 abbrev pub world : List Casting → List Event → History
@@ -42,6 +46,23 @@ abbrev pub EachWorldIsConsistent : Type 0
 EachWorldIsConsistent = (casts : List Casting) (events : List Event) →
     let w = world casts events in
     Consistent (λ a. opening_of a w) (λ c. calls_of c w) (λ a. runs_of a w) (λ c. kept_of c w) (λ a. is_dead a w)
+
+-- where no two casts have one actor, a world takes from a caller what its plan submits
+abbrev pub PlannedIsTaken : Type 0
+PlannedIsTaken = (casts : List Casting) (c : ℕ) (plan : List Step) →
+    AllPairs (λ one other. one.actor ≢ other.actor) casts →
+    planned (actors_naming c casts) plan ≡ calls_of c (world casts (events_of c plan))
+
+-- the same among any other events, where the caller's submissions, copies and releases are those of its plan, in order
+abbrev pub PlannedIsTakenAmongOthers : Type 0
+PlannedIsTakenAmongOthers = (casts : List Casting) (c : ℕ) (plan : List Step) (events : List Event) →
+    AllPairs (λ one other. one.actor ≢ other.actor) casts →
+    filter (is_planned_by c) events ≡ events_of c plan →
+    planned (actors_naming c casts) plan ≡ calls_of c (world casts events)
+
+-- the roles of a script name the same actors for a caller as the casts of its world
+abbrev pub RolesNameAsCasts : Type 0
+RolesNameAsCasts = (c : ℕ) (roles : List Role) → actors_of c roles ≡ actors_naming c (map casting roles)
 
 -- ---- what words spell
 

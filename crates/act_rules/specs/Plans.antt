@@ -1,6 +1,8 @@
--- What a caller's plan submits, and its first step that would be refused.
-use Rattle.std.specs.Prelude.{ℕ, ◌+◌, ◌-◌, ◌==◌, Bool, true, false, if◌then◌else◌, nat_lt, List, [], ◌∷◌, ◌++◌, length, filter, Option, Some, None, is_some}
+-- What a caller's plan submits, its first step that would be refused, and its events in a world.
+use Rattle.std.specs.Prelude.{ℕ, ◌+◌, ◌-◌, ◌==◌, Bool, true, false, if◌then◌else◌, nat_lt, List, [], ◌∷◌, ◌++◌, length, filter, flat_map, Option, Some, None, is_some}
 use Rattle.std.specs.List.{list_any}
+use Rattle.act_rules.specs.declared.event.Event.{Event}
+use Rattle.act_rules.specs.declared.event.Event.TheVariants as event
 use Rattle.act_rules.specs.declared.script.Step.{Step}
 use Rattle.act_rules.specs.declared.script.Step.TheVariants.{Submit, Copy, Release, Kill, Await}
 use Rattle.act_rules.specs.declared.history.Submission.{Submission}
@@ -54,3 +56,33 @@ first_bad_from n actors p (step ∷ steps) = if is_refused actors p step then So
 
 abbrev pub first_bad : List ℕ → List Step → Option ℕ
 first_bad actors plan = first_bad_from 0 actors nothing_done plan
+
+-- whether a step asks for the actor's kill
+abbrev pub is_kill_of : ℕ → Step → Bool
+is_kill_of a (Kill b) = b == a
+is_kill_of a step = false
+
+-- how many steps ask for the actor's kill
+abbrev pub kills_to : ℕ → List Step → ℕ
+kills_to a plan = length (filter (is_kill_of a) plan)
+
+-- ---- a plan in a world
+
+-- a step as an event of the caller, where it submits, copies or releases
+abbrev pub events_for : ℕ → Step → List Event
+events_for c (Submit a method args) = event.Submit c a method args ∷ []
+events_for c (Copy a) = event.Copy c a ∷ []
+events_for c (Release a) = event.Release c a ∷ []
+events_for c (Kill a) = []
+events_for c (Await k) = []
+
+-- the events of a caller's plan
+abbrev pub events_of : ℕ → List Step → List Event
+events_of c plan = flat_map (events_for c) plan
+
+-- whether an event is a submission, a copy or a release by the caller
+abbrev pub is_planned_by : ℕ → Event → Bool
+is_planned_by c (event.Submit d a method args) = d == c
+is_planned_by c (event.Copy d a) = d == c
+is_planned_by c (event.Release d a) = d == c
+is_planned_by c other = false

@@ -26,6 +26,16 @@ pub fn retired_ran_all()
     ensures { RetiredRanAll }
 {}
 
+ghost use Rattle.act_rules.specs.Laws.{PlannedIsTaken, PlannedIsTakenAmongOthers, RolesNameAsCasts};
+
+/// What a caller's plan submits is what a world takes of its events, whatever else happens there.
+#[tactic(none)]
+pub fn planned_is_what_a_world_takes()
+    ensures alone { PlannedIsTaken }
+    ensures among_others { PlannedIsTakenAmongOthers }
+    ensures by_roles { RolesNameAsCasts }
+{}
+
 ghost use Rattle.std.specs.Prelude.{decimal};
 ghost use Rattle.std.specs.Fmt.{signed_decimal};
 ghost use Rattle.act_types.specs.Texts.{caller_text, actor_text, method_text, value_text};

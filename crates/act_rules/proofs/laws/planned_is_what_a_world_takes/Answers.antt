@@ -1,0 +1,11 @@
+use Rattle.act_rules.proofs.Planned.{planned_is_taken, planned_is_taken_among_others, actors_of-casting}
+use Rattle.act_rules.proofs.laws.planned_is_what_a_world_takes.Goals as goal
+
+pub returns-clause-alone : goal.returns-clause-alone
+returns-clause-alone _ casts c plan differ = planned_is_taken casts c plan differ
+
+pub returns-clause-among_others : goal.returns-clause-among_others
+returns-clause-among_others _ casts c plan events differ same = planned_is_taken_among_others casts c plan events differ same
+
+pub returns-clause-by_roles : goal.returns-clause-by_roles
+returns-clause-by_roles _ c roles = actors_of-casting c roles
