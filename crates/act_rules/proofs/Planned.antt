@@ -1,12 +1,11 @@
 -- What a plan submits is what a world takes of its events.
-use Rattle.std.proofs.Common.{◌≡◌, ◌≢◌, ℕ, suc, ◌+◌, ◌-◌, ◌<◌, Bool, true, false, cond, List, [], ◌∷◌, ◌++◌, length, Some, None, refl, sym, ap, subst, ◌∙◌, arith, append-nil}
+use Rattle.std.proofs.Common.{◌≡◌, ◌≢◌, ℕ, suc, ◌<◌, Bool, true, false, cond, List, [], ◌∷◌, ◌++◌, length, Some, None, refl, sym, ap, subst, ◌∙◌, arith, append-nil}
 use Rattle.std.specs.Prelude.{Option, ◌==◌, ◌&&◌, ◌||◌, map, filter, find, is_some, option_map, slice_index_or, AllPairs}
 use Rattle.std.specs.List.{list_any}
 use Rattle.std.proofs.lemmas.Bool.{eqb-true, eq-eqb}
 use Rattle.act_types.specs.declared.call.Arg.{Arg}
 use Rattle.act_types.specs.declared.call.Method.{Method}
 use Rattle.act_rules.specs.declared.history.RunItem.{RunItem}
-use Rattle.act_rules.specs.declared.history.Submission.{Submission}
 use Rattle.act_rules.specs.declared.event.Event.{Event}
 use Rattle.act_rules.specs.declared.event.Event.TheVariants.{Submit, Copy, Release, Send, Deliver, Run, Collect, AskKill, TakeKill, Tell, Retire}
 use Rattle.act_rules.specs.declared.outcome.WorldRefusal.{WorldRefusal}
@@ -16,7 +15,7 @@ use Rattle.act_rules.specs.declared.script.Step.{Step}
 use Rattle.act_rules.specs.declared.script.Step.TheVariants as step
 use Rattle.act_rules.specs.Submissions.{needs, handle_refusal, copy_refusal, submit_refusal}
 use Rattle.act_rules.specs.History.{Casting, History, opening, contains, names, actors_naming, is_caller, under, times, copies_of, calls_of, next_item}
-use Rattle.act_rules.specs.Plans.{Progress, nothing_done, occurrences, holds, is_refused, stepped, done_by, planned, events_for, events_of, is_planned_by}
+use Rattle.act_rules.specs.Plans.{Progress, nothing_done, occurrences, holds, is_refused, stepped, done_by, planned, events_of, is_planned_by}
 use Rattle.act_rules.specs.Rules.{refusal_of, added, after_by, after, after_run, after_all}
 use Rattle.act_rules.specs.Scripts.{casting, actors_of}
 use Rattle.act_rules.proofs.Steps.{after_keeps}
@@ -60,6 +59,7 @@ no_other c a (cast ∷ casts) apart = go (contains c cast.callers) (no_other c a
   where
     other : (cast.actor == a) ≡ false
     other = not_equal cast.actor a (apart 0 cast (omega arith))
+
     go : (b : Bool) → has a (actors_naming c casts) ≡ false → has a (actors_by b cast (naming c casts)) ≡ false
     go true rest = rw other rest
     go false rest = rest
@@ -94,7 +94,7 @@ times-under c a (pair ∷ pairs) = go (pair.0 == c) (pair.1 == a) refl (times-un
   where
     go : (mine here : Bool) → (pair.1 == a) ≡ here → times c a pairs ≡ occurrences a (under c pairs)
         → length (cond (mine && here) (pair ∷ filter (λ (p : ℕ × ℕ). (p.0 == c) && (p.1 == a)) pairs) (filter (λ (p : ℕ × ℕ). (p.0 == c) && (p.1 == a)) pairs))
-            ≡ occurrences a (map (λ (p : ℕ × ℕ). p.1) (cond mine (pair ∷ filter (λ (p : ℕ × ℕ). p.0 == c) pairs) (filter (λ (p : ℕ × ℕ). p.0 == c) pairs)))
+        ≡ occurrences a (map (λ (p : ℕ × ℕ). p.1) (cond mine (pair ∷ filter (λ (p : ℕ × ℕ). p.0 == c) pairs) (filter (λ (p : ℕ × ℕ). p.0 == c) pairs)))
     go true true e same = rw e (ap suc same)
     go true false e same = rw e same
     go false here e same = same
@@ -313,7 +313,7 @@ pub planned_is_taken_among_others : (casts : List Casting) (c : ℕ) (plan : Lis
 planned_is_taken_among_others casts c plan events differ same =
     let actors : List ℕ = actors_naming c casts in
     let by_plan : moved_all c actors nothing_done events ≡ done_by actors nothing_done plan
-        = sym (moved_all-filter c actors nothing_done events) ∙ ap (moved_all c actors nothing_done) same ∙ moved_all-events_of c actors nothing_done plan in
+    = sym (moved_all-filter c actors nothing_done events) ∙ ap (moved_all c actors nothing_done) same ∙ moved_all-events_of c actors nothing_done plan in
     ap (λ (p : Progress). p.submitted) (sym by_plan) ∙ taken c casts events differ
 
 pub actors_of-casting : (c : ℕ) (roles : List Role) → actors_of c roles ≡ actors_naming c (map casting roles)
@@ -322,6 +322,6 @@ actors_of-casting c (role ∷ roles) = go (contains c role.callers) (actors_of-c
   where
     go : (b : Bool) → actors_of c roles ≡ actors_naming c (map casting roles)
         → map (λ (x : Role). x.actor) (cond b (role ∷ filter (λ (x : Role). contains c x.callers) roles) (filter (λ (x : Role). contains c x.callers) roles))
-            ≡ actors_by b (casting role) (naming c (map casting roles))
+        ≡ actors_by b (casting role) (naming c (map casting roles))
     go true rest = ap (λ actors. role.actor ∷ actors) rest
     go false rest = rest

@@ -1,18 +1,30 @@
 -- The worked rows as scripts: what they write, from bytes to bytes.
-use Rattle.std.specs.Prelude.{ℕ, ◌≡◌, ◌<◌, List, [], ◌∷◌, length, Err, codes}
+use Rattle.std.specs.Prelude.{ℕ, ◌≡◌, ◌<◌, List, [], ◌∷◌, length, Ok, Err, codes, pos}
+use Rattle.act_types.specs.declared.limits.TheConstants.{MOST_ACTORS, MOST_CALLERS}
+use Rattle.act_types.specs.declared.call.Arg.TheVariants.{Plain, Fut}
+use Rattle.act_types.specs.declared.call.Method.TheVariants.{Put, Get, Deposit, Withdraw}
+use Rattle.act_types.specs.declared.value.Value.TheVariants.{Int, Text}
+use Rattle.act_rules.specs.declared.script.KindName.TheVariants.{Counter, Table, Account}
+use Rattle.act_rules.specs.declared.script.Step.TheVariants.{Submit, Copy, Kill}
 use Rattle.act_rules.specs.declared.script.Wrong.{Wrong}
 use Rattle.act_rules.specs.declared.script.Wrong.TheVariants.{BadPlan, TooMany}
 use Rattle.act_rules.specs.Report.{line}
-use Rattle.act_rules.specs.Scripts.{played, spelled_plans}
+use Rattle.act_rules.specs.Plans.{kills_to}
+use Rattle.act_rules.specs.Grammar.{Script}
+use Rattle.act_rules.specs.Scripts.{played, spelled_plans, submissions_of}
 use Rattle.act_rules.specs.Rows.{lines_text}
 
 -- the script of these lines writes those
 abbrev pub Writes : List (List ℕ) → List (List ℕ) → Type 0
 Writes script lines = played (lines_text script) ≡ lines_text lines
 
--- in threads that serve two callers and two actors the script of these lines has this fault
+-- in threads that serve every caller and every actor the script of these lines spells these plans
+abbrev pub SpellsPlans : List (List ℕ) → Script → Type 0
+SpellsPlans script plans = spelled_plans MOST_CALLERS MOST_ACTORS (lines_text script) ≡ Ok plans
+
+-- in such threads the script of these lines has this fault
 abbrev pub HasFault : List (List ℕ) → ℕ × Wrong → Type 0
-HasFault script fault = spelled_plans 2 2 (lines_text script) ≡ Err fault
+HasFault script fault = spelled_plans MOST_CALLERS MOST_ACTORS (lines_text script) ≡ Err fault
 
 -- empty
 abbrev pub Empty : Type 0
@@ -258,6 +270,52 @@ TooLongScript = (bytes : List ℕ) → 1048576 < length bytes → played bytes �
 abbrev pub SubmitAfterRelease : Type 0
 SubmitAfterRelease = HasFault (codes "actor a1 counter c1" ∷ codes "release c1 a1" ∷ codes "submit c1 a1 get" ∷ []) (3, BadPlan)
 
--- more callers than threads serve
+-- a role of three callers
+abbrev pub three_callers : List (List ℕ)
+three_callers = codes "actor a1 counter c1 c2 c3" ∷ []
+
+-- more callers than threads serve, where these serve two callers and two actors
 abbrev pub TooManyCallers : Type 0
-TooManyCallers = HasFault (codes "actor a1 counter c1 c2 c3" ∷ []) (0, TooMany)
+TooManyCallers = spelled_plans 2 2 (lines_text three_callers) ≡ Err (0, TooMany)
+
+-- threads that serve every caller take the same script
+abbrev pub ThreeCallers : Type 0
+ThreeCallers = SpellsPlans three_callers (record {
+  roles = record { actor = 1; callers = 1 ∷ 2 ∷ 3 ∷ []; kind = Counter } ∷ [];
+  events = [];
+  steps = [];
+})
+
+-- two callers, each with an actor of its own
+abbrev pub two_plans : List (List ℕ)
+two_plans =
+    codes "actor a1 table c1 c2" ∷ codes "actor a2 account c2" ∷ codes "submit c1 a1 put \"k\" 5" ∷
+    codes "submit c1 a1 get \"k\"" ∷ codes "submit c2 a2 deposit 10" ∷ codes "submit c2 a2 withdraw @0" ∷ []
+
+-- what they spell: the roles, and each step with its caller and its line
+abbrev pub two_plans_spelled : Script
+two_plans_spelled = record {
+  roles =
+      record { actor = 1; callers = 1 ∷ 2 ∷ []; kind = Table } ∷
+      record { actor = 2; callers = 2 ∷ []; kind = Account } ∷ [];
+  events = [];
+  steps =
+      (1, Submit 1 Put (Plain (Text (codes "k")) ∷ Plain (Int (pos 5)) ∷ []), 3) ∷
+      (1, Submit 1 Get (Plain (Text (codes "k")) ∷ []), 4) ∷
+      (2, Submit 2 Deposit (Plain (Int (pos 10)) ∷ []), 5) ∷
+      (2, Submit 2 Withdraw (Fut 0 ∷ []), 6) ∷ [];
+}
+
+-- two plans, from their bytes to what each caller submits
+pub record TwoPlans : Type 0 where
+  pub spelled : SpellsPlans two_plans two_plans_spelled
+  pub first_submits : submissions_of 1 two_plans_spelled ≡
+      record { actor = 1; method = Put; args = Plain (Text (codes "k")) ∷ Plain (Int (pos 5)) ∷ [] } ∷
+      record { actor = 1; method = Get; args = Plain (Text (codes "k")) ∷ [] } ∷ []
+  pub second_submits : submissions_of 2 two_plans_spelled ≡
+      record { actor = 2; method = Deposit; args = Plain (Int (pos 10)) ∷ [] } ∷
+      record { actor = 2; method = Withdraw; args = Fut 0 ∷ [] } ∷ []
+
+-- the kills of one actor among a plan's steps
+abbrev pub KillsOfOneActor : Type 0
+KillsOfOneActor = kills_to 1 (Kill 1 ∷ Submit 1 Get [] ∷ Kill 2 ∷ Copy 1 ∷ Kill 1 ∷ []) ≡ 2

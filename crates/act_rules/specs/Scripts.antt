@@ -3,6 +3,7 @@ use Rattle.std.specs.Prelude.{ℕ, ◌==◌, not, ◌||◌, if◌then◌else◌,
 use Rattle.std.specs.List.{list_any}
 use Rattle.act_types.specs.declared.limits.TheConstants.{MOST_CALLERS}
 use Rattle.act_types.specs.KindState.{KindState, CounterAt, TableOf, AccountAt, ItemsOf}
+use Rattle.act_rules.specs.declared.history.Submission.{Submission}
 use Rattle.act_rules.specs.declared.script.Step.{Step}
 use Rattle.act_rules.specs.declared.script.Mode.TheVariants.{Play, Threads}
 use Rattle.act_rules.specs.declared.script.KindName.{KindName}
@@ -13,7 +14,7 @@ use Rattle.act_rules.specs.declared.script.Wrong.TheVariants.{TooMany, BadPlan}
 use Rattle.act_rules.specs.History.{Casting, History, opening, contains}
 use Rattle.act_rules.specs.Report.{one_to, report, fault_line}
 use Rattle.act_rules.specs.Grammar.{Script, spelled}
-use Rattle.act_rules.specs.Plans.{first_bad}
+use Rattle.act_rules.specs.Plans.{planned, first_bad}
 
 -- the opening state of a kind
 abbrev pub opening_state : KindName → KindState
@@ -51,6 +52,10 @@ actors_of c roles = map (λ role. role.actor) (filter (λ role. contains c role.
 -- the caller's steps, each with its line
 abbrev pub plan_of : ℕ → Script → List (ℕ × Step × ℕ)
 plan_of c script = filter (λ s. s.0 == c) script.steps
+
+-- what the caller's plan submits
+abbrev pub submissions_of : ℕ → Script → List Submission
+submissions_of c script = planned (actors_of c script.roles) (map (λ s. s.1) (plan_of c script))
 
 -- the line of the first step of a caller's plan that is refused
 abbrev pub bad_line : ℕ → Script → Option ℕ

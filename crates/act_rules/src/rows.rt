@@ -54,6 +54,9 @@ pub fn worked_scripts()
     ensures too_long_script { scripts.TooLongScript }
     ensures submit_after_release { scripts.SubmitAfterRelease }
     ensures too_many_callers { scripts.TooManyCallers }
+    ensures three_callers { scripts.ThreeCallers }
+    ensures two_plans { scripts.TwoPlans }
+    ensures kills_of_one_actor { scripts.KillsOfOneActor }
 {}
 
 ghost use Rattle.act_rules.specs.KindRows.{KindRows};

@@ -106,6 +106,17 @@ pub returns-clause-too_many_callers : goal.returns-clause-too_many_callers
 unfolding digits method_at number_at int_at closed_at caller_at actor_at text_at value_at arg_at role_at submit_at play_forms thread_forms form_at line_at role_fault spelled_by
 returns-clause-too_many_callers c = refl
 
+pub returns-clause-three_callers : goal.returns-clause-three_callers
+unfolding digits method_at number_at int_at closed_at caller_at actor_at text_at value_at arg_at role_at submit_at play_forms thread_forms form_at line_at role_fault spelled_by
+returns-clause-three_callers c = refl
+
+pub returns-clause-two_plans : goal.returns-clause-two_plans
+unfolding digits method_at number_at int_at closed_at caller_at actor_at text_at value_at arg_at role_at submit_at play_forms thread_forms form_at line_at role_fault spelled_by
+returns-clause-two_plans c = record { spelled = refl; first_submits = refl; second_submits = refl }
+
+pub returns-clause-kills_of_one_actor : goal.returns-clause-kills_of_one_actor
+returns-clause-kills_of_one_actor c = refl
+
 pub returns-clause-too_long_script : goal.returns-clause-too_long_script
 unfolding digits method_at number_at int_at closed_at caller_at actor_at text_at value_at arg_at role_at submit_at play_forms thread_forms form_at line_at role_fault spelled_by
 returns-clause-too_long_script _ bytes long = let test : nat_lt 1048576 (length bytes) ≡ true = lt-ltb 1048576 (length bytes) long in rw test refl
