@@ -1,6 +1,7 @@
 -- What an inbox holds, and what its calls do.
 use Rattle.std.specs.Prelude.{◌≡◌, ℕ, ◌+◌, ◌*◌, ◌≤◌, ◌==◌, ◌&&◌, ◌||◌, nat_lt, List, find, sum_by, Option, None, Some, is_some, Bool, true, if◌then◌else◌, slice_index_or}
 use Rattle.std.specs.Option.{option_map_or}
+use Rattle.act_types.specs.declared.limits.TheConstants.{MOST_CALLERS, MOST_CALLS}
 use Rattle.act_types.specs.declared.message.Packet.{Packet}
 use Rattle.act_types.specs.declared.message.ReleaseNote.{ReleaseNote}
 use Rattle.act_rules.specs.declared.outcome.Arrival.{Arrival}
@@ -60,7 +61,7 @@ came inbox caller number = was_handed inbox caller number || is_some (waiting in
 -- what a packet is to the inbox
 abbrev pub arrival_of : InboxValue → Packet → Arrival
 arrival_of inbox packet =
-    if is_listed inbox packet.caller && nat_lt packet.number 65536
+    if is_listed inbox packet.caller && nat_lt packet.number MOST_CALLS
     then (if came inbox packet.caller packet.number then Repeat else New)
     else Stranger
 
@@ -102,6 +103,6 @@ pub record IsNextTaken (caller : ℕ) (packet : Packet) (old new : InboxValue) :
   pub listed : (other : ℕ) → is_listed new other ≡ is_listed old other
   pub handed : (other : ℕ) → handed_of new other ≡ (if other == caller then handed_of old other + 1 else handed_of old other)
   pub in_all : handed_in_all new ≡ handed_in_all old + 1
-  pub bound : handed_in_all new ≤ 16 * 65536
+  pub bound : handed_in_all new ≤ MOST_CALLERS * MOST_CALLS
   pub waits : (other number : ℕ) → waiting new other number ≡ (if was_handed new other number then None else waiting old other number)
   pub notes : (other : ℕ) → note_of new other ≡ note_of old other

@@ -1,8 +1,9 @@
-use Rattle.std.specs.Prelude.{◌≡◌, ◌≢◌, ℕ, ◌<◌, ◌≤◌, List, Option, Some, All, AllPairs, length, map, slice_get, IsSomeAnd}
+use Rattle.std.specs.Prelude.{◌≡◌, ◌≢◌, ℕ, ◌+◌, ◌<◌, ◌≤◌, List, Option, Some, All, AllPairs, length, map, slice_get, IsSomeAnd}
 use Rattle.std.specs.Option.{option_and_then}
 use Rattle.std.specs.Ordering.{nat_cmp}
 use Rattle.std.specs.BTreeMap.{BTreeMap, get as get_in_map}
 use Rattle.slab.specs.Slab.{Slab, get}
+use Rattle.act_types.specs.declared.limits.TheConstants.{MOST_CALLERS, MOST_CALLS}
 use Rattle.act_types.specs.declared.message.Packet.{Packet}
 use Rattle.act_inbox.specs.declared.inbox.Lane.{Lane}
 
@@ -16,9 +17,9 @@ pub record InboxValue : Type 0 where
 -- what is true of each inbox, however it came to be
 pub record IsInbox (lanes : List Lane) (held : List Packet) : Type 0 where
   pub distinct : AllPairs (λ one other. one ≢ other) (map (λ lane. lane.caller) lanes)
-  pub few : length lanes ≤ 16
-  pub counted : All (λ lane. lane.handed ≤ 65536) lanes
-  pub numbered : All (λ packet. packet.number < 65536) held
+  pub few : length lanes ≤ MOST_CALLERS
+  pub counted : All (λ lane. lane.handed ≤ MOST_CALLS) lanes
+  pub numbered : All (λ packet. packet.number < MOST_CALLS) held
 
 -- the key of the caller's call of this number, by the caller's index
 abbrev pub key_of : List (BTreeMap ℕ ℕ) → ℕ → ℕ → Option ℕ
@@ -26,6 +27,6 @@ key_of keys caller number = option_and_then (λ index. get_in_map nat_cmp index 
 
 -- each key in a caller's index names a held packet of that caller and number, and no other is held
 pub record IsHeld (packets : Slab Packet) (keys : List (BTreeMap ℕ ℕ)) : Type 0 where
-  pub one_each : length keys ≡ 17
+  pub one_each : length keys ≡ MOST_CALLERS + 1
   pub named : (caller number key : ℕ) → key_of keys caller number ≡ Some key → IsSomeAnd (get packets key) (λ packet. (packet.caller ≡ caller) × (packet.number ≡ number))
   pub indexed : (key : ℕ) (packet : Packet) → get packets key ≡ Some packet → key_of keys packet.caller packet.number ≡ Some key

@@ -5,14 +5,14 @@ ghost use Rattle.std.specs.Prelude.{◌≡◌, ℕ, ◌<◌, [], None, Some, All
 ghost use Rattle.act_types.specs.declared.message.Packet.{Packet};
 ghost use Rattle.act_inbox.specs.Inbox.{is_call};
 
-use act_types::{CallerId, Packet};
+use act_types::{CallerId, MOST_CALLERS, MOST_CALLS, Packet};
 use slab::Slab;
 use std::alloc::{AllocError, Global};
 use std::collections::BTreeMap;
 use std::marker::Model;
 
 /// Each caller has a number below this.
-pub(crate) const CALLER_NUMBERS: usize = 17;
+pub(crate) const CALLER_NUMBERS: usize = MOST_CALLERS as usize + 1;
 
 /// The packets, and by the callers' numbers the key of each of their calls.
 #[derive(Drop)]
@@ -36,7 +36,7 @@ impl Model for HeldCalls {
 
 /// For each caller's number an index with no calls.
 fn no_keys(alloc: Global) -> Result<Vec<BTreeMap<u32, usize>>, AllocError>
-    ensures one_each { IfOk result (λ keys. length keys.items ≡ 17) }
+    ensures one_each { IfOk result (λ keys. length keys.items ≡ CALLER_NUMBERS) }
     ensures empty { IfOk result (λ keys. All (λ index. index.entries ≡ []) keys.items) }
 {
     let mut keys = Vec::with_capacity(alloc, CALLER_NUMBERS)?;
@@ -69,7 +69,7 @@ impl HeldCalls {
     pub(crate) fn insert(&mut self, packet: Packet) -> Result<(), Packet>
         requires { find (is_call packet.caller packet.number) self.old ≡ None }
         ensures found { OnOk result ((caller number : ℕ) → find (is_call caller number) self.new ≡ (if is_call caller number packet then Some packet else find (is_call caller number) self.old)) }
-        ensures numbered { packet.number < 65536 → All (λ each. each.number < 65536) self.old → All (λ each. each.number < 65536) self.new }
+        ensures numbered { packet.number < MOST_CALLS → All (λ each. each.number < MOST_CALLS) self.old → All (λ each. each.number < MOST_CALLS) self.new }
         ensures back { IfErr result (λ back. back ≡ packet) }
         ensures err { OnErr result (self.new ≡ self.old) }
     {
@@ -89,7 +89,7 @@ impl HeldCalls {
     pub(crate) fn remove(&mut self, caller: CallerId, number: u32) -> Option<Packet>
         ensures value { result ≡ find (is_call caller number) self.old }
         ensures others { IfSome result (λ packet. (other count : ℕ) → is_call other count packet ≡ false → find (is_call other count) self.new ≡ find (is_call other count) self.old) }
-        ensures numbered { All (λ each. each.number < 65536) self.old → All (λ each. each.number < 65536) self.new }
+        ensures numbered { All (λ each. each.number < MOST_CALLS) self.old → All (λ each. each.number < MOST_CALLS) self.new }
         ensures none { IfNone result (self.new ≡ self.old) }
     {
         let key = self.keys[caller.number() as usize].remove(&number)?;

@@ -7,12 +7,9 @@ ghost use Rattle.act_inbox.specs.Inbox.{InboxValue, is_lane_of, is_call, lane_at
 
 use crate::held::{CALLER_NUMBERS, HeldCalls};
 use act_rules::Arrival;
-use act_types::{CallerId, NoMemory, Packet, ReleaseNote};
+use act_types::{CallerId, MOST_CALLERS, MOST_CALLS, NoMemory, Packet, ReleaseNote};
 use std::alloc::{AllocError, Global};
 use std::marker::Model;
-
-/// Each call of a caller has a number below this.
-const MOST_CALLS: u32 = 65536;
 
 /// How many calls of a caller were handed out.
 #[derive(Clone, Copy)]
@@ -43,12 +40,12 @@ impl Model for Inbox {
 /// A lane for each caller, with no calls handed out.
 fn lanes_of(alloc: Global, callers: &[CallerId]) -> Result<Vec<Lane>, AllocError>
     ensures lanes { IfOk result (λ lanes. lanes.items ≡ map lane_at_first callers.now) }
-    ensures valid { OnOk result (All (λ caller. (1 ≤ caller) × (caller ≤ 16)) callers.now) }
+    ensures valid { OnOk result (All (λ caller. (1 ≤ caller) × (caller ≤ MOST_CALLERS)) callers.now) }
 {
     let mut lanes = Vec::with_capacity(alloc, callers.len())?;
     for caller in callers {
         // Distinct callers are 16 at most.
-        prove!(1 <= caller.number() && caller.number() <= 16);
+        prove!(1 <= caller.number() && caller.number() <= MOST_CALLERS);
         lanes.push(Lane {
             caller: *caller,
             handed: 0,
@@ -90,6 +87,7 @@ impl Inbox {
         ensures lanes { self.new.lanes ≡ self.old.lanes }
         ensures notes { self.new.notes ≡ self.old.notes }
         ensures waiting { IfOk result (λ arrival. (caller number : ℕ) → waiting self.new caller number ≡ waiting_after arrival packet self.old caller number) }
+        ensures unless_new { IfOk result (λ arrival. arrival ≢ New → self.new ≡ self.old) }
         // Memory is asked for where the packet is new, and there alone.
         ensures last { OnErr result (arrival_of self.old packet ≡ New) }
         ensures back { IfErr result (λ back. back ≡ packet) }
@@ -184,7 +182,7 @@ impl Inbox {
     /// How many calls of the caller were handed out.
     pub fn handed(&self, caller: CallerId) -> u32
         ensures value { result ≡ handed_of self.now caller }
-        ensures bound { result ≤ 65536 }
+        ensures bound { result ≤ MOST_CALLS }
     {
         match place_of_lane(&self.lanes, caller) {
             None => 0,
