@@ -2,3 +2,4 @@ pub mod Value
 pub mod Actor
 pub mod Seen
 pub mod Cast
+pub mod Casts

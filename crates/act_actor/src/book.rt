@@ -1,6 +1,6 @@
 //! What an actor keeps beside its kind.
 
-ghost use Rattle.std.specs.Prelude.{◌≡◌, ◌≢◌, ℕ, [], IfOk, OnOk, IfErr, OnErr, IfSome, IfNone, IsSome, is_some, option_copied};
+ghost use Rattle.std.specs.Prelude.{◌≡◌, ◌≢◌, ◌≤◌, ◌*◌, ℕ, [], length, IfOk, OnOk, IfErr, OnErr, IfSome, IfNone, IsSome, is_some, option_copied};
 ghost use Rattle.std.specs.Bool.{Decides};
 ghost use Rattle.std.specs.Option.{option_map};
 ghost use Rattle.act_inbox.specs.Inbox.{IsOpened, IsDrained, next_of, note_of, waiting, note_after, waiting_after};
@@ -13,7 +13,10 @@ use crate::arguments::values_of;
 use act_inbox::Inbox;
 use act_kinds::Actor;
 use act_rules::{Arrival, RunItem};
-use act_types::{ActorId, Answer, CallerId, Fault, NoMemory, Packet, ReleaseNote, Reply};
+use act_types::{
+    ActorId, Answer, CallerId, Fault, MOST_CALLERS, MOST_CALLS, NoMemory, Packet, ReleaseNote,
+    Reply,
+};
 use std::alloc::Global;
 use std::marker::Model;
 
@@ -26,7 +29,8 @@ pub(crate) struct Book {
 }
 
 impl Model for Book {
-    ghost use Rattle.std.specs.Prelude.{◌≡◌, length};
+    ghost use Rattle.std.specs.Prelude.{◌≡◌, ◌≤◌, ◌*◌, length};
+    ghost use Rattle.act_types.specs.declared.limits.TheConstants.{MOST_CALLERS, MOST_CALLS};
     ghost use Rattle.act_inbox.specs.Inbox.{handed_in_all};
     ghost use Rattle.act_actor.specs.Value.{BookValue};
 
@@ -34,8 +38,8 @@ impl Model for Book {
 
     ghost view = { λ book. record { id = book.id; inbox = book.inbox; log = book.log.items } };
 
-    // Each call that was handed out stands in the log.
-    ghost invariant = { λ book. length book.log.items ≡ handed_in_all book.inbox };
+    // Each call that was handed out stands in the log, which is bounded so.
+    ghost invariant = { λ book. (length book.log.items ≡ handed_in_all book.inbox) × (length book.log.items ≤ MOST_CALLERS * MOST_CALLS) };
 }
 
 /// The item that a packet becomes in the log.
@@ -78,6 +82,14 @@ impl Book {
         })
     }
 
+    /// What it ran.
+    pub(crate) fn log(&self) -> &[RunItem]
+        ensures value { result.now ≡ self.now.log }
+        ensures few { length result.now ≤ MOST_CALLERS * MOST_CALLS }
+    {
+        self.log.as_slice()
+    }
+
     /// Takes in a packet. An `Err` hands it back for want of memory.
     pub(crate) fn arrive(&mut self, packet: Packet) -> Result<Arrival, Packet>
         ensures arrival { IfOk result (λ arrival. arrival ≡ arrival_at self.old.id self.old.inbox packet) }
@@ -87,6 +99,7 @@ impl Book {
         ensures notes { (caller : ℕ) → note_of self.new.inbox caller ≡ note_of self.old.inbox caller }
         ensures waiting { IfOk result (λ arrival. (caller number : ℕ) → waiting self.new.inbox caller number ≡ waiting_after arrival packet self.old.inbox caller number) }
         ensures elsewhere { packet.actor ≢ self.old.id → self.new ≡ self.old }
+        ensures unless_new { IfOk result (λ arrival. arrival ≢ New → self.new ≡ self.old) }
         ensures last { OnErr result (arrival_at self.old.id self.old.inbox packet ≡ New) }
         ensures back { IfErr result (λ back. back ≡ packet) }
         ensures err { OnErr result (self.new ≡ self.old) }

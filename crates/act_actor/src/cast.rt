@@ -1,12 +1,14 @@
 //! Who plays.
 
-ghost use Rattle.std.specs.Prelude.{◌≡◌, ◌==◌};
+ghost use Rattle.std.specs.Prelude.{◌≡◌, ◌==◌, IfOk};
 ghost use Rattle.std.specs.List.{list_any};
 ghost use Rattle.std.specs.Bool.{Decides};
 ghost use Rattle.act_actor.specs.Cast.{CallersDiffer, ActorsDiffer, IsFitting};
+ghost use Rattle.act_actor.specs.Casts.{actors_naming};
 
 use act_kinds::Boxed;
-use act_types::{ActorId, CallerId, ListOf};
+use act_types::{ActorId, CallerId, ListOf, NoMemory};
+use std::alloc::Global;
 
 /// An actor that is to be opened: its name, who may call it, and its kind.
 #[derive(Drop)]
@@ -55,4 +57,20 @@ pub fn cast_fits<K>(casts: &[Cast<K>]) -> bool
         && casts
             .iter()
             .all(|cast| callers_differ(cast.callers.as_slice()))
+}
+
+/// The actors whose casts name the caller, in the order of the casts.
+pub fn actors_of<K>(
+    alloc: Global,
+    casts: &[Cast<K>],
+    c: CallerId,
+) -> Result<Vec<ActorId>, NoMemory>
+    ensures { IfOk result (λ actors. actors.items ≡ actors_naming c casts.now) }
+{
+    let actors = casts
+        .iter()
+        .filter(|cast| cast.callers.as_slice().contains(&c))
+        .map(|cast| cast.actor)
+        .collect(alloc)?;
+    Ok(actors)
 }

@@ -11,7 +11,7 @@ mod retired;
 mod tests;
 
 pub use act_rules::{Arrival, RunItem};
-pub use cast::{Cast, cast_fits};
+pub use cast::{Cast, actors_of, cast_fits};
 pub use dead::Dead;
 pub use live::Live;
 pub use retired::Retired;

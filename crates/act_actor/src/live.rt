@@ -3,7 +3,7 @@
 //! `K` is the kind, mostly a box. A clause names what is seen of an actor by `live_seen` at the
 //! kind's state.
 
-ghost use Rattle.std.specs.Prelude.{◌≡◌, ◌≢◌, ◌↔◌, ◌++◌, ℕ, [], Some, IfOk, OnOk, IfErr, OnErr, IfSome, IfNone, IsOk, IsSome, is_some};
+ghost use Rattle.std.specs.Prelude.{◌≡◌, ◌≢◌, ◌≤◌, ◌*◌, ◌↔◌, ◌++◌, ℕ, [], length, Some, IfOk, OnOk, IfErr, OnErr, IfSome, IfNone, IsOk, IsSome, is_some};
 ghost use Rattle.std.specs.Bool.{Decides};
 ghost use Rattle.std.specs.Option.{option_map};
 ghost use Rattle.std.specs.String.{string_bytes};
@@ -20,7 +20,9 @@ use crate::book::Book;
 use crate::{Dead, Retired};
 use act_kinds::{Actor, Boxed};
 use act_rules::{Arrival, RunItem};
-use act_types::{ActorId, CallerId, NoMemory, Packet, ReleaseNote, Reply};
+use act_types::{
+    ActorId, CallerId, MOST_CALLERS, MOST_CALLS, NoMemory, Packet, ReleaseNote, Reply,
+};
 use std::alloc::Global;
 
 /// An actor that runs.
@@ -59,9 +61,10 @@ impl<K: Actor> Live<K> {
 
     /// What it ran.
     pub fn log(&self) -> &[RunItem]
-        ensures { result.now ≡ (live_seen K.state self.now).log }
+        ensures value { result.now ≡ (live_seen K.state self.now).log }
+        ensures few { length result.now ≤ MOST_CALLERS * MOST_CALLS }
     {
-        self.book.log.as_slice()
+        self.book.log()
     }
 
     /// Appends the state's text, or leaves the text as it was.
@@ -80,6 +83,7 @@ impl<K: Actor> Live<K> {
         ensures notes { (caller : ℕ) → note_of (live_seen K.state self.new).inbox caller ≡ note_of (live_seen K.state self.old).inbox caller }
         ensures waiting { IfOk result (λ arrival. (caller number : ℕ) → waiting (live_seen K.state self.new).inbox caller number ≡ waiting_after arrival packet (live_seen K.state self.old).inbox caller number) }
         ensures elsewhere { packet.actor ≢ (live_seen K.state self.old).id → live_seen K.state self.new ≡ live_seen K.state self.old }
+        ensures unless_new { IfOk result (λ arrival. arrival ≢ New → live_seen K.state self.new ≡ live_seen K.state self.old) }
         ensures last { let before = live_seen K.state self.old in OnErr result (arrival_at before.id before.inbox packet ≡ New) }
         ensures back { IfErr result (λ back. back ≡ packet) }
         ensures err { OnErr result (live_seen K.state self.new ≡ live_seen K.state self.old) }
