@@ -1,3 +1,4 @@
 pub mod Values
 pub mod Pairs
 pub mod Running
+pub mod Castings

@@ -38,7 +38,7 @@ impl Model for Book {
 
     ghost view = { λ book. record { id = book.id; inbox = book.inbox; log = book.log.items } };
 
-    // Each call that was handed out stands in the log, which is bounded so.
+    // Each call that was handed out stands in the log, and the inbox hands out no more than that.
     ghost invariant = { λ book. (length book.log.items ≡ handed_in_all book.inbox) × (length book.log.items ≤ MOST_CALLERS * MOST_CALLS) };
 }
 

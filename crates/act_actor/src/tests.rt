@@ -1,6 +1,6 @@
 //! Worked calls, each with its answer; and calls for which memory is refused.
 
-use crate::{Arrival, Cast, Live, cast_fits};
+use crate::{Arrival, Cast, Live, actors_of, cast_fits};
 use act_kinds::{Actor, Boxed, Counter, ListKind, Table};
 use act_types::{
     ActorId, CallerId, Fault, FutureId, ListOf, Method, NoMemory, Packet, ReleaseNote, Reply,
@@ -194,6 +194,26 @@ fn killed_with_calls_held(rt: HostRuntime) -> Result<(), Fail> {
     Ok(())
 }
 
+/// An actor and its callers.
+type Role<'a> = (ActorId, &'a [CallerId]);
+
+fn casts_of(alloc: Global, roles: &[Role]) -> Result<Vec<Cast<Counter>>, NoMemory> {
+    let mut casts = Vec::new(alloc);
+    for role in roles {
+        let (actor, names) = *role;
+        let mut callers = ListOf::new(alloc);
+        for caller in names {
+            callers.push(*caller)?;
+        }
+        casts.push(Cast {
+            actor,
+            callers,
+            kind: Counter::open(),
+        })?;
+    }
+    Ok(casts)
+}
+
 #[test]
 fn casts_that_fit(rt: HostRuntime) -> Result<(), Fail> {
     let alloc = rt.alloc();
@@ -201,26 +221,33 @@ fn casts_that_fit(rt: HostRuntime) -> Result<(), Fail> {
     let a2 = ActorId::new(2).unwrap();
     let c1 = CallerId::new(1).unwrap();
     let c2 = CallerId::new(2).unwrap();
-    let rows: [(&[(ActorId, [CallerId; 2])], bool); 4] = [
+    let rows: [(&[Role], bool); 4] = [
         (&[], true),
-        (&[(a1, [c1, c2]), (a2, [c2, c1])], true),
-        (&[(a1, [c1, c2]), (a1, [c2, c1])], false),
-        (&[(a1, [c1, c2]), (a2, [c2, c2])], false),
+        (&[(a1, &[c1, c2]), (a2, &[c2, c1])], true),
+        (&[(a1, &[c1, c2]), (a1, &[c2, c1])], false),
+        (&[(a1, &[c1, c2]), (a2, &[c2, c2])], false),
     ];
     for (roles, fits) in rows {
-        let mut casts = Vec::new(alloc);
-        for (actor, names) in roles {
-            let mut callers = ListOf::new(alloc);
-            for caller in names {
-                callers.push(*caller)?;
-            }
-            casts.push(Cast {
-                actor: *actor,
-                callers,
-                kind: Counter::open(),
-            })?;
-        }
+        let casts = casts_of(alloc, roles)?;
         assert_eq!(rt; cast_fits(casts.as_slice()), fits);
+    }
+    Ok(())
+}
+
+#[test]
+fn actors_that_name_a_caller(rt: HostRuntime) -> Result<(), Fail> {
+    let alloc = rt.alloc();
+    let a1 = ActorId::new(1).unwrap();
+    let a2 = ActorId::new(2).unwrap();
+    let a3 = ActorId::new(3).unwrap();
+    let c1 = CallerId::new(1).unwrap();
+    let c2 = CallerId::new(2).unwrap();
+    let c9 = CallerId::new(9).unwrap();
+    let casts = casts_of(alloc, &[(a3, &[c1, c2]), (a2, &[]), (a1, &[c2])])?;
+    let rows: [(CallerId, &[ActorId]); 3] = [(c1, &[a3]), (c2, &[a3, a1]), (c9, &[])];
+    for (caller, wanted) in rows {
+        let actors = actors_of(alloc, casts.as_slice(), caller)?;
+        assert_eq!(rt; actors.as_slice(), wanted);
     }
     Ok(())
 }

@@ -103,7 +103,7 @@ fn refused_memory_changes_nothing(rt: HostRuntime) -> Result<(), Fail> {
         assert!(rt; opened.is_ok());
     }
     let mut inbox = opened?;
-    for number in (0..100).rev() {
+    for number in (0..1000).rev() {
         let call = call_of(alloc, number)?;
         let before = (inbox.has_next(c1), inbox.handed(c1));
         if let Err(back) = inbox.arrive(call_of(alloc, number)?) {
@@ -114,7 +114,7 @@ fn refused_memory_changes_nothing(rt: HostRuntime) -> Result<(), Fail> {
         }
         assert_eq!(rt; inbox.arrive(call), Ok(Arrival::Repeat));
     }
-    for number in 0..100 {
+    for number in 0..1000 {
         let taken = inbox.next(c1).map(|packet| packet.number);
         assert_eq!(rt; taken, Some(number));
     }
