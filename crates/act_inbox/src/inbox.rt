@@ -44,7 +44,7 @@ fn lanes_of(alloc: Global, callers: &[CallerId]) -> Result<Vec<Lane>, AllocError
 {
     let mut lanes = Vec::with_capacity(alloc, callers.len())?;
     for caller in callers {
-        // Distinct callers are 16 at most.
+        // Distinct callers are at most `MOST_CALLERS`.
         prove!(1 <= caller.number() && caller.number() <= MOST_CALLERS);
         lanes.push(Lane {
             caller: *caller,
