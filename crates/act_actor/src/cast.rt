@@ -60,11 +60,7 @@ pub fn cast_fits<K>(casts: &[Cast<K>]) -> bool
 }
 
 /// The actors whose casts name the caller, in the order of the casts.
-pub fn actors_of<K>(
-    alloc: Global,
-    casts: &[Cast<K>],
-    c: CallerId,
-) -> Result<Vec<ActorId>, NoMemory>
+pub fn actors_of<K>(alloc: Global, casts: &[Cast<K>], c: CallerId) -> Result<Vec<ActorId>, NoMemory>
     ensures { IfOk result (λ actors. actors.items ≡ actors_naming c casts.now) }
 {
     let actors = casts

@@ -195,18 +195,17 @@ fn killed_with_calls_held(rt: HostRuntime) -> Result<(), Fail> {
 }
 
 /// An actor and its callers.
-type Role<'a> = (ActorId, &'a [CallerId]);
+type Role = (ActorId, [CallerId; 2]);
 
 fn casts_of(alloc: Global, roles: &[Role]) -> Result<Vec<Cast<Counter>>, NoMemory> {
     let mut casts = Vec::new(alloc);
-    for role in roles {
-        let (actor, names) = *role;
+    for (actor, names) in roles {
         let mut callers = ListOf::new(alloc);
         for caller in names {
             callers.push(*caller)?;
         }
         casts.push(Cast {
-            actor,
+            actor: *actor,
             callers,
             kind: Counter::open(),
         })?;
@@ -223,9 +222,9 @@ fn casts_that_fit(rt: HostRuntime) -> Result<(), Fail> {
     let c2 = CallerId::new(2).unwrap();
     let rows: [(&[Role], bool); 4] = [
         (&[], true),
-        (&[(a1, &[c1, c2]), (a2, &[c2, c1])], true),
-        (&[(a1, &[c1, c2]), (a1, &[c2, c1])], false),
-        (&[(a1, &[c1, c2]), (a2, &[c2, c2])], false),
+        (&[(a1, [c1, c2]), (a2, [c2, c1])], true),
+        (&[(a1, [c1, c2]), (a1, [c2, c1])], false),
+        (&[(a1, [c1, c2]), (a2, [c2, c2])], false),
     ];
     for (roles, fits) in rows {
         let casts = casts_of(alloc, roles)?;
@@ -242,9 +241,10 @@ fn actors_that_name_a_caller(rt: HostRuntime) -> Result<(), Fail> {
     let a3 = ActorId::new(3).unwrap();
     let c1 = CallerId::new(1).unwrap();
     let c2 = CallerId::new(2).unwrap();
+    let c3 = CallerId::new(3).unwrap();
     let c9 = CallerId::new(9).unwrap();
-    let casts = casts_of(alloc, &[(a3, &[c1, c2]), (a2, &[]), (a1, &[c2])])?;
-    let rows: [(CallerId, &[ActorId]); 3] = [(c1, &[a3]), (c2, &[a3, a1]), (c9, &[])];
+    let casts = casts_of(alloc, &[(a3, [c1, c2]), (a2, [c1, c3]), (a1, [c3, c2])])?;
+    let rows: [(CallerId, &[ActorId]); 3] = [(c1, &[a3, a2]), (c2, &[a3, a1]), (c9, &[])];
     for (caller, wanted) in rows {
         let actors = actors_of(alloc, casts.as_slice(), caller)?;
         assert_eq!(rt; actors.as_slice(), wanted);
