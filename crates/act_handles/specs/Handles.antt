@@ -1,6 +1,7 @@
 -- What contracts say of one caller's handles.
 use Rattle.std.specs.Prelude.{◌≡◌, ◌≢◌, ℕ, ◌+◌, ◌-◌, ◌<◌, ◌≤◌, ◌==◌, Bool, if◌then◌else◌, nat_lt, List, map, find, sum_by, AllPairs, length, slice_index_or, slice_set, Option, Some, None, is_some, Result, Ok, Err}
 use Rattle.std.specs.Option.{option_map, option_map_or}
+use Rattle.act_types.specs.declared.limits.TheConstants.{MOST_CALLS}
 use Rattle.act_rules.specs.Submissions.{needs, copies_held, copy_refusal, handle_refusal}
 use Rattle.act_rules.specs.declared.outcome.HandleRefusal.{HandleRefusal}
 use Rattle.act_rules.specs.declared.outcome.HandleRefusal.TheVariants.{NoActor, NoHandle, TooManyCalls}
@@ -44,7 +45,7 @@ abbrev pub number_refusal : List Handle → ℕ → Option HandleRefusal
 number_refusal handles a =
     needs (is_some (copies_in a handles)) NoActor (
     needs (nat_lt 0 (copies_held (copies_in a handles))) NoHandle (
-    needs (nat_lt (given_of_all handles) 65536) TooManyCalls None))
+    needs (nat_lt (given_of_all handles) MOST_CALLS) TooManyCalls None))
 
 -- the refusal, or else the value
 abbrev pub or_else : {X : Type 0} → Option HandleRefusal → X → Result X HandleRefusal
@@ -71,7 +72,7 @@ actors_in handles = map (λ handle. handle.actor) handles
 -- no actor stands in the list twice, and few enough numbers were given
 abbrev pub IsHandles : List Handle → Type 0
 IsHandles handles =
-    AllPairs (λ one other. one ≢ other) (actors_in handles) × (given_of_all handles ≤ 65536)
+    AllPairs (λ one other. one ≢ other) (actors_in handles) × (given_of_all handles ≤ MOST_CALLS)
 
 -- the actor's handle stands at this place
 pub record IsAt (a : ℕ) (handles : List Handle) (place : ℕ) : Type 0 where

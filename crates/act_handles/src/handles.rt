@@ -5,15 +5,9 @@ ghost use Rattle.act_rules.specs.Submissions.{copies_held, handle_refusal};
 ghost use Rattle.act_handles.specs.Handles.{is_of, copies_in, given_of_all, IsAt, opened, with_copy, with_number, without_copy, copied, numbered, released};
 
 use act_rules::HandleRefusal;
-use act_types::{ActorId, NoMemory};
+use act_types::{ActorId, MOST_CALLS, MOST_COPIES, NoMemory};
 use std::alloc::Global;
 use std::marker::Model;
-
-/// A caller holds at most this many copies of a handle.
-const MOST_COPIES: u32 = 65_535;
-
-/// A caller submits at most this many calls.
-const MOST_CALLS: u32 = 65_536;
 
 /// A caller's handle of an actor: how many copies it holds, and how many of its calls to the actor
 /// were given a number.

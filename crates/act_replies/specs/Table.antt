@@ -1,6 +1,7 @@
 -- What contracts say of a caller's futures and their answers.
 use Rattle.std.specs.Prelude.{◌≡◌, ℕ, ◌≤◌, ◌==◌, ◌&&◌, Bool, false, not, if◌then◌else◌, List, map, length, slice_get, slice_set, count_by, Option, Some, None, is_some, option_and_then, Result, Err}
 use Rattle.std.specs.Option.{option_map_or}
+use Rattle.act_types.specs.declared.limits.TheConstants.{MOST_CALLS}
 use Rattle.act_types.specs.declared.value.Value.{Value}
 use Rattle.act_types.specs.declared.fault.Fault.{Fault}
 use Rattle.act_types.specs.declared.fault.Fault.TheVariants.{ActorDied}
@@ -61,7 +62,7 @@ after_death a rows = map (row_after_death a) rows
 
 -- the number of futures without an answer is counted, and there are few enough futures
 abbrev pub IsTable : List Row → ℕ → Type 0
-IsTable rows unanswered = (unanswered ≡ count_by is_open rows) × (length rows ≤ 65536)
+IsTable rows unanswered = (unanswered ≡ count_by is_open rows) × (length rows ≤ MOST_CALLS)
 
 -- the actor that a future waits for, none once it has its answer
 abbrev pub actor_of : Row → Option ℕ

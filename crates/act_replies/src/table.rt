@@ -4,7 +4,7 @@ ghost use Rattle.std.specs.Prelude.{◌≡◌, ◌+◌, ◌<◌, ◌≤◌, [], 
 ghost use Rattle.act_replies.specs.Table.{is_open, waits_for, waits_at, unanswered_row, answer_of, kept, after_keep, after_death};
 
 use crate::waiting::Waiting;
-use act_types::{ActorId, Answer, Fault, FutureId, NoMemory};
+use act_types::{ActorId, Answer, Fault, FutureId, MOST_CALLS, NoMemory};
 use std::alloc::Global;
 use std::marker::Model;
 
@@ -74,7 +74,7 @@ impl ReplyTable {
 
     /// Adds a future of this actor, which has no answer yet. Where there is room it can't fail.
     pub fn enter(&mut self, actor: ActorId) -> Result<FutureId, NoMemory>
-        requires { length self.old.rows < 65536 }
+        requires { length self.old.rows < MOST_CALLS }
         ensures future { IfOk result (λ k. k ≡ length self.old.rows) }
         ensures ok { OnOk result (self.new.rows ≡ self.old.rows ++ unanswered_row actor ∷ []) }
         ensures err { OnErr result (self.new.rows ≡ self.old.rows) }
@@ -151,7 +151,7 @@ impl ReplyTable {
     /// How many futures there are.
     pub fn count(&self) -> u32
         ensures value { result ≡ length self.now.rows }
-        ensures limit { result ≤ 65536 }
+        ensures limit { result ≤ MOST_CALLS }
     {
         self.rows.len() as u32
     }

@@ -2,7 +2,7 @@
 //! that grows where memory is refused; and random steps that compare a table with a plain list.
 
 use crate::{Kept, ReplyTable};
-use act_types::{ActorId, Answer, Fault, FutureId, NoMemory, Value};
+use act_types::{ActorId, Answer, Fault, FutureId, MOST_CALLS, NoMemory, Value};
 use std::process::Abort;
 use std::test::Fail;
 
@@ -126,7 +126,7 @@ fn take_step(
             assert_eq!(rt; table.died(actor) as usize, told);
         }
         1..=12 => {
-            assert!(rt; table.count() < 65_536);
+            assert!(rt; table.count() < MOST_CALLS);
             let future = table.enter(actor)?;
             assert_eq!(rt; future.number() as usize, futures.len());
             futures.push(Plain {

@@ -3,7 +3,7 @@
 ghost use Rattle.std.specs.Prelude.{◌≡◌, ◌+◌, ◌<◌, ◌≤◌, [], ◌∷◌, ◌++◌, length, slice_set, None, Some, IfSome, OnOk, IsOk};
 ghost use Rattle.act_replies.specs.Chains.{with_found, actors_of, before_of, after_of, IsLastBelow};
 
-use act_types::{ActorId, FutureId, NoMemory};
+use act_types::{ActorId, FutureId, MOST_CALLS, NoMemory};
 use std::alloc::Global;
 use std::marker::Model;
 
@@ -99,7 +99,7 @@ impl Waiting {
     /// Adds a future that waits for this actor.
     pub(crate) fn push(&mut self, actor: ActorId)
         requires room { 1 ≤ self.old.spare }
-        requires limit { length self.old.actors < 65536 }
+        requires limit { length self.old.actors < MOST_CALLS }
         ensures actors { self.new.actors ≡ self.old.actors ++ Some actor ∷ [] }
         ensures spare { self.old.spare ≡ self.new.spare + 1 }
     {
