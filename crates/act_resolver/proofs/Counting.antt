@@ -189,7 +189,14 @@ sent_fine calls counts lists ready k call fine found =
     let lt = slice_get_within calls k call found in
     let told : (future : ℕ) → is_told after future ≡ is_told calls future = λ future. field_same (λ (c : Entered). c.told) calls k future call sent false found refl in
     let named : (i : ℕ) → futures_of after i ≡ futures_of calls i = λ i. field_same (λ (c : Entered). c.futures) calls k i call sent [] found refl in
-    (omega (arith, size, fine.0), omega (arith, size, fine.1), omega (arith, size, fine.2), omega (arith, size, fine.3, length-set ready k false), counted_same calls after counts told named fine.4, λ future i. fine.5 future i ∙ places_same calls after told named future i, free)
+    record {
+      size_counts = omega (arith, size, fine.size_counts);
+      size_lists = omega (arith, size, fine.size_lists);
+      size_ready = omega (arith, size, fine.size_ready, length-set ready k false);
+      counted = counted_same calls after counts told named fine.counted;
+      waits = λ future i. fine.waits future i ∙ places_same calls after told named future i;
+      free = free;
+    }
   where
     never : (a b : Bool) → false ≡ (a && false && b)
     never true b = refl
@@ -199,8 +206,8 @@ sent_fine calls counts lists ready k call fine found =
     free i =
         let lt = slice_get_within calls k call found in
         elim (cases_eq i k) [
-          | inl e ↦ rw (e, get_or-set_same ready k false false (omega (arith, fine.3)), get-set_same calls k (record call { sent = true }) lt) (never (get_or counts k 0 == 0) (not call.told))
-          | inr other ↦ get_or-set_other ready k i false false other ∙ fine.6 i ∙ sym (field-set_other (λ (c : Entered). (get_or counts i 0 == 0) && not c.sent && not c.told) calls k i (record call { sent = true }) false other)
+          | inl e ↦ rw (e, get_or-set_same ready k false false (omega (arith, fine.size_ready)), get-set_same calls k (record call { sent = true }) lt) (never (get_or counts k 0 == 0) (not call.told))
+          | inr other ↦ get_or-set_other ready k i false false other ∙ fine.free i ∙ sym (field-set_other (λ (c : Entered). (get_or counts i 0 == 0) && not c.sent && not c.told) calls k i (record call { sent = true }) false other)
         ]
 
 -- a future is told: the calls that wait for it are yet to be counted down
@@ -212,16 +219,16 @@ told_start calls counts lists ready k call fine found =
     let lt = slice_get_within calls k call found in
     let is : is_told after k ≡ true = field-set_same (λ (c : Entered). c.told) calls k told false lt in
     let others : (future : ℕ) → future ≢ k → is_told after future ≡ is_told calls future = λ future other. field-set_other (λ (c : Entered). c.told) calls k future told false other in
-    let named : (i : ℕ) → futures_of after i ≡ futures_of calls i = λ i. field_same (λ (c : Entered). c.futures) calls k i call told [] found refl in (
-      omega (arith, size, fine.0),
-      omega (arith, size, fine.1),
-      omega (arith, size, fine.2),
-      omega (arith, size, fine.3, length-set ready k false),
-      λ i. rw (named i, fine.5 k i) (fine.4 i ∙ count_told (is_told calls) (is_told after) k (futures_of calls i) is others),
-      λ future i other. fine.5 future i ∙ rw (others future other, named i) refl,
-      is,
-      free,
-    )
+    let named : (i : ℕ) → futures_of after i ≡ futures_of calls i = λ i. field_same (λ (c : Entered). c.futures) calls k i call told [] found refl in
+    record {
+      size_counts = omega (arith, size, fine.size_counts);
+      size_lists = omega (arith, size, fine.size_lists);
+      size_ready = omega (arith, size, fine.size_ready, length-set ready k false);
+      counted = λ i. rw (named i, fine.waits k i) (fine.counted i ∙ count_told (is_told calls) (is_told after) k (futures_of calls i) is others);
+      waits = λ future i other. fine.waits future i ∙ rw (others future other, named i) refl;
+      told = is;
+      free = free;
+    }
   where
     never : (a b : Bool) → false ≡ (a && b && false)
     never true true = refl
@@ -232,8 +239,8 @@ told_start calls counts lists ready k call fine found =
     free i =
         let lt = slice_get_within calls k call found in
         elim (cases_eq i k) [
-          | inl e ↦ rw (e, get_or-set_same ready k false false (omega (arith, fine.3)), get-set_same calls k (record call { told = true }) lt) (never (get_or counts k 0 == 0) (not call.sent))
-          | inr other ↦ get_or-set_other ready k i false false other ∙ fine.6 i ∙ sym (field-set_other (λ (c : Entered). (get_or counts i 0 == 0) && not c.sent && not c.told) calls k i (record call { told = true }) false other)
+          | inl e ↦ rw (e, get_or-set_same ready k false false (omega (arith, fine.size_ready)), get-set_same calls k (record call { told = true }) lt) (never (get_or counts k 0 == 0) (not call.sent))
+          | inr other ↦ get_or-set_other ready k i false false other ∙ fine.free i ∙ sym (field-set_other (λ (c : Entered). (get_or counts i 0 == 0) && not c.sent && not c.told) calls k i (record call { told = true }) false other)
         ]
 
 -- the first call of those that wait
@@ -248,13 +255,13 @@ times-cons k x xs = sum_by-cons (λ y. cond (y == k) 1 0) x xs
 pub waiter_counted : (k : ℕ) (calls : List Entered) (counts : List ℕ) (lists : List (List ℕ)) (ready : List Bool) (waiter : ℕ) → IsTelling k calls counts lists ready → slice_get (waiting lists k) 0 ≡ Some waiter → 1 ≤ get_or counts waiter 0
 waiter_counted k calls counts lists ready waiter fine first =
     let here : times waiter (waiting lists k) ≡ 1 + times waiter (drop 1 (waiting lists k)) = ap (times waiter) (first_waits (waiting lists k) waiter first) ∙ times-cons waiter waiter (drop 1 (waiting lists k)) ∙ rw (eq-eqb waiter waiter refl) refl in
-    omega (arith, fine.4 waiter)
+    omega (arith, fine.counted waiter)
 
 pub waiter_entered : (k : ℕ) (calls : List Entered) (counts : List ℕ) (lists : List (List ℕ)) (ready : List Bool) (waiter : ℕ) → IsTelling k calls counts lists ready → slice_get (waiting lists k) 0 ≡ Some waiter → waiter < length calls
 waiter_entered k calls counts lists ready waiter fine first =
     elim (cases_lt waiter (length calls)) [
       | inl lt ↦ lt
-      | inr le ↦ absurd (omega (arith, waiter_counted k calls counts lists ready waiter fine first, get_or_past counts waiter 0 (omega (arith, fine.1))))
+      | inr le ↦ absurd (omega (arith, waiter_counted k calls counts lists ready waiter fine first, get_or_past counts waiter 0 (omega (arith, fine.size_counts))))
     ]
 
 told_entered : (calls : List Entered) (k : ℕ) → is_told calls k ≡ true → k < length calls
@@ -267,36 +274,36 @@ told_entered calls k told =
 -- one place of a call that waits is told
 pub told_step : (k : ℕ) (calls : List Entered) (counts : List ℕ) (lists : List (List ℕ)) (ready : List Bool) (waiter : ℕ) → IsTelling k calls counts lists ready → slice_get (waiting lists k) 0 ≡ Some waiter → IsTelling k calls (slice_set counts waiter (get_or counts waiter 0 - 1)) (slice_set lists k (drop 1 (waiting lists k))) (slice_set ready waiter (is_free calls (slice_set counts waiter (get_or counts waiter 0 - 1)) waiter))
 told_step k calls counts lists ready waiter fine first =
-    let lt = told_entered calls k fine.6 in
+    let lt = told_entered calls k fine.told in
     let rest = drop 1 (waiting lists k) in
     let less = get_or counts waiter 0 - 1 in
     let is : waiting lists k ≡ waiter ∷ rest = first_waits (waiting lists k) waiter first in
-    let shorter : waiting (slice_set lists k rest) k ≡ rest = get_or-set_same lists k rest [] (omega (arith, fine.2)) in
+    let shorter : waiting (slice_set lists k rest) k ≡ rest = get_or-set_same lists k rest [] (omega (arith, fine.size_lists)) in
     let within = waiter_entered k calls counts lists ready waiter fine first in
-    let counted = waiter_counted k calls counts lists ready waiter fine first in (
-      fine.0,
-      omega (arith, fine.1, length-set counts waiter less),
-      omega (arith, fine.2, length-set lists k rest),
-      omega (arith, fine.3, length-set ready waiter (is_free calls (slice_set counts waiter less) waiter)),
-      λ i. rw shorter (elim (cases_eq i waiter) [
+    let counted = waiter_counted k calls counts lists ready waiter fine first in
+    record {
+      size_counts = omega (arith, fine.size_counts, length-set counts waiter less);
+      size_lists = omega (arith, fine.size_lists, length-set lists k rest);
+      size_ready = omega (arith, fine.size_ready, length-set ready waiter (is_free calls (slice_set counts waiter less) waiter));
+      counted = λ i. rw shorter (elim (cases_eq i waiter) [
         | inl e ↦
             let here : times waiter (waiting lists k) ≡ 1 + times waiter rest = ap (times waiter) is ∙ times-cons waiter waiter rest ∙ rw (eq-eqb waiter waiter refl) refl in
-            rw (e, get_or-set_same counts waiter less 0 (omega (arith, fine.1))) (omega (arith, fine.4 waiter))
+            rw (e, get_or-set_same counts waiter less 0 (omega (arith, fine.size_counts))) (omega (arith, fine.counted waiter))
         | inr other ↦
             let here : times i (waiting lists k) ≡ 0 + times i rest = ap (times i) is ∙ times-cons i waiter rest ∙ rw (not_eqb waiter i (λ e. other (sym e))) refl in
-            rw (get_or-set_other counts waiter i less 0 other) (omega (arith, fine.4 i))
-      ]),
-      λ future i other. rw (get_or-set_other lists k future rest [] other) (fine.5 future i other),
-      fine.6,
-      λ i. elim (cases_eq i waiter) [
-        | inl e ↦ rw (e, get_or-set_same ready waiter (is_free calls (slice_set counts waiter less) waiter) false (omega (arith, fine.3))) refl
-        | inr other ↦ get_or-set_other ready waiter i (is_free calls (slice_set counts waiter less) waiter) false other ∙ fine.7 i ∙ rw (get_or-set_other counts waiter i less 0 other) refl
-      ],
-    )
+            rw (get_or-set_other counts waiter i less 0 other) (omega (arith, fine.counted i))
+      ]);
+      waits = λ future i other. rw (get_or-set_other lists k future rest [] other) (fine.waits future i other);
+      told = fine.told;
+      free = λ i. elim (cases_eq i waiter) [
+        | inl e ↦ rw (e, get_or-set_same ready waiter (is_free calls (slice_set counts waiter less) waiter) false (omega (arith, fine.size_ready))) refl
+        | inr other ↦ get_or-set_other ready waiter i (is_free calls (slice_set counts waiter less) waiter) false other ∙ fine.free i ∙ rw (get_or-set_other counts waiter i less 0 other) refl
+      ];
+    }
 
 -- a call is entered
-pub entered_fine : (calls : List Entered) (counts : List ℕ) (lists after : List (List ℕ)) (ready : List Bool) (k count : ℕ) (futures : List ℕ) → IsResolver calls counts lists ready → k ≡ length calls → k < 65536 → k < length ready → count ≡ untold_of calls futures → length after ≡ length (lists ++ [] ∷ []) → ((future call : ℕ) → times call (waiting after future) ≡ times call (waiting (lists ++ [] ∷ []) future) + cond ((call == k) && not (is_told calls future)) (times future futures) 0) → IsResolver (calls ++ new_call futures ∷ []) (counts ++ count ∷ []) after (slice_set ready k (count == 0))
-entered_fine calls counts lists after ready k count futures fine next limit room is size waits =
+pub entered_fine : (calls : List Entered) (counts : List ℕ) (lists after : List (List ℕ)) (ready : List Bool) (k count : ℕ) (futures : List ℕ) → IsResolver calls counts lists ready → k ≡ length calls → k < length ready → count ≡ untold_of calls futures → length after ≡ length (lists ++ [] ∷ []) → ((future call : ℕ) → times call (waiting after future) ≡ times call (waiting (lists ++ [] ∷ []) future) + cond ((call == k) && not (is_told calls future)) (times future futures) 0) → IsResolver (calls ++ new_call futures ∷ []) (counts ++ count ∷ []) after (slice_set ready k (count == 0))
+entered_fine calls counts lists after ready k count futures fine next room is size waits =
     let new : Entered = new_call futures in
     let more = calls ++ new ∷ [] in
     let told : (future : ℕ) → is_told more future ≡ is_told calls future = λ future. elim (cases_eq future (length calls)) [
@@ -305,21 +312,21 @@ entered_fine calls counts lists after ready k count futures fine next limit room
     ] in
     let named : (i : ℕ) → i ≢ k → futures_of more i ≡ futures_of calls i = λ i other. rw (get-push_other calls new i (λ e. other (e ∙ sym next))) refl in
     let here : futures_of more k ≡ futures = rw (next, get-push_here calls new) refl in
-    let nothing : futures_of calls k ≡ [] = rw (slice_get_past calls k (omega arith)) refl in (
-      omega (arith, length_push calls new),
-      omega (arith, fine.1, length_push calls new, length_push counts count),
-      omega (arith, fine.2, length_push calls new, length_push lists []),
-      omega (arith, length_push calls new, length-set ready k (count == 0)),
-      λ i. elim (cases_eq i k) [
-        | inl e ↦ rw (e, here) (get_or_push counts count 0 k (omega (arith, fine.1)) ∙ is ∙ count_same (λ future. not (is_told calls future)) (λ future. not (is_told more future)) futures (λ future. ap not (sym (told future))))
-        | inr other ↦ get_or-push_other counts count 0 i (λ e. other (e ∙ fine.1 ∙ sym next)) ∙ fine.4 i ∙ ap (untold_of calls) (sym (named i other)) ∙ count_same (λ future. not (is_told calls future)) (λ future. not (is_told more future)) (futures_of more i) (λ future. ap not (sym (told future)))
-      ],
-      λ future i. waits future i ∙ rw (get_or-push_default lists [] future, told future) (elim (cases_eq i k) [
-        | inl e ↦ rw (e, eq-eqb k k refl, here, fine.5 future k, nothing) (new_places (is_told calls future) (times future futures))
-        | inr other ↦ rw (not_eqb i k other, named i other, fine.5 future i) (omega arith)
-      ]),
-      free,
-    )
+    let nothing : futures_of calls k ≡ [] = rw (slice_get_past calls k (omega arith)) refl in
+    record {
+      size_counts = omega (arith, fine.size_counts, length_push calls new, length_push counts count);
+      size_lists = omega (arith, fine.size_lists, length_push calls new, length_push lists []);
+      size_ready = omega (arith, length_push calls new, length-set ready k (count == 0));
+      counted = λ i. elim (cases_eq i k) [
+        | inl e ↦ rw (e, here) (get_or_push counts count 0 k (omega (arith, fine.size_counts)) ∙ is ∙ count_same (λ future. not (is_told calls future)) (λ future. not (is_told more future)) futures (λ future. ap not (sym (told future))))
+        | inr other ↦ get_or-push_other counts count 0 i (λ e. other (e ∙ fine.size_counts ∙ sym next)) ∙ fine.counted i ∙ ap (untold_of calls) (sym (named i other)) ∙ count_same (λ future. not (is_told calls future)) (λ future. not (is_told more future)) (futures_of more i) (λ future. ap not (sym (told future)))
+      ];
+      waits = λ future i. waits future i ∙ rw (get_or-push_default lists [] future, told future) (elim (cases_eq i k) [
+        | inl e ↦ rw (e, eq-eqb k k refl, here, fine.waits future k, nothing) (new_places (is_told calls future) (times future futures))
+        | inr other ↦ rw (not_eqb i k other, named i other, fine.waits future i) (omega arith)
+      ]);
+      free = free;
+    }
   where
     new_places : (b : Bool) (n : ℕ) → cond b 0 0 + cond (true && not b) n 0 ≡ cond b 0 n
     new_places true n = refl
@@ -332,8 +339,8 @@ entered_fine calls counts lists after ready k count futures fine next limit room
     free : AreFree (calls ++ new_call futures ∷ []) (counts ++ count ∷ []) (slice_set ready k (count == 0))
     free i =
         elim (cases_eq i k) [
-          | inl e ↦ rw (e, get_or-set_same ready k (count == 0) false room, get_or_push counts count 0 k (omega (arith, fine.1)), next, get-push_here calls (new_call futures)) (plain (count == 0))
-          | inr other ↦ get_or-set_other ready k i (count == 0) false other ∙ fine.6 i ∙ rw (get-push_other calls (new_call futures) i (λ e. other (e ∙ sym next)), get_or-push_other counts count 0 i (λ e. other (e ∙ fine.1 ∙ sym next))) refl
+          | inl e ↦ rw (e, get_or-set_same ready k (count == 0) false room, get_or_push counts count 0 k (omega (arith, fine.size_counts)), next, get-push_here calls (new_call futures)) (plain (count == 0))
+          | inr other ↦ get_or-set_other ready k i (count == 0) false other ∙ fine.free i ∙ rw (get-push_other calls (new_call futures) i (λ e. other (e ∙ sym next)), get_or-push_other counts count 0 i (λ e. other (e ∙ fine.size_counts ∙ sym next))) refl
         ]
 
 -- a list that was written over as a slice

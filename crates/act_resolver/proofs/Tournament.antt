@@ -1,5 +1,5 @@
 -- A tournament in which one node or one leaf changes, and what its first node says.
-use Rattle.std.proofs.Common.{◌≡◌, ◌≢◌, ℕ, zero, suc, ◌+◌, ◌-◌, ◌*◌, ◌/◌, ◌<◌, ◌≤◌, ◌⊎◌, inl, inr, min, Bool, true, false, cond, Option, Some, None, List, length, get_or, refl, sym, ◌∙◌, ap, arith, MatchOption, ◌++◌, take, drop, replicate}
+use Rattle.std.proofs.Common.{◌≡◌, ◌≢◌, ℕ, zero, suc, ◌+◌, ◌-◌, ◌*◌, ◌/◌, ◌^◌, ◌<◌, ◌≤◌, ◌⊎◌, inl, inr, min, Bool, true, false, cond, Option, Some, None, List, length, get_or, refl, sym, ◌∙◌, ap, arith, MatchOption, ◌++◌, take, drop, replicate}
 use Rattle.std.specs.Prelude.{slice_set}
 use Rattle.std.proofs.lemmas.List.{get_or-set_other, get_or-set_same, get_or_past, get_or_append_left, get_or-append_right, take_all, drop_all, append-nil}
 use Rattle.std.proofs.lemmas.Bool.{cases_lt, cases_eq, lt-ltb, le-ltb, false≢true}
@@ -132,7 +132,7 @@ pub first_is_least : (members : List Bool) (winners : List (Option ℕ)) → IsP
 first_is_least members winners played = least_at members winners played (at_node members winners 1) refl
 
 -- winners that were written over as a slice
-pub tournament_after : (members seen : List Bool) (winners played : List (Option ℕ)) (n : ℕ) → n ≡ length winners → seen ≡ members → length played ≡ length winners → length members ≤ length winners → length members ≤ 131072 → IsPlayedFrom 1 seen played → IsTournament members (take n (played ++ drop (length played) winners))
+pub tournament_after : (members seen : List Bool) (winners played : List (Option ℕ)) (n : ℕ) → n ≡ length winners → seen ≡ members → length played ≡ length winners → length members ≤ length winners → length members ≤ 2 ^ 32 → IsPlayedFrom 1 seen played → IsTournament members (take n (played ++ drop (length played) winners))
 tournament_after members seen winners played n all same long places few is =
     rw (drop_all (length played) winners (omega arith), append-nil played, take_all n played (omega arith))
     (omega arith, few, rw same at is)

@@ -36,9 +36,21 @@ AreWaiting calls lists = (future k : ℕ) → times k (waiting lists future) ≡
 abbrev pub AreFree : List Entered → List ℕ → List Bool → Type 0
 AreFree calls counts ready = (k : ℕ) → slice_index_or ready k false ≡ is_free calls counts k
 
-abbrev pub IsResolver : List Entered → List ℕ → List (List ℕ) → List Bool → Type 0
-IsResolver calls counts lists ready = (length calls ≤ 65536) × (length counts ≡ length calls) × (length lists ≡ length calls) × (length calls ≤ length ready) × AreCounted calls counts × AreWaiting calls lists × AreFree calls counts ready
+-- what a resolver keeps is as its calls are
+pub record IsResolver (calls : List Entered) (counts : List ℕ) (lists : List (List ℕ)) (ready : List Bool) : Type 0 where
+  pub size_counts : length counts ≡ length calls
+  pub size_lists : length lists ≡ length calls
+  pub size_ready : length calls ≤ length ready
+  pub counted : AreCounted calls counts
+  pub waits : AreWaiting calls lists
+  pub free : AreFree calls counts ready
 
 -- while future k is being told: each call that waits for it is yet to be counted down, and all else is as it should be
-abbrev pub IsTelling : ℕ → List Entered → List ℕ → List (List ℕ) → List Bool → Type 0
-IsTelling k calls counts lists ready = (length calls ≤ 65536) × (length counts ≡ length calls) × (length lists ≡ length calls) × (length calls ≤ length ready) × ((call : ℕ) → slice_index counts call ≡ untold_of calls (futures_of calls call) + times call (waiting lists k)) × ((future call : ℕ) → (future ≡ k → ⊥) → times call (waiting lists future) ≡ places_for calls future call) × (is_told calls k ≡ true) × AreFree calls counts ready
+pub record IsTelling (k : ℕ) (calls : List Entered) (counts : List ℕ) (lists : List (List ℕ)) (ready : List Bool) : Type 0 where
+  pub size_counts : length counts ≡ length calls
+  pub size_lists : length lists ≡ length calls
+  pub size_ready : length calls ≤ length ready
+  pub counted : (call : ℕ) → slice_index counts call ≡ untold_of calls (futures_of calls call) + times call (waiting lists k)
+  pub waits : (future call : ℕ) → (future ≡ k → ⊥) → times call (waiting lists future) ≡ places_for calls future call
+  pub told : is_told calls k ≡ true
+  pub free : AreFree calls counts ready

@@ -1,5 +1,5 @@
 -- Numbers below a bound, and the least of them.
-use Rattle.std.specs.Prelude.{◌≡◌, ℕ, ◌+◌, ◌-◌, ◌*◌, ◌<◌, ◌≤◌, min, Bool, true, false, if◌then◌else◌, nat_lt, Option, Some, None, List, length, slice_index_or, MatchOption}
+use Rattle.std.specs.Prelude.{◌≡◌, ℕ, ◌+◌, ◌-◌, ◌*◌, ◌^◌, ◌<◌, ◌≤◌, min, Bool, true, false, if◌then◌else◌, nat_lt, Option, Some, None, List, length, slice_index_or, MatchOption}
 
 -- the number is a member, and no lesser one is; where there is none, no number is a member
 abbrev pub IsLeast : List Bool → Option ℕ → Type 0
@@ -27,6 +27,6 @@ IsPlayedBut other members winners = (node : ℕ) → 1 ≤ node → node < lengt
 abbrev pub IsPlayedFrom : ℕ → List Bool → List (Option ℕ) → Type 0
 IsPlayedFrom from members winners = (node : ℕ) → from ≤ node → node < length members → slice_index_or winners node None ≡ winner members winners node
 
--- there is a place for each winner, and each has it
+-- there is a place for each winner, each has it, and each number fits in 32 bits
 abbrev pub IsTournament : List Bool → List (Option ℕ) → Type 0
-IsTournament members winners = (length members ≤ length winners) × (length members ≤ 131072) × IsPlayedFrom 1 members winners
+IsTournament members winners = (length members ≤ length winners) × (length members ≤ 2 ^ 32) × IsPlayedFrom 1 members winners

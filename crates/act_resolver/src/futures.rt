@@ -2,33 +2,34 @@
 
 ghost use Rattle.std.specs.Prelude.{◌≡◌, ◌<◌, ◌≤◌, [], ◌∷◌, ◌++◌, length};
 
-use act_types::FutureId;
+use act_types::{FutureId, MOST_ARGS};
 use std::marker::Model;
 
 /// At most four futures, kept without memory of their own.
 #[derive(Drop)]
 pub struct Futures {
-    places: [FutureId; 4],
+    places: [FutureId; MOST_ARGS],
     count: usize,
 }
 
 impl Model for Futures {
     ghost use Rattle.std.specs.Prelude.{ℕ, ◌≤◌, List, take};
+    ghost use Rattle.act_types.specs.declared.limits.TheConstants.{MOST_ARGS};
 
     ghost Value = { List ℕ };
 
     ghost view = { λ futures. take futures.count futures.places };
 
-    ghost invariant = { λ futures. futures.count ≤ 4 };
+    ghost invariant = { λ futures. futures.count ≤ MOST_ARGS };
 }
 
 impl Futures {
     /// These futures.
     pub fn new(futures: &[FutureId]) -> Futures
-        requires { length futures.now ≤ 4 }
+        requires { length futures.now ≤ MOST_ARGS }
         ensures { result ≡ futures.now }
     {
-        let mut places = [FutureId::new(0); 4];
+        let mut places = [FutureId::new(0); MOST_ARGS];
         let count = futures.len();
         places[..count].copy_from_slice(futures);
         Futures { places, count }
@@ -36,7 +37,7 @@ impl Futures {
 
     /// Adds a future at the end.
     pub fn push(&mut self, future: FutureId)
-        requires { length self.old < 4 }
+        requires { length self.old < MOST_ARGS }
         ensures { self.new ≡ self.old ++ future ∷ [] }
     {
         self.places[self.count] = future;

@@ -1,11 +1,14 @@
 //! Numbers below a bound, of which the least is known at once.
 
-ghost use Rattle.std.specs.Prelude.{◌≡◌, ℕ, ◌+◌, ◌*◌, ◌/◌, ◌<◌, ◌≤◌, [], false, length, slice_index_or, slice_set, IsOk, OnOk};
+ghost use Rattle.std.specs.Prelude.{◌≡◌, ℕ, ◌+◌, ◌*◌, ◌/◌, ◌^◌, ◌<◌, ◌≤◌, [], false, length, slice_index_or, slice_set, IsOk, OnOk};
 ghost use Rattle.act_resolver.specs.Least.{IsLeast, IsPlayedBut, IsPlayedFrom, at_node, lesser, winner};
 
 use act_types::NoMemory;
 use std::alloc::Global;
 use std::marker::Model;
+
+/// Each number below the bound fits in 32 bits.
+const HIGHEST_BOUND: usize = 1 << 32;
 
 /// Some of the numbers below a bound. They stand at the leaves of a tournament: each inner node has
 /// the lesser of the two below it, so that the first node has the least of all, and a change plays
@@ -38,9 +41,9 @@ impl LeastSet {
         }
     }
 
-    /// Raises the bound, at least to twice what it was, unless it is high enough.
+    /// Raises the bound at least to this one, and to twice what it was as far as it can. A bound
+    /// above 2^32 is refused.
     pub fn make_room(&mut self, bound: usize) -> Result<(), NoMemory>
-        requires { bound ≤ 65537 }
         ensures ok { OnOk result (bound ≤ length self.new) }
         ensures room { bound ≤ length self.old → IsOk result }
         ensures grows { length self.old ≤ length self.new }
@@ -51,7 +54,10 @@ impl LeastSet {
         if bound <= count {
             return Ok(());
         }
-        let raised = bound.max(2 * count);
+        if bound > HIGHEST_BOUND {
+            return Err(NoMemory);
+        }
+        let raised = bound.max(2 * count).min(HIGHEST_BOUND);
         self.winners.resize(raised, None)?;
         self.members.resize(raised, false)?;
         play_all(&self.members, &mut self.winners);
@@ -80,7 +86,7 @@ impl LeastSet {
 
 fn at_node(members: &[bool], winners: &[Option<u32>], node: usize) -> Option<u32>
     requires places { length members.now ≤ length winners.now }
-    requires few { length members.now ≤ 131072 }
+    requires few { length members.now ≤ 2 ^ 32 }
     ensures { result ≡ at_node members.now winners.now node }
 {
     if node < members.len() {
@@ -106,7 +112,7 @@ fn lesser(a: Option<u32>, b: Option<u32>) -> Option<u32>
 /// Plays an inner node once more.
 fn play(members: &[bool], winners: &mut [Option<u32>], node: usize)
     requires places { length members.now ≤ length winners.old }
-    requires few { length members.now ≤ 131072 }
+    requires few { length members.now ≤ 2 ^ 32 }
     requires inner { node < length members.now }
     ensures { winners.new ≡ slice_set winners.old node (winner members.now winners.old node) }
 {
@@ -118,7 +124,7 @@ fn play(members: &[bool], winners: &mut [Option<u32>], node: usize)
 /// Plays the inner nodes above the leaf of number `k`, from the lowest up.
 fn play_above(members: &[bool], winners: &mut [Option<u32>], k: usize)
     requires places { length members.now ≤ length winners.old }
-    requires few { length members.now ≤ 131072 }
+    requires few { length members.now ≤ 2 ^ 32 }
     requires member { k < length members.now }
     requires others { IsPlayedBut ((length members.now + k) / 2) members.now winners.old }
     ensures { IsPlayedFrom 1 members.now winners.new }
@@ -133,7 +139,7 @@ fn play_above(members: &[bool], winners: &mut [Option<u32>], k: usize)
 /// Plays all inner nodes, the lowest first.
 fn play_all(members: &[bool], winners: &mut [Option<u32>])
     requires places { length members.now ≤ length winners.old }
-    requires few { length members.now ≤ 131072 }
+    requires few { length members.now ≤ 2 ^ 32 }
     ensures { IsPlayedFrom 1 members.now winners.new }
 {
     let mut node = members.len();

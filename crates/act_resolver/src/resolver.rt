@@ -9,7 +9,7 @@ ghost use Rattle.act_resolver.specs.Waiters.{waiting};
 use crate::futures::Futures;
 use crate::least::LeastSet;
 use crate::waiters::Waiters;
-use act_types::{FutureId, NoMemory};
+use act_types::{FutureId, MOST_ARGS, NoMemory};
 use std::alloc::Global;
 use std::marker::Model;
 
@@ -42,6 +42,7 @@ pub struct Resolver {
 
 impl Model for Resolver {
     ghost use Rattle.std.specs.Prelude.{◌-◌, ◌/◌, min, length, vec_len, vec_capacity};
+    ghost use Rattle.act_types.specs.declared.limits.TheConstants.{MOST_ARGS};
     ghost use Rattle.act_resolver.specs.Counts.{IsResolver};
     ghost use Rattle.act_resolver.specs.Resolver.{ResolverValue};
 
@@ -49,7 +50,7 @@ impl Model for Resolver {
 
     ghost view = { λ resolver. record {
       calls = resolver.calls.items;
-      spare = min (min (vec_capacity resolver.calls - vec_len resolver.calls) (vec_capacity resolver.untold - vec_len resolver.untold)) (min (min resolver.waiters.future_room (resolver.waiters.place_room / 4)) (length resolver.ready - vec_len resolver.calls));
+      spare = min (min (vec_capacity resolver.calls - vec_len resolver.calls) (vec_capacity resolver.untold - vec_len resolver.untold)) (min (min resolver.waiters.future_room (resolver.waiters.place_room / MOST_ARGS)) (length resolver.ready - vec_len resolver.calls));
     } };
 
     ghost invariant = { λ resolver. IsResolver resolver.calls.items resolver.untold.items resolver.waiters.lists resolver.ready };
@@ -86,8 +87,7 @@ impl Resolver {
     /// weren't told yet. Where there is room it takes no memory.
     pub fn enter(&mut self, k: FutureId, futures: &[FutureId]) -> Result<(), NoMemory>
         requires next { k ≡ length self.old.calls }
-        requires below_limit { k < 65536 }
-        requires at_most_four { length futures.now ≤ 4 }
+        requires at_most_four { length futures.now ≤ MOST_ARGS }
         requires earlier { All (λ future. future < k) futures.now }
 
         ensures ok { OnOk result (self.new.calls ≡ self.old.calls ++ new_call futures.now ∷ []) }
@@ -168,9 +168,9 @@ impl Resolver {
 
 /// Has call `k` wait at each place for whose future there is no answer yet, and counts them.
 fn add_places(calls: &[Call], waiters: &mut Waiters, k: FutureId, futures: &[FutureId]) -> u8
-    requires at_most_four { length futures.now ≤ 4 }
+    requires at_most_four { length futures.now ≤ MOST_ARGS }
     requires earlier { All (λ future. future < length waiters.old.lists) futures.now }
-    requires room { 4 ≤ waiters.old.place_room }
+    requires room { MOST_ARGS ≤ waiters.old.place_room }
 
     ensures count { result ≡ untold_of calls.now futures.now }
     ensures lists { (future call : ℕ) →
@@ -179,7 +179,7 @@ fn add_places(calls: &[Call], waiters: &mut Waiters, k: FutureId, futures: &[Fut
         + (if (call == k) && not (is_told calls.now future) then times future futures.now else 0) }
     ensures length { length waiters.new.lists ≡ length waiters.old.lists }
     ensures future_room { waiters.new.future_room ≡ waiters.old.future_room }
-    ensures place_room { waiters.old.place_room ≤ waiters.new.place_room + 4 }
+    ensures place_room { waiters.old.place_room ≤ waiters.new.place_room + MOST_ARGS }
 {
     let mut untold = 0;
     for future in futures {

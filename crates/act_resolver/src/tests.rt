@@ -4,7 +4,7 @@
 ghost use Rattle.std.specs.Prelude.{◌≡◌, ◌<◌, ◌≤◌, [], length, IfOk, OnErr};
 
 use crate::{Futures, Resolver};
-use act_types::{FutureId, NoMemory};
+use act_types::{FutureId, MOST_ARGS, MOST_CALLS, NoMemory};
 use std::alloc::Global;
 use std::process::Abort;
 use std::test::Fail;
@@ -36,8 +36,8 @@ fn take(
             Ok(entered)
         }
         Step::Enter(futures) => {
-            assert!(rt; entered < 65_536);
-            assert!(rt; futures.len() <= 4);
+            assert!(rt; entered < u32::MAX);
+            assert!(rt; futures.len() <= MOST_ARGS);
             assert!(rt; futures.iter().all(|future| future.number() < entered));
             resolver.enter(FutureId::new(entered), futures)?;
             Ok(entered + 1)
@@ -84,15 +84,19 @@ fn play(
 fn calls_wait_for_answers(rt: HostRuntime) -> Result<(), Fail> {
     let [c0, c1, c2, c3, c4] = [0, 1, 2, 3, 4].map(FutureId::new);
     let mut resolver = Resolver::new(rt.alloc());
-    let rows: [(Step, Option<FutureId>); 10] = [
+    let rows: [(Step, Option<FutureId>); 14] = [
+        (Step::Reserve, None),
         (Step::Enter(&[]), Some(c0)),
         (Step::Sent(c0), None),
+        (Step::Reserve, None),
         (Step::Enter(&[c0, c0]), None),
+        (Step::Reserve, None),
         (Step::Enter(&[c0, c1]), None),
         (Step::Told(c0), Some(c1)),
         (Step::Told(c0), Some(c1)),
         (Step::Told(c1), Some(c2)),
         (Step::Sent(c2), None),
+        (Step::Reserve, None),
         (Step::Enter(&[c2, c0]), None),
         (Step::Told(c2), Some(c3)),
     ];
@@ -146,8 +150,10 @@ fn refused_memory_changes_nothing(rt: HostRuntime) -> Result<(), Fail> {
 fn a_thousand_calls_wait_for_one(rt: HostRuntime) -> Result<(), Fail> {
     let c0 = FutureId::new(0);
     let mut resolver = Resolver::new(rt.alloc());
+    resolver.reserve_one()?;
     let mut entered = take(&rt, &mut resolver, 0, &Step::Enter(&[]))?;
     for _ in 0..1000 {
+        resolver.reserve_one()?;
         entered = take(&rt, &mut resolver, entered, &Step::Enter(&[c0]))?;
     }
     assert_eq!(rt; resolver.ready(), Some(c0));
@@ -185,7 +191,7 @@ fn is_known(calls: &[Scanned], k: FutureId) -> bool {
 
 /// Asks each call in turn.
 fn first_ready(calls: &[Scanned]) -> Option<FutureId>
-    requires { length calls.now ≤ 65536 }
+    requires { length calls.now ≤ MOST_CALLS }
 {
     (0..calls.len() as u32).map(FutureId::new).find(|k| is_known(calls, *k)
         && !is_sent(calls, *k)
@@ -197,7 +203,7 @@ fn scan_step(rt: &impl Abort, calls: &mut Vec<Scanned>, step: &Step) -> Result<(
     match *step {
         Step::Reserve => {}
         Step::Enter(futures) => {
-            assert!(rt; futures.len() <= 4);
+            assert!(rt; futures.len() <= MOST_ARGS);
             calls.push(Scanned {
                 futures: Futures::new(futures),
                 told: false,
@@ -220,7 +226,7 @@ fn scan_step(rt: &impl Abort, calls: &mut Vec<Scanned>, step: &Step) -> Result<(
 
 /// The resolver answers as the plain scan does.
 fn assert_same(rt: &impl Abort, resolver: &Resolver, calls: &[Scanned]) {
-    assert!(rt; calls.len() <= 65_536);
+    assert!(rt; calls.len() <= MOST_CALLS as usize);
     assert_eq!(rt; resolver.ready(), first_ready(calls));
     for k in (0..calls.len() as u32 + 1).map(FutureId::new) {
         assert_eq!(rt; resolver.is_known(k), is_known(calls, k));

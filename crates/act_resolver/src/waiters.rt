@@ -3,7 +3,7 @@
 ghost use Rattle.std.specs.Prelude.{◌≡◌, ◌+◌, ◌*◌, ◌<◌, ◌≤◌, [], ◌∷◌, ◌++◌, length, drop, slice_get, slice_set, IsOk, OnOk};
 ghost use Rattle.act_resolver.specs.Waiters.{waiting};
 
-use act_types::{FutureId, NoMemory};
+use act_types::{FutureId, MOST_ARGS, NoMemory};
 use std::alloc::Global;
 use std::marker::Model;
 
@@ -49,20 +49,21 @@ impl Waiters {
         }
     }
 
-    /// Makes room for one more future, and for four more places, whose numbers are below 2^32.
+    /// Makes room for one more future, and for the places of one more call, whose numbers are below
+    /// 2^32.
     pub fn reserve_one(&mut self) -> Result<(), NoMemory>
         ensures lists { self.new.lists ≡ self.old.lists }
         ensures future_room { OnOk result (1 ≤ self.new.future_room) }
-        ensures place_room { OnOk result (4 ≤ self.new.place_room) }
-        ensures room { 1 ≤ self.old.future_room → 4 ≤ self.old.place_room → IsOk result }
+        ensures place_room { OnOk result (MOST_ARGS ≤ self.new.place_room) }
+        ensures room { 1 ≤ self.old.future_room → MOST_ARGS ≤ self.old.place_room → IsOk result }
         ensures future_room_stays { self.old.future_room ≤ self.new.future_room }
         ensures place_room_stays { self.old.place_room ≤ self.new.place_room }
     {
-        if self.places.len() + 4 > u32::MAX as usize {
+        if self.places.len() + MOST_ARGS > u32::MAX as usize {
             return Err(NoMemory);
         }
         self.firsts.reserve(1)?;
-        self.places.reserve(4)?;
+        self.places.reserve(MOST_ARGS)?;
         Ok(())
     }
 

@@ -23,5 +23,5 @@ invariant_of-self c =
     ∙ ap (λ fs. times call (waiting (lists ++ [] ∷ []) future) + cond ((call == k) && not (is_told calls future)) (times future fs) 0) (sym c.new.ensures) in
     let size : length after ≡ length (lists ++ [] ∷ []) = c.add_places-untold.ensures.length ∙ ap length c.add_future.ensures.lists in
     let room : k < length c.self-2.inside.ready = omega (arith, next, ap (λ v. v.spare) c.self-2.view_is, c.in_ok-reserve_one.ensures.ok, c.self-2.inside.calls.ok.0) in
-    let fine = entered_fine calls c.self-2.inside.untold.items lists after c.self-2.inside.ready k c.add_places-untold.result futures c.self-2.invariant next (omega (arith, c.number-2.ensures, c.requires.below_limit)) room is size waits in
+    let fine = entered_fine calls c.self-2.inside.untold.items lists after c.self-2.inside.ready k c.add_places-untold.result futures c.self-2.invariant next room is size waits in
     rw (c.push_reserved.ensures.items, c.push_reserved-2.ensures.items, c.set.ensures) fine
