@@ -1,7 +1,7 @@
 -- Answers: what a first answer and a death leave in the futures.
-use Rattle.std.proofs.Common.{◌≡◌, ℕ, zero, suc, ◌+◌, ◌==◌, ◌&&◌, Bool, true, false, not, cond, if◌then◌else◌, List, [], ◌∷◌, ◌++◌, length, map, drop, get_or, count_by, Option, Some, None, is_some, Err, refl, sym, ◌∙◌, ap, arith}
+use Rattle.std.proofs.Common.{◌≡◌, ℕ, zero, suc, ◌+◌, ◌==◌, ◌&&◌, ◌||◌, Bool, true, false, not, cond, if◌then◌else◌, List, [], ◌∷◌, ◌++◌, length, map, drop, get_or, count_by, Option, Some, None, is_some, IfSome, IfNone, Err, refl, sym, ◌∙◌, ap, arith}
 use Rattle.std.specs.Prelude.{slice_get, slice_set, zip, nat_eq}
-use Rattle.std.specs.List.{list_all}
+use Rattle.std.specs.List.{list_all, list_any}
 use Rattle.std.proofs.lemmas.Bool.{ne_eqb}
 use Rattle.std.proofs.lemmas.List.{map-set}
 use Rattle.std.proofs.lemmas.List.Sums.{sum_by-cons}
@@ -11,7 +11,7 @@ use Rattle.act_rules.specs.RunList.{Answer}
 use Rattle.act_rules.specs.Submissions.{kept_at}
 use Rattle.act_handles.specs.declared.handles.Handle.{Handle}
 use Rattle.act_replies.specs.declared.table.Row.{Row}
-use Rattle.act_replies.specs.Table.{is_open, waits_for as row_waits_for, unanswered_row, with_answer, after_keep, after_keep_in, row_after_death, after_death as rows_after_death}
+use Rattle.act_replies.specs.Table.{is_open, waits_for as row_waits_for, waits_at, unanswered_row, with_answer, after_keep, after_keep_in, row_after_death, after_death as rows_after_death}
 use Rattle.act_owner.specs.declared.owner.Call.{Call}
 use Rattle.act_types.specs.declared.message.Reply.{Reply}
 use Rattle.act_handles.specs.Handles.{copies_in}
@@ -177,3 +177,30 @@ death_kept id handles calls rows new entered entered2 dead now a number same act
     ∙ ap (λ (kept : List (Option Answer)). record before { kept = kept; dead = slice_set dead a true }) (died_answers a rows calls actors)
     ∙ ap (λ (owner : OwnerValue). with_death owner a) same
     ∙ sym (ap (λ b. if b then with_death now a else now) listed)
+
+any_waits : (a k : ℕ) (rows : List Row) → waits_at a rows k ≡ true → list_any (row_waits_for a) rows ≡ true
+any_waits a k [] is = absurd (cc is)
+any_waits a zero (row ∷ rows) is = rw is refl
+any_waits a (suc k) (row ∷ rows) is = elim (row_waits_for a row) as (λ b. (b || list_any (row_waits_for a) rows) ≡ true) [ true ↦ refl | false ↦ any_waits a k rows is ]
+
+none_waits : (a : ℕ) (rows : List Row) → count_by (row_waits_for a) rows ≡ 0 → list_any (row_waits_for a) rows ≡ false
+none_waits a [] none = refl
+none_waits a (row ∷ rows) none =
+    by_first (row_waits_for a row) (count_by (row_waits_for a) rows) (list_any (row_waits_for a) rows) (sym (sum_by-cons (λ (r : Row). cond (row_waits_for a r) 1 0) row rows) ∙ none) (λ e. none_waits a rows e)
+  where
+    by_first : (b : Bool) (n : ℕ) (rest : Bool) → cond b 1 0 + n ≡ 0 → (n ≡ 0 → rest ≡ false) → (b || rest) ≡ false
+    by_first true n rest e left = absurd (omega (arith, e))
+    by_first false n rest e left = left (omega (arith, e))
+
+pairs_wait : (a : ℕ) (rows : List Row) (calls : List Call) → map (λ row. row.actor) rows ≡ map (λ call. call.actor) calls → list_any (row_waits_for a) rows ≡ list_any (waits_for a) (zip (map submission_of calls) (answers_of rows))
+pairs_wait a [] [] same = refl
+pairs_wait a [] (call ∷ calls) same = refl
+pairs_wait a (row ∷ rows) [] same = let none : length (map (λ (r : Row). r.actor) (row ∷ rows)) ≡ 0 = ap length same in absurd (omega (arith, none))
+pairs_wait a (row ∷ rows) (call ∷ calls) same =
+    ap (λ b. b || list_any (row_waits_for a) rows) (waits_same a row call (ap (λ (l : List ℕ). get_or l 0 0) same))
+    ∙ ap (λ b. waits_for a (submission_of call, row.answer) || b) (pairs_wait a rows calls (ap (drop 1) same))
+
+-- a call of the actor waits where the table finds one
+pub awaits_is : (a : ℕ) (found : Option ℕ) (rows : List Row) (calls : List Call) → IfSome found (λ k. waits_at a rows k ≡ true) → IfNone found (count_by (row_waits_for a) rows ≡ 0) → map (λ row. row.actor) rows ≡ map (λ call. call.actor) calls → is_some found ≡ list_any (waits_for a) (zip (map submission_of calls) (answers_of rows))
+awaits_is a None rows calls waits none same = sym (none_waits a rows none) ∙ pairs_wait a rows calls same
+awaits_is a (Some k) rows calls waits none same = sym (any_waits a k rows waits) ∙ pairs_wait a rows calls same

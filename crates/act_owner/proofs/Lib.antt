@@ -3,3 +3,4 @@ pub mod Waiting
 pub mod Deaths
 pub mod Answers
 pub mod Life
+pub mod Told

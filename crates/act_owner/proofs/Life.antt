@@ -47,7 +47,7 @@ args_after kept later same (arg ∷ args) known =
       ap (λ (x : Settled). x ∷ map (settled later) args) here.1 ∙ ap (λ (xs : List Settled). settled kept arg ∷ xs) rest.1,
     )
 
-found_below : (calls : List Submission) (k : ℕ) (call : Submission) → slice_get calls k ≡ Some call → k < length calls
+pub found_below : (calls : List Submission) (k : ℕ) (call : Submission) → slice_get calls k ≡ Some call → k < length calls
 found_below calls k call found =
     elim (leb_tells (suc k) (length calls)) [
       | inl t ↦ t.1
@@ -146,7 +146,7 @@ died owner a true places = record {
   places = places_death a owner.calls owner.kept places;
 }
 
-step : (owner : OwnerValue) (change : Change) → length owner.kept ≡ length owner.calls → Extends owner (after owner change)
+pub step : (owner : OwnerValue) (change : Change) → length owner.kept ≡ length owner.calls → Extends owner (after owner change)
 step owner (Copied a) places = record { id = refl; calls = λ k _. refl; numbers = λ b k _. refl; kept = λ k _. refl; places = places }
 step owner (Released a) places = record { id = refl; calls = λ k _. refl; numbers = λ b k _. refl; kept = λ k _. refl; places = places }
 step owner (Submitted a method args) places = submitted owner a method args places

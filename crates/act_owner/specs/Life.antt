@@ -1,10 +1,14 @@
 -- The life of one caller, and that a call's packet is the same through all of it.
-use Rattle.std.specs.Prelude.{◌≡◌, ℕ, ◌++◌, Bool, List, [], ◌∷◌, slice_get, IsTrue}
+use Rattle.std.specs.Prelude.{◌≡◌, ℕ, ◌++◌, Bool, true, false, List, [], ◌∷◌, slice_get, filter_map, Option, Some, None, Contains, IsTrue}
 use Rattle.act_types.specs.declared.call.Method.{Method}
 use Rattle.act_types.specs.declared.call.Arg.{Arg}
 use Rattle.act_types.specs.declared.message.Notice.{Notice}
+use Rattle.act_types.specs.declared.message.Notice.TheVariants.{Answered, Death}
+use Rattle.act_types.specs.declared.message.Reply.{Reply}
+use Rattle.act_rules.specs.RunList.{Answer}
+use Rattle.act_rules.specs.Submissions.{kept_at}
 use Rattle.act_handles.specs.Handles.{with_copy, without_copy}
-use Rattle.act_owner.specs.Owner.{OwnerValue, opened, with_handles, with_call, with_sent, after_collect, is_known_call, packet_at}
+use Rattle.act_owner.specs.Owner.{OwnerValue, opened, with_handles, with_call, with_sent, after_collect, is_known_call, packet_at, is_sent, is_dead, is_to, is_death}
 
 -- what a call of a caller changes it by; one that is refused changes nothing
 pub data Change : Type 0 where
@@ -49,3 +53,49 @@ KnownCallsStayKnown = (id : ℕ) (actors : List ℕ) (changes later : List Chang
 abbrev pub OnePacketForGood : Type 0
 OnePacketForGood = (id : ℕ) (actors : List ℕ) (changes later : List Change) (k : ℕ) →
     IsTrue (is_known_at (caller id actors changes) k) → packet_at (caller id actors (changes ++ later)) k ≡ packet_at (caller id actors changes) k
+
+-- a call that was sent stays so
+abbrev pub SentStaysSent : Type 0
+SentStaysSent = (id : ℕ) (actors : List ℕ) (changes later : List Change) (k : ℕ) →
+    IsTrue (is_sent (caller id actors changes) k) → IsTrue (is_sent (caller id actors (changes ++ later)) k)
+
+-- the notice that a change collects, if it collects one
+abbrev pub notice_of : Change → Option Notice
+notice_of (Copied a) = None
+notice_of (Released a) = None
+notice_of (Submitted a method args) = None
+notice_of (Sent k) = None
+notice_of (Noticed notice) = Some notice
+
+-- the notices that these changes collect, in order
+abbrev pub notices_in : List Change → List Notice
+notices_in changes = filter_map notice_of changes
+
+-- one of these notices is a reply with this caller, this future, its actor and this answer
+pub record IsReplied (owner : OwnerValue) (notices : List Notice) (k : ℕ) (answer : Answer) : Type 0 where
+  pub reply : Reply
+  pub heard : Contains notices (Answered reply)
+  pub caller : reply.caller ≡ owner.id
+  pub actor : is_to reply.actor (slice_get owner.calls k) ≡ true
+  pub future : reply.future ≡ k
+  pub answer_is : reply.answer ≡ answer
+
+-- one of these notices is the death of this future's actor
+pub record IsBereft (owner : OwnerValue) (notices : List Notice) (k : ℕ) : Type 0 where
+  pub actor : ℕ
+  pub heard : Contains notices (Death actor)
+  pub to : is_to actor (slice_get owner.calls k) ≡ true
+
+-- where an answer comes from: a death where it says that the actor died, and else a reply
+abbrev pub IsToldBy : Bool → OwnerValue → List Notice → ℕ → Answer → Type 0
+IsToldBy true owner notices k answer = IsBereft owner notices k
+IsToldBy false owner notices k answer = IsReplied owner notices k answer
+
+-- each answer that is kept, and each death that is known, comes from one of these notices
+pub record Hears (owner : OwnerValue) (notices : List Notice) : Type 0 where
+  pub answers : (k : ℕ) (answer : Answer) → kept_at owner.kept k ≡ Some answer → IsToldBy (is_death answer) owner notices k answer
+  pub deaths : (a : ℕ) → is_dead owner a ≡ true → Contains notices (Death a)
+
+-- a caller keeps and knows only what it collected
+abbrev pub AllIsHeard : Type 0
+AllIsHeard = (id : ℕ) (actors : List ℕ) (changes : List Change) → Hears (caller id actors changes) (notices_in changes)

@@ -1,6 +1,7 @@
 -- What contracts say of one caller.
 use Rattle.std.specs.Prelude.{◌≡◌, ℕ, ◌≤◌, ◌==◌, Bool, true, false, not, ◌&&◌, if◌then◌else◌, List, [], ◌∷◌, ◌++◌, length, map, zip, replicate, filter, filter_map, find, count_by, slice_get, slice_set, Option, Some, None, is_some, option_map, unwrap_or, Result, Err}
 use Rattle.std.specs.List.{list_all, range_with_len}
+use Rattle.act_types.specs.declared.limits.TheConstants.{MOST_CALLS}
 use Rattle.act_types.specs.declared.fault.Fault.TheVariants.{ActorDied}
 use Rattle.act_types.specs.declared.call.Method.{Method}
 use Rattle.act_types.specs.declared.call.Arg.{Arg}
@@ -236,4 +237,4 @@ pub record IsOwner (handles : List Handle) (calls : List Call) (rows : List Row)
   -- as many numbers were given for each actor as it has calls
   pub given : (a : ℕ) → given_in a handles ≡ length (filter (λ call. call.actor == a) (map submission_of calls))
   pub given_in_all : given_of_all handles ≡ length calls
-  pub few : length calls ≤ 65536
+  pub few : length calls ≤ MOST_CALLS

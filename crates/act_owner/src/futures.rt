@@ -8,11 +8,11 @@ ghost use Rattle.act_owner.specs.Owner.{futures_of, answered_row, entered_call, 
 
 use act_replies::ReplyTable;
 use act_resolver::{Futures, Resolver};
-use act_types::{ActorId, Arg, Fault, FutureId, ListOf};
+use act_types::{ActorId, Arg, Fault, FutureId, ListOf, MOST_ARGS, MOST_CALLS};
 
 /// The futures among the arguments of a call.
 fn futures_of(args: &ListOf<Arg>) -> Futures
-    requires { length args.now ≤ 4 }
+    requires { length args.now ≤ MOST_ARGS }
     ensures { result ≡ futures_of args.now }
 {
     let mut futures = Futures::new(&[]);
@@ -29,8 +29,7 @@ fn futures_of(args: &ListOf<Arg>) -> Futures
 pub(crate) fn enter_call(resolver: &mut Resolver, k: FutureId, args: &ListOf<Arg>, is_dead: bool)
     requires room { 1 ≤ resolver.old.spare }
     requires next { k ≡ length resolver.old.calls }
-    requires limit { k < 65536 }
-    requires few { length args.now ≤ 4 }
+    requires few { length args.now ≤ MOST_ARGS }
     requires earlier { list_all (is_earlier k) args.now ≡ true }
     ensures { resolver.new.calls ≡ resolver.old.calls ++ entered_call args.now is_dead ∷ [] }
 {
@@ -44,7 +43,7 @@ pub(crate) fn enter_call(resolver: &mut Resolver, k: FutureId, args: &ListOf<Arg
 /// Adds a future of the actor, which is answered at once where the actor is dead.
 pub(crate) fn enter(table: &mut ReplyTable, a: ActorId, is_dead: bool) -> FutureId
     requires room { 1 ≤ table.old.spare }
-    requires limit { length table.old.rows < 65536 }
+    requires limit { length table.old.rows < MOST_CALLS }
     ensures value { result ≡ length table.old.rows }
     ensures rows { table.new.rows ≡ table.old.rows ++ answered_row a is_dead ∷ [] }
 {

@@ -1,12 +1,12 @@
 //! One caller and its calls.
 
-ghost use Rattle.std.specs.Prelude.{◌≡◌, ◌≢◌, ℕ, ◌≤◌, map, length, AllPairs, Option, None, Some, Err, IfOk, OnOk, IfErr, OnErr, option_copied, unwrap_or, is_some, slice_get};
-ghost use Rattle.std.specs.List.{list_all};
+ghost use Rattle.std.specs.Prelude.{◌≡◌, ◌≢◌, ℕ, ◌≤◌, map, length, AllPairs, Option, None, Some, Err, IfOk, OnOk, IfErr, OnErr, option_copied, unwrap_or, is_some, slice_get, zip};
+ghost use Rattle.std.specs.List.{list_all, list_any};
 ghost use Rattle.act_rules.specs.declared.outcome.SubmitRefusal.TheVariants.{NoMemory as NoRoom};
 ghost use Rattle.act_rules.specs.declared.outcome.SendRefusal.TheVariants.{NoMemory as NoRoomToSend};
-ghost use Rattle.act_rules.specs.Submissions.{copies_held, handle_refusal, kept_at};
-ghost use Rattle.act_handles.specs.Handles.{copies_in, copied, with_copy, without_copy};
-ghost use Rattle.act_owner.specs.Owner.{OwnerValue, opened, with_handles, release_told, kill_told, submission_refusal, with_call, call_at, is_sent, is_dead, sending_refusal, packet_at, with_sent, is_known_call, first_ready, is_to, is_death, is_of_call, collected_reply, after_reply, collected_death, after_death, collected, after_collect, KnowsDeath};
+ghost use Rattle.act_rules.specs.Submissions.{calls_to, copies_held, handle_refusal, kept_at};
+ghost use Rattle.act_handles.specs.Handles.{copies_in, given_in, copied, with_copy, without_copy};
+ghost use Rattle.act_owner.specs.Owner.{OwnerValue, opened, with_handles, release_told, kill_told, submission_refusal, with_call, call_at, is_sent, is_dead, sending_refusal, packet_at, with_sent, is_known_call, first_ready, is_to, is_death, is_of_call, collected_reply, after_reply, collected_death, after_death, collected, after_collect, waits_for, KnowsDeath};
 ghost use Rattle.act_types.specs.declared.message.Notice.TheVariants.{Death};
 
 use crate::args::{all_settled, are_earlier};
@@ -16,17 +16,11 @@ use act_replies::ReplyTable;
 use act_resolver::Resolver;
 use act_rules::{SendRefusal, SubmitRefusal};
 use act_types::{
-    ActorId, Answer, Arg, CallerId, Fault, FutureId, KillNote, ListOf, Method, NoMemory, Notice,
-    Packet, ReleaseNote, Reply,
+    ActorId, Answer, Arg, CallerId, Fault, FutureId, KillNote, ListOf, MOST_ARGS, MOST_CALLS,
+    Method, NoMemory, Notice, Packet, ReleaseNote, Reply,
 };
 use std::alloc::Global;
 use std::marker::Model;
-
-/// A caller submits at most this many calls.
-const MOST_CALLS: u32 = 65_536;
-
-/// A call has at most this many arguments.
-const MOST_ARGS: usize = 4;
 
 /// A call that was submitted.
 #[derive(Drop)]
@@ -136,6 +130,8 @@ impl Owner {
     /// many calls there were to the actor. An `Err` changes nothing.
     pub fn release(&mut self, a: ActorId) -> Result<Option<ReleaseNote>, HandleRefusal>
         ensures value { result ≡ release_told self.old a }
+        // So the number in a note is that of the calls to the actor.
+        ensures given { given_in a self.old.handles ≡ length (calls_to a self.old.calls) }
         ensures ok { OnOk result (self.new ≡ with_handles self.old (without_copy a self.old.handles)) }
         ensures err { OnErr result (self.new ≡ self.old) }
     {
@@ -165,7 +161,7 @@ impl Owner {
     /// How many calls were submitted.
     pub fn count(&self) -> u32
         ensures value { result ≡ length self.now.calls }
-        ensures limit { result ≤ 65536 }
+        ensures limit { result ≤ MOST_CALLS }
     {
         self.calls.len() as u32
     }
@@ -192,6 +188,13 @@ impl Owner {
         self.table.unanswered() == 0
     }
 
+    /// Whether a call of the actor has no answer yet. It is known without a search.
+    pub fn awaits(&self, a: ActorId) -> bool
+        ensures { result ≡ list_any (waits_for a) (zip self.now.calls self.now.kept) }
+    {
+        self.table.waiting_of(a).is_some()
+    }
+
     /// Whether the actor is one of this caller's.
     fn is_listed(&self, a: ActorId) -> bool
         ensures { result ≡ is_some (copies_in a self.now.handles) }
@@ -202,10 +205,13 @@ impl Owner {
         }
     }
 
-    fn is_dead(&self, a: ActorId) -> bool
+    /// Whether the actor's death was collected. It never was where the actor is not one of this
+    /// caller's.
+    pub fn is_dead(&self, a: ActorId) -> bool
         ensures { result ≡ is_dead self.now a }
     {
-        self.dead[a.number() as usize]
+        let number = a.number();
+        self.dead[number as usize]
     }
 
     fn is_sent(&self, k: FutureId) -> bool

@@ -1,7 +1,7 @@
 //! One caller from its first call to a death, calls that wait for answers, forged notices, the most
-//! calls, and refused memory.
+//! calls and copies, and refused memory.
 
-use crate::{Collected, Owner, SendRefusal, SubmitRefusal};
+use crate::{Collected, HandleRefusal, Owner, SendRefusal, SubmitRefusal};
 use act_types::{
     ActorId, Answer, Arg, CallerId, Fault, FutureId, ListOf, Method, NoMemory, Notice, Reply,
     Settled, Value,
@@ -148,6 +148,13 @@ fn from_the_first_call_to_a_death(rt: HostRuntime) -> Result<(), Fail> {
     ] {
         assert_eq!(rt; asked(rt.alloc(), &mut owner, ask), Ok(want), "at {ask:?}");
     }
+    for (a, is_dead, awaits) in [(a1, true, false), (a2, false, true), (a3, false, false)] {
+        assert_eq!(rt;
+            (owner.is_dead(a), owner.awaits(a)),
+            (is_dead, awaits),
+            "of {a}"
+        );
+    }
     Ok(())
 }
 
@@ -251,6 +258,19 @@ fn the_most_calls(rt: HostRuntime) -> Result<(), Fail> {
     }
     assert_eq!(rt; refused, Some((65_536, SubmitRefusal::TooManyCalls)));
     assert_eq!(rt; owner.count(), 65_536);
+    Ok(())
+}
+
+#[test]
+fn the_most_copies(rt: HostRuntime) -> Result<(), Fail> {
+    let c1 = CallerId::new(1).unwrap();
+    let a1 = ActorId::new(1).unwrap();
+    let mut owner = Owner::open(rt.alloc(), c1, &[a1])?;
+    for copies in 2..65_536 {
+        assert_eq!(rt; owner.copy(a1), Ok(copies));
+    }
+    assert_eq!(rt; owner.copy(a1), Err(HandleRefusal::TooManyCopies));
+    assert_eq!(rt; owner.holds(a1), 65_535);
     Ok(())
 }
 

@@ -1,0 +1,255 @@
+-- Where what a caller keeps comes from.
+use Rattle.std.proofs.Common.{◌≡◌, ℕ, zero, suc, ◌+◌, ◌<◌, ◌==◌, ◌&&◌, ◌⊎◌, rules, Bool, true, false, if◌then◌else◌, not, List, [], ◌∷◌, ◌++◌, length, map, replicate, Option, Some, None, is_some, Err, inl, inr, refl, sym, ◌∙◌, ap, subst, arith, Contains, append_assoc, append-nil, filter}
+use Rattle.std.specs.Prelude.{slice_get, slice_set, zip, unwrap_or}
+use Rattle.std.specs.List.{filter_map, enumerate_from}
+use Rattle.std.proofs.lemmas.List.Elements.{Contains-append_left, Contains-append_right, Contains-push}
+use Rattle.std.proofs.lemmas.Bool.Decides.{eqb_tells}
+use Rattle.act_types.specs.declared.fault.Fault.TheVariants.{ActorDied}
+use Rattle.act_types.specs.declared.message.Reply.{Reply}
+use Rattle.act_types.specs.declared.message.Notice.{Notice}
+use Rattle.act_types.specs.declared.message.Notice.TheVariants.{Answered, Death}
+use Rattle.act_rules.specs.declared.history.Submission.{Submission}
+use Rattle.act_rules.specs.RunList.{Answer}
+use Rattle.act_rules.specs.Submissions.{kept_at, calls_to}
+use Rattle.act_handles.specs.Handles.{copies_in, given_in}
+use Rattle.act_owner.specs.declared.owner.Collected.TheVariants.{First, Late, Stray}
+use Rattle.act_owner.specs.Owner.{OwnerValue, submission_of, opened, with_call, with_death, after_reply_that, is_of_call, is_sent, is_dead, is_to, is_death, first_answer, answer_after_death}
+use Rattle.act_owner.specs.declared.owner.Call.{Call}
+use Rattle.act_owner.specs.Life.{Change, Copied, Released, Submitted, Sent, Noticed, after, after_all, notice_of, notices_in, IsReplied, IsBereft, IsToldBy, Hears}
+use Rattle.act_owner.proofs.Life.{Extends, step, found_below}
+use Rattle.act_owner.proofs.Calls.{get_last}
+use Rattle.act_owner.proofs.Waiting.{and_parts}
+
+-- ---- sent
+
+sent_more : (sent : List Bool) (k : ℕ) → unwrap_or (slice_get sent k) false ≡ true → unwrap_or (slice_get (sent ++ false ∷ []) k) false ≡ true
+sent_more [] k is = absurd (cc is)
+sent_more (b ∷ sent) zero is = is
+sent_more (b ∷ sent) (suc k) is = sent_more sent k is
+
+sent_set : (sent : List Bool) (j k : ℕ) → unwrap_or (slice_get sent k) false ≡ true → unwrap_or (slice_get (slice_set sent j true) k) false ≡ true
+sent_set [] j k is = absurd (cc is)
+sent_set (b ∷ sent) zero zero is = refl
+sent_set (b ∷ sent) zero (suc k) is = is
+sent_set (b ∷ sent) (suc j) zero is = is
+sent_set (b ∷ sent) (suc j) (suc k) is = sent_set sent j k is
+
+reply_sent : (owner : OwnerValue) (reply : Reply) (mine known : Bool) → (after_reply_that (if mine then (if known then Late reply.future else First reply.future) else Stray) owner reply).sent ≡ owner.sent
+reply_sent owner reply false known = refl
+reply_sent owner reply true true = refl
+reply_sent owner reply true false = refl
+
+death_sent : (owner : OwnerValue) (a : ℕ) (listed : Bool) → (if listed then with_death owner a else owner).sent ≡ owner.sent
+death_sent owner a false = refl
+death_sent owner a true = refl
+
+pub sent_stays : (owner : OwnerValue) (change : Change) (k : ℕ) → is_sent owner k ≡ true → is_sent (after owner change) k ≡ true
+sent_stays owner (Copied a) k is = is
+sent_stays owner (Released a) k is = is
+sent_stays owner (Submitted a method args) k is = sent_more owner.sent k is
+sent_stays owner (Sent j) k is = sent_set owner.sent j k is
+sent_stays owner (Noticed (Answered reply)) k is = ap (λ (s : List Bool). unwrap_or (slice_get s k) false) (reply_sent owner reply (is_of_call owner reply) (is_some (kept_at owner.kept reply.future))) ∙ is
+sent_stays owner (Noticed (Death a)) k is = ap (λ (s : List Bool). unwrap_or (slice_get s k) false) (death_sent owner a (is_some (copies_in a owner.handles))) ∙ is
+
+pub sent_stays_all : (owner : OwnerValue) (changes : List Change) (k : ℕ) → is_sent owner k ≡ true → is_sent (after_all owner changes) k ≡ true
+sent_stays_all owner [] k is = is
+sent_stays_all owner (change ∷ changes) k is = sent_stays_all (after owner change) changes k (sent_stays owner change k is)
+
+-- ---- more notices, and more calls
+
+more_told : (death : Bool) (owner later : OwnerValue) (notices more : List Notice) (k : ℕ) (answer : Answer) → later.id ≡ owner.id → ((a : ℕ) → is_to a (slice_get owner.calls k) ≡ true → is_to a (slice_get later.calls k) ≡ true) → IsToldBy death owner notices k answer → IsToldBy death later (notices ++ more) k answer
+more_told true owner later notices more k answer same calls told = record { actor = told.actor; heard = Contains-append_left notices more (Death told.actor) told.heard; to = calls told.actor told.to }
+more_told false owner later notices more k answer same calls told = record {
+  reply = told.reply;
+  heard = Contains-append_left notices more (Answered told.reply) told.heard;
+  caller = told.caller ∙ sym same;
+  actor = calls told.reply.actor told.actor;
+  future = told.future;
+  answer_is = told.answer_is;
+}
+
+to_below : (a : ℕ) (calls : List Submission) (k : ℕ) (found : Option Submission) → slice_get calls k ≡ found → is_to a found ≡ true → k < length calls
+to_below a calls k None is to = absurd (cc to)
+to_below a calls k (Some call) is to = found_below calls k call is
+
+to_later : (owner later : OwnerValue) (k a : ℕ) → Extends owner later → is_to a (slice_get owner.calls k) ≡ true → is_to a (slice_get later.calls k) ≡ true
+to_later owner later k a grown to = ap (is_to a) (grown.calls k (to_below a owner.calls k (slice_get owner.calls k) refl to)) ∙ to
+
+-- a change that answers nothing and tells of no death
+quiet : (owner later : OwnerValue) (notices more : List Notice) → Extends owner later → later.kept ≡ owner.kept → later.dead ≡ owner.dead → Hears owner notices → Hears later (notices ++ more)
+quiet owner later notices more grown kept dead hears = record {
+  answers = λ k answer is. more_told (is_death answer) owner later notices more k answer grown.id (λ a to. to_later owner later k a grown to) (hears.answers k answer (ap (λ (l : List (Option Answer)). kept_at l k) (sym kept) ∙ is));
+  deaths = λ a is. Contains-append_left notices more (Death a) (hears.deaths a (ap (λ (l : List Bool). unwrap_or (slice_get l a) false) (sym dead) ∙ is));
+}
+
+-- ---- a call that is submitted
+
+last_kept : (kept : List (Option Answer)) (x : Option Answer) (k : ℕ) (answer : Answer) → kept_at (kept ++ x ∷ []) k ≡ Some answer → (kept_at kept k ≡ Some answer) ⊎ ((k ≡ length kept) × (x ≡ Some answer))
+last_kept [] x zero answer is = inr (refl, is)
+last_kept [] x (suc k) answer is = absurd (cc is)
+last_kept (y ∷ kept) x zero answer is = inl is
+last_kept (y ∷ kept) x (suc k) answer is = elim (last_kept kept x k answer is) [ inl t ↦ inl t | inr f ↦ inr (ap suc f.0, f.1) ]
+
+dead_first : (dead : Bool) (answer : Answer) → first_answer dead ≡ Some answer → (dead ≡ true) × (answer ≡ Err ActorDied)
+dead_first true answer is = (refl, cc is)
+dead_first false answer is = absurd (cc is)
+
+eqb_same : (a : ℕ) → (a == a) ≡ true
+eqb_same a = search rules
+
+one_call : (death : Bool) (owner : OwnerValue) (notices : List Notice) (k a : ℕ) (answer : Answer) → death ≡ true → Contains notices (Death a) → is_to a (slice_get owner.calls k) ≡ true → IsToldBy death owner notices k answer
+one_call true owner notices k a answer is heard to = record { actor = a; heard = heard; to = to }
+one_call false owner notices k a answer is heard to = absurd (cc is)
+
+hears_submitted : (owner later : OwnerValue) (notices : List Notice) (call : Submission) → Extends owner later → length owner.kept ≡ length owner.calls → later.calls ≡ owner.calls ++ call ∷ [] → later.kept ≡ owner.kept ++ first_answer (is_dead owner call.actor) ∷ [] → later.dead ≡ owner.dead → Hears owner notices → Hears later (notices ++ [])
+hears_submitted owner later notices call grown places calls kept dead hears = record {
+  answers = λ k answer is.
+      elim (last_kept owner.kept (first_answer (is_dead owner call.actor)) k answer (ap (λ (l : List (Option Answer)). kept_at l k) (sym kept) ∙ is)) [
+        | inl t ↦ more_told (is_death answer) owner later notices [] k answer grown.id (λ a to. to_later owner later k a grown to) (hears.answers k answer t)
+        | inr f ↦
+            let first = dead_first (is_dead owner call.actor) answer f.1 in
+            let there : slice_get later.calls k ≡ Some call = ap (λ (l : List Submission). slice_get l k) calls ∙ ap (slice_get (owner.calls ++ call ∷ [])) (f.0 ∙ places) ∙ get_last owner.calls call in
+            one_call (is_death answer) later (notices ++ []) k call.actor answer (ap is_death first.1) (Contains-append_left notices [] (Death call.actor) (hears.deaths call.actor first.0)) (ap (is_to call.actor) there ∙ eqb_same call.actor)
+      ];
+  deaths = λ a is. Contains-append_left notices [] (Death a) (hears.deaths a (ap (λ (l : List Bool). unwrap_or (slice_get l a) false) (sym dead) ∙ is));
+}
+
+-- ---- a reply
+
+set_kept : (kept : List (Option Answer)) (j k : ℕ) (x answer : Answer) → kept_at (slice_set kept j (Some x)) k ≡ Some answer → (kept_at kept k ≡ Some answer) ⊎ ((j ≡ k) × (x ≡ answer))
+set_kept [] j k x answer is = inl is
+set_kept (y ∷ kept) zero zero x answer is = inr (refl, cc is)
+set_kept (y ∷ kept) zero (suc k) x answer is = inl is
+set_kept (y ∷ kept) (suc j) zero x answer is = inl is
+set_kept (y ∷ kept) (suc j) (suc k) x answer is = elim (set_kept kept j k x answer is) [ inl t ↦ inl t | inr f ↦ inr (ap suc f.0, f.1) ]
+
+one_reply : (death : Bool) (owner : OwnerValue) (notices : List Notice) (reply : Reply) (k : ℕ) (answer : Answer) → death ≡ false → Contains notices (Answered reply) → reply.caller ≡ owner.id → is_to reply.actor (slice_get owner.calls k) ≡ true → reply.future ≡ k → reply.answer ≡ answer → IsToldBy death owner notices k answer
+one_reply true owner notices reply k answer is heard caller to future answer_is = absurd (cc is)
+one_reply false owner notices reply k answer is heard caller to future answer_is = record { reply = reply; heard = heard; caller = caller; actor = to; future = future; answer_is = answer_is }
+
+same_number : (a b : ℕ) → (a == b) ≡ true → a ≡ b
+same_number a b is = elim (eqb_tells a b) [ inl t ↦ t.1 | inr f ↦ absurd (cc (is, f.0)) ]
+
+four : (a b c d : Bool) → (a && b && c && d) ≡ true → (a ≡ true) × (b ≡ true) × (d ≡ true)
+four true true true true is = (refl, refl, refl)
+four true true true false is = absurd (cc is)
+four true true false d is = absurd (cc is)
+four true false c d is = absurd (cc is)
+four false b c d is = absurd (cc is)
+
+not_true : (b : Bool) → not b ≡ true → b ≡ false
+not_true true is = absurd (cc is)
+not_true false is = refl
+
+hears_reply : (owner : OwnerValue) (notices : List Notice) (reply : Reply) (mine known : Bool) → is_of_call owner reply ≡ mine → length owner.kept ≡ length owner.calls → Hears owner notices
+    → Hears (after_reply_that (if mine then (if known then Late reply.future else First reply.future) else Stray) owner reply) (notices ++ Answered reply ∷ [])
+hears_reply owner notices reply false known mine places hears = record {
+  answers = λ k answer is. more_told (is_death answer) owner owner notices (Answered reply ∷ []) k answer refl (λ a to. to) (hears.answers k answer is);
+  deaths = λ a is. Contains-append_left notices (Answered reply ∷ []) (Death a) (hears.deaths a is);
+}
+hears_reply owner notices reply true true mine places hears = record {
+  answers = λ k answer is. more_told (is_death answer) owner owner notices (Answered reply ∷ []) k answer refl (λ a to. to) (hears.answers k answer is);
+  deaths = λ a is. Contains-append_left notices (Answered reply ∷ []) (Death a) (hears.deaths a is);
+}
+hears_reply owner notices reply true false mine places hears =
+    let all = four (reply.caller == owner.id) (is_to reply.actor (slice_get owner.calls reply.future)) (is_sent owner reply.future) (not (is_death reply.answer)) mine in
+    let later : OwnerValue = record owner { kept = slice_set owner.kept reply.future (Some reply.answer) } in
+    record {
+      answers = λ k answer is.
+          elim (set_kept owner.kept reply.future k reply.answer answer is) [
+            | inl t ↦ more_told (is_death answer) owner later notices (Answered reply ∷ []) k answer refl (λ a to. to) (hears.answers k answer t)
+            | inr f ↦
+                one_reply (is_death answer) later (notices ++ Answered reply ∷ []) reply k answer (ap is_death (sym f.1) ∙ not_true (is_death reply.answer) all.2) (Contains-push notices (Answered reply))
+                (same_number reply.caller owner.id all.0) (ap (λ (j : ℕ). is_to reply.actor (slice_get owner.calls j)) (sym f.0) ∙ all.1) f.0 f.1
+          ];
+      deaths = λ a is. Contains-append_left notices (Answered reply ∷ []) (Death a) (hears.deaths a is);
+    }
+
+-- ---- a death
+
+one_death : (a : ℕ) (call : Submission) (old : Option Answer) (to : Bool) (answer : Answer) → (call.actor == a) ≡ to → (if to && not (is_some old) then Some (Err ActorDied) else old) ≡ Some answer → (old ≡ Some answer) ⊎ ((is_to a (Some call) ≡ true) × (answer ≡ Err ActorDied))
+one_death a call (Some old) true answer to is = inl is
+one_death a call (Some old) false answer to is = inl is
+one_death a call None false answer to is = inl is
+one_death a call None true answer to is = inr (to, cc is)
+
+death_kept : (a : ℕ) (calls : List Submission) (kept : List (Option Answer)) (k : ℕ) (answer : Answer) → kept_at (map (answer_after_death a) (zip calls kept)) k ≡ Some answer → (kept_at kept k ≡ Some answer) ⊎ ((is_to a (slice_get calls k) ≡ true) × (answer ≡ Err ActorDied))
+death_kept a [] kept k answer is = absurd (cc is)
+death_kept a (call ∷ calls) [] k answer is = absurd (cc is)
+death_kept a (call ∷ calls) (y ∷ kept) zero answer is = one_death a call y (call.actor == a) answer refl is
+death_kept a (call ∷ calls) (y ∷ kept) (suc k) answer is = death_kept a calls kept k answer is
+
+dead_set : (dead : List Bool) (a b : ℕ) → unwrap_or (slice_get (slice_set dead a true) b) false ≡ true → (unwrap_or (slice_get dead b) false ≡ true) ⊎ (a ≡ b)
+dead_set [] a b is = inl is
+dead_set (d ∷ dead) zero zero is = inr refl
+dead_set (d ∷ dead) zero (suc b) is = inl is
+dead_set (d ∷ dead) (suc a) zero is = inl is
+dead_set (d ∷ dead) (suc a) (suc b) is = elim (dead_set dead a b is) [ inl t ↦ inl t | inr f ↦ inr (ap suc f) ]
+
+hears_death : (owner : OwnerValue) (notices : List Notice) (a : ℕ) (listed : Bool) → Hears owner notices → Hears (if listed then with_death owner a else owner) (notices ++ Death a ∷ [])
+hears_death owner notices a false hears = record {
+  answers = λ k answer is. more_told (is_death answer) owner owner notices (Death a ∷ []) k answer refl (λ b to. to) (hears.answers k answer is);
+  deaths = λ b is. Contains-append_left notices (Death a ∷ []) (Death b) (hears.deaths b is);
+}
+hears_death owner notices a true hears = record {
+  answers = λ k answer is.
+      elim (death_kept a owner.calls owner.kept k answer is) [
+        | inl t ↦ more_told (is_death answer) owner (with_death owner a) notices (Death a ∷ []) k answer refl (λ b to. to) (hears.answers k answer t)
+        | inr f ↦ one_call (is_death answer) (with_death owner a) (notices ++ Death a ∷ []) k a answer (ap is_death f.1) (Contains-push notices (Death a)) f.0
+      ];
+  deaths = λ b is.
+      elim (dead_set owner.dead a b is) [
+        | inl t ↦ Contains-append_left notices (Death a ∷ []) (Death b) (hears.deaths b t)
+        | inr f ↦ subst (λ (c : ℕ). Contains (notices ++ Death a ∷ []) (Death c)) f (Contains-push notices (Death a))
+      ];
+}
+
+-- ---- a life
+
+pub hears_step : (owner : OwnerValue) (notices : List Notice) (change : Change) → length owner.kept ≡ length owner.calls → Hears owner notices → Hears (after owner change) (notices ++ notices_in (change ∷ []))
+hears_step owner notices (Copied a) places hears = quiet owner _ notices [] (step owner (Copied a) places) refl refl hears
+hears_step owner notices (Released a) places hears = quiet owner _ notices [] (step owner (Released a) places) refl refl hears
+hears_step owner notices (Submitted a method args) places hears = hears_submitted owner _ notices (record { actor = a; method = method; args = args }) (step owner (Submitted a method args) places) places refl refl refl hears
+hears_step owner notices (Sent k) places hears = quiet owner _ notices [] (step owner (Sent k) places) refl refl hears
+hears_step owner notices (Noticed (Answered reply)) places hears = hears_reply owner notices reply (is_of_call owner reply) (is_some (kept_at owner.kept reply.future)) refl places hears
+hears_step owner notices (Noticed (Death a)) places hears = hears_death owner notices a (is_some (copies_in a owner.handles)) hears
+
+notices_more : (change : Change) (changes : List Change) → notices_in (change ∷ []) ++ notices_in changes ≡ notices_in (change ∷ changes)
+notices_more (Copied a) changes = refl
+notices_more (Released a) changes = refl
+notices_more (Submitted a method args) changes = refl
+notices_more (Sent k) changes = refl
+notices_more (Noticed notice) changes = refl
+
+pub hears_all : (owner : OwnerValue) (notices : List Notice) (changes : List Change) → length owner.kept ≡ length owner.calls → Hears owner notices → Hears (after_all owner changes) (notices ++ notices_in changes)
+hears_all owner notices [] places hears = subst (Hears owner) (sym (append-nil notices)) hears
+hears_all owner notices (change ∷ changes) places hears =
+    subst (Hears (after_all (after owner change) changes)) (append_assoc notices (notices_in (change ∷ [])) (notices_in changes) ∙ ap (λ (l : List Notice). notices ++ l) (notices_more change changes))
+    (hears_all (after owner change) (notices ++ notices_in (change ∷ [])) changes (step owner change places).places (hears_step owner notices change places hears))
+
+none_dead : (n a : ℕ) → unwrap_or (slice_get (replicate n false) a) false ≡ false
+none_dead zero a = refl
+none_dead (suc n) zero = refl
+none_dead (suc n) (suc a) = none_dead n a
+
+pub hears_opened : (id : ℕ) (actors : List ℕ) → Hears (opened id actors) []
+hears_opened id actors = record {
+  answers = λ k answer is. absurd (cc is);
+  deaths = λ a is. absurd (cc (is, none_dead 9 a));
+}
+
+-- ---- how many calls go to an actor
+
+pub calls_to-length : (a n : ℕ) (calls : List Submission) → length (filter (λ (call : ℕ × Submission). call.1.actor == a) (enumerate_from n calls)) ≡ length (filter (λ (call : Submission). call.actor == a) calls)
+calls_to-length a n [] = refl
+calls_to-length a n (call ∷ calls) = both (call.actor == a) (calls_to-length a (n + 1) calls)
+  where
+    both : (b : Bool) → length (filter (λ (c : ℕ × Submission). c.1.actor == a) (enumerate_from (n + 1) calls)) ≡ length (filter (λ (c : Submission). c.actor == a) calls)
+        → length (if b then (n, call) ∷ filter (λ (c : ℕ × Submission). c.1.actor == a) (enumerate_from (n + 1) calls) else filter (λ (c : ℕ × Submission). c.1.actor == a) (enumerate_from (n + 1) calls)) ≡ length (if b then call ∷ filter (λ (c : Submission). c.actor == a) calls else filter (λ (c : Submission). c.actor == a) calls)
+    both true e = ap suc e
+    both false e = e
+
+pub given_is : (a : ℕ) (calls : List Call) (seen now : OwnerValue) → seen ≡ now → seen.calls ≡ map submission_of calls → given_in a seen.handles ≡ length (filter (λ (call : Submission). call.actor == a) (map submission_of calls)) → given_in a now.handles ≡ length (calls_to a now.calls)
+given_is a calls seen now same is given =
+    let here : given_in a seen.handles ≡ length (calls_to a seen.calls) = given ∙ ap (λ (l : List Submission). length (filter (λ (call : Submission). call.actor == a) l)) (sym is) ∙ sym (calls_to-length a 0 seen.calls) in
+    subst (λ (o : OwnerValue). given_in a o.handles ≡ length (calls_to a o.calls)) same here
