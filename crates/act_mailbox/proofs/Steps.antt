@@ -5,9 +5,10 @@ use mathlib.Core.Option.{some, some-injective, some-ne-none}
 use lib.ListN.{get_elem?}
 use Rattle.crossbeam_queue.specs.Fifo.{Pushes, Pops, Forks, Merges, Learns}
 use Rattle.crossbeam_queue.proofs.Lists.{at_set, at_snoc}
+use Rattle.act_rules.specs.Consistent.{IsFront}
 use Rattle.act_mailbox.specs.declared.line.view.View.{View}
 use Rattle.act_mailbox.specs.declared.line.view.View.TheVariants.{Puts, Takes, Saw, Spent}
-use Rattle.act_mailbox.specs.Lines.{IsPrefix, items_of, putting, taking, role, after_deal, after_put, copied, shown, put_of, note_of, Took, Fits, Lined, Audited}
+use Rattle.act_mailbox.specs.Lines.{items_of, putting, taking, role, after_deal, after_put, copied, shown, put_of, note_of, Took, Fits, Lined, Audited}
 
 -- which of its kinds a pass is
 module _ {T N : Type 0} where
@@ -87,8 +88,8 @@ module _ {T : Type 0} (putter_of : T → ℕ) where
   none_of putters c fresh (x ∷ xs) all =
       ap (λ b. cond b (x ∷ items_of putter_of c xs) (items_of putter_of c xs)) (ne_eqb (putter_of x) c (λ e. fresh (subst (Contains putters) e (All-head (Known putters) x xs all)))) ∙ none_of putters c fresh xs (All-tail (Known putters) x xs all)
 
-  pub longer : (xs got : List T) (x : T) → IsPrefix xs got → IsPrefix xs (got ++ x ∷ [])
-  longer xs got x p = (p.0 ++ x ∷ [], ap (λ l. l ++ x ∷ []) p.1 ∙ append_assoc xs p.0 (x ∷ []))
+  pub longer : (xs got : List T) (x : T) → IsFront xs got → IsFront xs (got ++ x ∷ [])
+  longer xs got x p = (p.0 ++ x ∷ [], sym (append_assoc xs p.0 (x ∷ [])) ∙ ap (λ l. l ++ x ∷ []) p.1)
 
 module _ {T N : Type 0} where
   abbrev Each : (ℕ → View T N → Type 0) → List (View T N) → Type 0
@@ -224,7 +225,7 @@ module _ {T N : Type 0} (putter_of : T → ℕ) where
 
   copied_fits : (putters : List ℕ) (got items : List T) (v : View T N) → Fits putter_of putters got items v → Fits putter_of putters got items (copied v)
   copied_fits putters got items (Puts v) f = tt
-  copied_fits putters got items (Takes v) f = ([], sym f.1 ∙ sym (append_nil v.taken))
+  copied_fits putters got items (Takes v) f = ([], append_nil v.taken ∙ f.1)
   copied_fits putters got items (Saw xs) f = f
   copied_fits putters got items Spent f = tt
 
@@ -272,7 +273,7 @@ module _ {T N : Type 0} (putter_of : T → ℕ) where
   pub audits : (port : ℕ) (v : View T N) → Learns (Lined putter_of) port v (λ items. Audited putter_of v)
   audits port (Puts v) items views h at = let me = h.4 port (Puts v) at in (
     items_of putter_of v.number (me.0.2.0 ++ items),
-    me.0.1 ∙ ap (λ l. items_of putter_of v.number (l ++ items)) me.0.2.1 ∙ ap (items_of putter_of v.number) (append_assoc v.seen me.0.2.0 items) ∙ of-append putter_of v.number v.seen (me.0.2.0 ++ items),
+    sym (me.0.1 ∙ ap (λ l. items_of putter_of v.number (l ++ items)) (sym me.0.2.1) ∙ ap (items_of putter_of v.number) (append_assoc v.seen me.0.2.0 items) ∙ of-append putter_of v.number v.seen (me.0.2.0 ++ items)),
   )
   audits port (Takes v) items views h at = tt
   audits port (Saw xs) items views h at = tt

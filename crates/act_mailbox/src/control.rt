@@ -2,7 +2,8 @@
 
 ghost use Rattle.std.specs.Prelude.{◌≡◌, ◌≢◌, ℕ, [], ◌∷◌, ◌++◌, length, map, AllPairs, Contains, IfOk, OnOk, IfErr, OnErr, IfSome, IfNone};
 ghost use Rattle.act_actor.specs.Seen.{live_seen};
-ghost use Rattle.act_mailbox.specs.Lines.{items_of, IsPrefix};
+ghost use Rattle.act_rules.specs.Consistent.{IsFront};
+ghost use Rattle.act_mailbox.specs.Lines.{items_of};
 ghost use Rattle.act_mailbox.specs.Passes.{new_putter};
 ghost use Rattle.act_mailbox.specs.Controls.{asker_of, asked, looked_after, starter, HasTaken};
 
@@ -145,7 +146,7 @@ impl Control {
     ) -> usize
         requires passes { (asker.old.line ≡ self.now.line) × (executor.old.line ≡ self.now.line) }
         ensures same { (asker.new ≡ asker.old) × (executor.new ≡ executor.old) }
-        ensures prefix { IsPrefix (items_of asker_of asker.old.number executor.old.taken) asker.old.put }
+        ensures prefix { IsFront (items_of asker_of asker.old.number executor.old.taken) asker.old.put }
     {
         self.line.audit(rt, asker, &mut executor.pass)
     }

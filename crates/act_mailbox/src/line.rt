@@ -3,7 +3,8 @@
 //! What was taken of a putter, and then what the queue holds of it, is what it put, in order.
 
 ghost use Rattle.std.specs.Prelude.{◌≡◌, ◌≢◌, ℕ, ◌≤◌, ◌<◌, [], ◌∷◌, ◌++◌, map, AllPairs, Contains, IfOk, OnOk, IfErr, OnErr, IfSome, IfNone};
-ghost use Rattle.act_mailbox.specs.Lines.{items_of, IsPrefix};
+ghost use Rattle.act_rules.specs.Consistent.{IsFront};
+ghost use Rattle.act_mailbox.specs.Lines.{items_of};
 ghost use Rattle.act_mailbox.specs.Passes.{new_putter, new_taker};
 
 use act_types::{CallerId, NoMemory};
@@ -132,7 +133,7 @@ impl<T: Item, N> Line<T, N> {
     ) -> usize
         requires lines { (putter.old.line ≡ self.now) × (taker.old.line ≡ self.now) }
         ensures same { (putter.new ≡ putter.old) × (taker.new ≡ taker.old) }
-        ensures prefix { IsPrefix (items_of T.putter putter.old.number taker.old.taken) putter.old.put }
+        ensures prefix { IsFront (items_of T.putter putter.old.number taker.old.taken) putter.old.put }
     {
         let copy = self.queue.another::<Copies>(&mut taker.pass);
         self.queue.absorb::<Sees>(&mut putter.pass, copy);

@@ -1,7 +1,8 @@
 //! The mail line of an actor: the letters of its callers.
 
 ghost use Rattle.std.specs.Prelude.{◌≡◌, ◌≢◌, [], ◌∷◌, ◌++◌, map, AllPairs, Contains, IfOk, OnOk, IfErr, OnErr, IfSome, IfNone};
-ghost use Rattle.act_mailbox.specs.Lines.{items_of, IsPrefix};
+ghost use Rattle.act_rules.specs.Consistent.{IsFront};
+ghost use Rattle.act_mailbox.specs.Lines.{items_of};
 ghost use Rattle.act_mailbox.specs.Passes.{new_putter, new_taker};
 ghost use Rattle.act_mailbox.specs.Mails.{caller_of};
 
@@ -97,7 +98,7 @@ impl Mail {
     pub fn audit<R: Wait>(&self, rt: &R, caller: &mut MailCaller, executor: &mut MailExec) -> usize
         requires passes { (caller.old.line ≡ self.now.line) × (executor.old.line ≡ self.now.line) }
         ensures same { (caller.new ≡ caller.old) × (executor.new ≡ executor.old) }
-        ensures prefix { IsPrefix (items_of caller_of caller.old.number executor.old.taken) caller.old.put }
+        ensures prefix { IsFront (items_of caller_of caller.old.number executor.old.taken) caller.old.put }
     {
         self.line.audit(rt, caller, executor)
     }

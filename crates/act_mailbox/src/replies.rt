@@ -1,7 +1,8 @@
 //! The reply line of a caller: the notices of its actors.
 
 ghost use Rattle.std.specs.Prelude.{◌≡◌, ◌≢◌, [], ◌∷◌, ◌++◌, map, All, AllPairs, Contains, IfOk, OnOk, IfErr, OnErr, IfSome, IfNone};
-ghost use Rattle.act_mailbox.specs.Lines.{items_of, IsPrefix};
+ghost use Rattle.act_rules.specs.Consistent.{IsFront};
+ghost use Rattle.act_mailbox.specs.Lines.{items_of};
 ghost use Rattle.act_mailbox.specs.Passes.{new_taker};
 ghost use Rattle.act_mailbox.specs.Notices.{actor_of, IsReply, NamesPlace, new_exec};
 
@@ -58,7 +59,8 @@ fn deal_all(
 {
     let mut executors = Vec::with_capacity(alloc, actors.len())?;
     for actor in actors {
-        executors.push(ReplyExec::new(line.deal(collector, actor.number())))?;
+        let pass = line.deal(collector, actor.number());
+        executors.push(ReplyExec::new(*actor, pass))?;
     }
     Ok(executors)
 }
@@ -97,7 +99,7 @@ impl Replies {
     ) -> Result<(), Notice>
         requires pass { pass.old.line ≡ self.now.line }
         requires actor { actor_of notice ≡ pass.old.actor }
-        requires grown { IsPrefix pass.old.seen log.now }
+        requires grown { IsFront pass.old.seen log.now }
         requires place { NamesPlace log.now notice }
         requires alive { All IsReply pass.old.given }
         ensures ok { OnOk result (pass.new ≡ record pass.old { given = pass.old.given ++ notice ∷ []; seen = log.now }) }
@@ -118,7 +120,7 @@ impl Replies {
         requires note { K.note ≡ log.now }
         requires pass { pass.old.line ≡ self.now.line }
         requires actor { actor_of notice ≡ pass.old.actor }
-        requires grown { IsPrefix pass.old.seen log.now }
+        requires grown { IsFront pass.old.seen log.now }
         requires place { NamesPlace log.now notice }
         requires alive { All IsReply pass.old.given }
         ensures ok { OnOk result (pass.new ≡ record pass.old { given = pass.old.given ++ notice ∷ []; seen = log.now }) }
@@ -147,7 +149,7 @@ impl Replies {
     ) -> usize
         requires passes { (executor.old.line ≡ self.now.line) × (caller.old.line ≡ self.now.line) }
         ensures same { (executor.new ≡ executor.old) × (caller.new ≡ caller.old) }
-        ensures prefix { IsPrefix (items_of actor_of executor.old.actor caller.old.taken) executor.old.given }
+        ensures prefix { IsFront (items_of actor_of executor.old.actor caller.old.taken) executor.old.given }
     {
         self.line.audit(rt, &mut executor.pass, caller)
     }

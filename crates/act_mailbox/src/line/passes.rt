@@ -32,7 +32,7 @@ impl<T, N> Model for Putter<T, N> {
 
 impl<T, N> Putter<T, N> {
     /// The putter's number.
-    pub(crate) fn number(&self) -> u8
+    pub fn number(&self) -> u8
         ensures { result ≡ self.now.number }
     {
         self.number

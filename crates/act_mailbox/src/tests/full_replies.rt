@@ -1,7 +1,7 @@
 //! A reply line that is filled and emptied.
 
 ghost use Rattle.std.specs.Prelude.{◌≡◌, [], ◌∷◌, All, IfOk};
-ghost use Rattle.act_mailbox.specs.Lines.{IsPrefix};
+ghost use Rattle.act_rules.specs.Consistent.{IsFront};
 ghost use Rattle.act_mailbox.specs.Notices.{IsReply, NamesPlace, actor_of, new_exec};
 
 use crate::{Replies, ReplyCaller, ReplyExec};
@@ -38,7 +38,7 @@ fn accepted<R: Wait>(
     ensures pass { pass.new.line ≡ replies.now.line }
     ensures actor { pass.new.actor ≡ 8 }
     ensures alive { All IsReply pass.new.given }
-    ensures grown { IsPrefix pass.new.seen log.now }
+    ensures grown { IsFront pass.new.seen log.now }
 {
     for number in 0..1000 {
         if let Err(back) = replies.give(rt, pass, log, reply(number)) {

@@ -1,7 +1,7 @@
 use Rattle.std.proofs.Common.{List, sym, subst, refl, All}
 use Rattle.std.proofs.lemmas.List.Elements.{All-nil}
 use Rattle.act_rules.specs.declared.history.RunItem.{RunItem}
-use Rattle.act_mailbox.specs.Lines.{IsPrefix}
+use Rattle.act_rules.specs.Consistent.{IsFront}
 use Rattle.act_mailbox.specs.Notices.{IsReply, NamesPlace, ReplyExecValue}
 use Rattle.act_mailbox.proofs.tests.full_replies.accepted.Goals as goal
 
@@ -10,7 +10,7 @@ loop-number-init g c = (
   refl,
   refl,
   subst (λ (e : ReplyExecValue). All IsReply e.given) (sym c.requires.opened) (All-nil IsReply),
-  subst (λ (e : ReplyExecValue). IsPrefix e.seen c.args.log.now) (sym c.requires.opened) (c.args.log.now, refl),
+  subst (λ (e : ReplyExecValue). IsFront e.seen c.args.log.now) (sym c.requires.opened) (c.args.log.now, refl),
 )
 
 pub give-requires-clause-place : goal.give-requires-clause-place
