@@ -1,5 +1,6 @@
 //! Full and empty lines, and threads that share one.
 
+mod executor;
 mod full_control;
 mod full_mail;
 mod full_replies;

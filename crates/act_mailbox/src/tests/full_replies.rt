@@ -100,17 +100,21 @@ fn full_and_empty(rt: HostRuntime) -> Result<(), Fail> {
     let death = ActorId::new(8).unwrap();
     let (replies, mut pass, mut collector) = opened(rt.alloc())?;
     assert_eq!(rt; replies.caller().number(), 1);
+    assert_eq!(rt; pass.actor(), death);
     assert!(rt; is_next(&rt, &replies, &mut collector, None));
     assert_eq!(rt; accepted(&rt, &replies, &mut pass, &log), Some(64));
     assert_eq!(rt; replies.audit(&rt, &mut pass, &mut collector), 64);
     assert!(rt; are_next(&rt, &replies, &mut collector, 0, 1));
+    assert_eq!(rt; replies.audit(&rt, &mut pass, &mut collector), 63);
     assert!(rt;
         replies
             .give(&rt, &mut pass, &log, Notice::Death(death))
             .is_ok()
     );
     pass.shows();
-    assert!(rt; are_next(&rt, &replies, &mut collector, 1, 64));
+    assert!(rt; are_next(&rt, &replies, &mut collector, 1, 33));
+    assert_eq!(rt; replies.audit(&rt, &mut pass, &mut collector), 32);
+    assert!(rt; are_next(&rt, &replies, &mut collector, 33, 64));
     assert!(rt; is_next(&rt, &replies, &mut collector, Some(Notice::Death(death))));
     assert!(rt; is_next(&rt, &replies, &mut collector, None));
     assert_eq!(rt; replies.audit(&rt, &mut pass, &mut collector), 0);

@@ -7,6 +7,7 @@ ghost use Rattle.act_mailbox.specs.Mails.{caller_of};
 use super::full_mail::letter;
 use crate::{Letter, Mail, MailCaller, MailExec};
 use act_types::{ActorId, CallerId};
+use std::alloc::Global;
 use std::sync::Wait;
 use std::test::Fail;
 use std::thread;
@@ -31,6 +32,7 @@ fn post_one<R: Wait>(rt: &R, mail: &Mail, pass: &mut MailCaller, mut letter: Let
 /// Posts letters 0, 1, .. of the caller.
 fn post_all<R: Wait>(
     rt: &R,
+    alloc: Global,
     mail: &Mail,
     mut pass: MailCaller,
     caller: CallerId,
@@ -41,7 +43,7 @@ fn post_all<R: Wait>(
     ensures { result.line ≡ mail.now.line }
 {
     for number in 0..count {
-        post_one(rt, mail, &mut pass, letter(caller, number));
+        post_one(rt, mail, &mut pass, letter(alloc, caller, number));
     }
     pass
 }
@@ -63,6 +65,7 @@ fn take_one<R: Wait>(rt: &R, mail: &Mail, pass: &mut MailExec) -> Letter
 /// Takes so many letters, and counts those that come in order of each of the two callers.
 fn take_all<R: Wait>(
     rt: &R,
+    alloc: Global,
     mail: &Mail,
     mut pass: MailExec,
     callers: [CallerId; 2],
@@ -75,9 +78,9 @@ fn take_all<R: Wait>(
     let mut in_order = [0u32; 2];
     for _ in 0..count {
         let taken = take_one(rt, mail, &mut pass);
-        if taken == letter(first, in_order[0]) {
+        if taken == letter(alloc, first, in_order[0]) {
             in_order[0] = in_order[0].wrapping_add(1);
-        } else if taken == letter(second, in_order[1]) {
+        } else if taken == letter(alloc, second, in_order[1]) {
             in_order[1] = in_order[1].wrapping_add(1);
         }
     }
@@ -87,6 +90,7 @@ fn take_all<R: Wait>(
 /// Both callers post, in a thread each.
 fn both_post<R: Threads + Wait + Sync>(
     rt: &R,
+    alloc: Global,
     mail: &Mail,
     first: MailCaller,
     second: MailCaller,
@@ -104,17 +108,18 @@ fn both_post<R: Threads + Wait + Sync>(
         move || -> MailCaller
             requires { (first.line ≡ mail.now.line) × (first.number ≡ one) }
             ensures { result.line ≡ mail.entry.now.line }
-        { post_all(rt, mail, first, one, count) },
+        { post_all(rt, alloc, mail, first, one, count) },
         move || -> MailCaller
             requires { (second.line ≡ mail.now.line) × (second.number ≡ two) }
             ensures { result.line ≡ mail.entry.now.line }
-        { post_all(rt, mail, second, two, count) },
+        { post_all(rt, alloc, mail, second, two, count) },
     )
 }
 
 /// Both callers post while the executor takes.
 fn exchange<R: Threads + Wait + Sync>(
     rt: &R,
+    alloc: Global,
     mail: &Mail,
     passes: (MailCaller, MailCaller),
     executor: MailExec,
@@ -138,21 +143,22 @@ fn exchange<R: Threads + Wait + Sync>(
             requires passes { (first.line ≡ mail.now.line) × (second.line ≡ mail.now.line) }
             requires callers { callers ≡ first.number ∷ second.number ∷ [] }
             ensures { (result.0.line ≡ mail.entry.now.line) × (result.1.line ≡ mail.entry.now.line) }
-        { both_post(rt, mail, first, second, callers, count) },
+        { both_post(rt, alloc, mail, first, second, callers, count) },
         move || -> (MailExec, [u32; 2])
             requires { executor.line ≡ mail.now.line }
             ensures { result.0.line ≡ mail.entry.now.line }
-        { take_all(rt, mail, executor, callers, total) },
+        { take_all(rt, alloc, mail, executor, callers, total) },
     )
 }
 
 #[test]
 fn mail_two_threads(rt: HostRuntime) -> Result<(), Fail> {
     let callers = [CallerId::new(1).unwrap(), CallerId::new(2).unwrap()];
-    let (mail, mut passes, executor) = Mail::open(rt.alloc(), ActorId::new(1).unwrap(), &callers)?;
+    let alloc = rt.alloc();
+    let (mail, mut passes, executor) = Mail::open(alloc, ActorId::new(1).unwrap(), &callers)?;
     let second = passes.pop().unwrap();
     let first = passes.pop().unwrap();
-    let (posted, taken) = exchange(&rt, &mail, (first, second), executor, callers, 200);
+    let (posted, taken) = exchange(&rt, alloc, &mail, (first, second), executor, callers, 200);
     let (mut first, mut second) = posted;
     let (mut executor, in_order) = taken;
     assert_eq!(rt; in_order, [200, 200]);
