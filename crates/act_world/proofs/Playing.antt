@@ -1,5 +1,7 @@
 -- One event of the whole world, and one event after another.
-use Rattle.std.proofs.Common.{◌≡◌, ℕ, ◌+◌, ◌<◌, List, [], ◌∷◌, ◌++◌, length, take, Result, Ok, Err, IfOk, OnErr, ap, sym, ◌∙◌, subst, get_or, append_assoc, append-nil}
+use Rattle.std.proofs.Common.{◌≡◌, ℕ, ◌+◌, ◌<◌, List, [], ◌∷◌, ◌++◌, length, take, Result, Ok, Err, IfOk, OnErr, ap, sym, ◌∙◌, subst, get_or, append_assoc, append-nil, Option, Some}
+use Rattle.std.specs.Prelude.{IfSome}
+use Rattle.std.proofs.lemmas.Option.{slice_get-get_or}
 use Rattle.std.proofs.lemmas.List.{take_more}
 use Rattle.act_rules.specs.declared.event.Event.{Event}
 use Rattle.act_rules.specs.History.{Casting, History, opening}
@@ -9,7 +11,7 @@ use Rattle.act_rules.proofs.Steps.{after_all-append, outcomes-append}
 use Rattle.act_world.specs.Exchange.{ExchangeValue}
 use Rattle.act_world.specs.Value.{SlotSeen, WorldSeen}
 use Rattle.act_world.specs.Ties.{Ties}
-use Rattle.act_world.specs.Stands.{Stands, Follows, FollowsThere, IsUnrefused, IsUnrefusedThere, Played}
+use Rattle.act_world.specs.Stands.{Stands, Follows, FollowsThere, IsUnrefused, IsUnrefusedThere, IsUnrefusedAt, Played}
 
 abbrev pub with_slots : ExchangeValue → List SlotSeen → WorldSeen
 with_slots exchange slots = record { exchange = exchange; slots = slots }
@@ -53,3 +55,9 @@ Played_next events i d old mid new told told_mid told_new outcome below played f
     ∙ ap (λ (l : List Outcome). told ++ l) (sym (outcomes-append h front (event ∷ []))) in
     subst (λ (l : List Event). Stands casts (before ++ l) new × (told_new ≡ told ++ outcomes h l)) (sym shown)
     (subst (λ (l : List Event). Stands casts l new) (append_assoc before front (event ∷ [])) (stands_next casts (before ++ front) event new next.1), told_all)
+
+-- nothing refuses the event that the world stopped at
+pub unrefused_at : (events : List Event) (i : ℕ) (event : Event) (old new : WorldSeen) → i < length events → event ≡ get_or events i event → new ≡ old → IsUnrefused event old → IsUnrefusedAt i events new
+unrefused_at events i event old new below is same unrefused =
+    subst (λ (world : WorldSeen). IsUnrefusedAt i events world) (sym same)
+    (subst (λ (at : Option Event). IfSome at (λ one. IsUnrefused one old)) (sym (slice_get-get_or events i event below ∙ ap Some (sym is))) unrefused)

@@ -1,5 +1,5 @@
 -- For which events a world stands, and what an event and a list of events make of it.
-use Rattle.std.specs.Prelude.{◌≡◌, ℕ, ◌+◌, ◌<◌, ◌≤◌, Bool, true, false, List, ◌++◌, length, None, Err}
+use Rattle.std.specs.Prelude.{◌≡◌, ℕ, ◌+◌, ◌<◌, ◌≤◌, Bool, true, false, List, ◌++◌, length, slice_get, None, Err, IfSome}
 use Rattle.act_rules.specs.declared.event.Event.{Event}
 use Rattle.act_rules.specs.declared.outcome.WorldRefusal.TheVariants.{NoMemory}
 use Rattle.act_rules.specs.Laws.{world as history}
@@ -45,6 +45,10 @@ FollowsThere event old new told = (slots : List SlotSeen) → Follows event (rec
 
 abbrev pub IsUnrefusedThere : Event → ExchangeValue → Type 0
 IsUnrefusedThere event exchange = (slots : List SlotSeen) → IsUnrefused event (record { exchange = exchange; slots = slots })
+
+-- nothing refuses the event at this place
+abbrev pub IsUnrefusedAt : ℕ → List Event → WorldSeen → Type 0
+IsUnrefusedAt i events world = IfSome (slice_get events i) (λ event. IsUnrefused event world)
 
 -- whatever events the world stood after: it stands after these too, and what is told of them is added
 abbrev pub Played : List Event → WorldSeen → WorldSeen → List Outcome → List Outcome → Type 0

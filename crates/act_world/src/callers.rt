@@ -19,6 +19,7 @@ impl Exchange {
     ) -> Result<Outcome, NoMemory>
         ensures ok { IfOk result (FollowsThere (event.Submit c a method args.now) self.old self.new) }
         ensures told { IfOk result (λ told. is_memory told ≡ false) }
+        ensures refused { IfOk result (λ told. OnErr told (self.new ≡ self.old)) }
         ensures grown { IsGrown self.old self.new }
         ensures last { OnErr result (IsUnrefusedThere (event.Submit c a method args.now) self.old) }
         ensures err { OnErr result (self.new ≡ self.old) }
@@ -40,6 +41,7 @@ impl Exchange {
     pub(crate) fn copy(&mut self, c: CallerId, a: ActorId) -> Outcome
         ensures follows { FollowsThere (event.Copy c a) self.old self.new result }
         ensures told { is_memory result ≡ false }
+        ensures refused { OnErr result (self.new ≡ self.old) }
         ensures grown { IsGrown self.old self.new }
     {
         let Some(place) = place_of(&self.owners, c) else {
@@ -57,6 +59,7 @@ impl Exchange {
         requires room { HasRoom 1 self.old }
         ensures ok { IfOk result (FollowsThere (event.Release c a) self.old self.new) }
         ensures told { IfOk result (λ told. is_memory told ≡ false) }
+        ensures refused { IfOk result (λ told. OnErr told (self.new ≡ self.old)) }
         ensures grown { IsGrown self.old self.new }
         ensures last { OnErr result (IsUnrefusedThere (event.Release c a) self.old) }
         ensures err { OnErr result (self.new ≡ self.old) }
@@ -84,6 +87,7 @@ impl Exchange {
         requires room { HasRoom 1 self.old }
         ensures ok { IfOk result (FollowsThere (event.Send c k) self.old self.new) }
         ensures told { IfOk result (λ told. is_memory told ≡ false) }
+        ensures refused { IfOk result (λ told. OnErr told (self.new ≡ self.old)) }
         ensures grown { IsGrown self.old self.new }
         ensures last { OnErr result (IsUnrefusedThere (event.Send c k) self.old) }
         ensures err { OnErr result (self.new ≡ self.old) }
@@ -108,6 +112,7 @@ impl Exchange {
     pub(crate) fn ask_kill(&mut self, c: CallerId, a: ActorId) -> Outcome
         ensures follows { FollowsThere (event.AskKill c a) self.old self.new result }
         ensures told { is_memory result ≡ false }
+        ensures refused { OnErr result (self.new ≡ self.old) }
         ensures grown { IsGrown self.old self.new }
     {
         let Some(place) = place_of(&self.owners, c) else {

@@ -28,6 +28,7 @@ impl Exchange {
     pub(crate) fn collect(&mut self, j: u32) -> Result<Outcome, NoMemory>
         ensures ok { IfOk result (FollowsThere (event.Collect j) self.old self.new) }
         ensures told { IfOk result (λ told. is_memory told ≡ false) }
+        ensures refused { IfOk result (λ told. OnErr told (self.new ≡ self.old)) }
         ensures grown { IsGrown self.old self.new }
         ensures last { OnErr result (IsUnrefusedThere (event.Collect j) self.old) }
         ensures err { OnErr result (self.new ≡ self.old) }

@@ -50,6 +50,7 @@ pub(crate) fn bring<K: Actor>(
 ) -> Result<Outcome, NoMemory>
     ensures ok { IfOk result (IsBrought letter.now (slot_seen K.state slot.old) (slot_seen K.state slot.new)) }
     ensures told { IfOk result (λ told. is_memory told ≡ false) }
+    ensures refused { IfOk result (λ told. OnErr told (slot_seen K.state slot.new ≡ slot_seen K.state slot.old)) }
     // Memory is asked for where the letter is a call that the actor takes in, and there alone.
     ensures last { OnErr result (IsNewCall letter.now (slot_seen K.state slot.old)) }
     ensures err { OnErr result (slot_seen K.state slot.new ≡ slot_seen K.state slot.old) }
@@ -100,6 +101,7 @@ fn run_in<K: Actor>(
     c: CallerId,
 ) -> Result<Result<Option<Reply>, WorldRefusal>, NoMemory>
     ensures ok { IfOk result (IsRun c (slot_seen K.state slot.old) (slot_seen K.state slot.new)) }
+    ensures refused { IfOk result (λ ran. OnErr ran (slot_seen K.state slot.new ≡ slot_seen K.state slot.old)) }
     ensures last { OnErr result (IsLiveSeen (slot_seen K.state slot.old)) }
     ensures err { OnErr result (slot_seen K.state slot.new ≡ slot_seen K.state slot.old) }
 {
@@ -116,6 +118,7 @@ pub(crate) fn run_at<K: Actor>(
     c: CallerId,
 ) -> Result<Result<Option<Reply>, WorldRefusal>, NoMemory>
     ensures ok { IfOk result (IsRunAt c a (map (slot_seen K.state) slots.old) (map (slot_seen K.state) slots.new)) }
+    ensures refused { IfOk result (λ ran. OnErr ran (map (slot_seen K.state) slots.new ≡ map (slot_seen K.state) slots.old)) }
     ensures err { OnErr result (map (slot_seen K.state) slots.new ≡ map (slot_seen K.state) slots.old) }
 {
     run_in(&mut slots[slot_of(a)], c)
@@ -125,6 +128,7 @@ pub(crate) fn run_at<K: Actor>(
 pub(crate) fn kill_in<K: Actor>(slot: &mut Slot<K>, asked: bool) -> Outcome
     ensures killed { (slot_seen K.state slot.new, result) ≡ killed asked (slot_seen K.state slot.old) }
     ensures told { is_memory result ≡ false }
+    ensures refused { OnErr result (slot_seen K.state slot.new ≡ slot_seen K.state slot.old) }
 {
     match mem::replace(slot, Slot::Vacant) {
         Slot::Live(live) => {
@@ -161,6 +165,7 @@ pub(crate) fn is_live_in<K: Actor>(slot: &Slot<K>) -> bool
 pub(crate) fn retire_in<K: Actor>(slot: &mut Slot<K>) -> Outcome
     ensures retired { IsRetiredIn (slot_seen K.state slot.old) (slot_seen K.state slot.new) result }
     ensures told { is_memory result ≡ false }
+    ensures refused { OnErr result (slot_seen K.state slot.new ≡ slot_seen K.state slot.old) }
 {
     match mem::replace(slot, Slot::Vacant) {
         Slot::Live(live) => match live.retire() {

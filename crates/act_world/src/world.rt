@@ -3,7 +3,7 @@
 //! `K` is the kind, mostly a box. A clause names what is seen of a world by `world_seen` at the
 //! kind's state.
 
-ghost use Rattle.std.specs.Prelude.{◌≡◌, ◌<◌, ◌++◌, ◌∷◌, [], ℕ, List, Option, Some, None, IfOk, IfErr, OnOk, OnErr, true, false, length, take, find, option_copied};
+ghost use Rattle.std.specs.Prelude.{◌≡◌, ◌<◌, ◌++◌, ◌∷◌, [], ℕ, List, Option, Some, None, Err, ◌≤◌, ◌+◌, IfOk, IfErr, OnOk, OnErr, true, false, length, take, find, option_copied, vec_len, vec_capacity};
 ghost use Rattle.std.specs.Option.{option_map};
 ghost use Rattle.act_rules.specs.declared.event.Event.{Event as Happening};
 ghost use Rattle.act_rules.specs.declared.event.Event.TheVariants as event;
@@ -13,7 +13,7 @@ ghost use Rattle.act_rules.specs.Rules.{outcome_of, refusal_of};
 ghost use Rattle.act_world.specs.Value.{world_seen, stage_seen, is_owner, stage_in};
 ghost use Rattle.act_world.specs.Ties.{IsOwnerAt, IsStage};
 ghost use Rattle.act_world.specs.Headline.{IsConsistent};
-ghost use Rattle.act_world.specs.Stands.{Stands, is_memory, HasRoom, IsGrown, IsGrownBy, Follows, IsUnrefused, Played};
+ghost use Rattle.act_world.specs.Stands.{Stands, is_memory, HasRoom, IsGrown, IsGrownBy, Follows, IsUnrefused, IsUnrefusedAt, Played};
 
 use crate::exchange::{Exchange, Posted, names, place_of};
 use crate::slot::{
@@ -44,6 +44,7 @@ impl<K: Actor> World<K> {
     fn deliver(&mut self, i: u32) -> Result<Outcome, NoMemory>
         ensures ok { IfOk result (Follows (event.Deliver i) (world_seen K.state self.old) (world_seen K.state self.new)) }
         ensures told { IfOk result (λ told. is_memory told ≡ false) }
+        ensures refused { IfOk result (λ told. OnErr told (world_seen K.state self.new ≡ world_seen K.state self.old)) }
         ensures grown { IsGrown (world_seen K.state self.old).exchange (world_seen K.state self.new).exchange }
         ensures last { OnErr result (IsUnrefused (event.Deliver i) (world_seen K.state self.old)) }
         ensures err { OnErr result (world_seen K.state self.new ≡ world_seen K.state self.old) }
@@ -64,6 +65,7 @@ impl<K: Actor> World<K> {
         requires room { HasRoom 1 (world_seen K.state self.old).exchange }
         ensures ok { IfOk result (Follows (event.Run a c) (world_seen K.state self.old) (world_seen K.state self.new)) }
         ensures told { IfOk result (λ told. is_memory told ≡ false) }
+        ensures refused { IfOk result (λ told. OnErr told (world_seen K.state self.new ≡ world_seen K.state self.old)) }
         ensures grown { IsGrown (world_seen K.state self.old).exchange (world_seen K.state self.new).exchange }
         ensures last { OnErr result (IsUnrefused (event.Run a c) (world_seen K.state self.old)) }
         ensures err { OnErr result (world_seen K.state self.new ≡ world_seen K.state self.old) }
@@ -98,6 +100,7 @@ impl<K: Actor> World<K> {
     fn take_kill(&mut self, a: ActorId) -> Outcome
         ensures follows { Follows (event.TakeKill a) (world_seen K.state self.old) (world_seen K.state self.new) result }
         ensures told { is_memory result ≡ false }
+        ensures refused { OnErr result (world_seen K.state self.new ≡ world_seen K.state self.old) }
         ensures grown { IsGrown (world_seen K.state self.old).exchange (world_seen K.state self.new).exchange }
     {
         let asked = self.exchange.is_asked(a);
@@ -109,6 +112,7 @@ impl<K: Actor> World<K> {
         requires room { HasRoom 1 (world_seen K.state self.old).exchange }
         ensures ok { IfOk result (Follows (event.Tell a c) (world_seen K.state self.old) (world_seen K.state self.new)) }
         ensures told { IfOk result (λ told. is_memory told ≡ false) }
+        ensures refused { IfOk result (λ told. OnErr told (world_seen K.state self.new ≡ world_seen K.state self.old)) }
         ensures grown { IsGrown (world_seen K.state self.old).exchange (world_seen K.state self.new).exchange }
         ensures last { OnErr result (IsUnrefused (event.Tell a c) (world_seen K.state self.old)) }
         ensures err { OnErr result (world_seen K.state self.new ≡ world_seen K.state self.old) }
@@ -136,6 +140,7 @@ impl<K: Actor> World<K> {
     fn retire(&mut self, a: ActorId) -> Outcome
         ensures follows { Follows (event.Retire a) (world_seen K.state self.old) (world_seen K.state self.new) result }
         ensures told { is_memory result ≡ false }
+        ensures refused { OnErr result (world_seen K.state self.new ≡ world_seen K.state self.old) }
         ensures grown { IsGrown (world_seen K.state self.old).exchange (world_seen K.state self.new).exchange }
     {
         retire_in(&mut self.slots[slot_of(a)])
@@ -146,6 +151,7 @@ impl<K: Actor> World<K> {
         requires room { HasRoom 1 (world_seen K.state self.old).exchange }
         ensures ok { IfOk result (Follows event.now (world_seen K.state self.old) (world_seen K.state self.new)) }
         ensures told { IfOk result (λ told. is_memory told ≡ false) }
+        ensures refused { IfOk result (λ told. OnErr told (world_seen K.state self.new ≡ world_seen K.state self.old)) }
         ensures grown { IsGrown (world_seen K.state self.old).exchange (world_seen K.state self.new).exchange }
         ensures last { OnErr result (IsUnrefused event.now (world_seen K.state self.old)) }
         ensures err { OnErr result (world_seen K.state self.new ≡ world_seen K.state self.old) }
@@ -171,9 +177,9 @@ impl<K: Actor> World<K> {
         ensures outcome { is_memory result ≡ false → (casts : List Casting) (before : List Happening) → Stands casts before (world_seen K.state self.old) → result ≡ outcome_of (history casts before) event.now }
         ensures stands { is_memory result ≡ false → (casts : List Casting) (before : List Happening) → Stands casts before (world_seen K.state self.old) → Stands casts (before ++ event.now ∷ []) (world_seen K.state self.new) }
         ensures grown { IsGrown (world_seen K.state self.old).exchange (world_seen K.state self.new).exchange }
-        // Want of memory comes last, and leaves the world as it was.
+        // Want of memory comes last.
         ensures last { is_memory result ≡ true → (casts : List Casting) (before : List Happening) → Stands casts before (world_seen K.state self.old) → refusal_of (history casts before) event.now ≡ None }
-        ensures memory { is_memory result ≡ true → world_seen K.state self.new ≡ world_seen K.state self.old }
+        ensures err { OnErr result (world_seen K.state self.new ≡ world_seen K.state self.old) }
     {
         match self.step(event) {
             Err(NoMemory) => Err(WorldRefusal::NoMemory),
@@ -182,18 +188,26 @@ impl<K: Actor> World<K> {
     }
 
     /// Does events in order, and adds what is told of each. It stops only where memory is refused,
-    /// and tells at which place.
+    /// and tells at which place. Room for all outcomes is asked for first, and where it is refused,
+    /// the place is 0.
     pub fn play(&mut self, events: &[Event], told: &mut Vec<Outcome>) -> Result<(), u32>
         requires room { HasRoom (length events.now) (world_seen K.state self.old).exchange }
         ensures ok { OnOk result (Played events.now (world_seen K.state self.old) (world_seen K.state self.new) told.old.items told.new.items) }
         ensures grown { IsGrownBy (length events.now) (world_seen K.state self.old).exchange (world_seen K.state self.new).exchange }
         ensures place { IfErr result (λ i. i < length events.now) }
         ensures err { IfErr result (λ i. Played (take i events.now) (world_seen K.state self.old) (world_seen K.state self.new) told.old.items told.new.items) }
+        ensures first { result ≡ Err 0 → (world_seen K.state self.new ≡ world_seen K.state self.old) × (told.new.items ≡ told.old.items) }
+
+        // Nothing refuses the event of a later stop, nor that of any stop where there is room for
+        // all outcomes.
+        ensures last { IfErr result (λ i. 0 < i → IsUnrefusedAt i events.now (world_seen K.state self.new)) }
+        ensures last_with_room { vec_len told.old + length events.now ≤ vec_capacity told.new → IfErr result (λ i. IsUnrefusedAt i events.now (world_seen K.state self.new)) }
+        ensures capacity { vec_capacity told.old ≤ vec_capacity told.new }
     {
+        let Ok(()) = told.reserve(events.len()) else {
+            return Err(0);
+        };
         for (i, event) in events.iter().enumerate() {
-            let Ok(()) = told.reserve(1) else {
-                return Err(i as u32);
-            };
             let Ok(outcome) = self.step(event) else {
                 return Err(i as u32);
             };

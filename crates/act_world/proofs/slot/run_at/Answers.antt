@@ -20,3 +20,8 @@ pub returns-clause-err : goal.returns-clause-err
 returns-clause-err g c = on_err_weaker c.run_in.result
     (λ same. map-set_same (slot_seen g.K.Actor.state) c.args.slots.now c.slot_of.result c.run_in.new.slot c.index-slots-slot_of.result same)
     c.run_in.ensures.err
+
+pub returns-clause-refused : goal.returns-clause-refused
+returns-clause-refused g c = IfOk-weaker c.run_in.result _ _
+    (λ ran refused. on_err_weaker ran (λ same. map-set_same (slot_seen g.K.Actor.state) c.args.slots.now c.slot_of.result c.run_in.new.slot c.index-slots-slot_of.result same) refused)
+    c.run_in.ensures.refused

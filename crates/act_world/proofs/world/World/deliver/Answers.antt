@@ -24,3 +24,10 @@ pub returns-clause-err : goal.returns-clause-err
 returns-clause-err g c = on_err_weaker c.bring.result
     (λ same. ap (λ slots. record (world_seen g.K.Actor.state c.args.self.now) { slots = slots }) (map-set_same (slot_seen g.K.Actor.state) c.args.self.now.slots c.slot_of.result c.bring.new.slot c.index-slots-slot_of.result same))
     c.bring.ensures.err
+
+pub returns-clause-refused : goal.returns-clause-refused
+returns-clause-refused g c = IfOk-weaker c.bring.result _ _
+    (λ told refused. on_err_weaker told
+    (λ same. ap (λ slots. record (world_seen g.K.Actor.state c.args.self.now) { slots = slots }) (map-set_same (slot_seen g.K.Actor.state) c.args.self.now.slots c.slot_of.result c.bring.new.slot c.index-slots-slot_of.result same))
+    refused)
+    c.bring.ensures.refused

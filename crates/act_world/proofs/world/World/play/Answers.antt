@@ -1,35 +1,47 @@
-use Rattle.std.proofs.Common.{◌-◌, ◌+◌, ◌∙◌, ◌++◌, ◌∷◌, [], List, length, ap, subst, arith}
+use Rattle.std.proofs.Common.{rules, ◌≡◌, ◌+◌, ◌-◌, ◌≤◌, List, length, subst, vec_len, vec_capacity, arith}
 use Rattle.std.proofs.lemmas.List.{take_all}
 use Rattle.act_rules.specs.declared.event.Event.{Event}
-use Rattle.act_rules.specs.Rules.{Outcome}
 use Rattle.act_world.specs.Value.{world_seen}
 use Rattle.act_world.specs.Stands.{Follows, HasRoom, IsGrownBy, Played}
-use Rattle.act_world.proofs.Playing.{Played_next}
+use Rattle.act_world.proofs.Playing.{Played_next, unrefused_at}
 use Rattle.act_world.proofs.world.World.play.Goals as goal
 
 pub loop-i-preserved : goal.loop-i-preserved
-loop-i-preserved g c = (
-  Played_next c.args.events.now c.loop-i.i c.index-events-i.result (world_seen g.K.Actor.state c.args.self.now) (world_seen g.K.Actor.state c.loop-i.self) (world_seen g.K.Actor.state c.step.new.self)
-      c.args.told.now.items c.loop-i.told.items c.push_reserved.new.self.items c.in-Ok-step.outcome c.loop-i-test.true c.loop-i.invariant.0
+loop-i-preserved g c = record {
+  played = Played_next c.args.events.now c.loop-i.i c.index-events-i.result (world_seen g.K.Actor.state c.args.self.now) (world_seen g.K.Actor.state c.loop-i.self) (world_seen g.K.Actor.state c.step.new.self)
+      c.args.told.now.items c.loop-i.told.items c.push_reserved.new.self.items c.in-Ok-step.outcome c.loop-i-test.true c.loop-i.invariant.played
       (subst (λ (event : Event). Follows event (world_seen g.K.Actor.state c.loop-i.self) (world_seen g.K.Actor.state c.step.new.self) c.in-Ok-step.outcome) c.index-events-i.is c.in-Ok-step.ensures.ok)
-      (c.push_reserved.ensures.items ∙ ap (λ (items : List Outcome). items ++ c.in-Ok-step.outcome ∷ []) c.reserve.ensures.items),
-  room,
-  grown,
-)
+      c.push_reserved.ensures.items;
+  room = room;
+  grown = grown;
+  first = λ none. absurd (omega arith);
+  reserved = search rules;
+  capacity = search rules;
+}
   where
     grown : IsGrownBy (c.loop-i.i + 1) c.args.self.now.exchange c.step.new.self.exchange
     grown =
-        let before = c.loop-i.invariant.2 in
+        let before = c.loop-i.invariant.grown in
         let more = c.step.ensures.grown in
         omega arith
 
     room : HasRoom (length c.args.events.now - (c.loop-i.i + 1)) c.step.new.self.exchange
     room =
-        let before = c.loop-i.invariant.1 in
+        let before = c.loop-i.invariant.room in
         let grown = c.step.ensures.grown in
         let within = c.loop-i-test.true in
         omega arith
 
 pub returns-clause-ok : goal.returns-clause-ok
 returns-clause-ok g c =
-    subst (λ (events : List Event). Played events (world_seen g.K.Actor.state c.args.self.now) (world_seen g.K.Actor.state c.loop-i.self) c.args.told.now.items c.loop-i.told.items) (take_all c.loop-i.i c.args.events.now c.loop-i-test.false) c.loop-i.invariant.0
+    subst (λ (events : List Event). Played events (world_seen g.K.Actor.state c.args.self.now) (world_seen g.K.Actor.state c.loop-i.self) c.args.told.now.items c.loop-i.told.items) (take_all c.loop-i.i c.args.events.now c.loop-i-test.false) c.loop-i.invariant.played
+
+pub returns-in_default-step-clause-last : goal.returns-in_default-step-clause-last
+returns-in_default-step-clause-last g c = λ later.
+    unrefused_at c.args.events.now c.loop-i.i c.index-events-i.result (world_seen g.K.Actor.state c.loop-i.self) (world_seen g.K.Actor.state c.step.new.self) c.loop-i-test.true c.index-events-i.is
+    c.in_default-step.ensures.err c.in_default-step.ensures.last
+
+pub returns-in_default-step-clause-last_with_room : goal.returns-in_default-step-clause-last_with_room
+returns-in_default-step-clause-last_with_room g c = λ room.
+    unrefused_at c.args.events.now c.loop-i.i c.index-events-i.result (world_seen g.K.Actor.state c.loop-i.self) (world_seen g.K.Actor.state c.step.new.self) c.loop-i-test.true c.index-events-i.is
+    c.in_default-step.ensures.err c.in_default-step.ensures.last

@@ -1,4 +1,6 @@
-use Rattle.std.proofs.Common.{◌<◌, length, map, slice_set, subst, sym, arith}
+use Rattle.std.proofs.Common.{◌<◌, length, map, slice_set, subst, sym, ap, arith}
+use Rattle.std.proofs.Math.Seq.{map-set_same}
+use Rattle.std.proofs.lemmas.Result.{on_err_weaker}
 use Rattle.act_rules.specs.declared.event.Event.TheVariants as event
 use Rattle.act_world.specs.Slots.{IsRetiredIn}
 use Rattle.act_world.specs.Stands.{Follows}
@@ -13,3 +15,8 @@ returns-clause-follows g c =
     subst (λ a. Follows (event.Retire a) (world_seen g.K.Actor.state c.args.self.now) (record { exchange = c.args.self.now.exchange; slots = map (slot_seen g.K.Actor.state) (slice_set c.args.self.now.slots c.slot_of.result c.retire_in.new.slot) }) c.retire_in.result)
     c.slot_of.ensures.value
     (retire_seen (slot_seen g.K.Actor.state) c.args.self.now.exchange c.args.self.now.slots c.slot_of.result c.index-self-slot_of.result c.retire_in.new.slot c.retire_in.result within c.index-self-slot_of.is went)
+
+pub returns-clause-refused : goal.returns-clause-refused
+returns-clause-refused g c = on_err_weaker c.retire_in.result
+    (λ same. ap (λ slots. record (world_seen g.K.Actor.state c.args.self.now) { slots = slots }) (map-set_same (slot_seen g.K.Actor.state) c.args.self.now.slots c.slot_of.result c.retire_in.new.slot c.index-self-slot_of.result same))
+    c.retire_in.ensures.refused

@@ -2,11 +2,13 @@ use Rattle.std.proofs.Common.{rules, ◌≡◌, List, length, map, Some, ap, sym
 use Rattle.std.specs.Prelude.{slice_get, option_map}
 use Rattle.std.proofs.lemmas.Option.{slice_get_read}
 use Rattle.std.proofs.lemmas.List.{map-set}
+use Rattle.std.proofs.lemmas.Result.{on_err_weaker}
+use Rattle.std.proofs.Math.Seq.{map-set_same}
 use Rattle.act_rules.specs.declared.event.Event.TheVariants as event
 use Rattle.act_rules.specs.Laws.{world as history}
 use Rattle.act_rules.specs.Rules.{outcome_of, after}
 use Rattle.act_rules.proofs.Lists.{slice_get-map}
-use Rattle.act_world.specs.Value.{SlotSeen, slot_seen}
+use Rattle.act_world.specs.Value.{SlotSeen, slot_seen, world_seen}
 use Rattle.act_world.specs.Slots.{killed}
 use Rattle.act_world.specs.Ties.{Ties}
 use Rattle.act_world.proofs.Lawful.{world_lawful}
@@ -28,3 +30,8 @@ returns-clause-follows g c casts before stands =
     subst (λ (s : List SlotSeen). (c.kill_in.result ≡ outcome_of h (event.TakeKill a)) × Ties (after h (event.TakeKill a)) (record { exchange = c.args.self.now.exchange; slots = s })) written
     (kill_follows h c.args.self.now.exchange seen a c.is_asked-asked.result (slot_seen state c.index-self-slot_of.result) (slot_seen state c.kill_in.new.slot) c.kill_in.result (world_lawful casts before) stands
     c.is_asked-asked.ensures at (c.kill_in.ensures.killed ∙ ap (λ (slot : _). killed c.is_asked-asked.result (slot_seen state slot)) (sym c.index-self-slot_of.is)))
+
+pub returns-clause-refused : goal.returns-clause-refused
+returns-clause-refused g c = on_err_weaker c.kill_in.result
+    (λ same. ap (λ slots. record (world_seen g.K.Actor.state c.args.self.now) { slots = slots }) (map-set_same (slot_seen g.K.Actor.state) c.args.self.now.slots c.slot_of.result c.kill_in.new.slot c.index-self-slot_of.result same))
+    c.kill_in.ensures.refused
