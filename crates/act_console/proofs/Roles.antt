@@ -24,7 +24,7 @@ use Rattle.act_actor.specs.Cast.{CallersDiffer, IsFitting}
 use Rattle.act_world.specs.Openings.{casting}
 use Rattle.act_console.specs.Roles.{AreFitting, AreSound}
 
--- ---- eight actors at most
+-- ---- no more actors than there are numbers for them
 
 pairs_mapped : {X Y : Type 0} (R : Y → Y → Type 0) (f : X → Y) (xs : List X) → AllPairs (λ x y. R (f x) (f y)) xs → AllPairs R (map f xs)
 pairs_mapped R f [] pairs i j d before within = absurd (omega arith)

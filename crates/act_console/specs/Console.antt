@@ -1,6 +1,7 @@
 -- What a run of a script reads and writes.
-use Rattle.std.specs.Prelude.{◌≡◌, ℕ, List, Option, Result, Ok, Err, string_bytes}
+use Rattle.std.specs.Prelude.{◌≡◌, ℕ, ◌+◌, List, Option, Result, Ok, Err, string_bytes}
 use Rattle.std.specs.Io.KnownBytes.{Keeps, Appends}
+use Rattle.act_types.specs.declared.limits.TheConstants.{MOST_SCRIPT_BYTES}
 use Rattle.act_rules.specs.declared.script.Wrong.{Wrong}
 use Rattle.act_rules.specs.declared.script.Mode.TheVariants.{Play}
 use Rattle.act_rules.specs.Report.{report, fault_line}
@@ -21,12 +22,12 @@ Answers (answers.Refusal text) read = (fault : ℕ × Wrong) × (read ≡ Err fa
 -- what a run read and wrote, by its answer
 abbrev pub Played : Option (List ℕ) → Option (List ℕ) → Option (List ℕ) → Option (List ℕ) → Result (Unit {0}) ConsoleFault → Type 0
 Played had left old new (Ok done) =
-    (bytes : List ℕ) × IsWholeInput 1048577 had left bytes
+    (bytes : List ℕ) × IsWholeInput (MOST_SCRIPT_BYTES + 1) had left bytes
     × (script : Script) × (spelled Play bytes ≡ Ok script) × Appends old new (report (opened script.roles) script.events)
 Played had left old new (Err faults.Script) =
-    (bytes : List ℕ) × IsWholeInput 1048577 had left bytes
+    (bytes : List ℕ) × IsWholeInput (MOST_SCRIPT_BYTES + 1) had left bytes
     × (fault : ℕ × Wrong) × (spelled Play bytes ≡ Err fault) × Appends old new (fault_line fault)
 Played had left old new (Err faults.Memory) = Keeps old new
 Played had left old new (Err faults.Thread) = ⊥
 Played had left old new (Err faults.Reading) = Keeps old new
-Played had left old new (Err faults.Writing) = (bytes : List ℕ) × IsWholeInput 1048577 had left bytes × AppendsFront old new (played bytes)
+Played had left old new (Err faults.Writing) = (bytes : List ℕ) × IsWholeInput (MOST_SCRIPT_BYTES + 1) had left bytes × AppendsFront old new (played bytes)

@@ -1,5 +1,6 @@
 -- What a play needs of the kinds that it is given.
-use Rattle.std.specs.Prelude.{◌≡◌, ℕ, ◌≤◌, List, length, All}
+use Rattle.std.specs.Prelude.{◌≡◌, ℕ, ◌≤◌, List, [], ◌∷◌, ◌++◌, length, All}
+use Rattle.act_types.specs.declared.limits.TheConstants.{MOST_ACTORS}
 use Rattle.act_types.specs.KindState.{KindState}
 use Rattle.act_rules.specs.declared.script.KindName.{KindName}
 use Rattle.act_rules.specs.declared.script.KindName.TheVariants as kind
@@ -18,6 +19,20 @@ pub record HasEach {K : Type 0} (state : K → KindState) (count : ℕ) (stock :
   pub accounts : HasOf state kind.Account count stock.accounts.items
   pub lists : HasOf state kind.ListKind count stock.lists.items
 
--- enough for every script, which has eight actors at most
+-- enough for every script
 abbrev pub IsReady : {K : Type 0} → (K → KindState) → Stock K → Type 0
-IsReady state stock = HasEach state 8 stock
+IsReady state stock = HasEach state MOST_ACTORS stock
+
+-- each list has its kind more
+pub record HasOneMore {K : Type 0} (counter table account list : K) (old new : Stock K) : Type 0 where
+  pub counters : new.counters.items ≡ old.counters.items ++ counter ∷ []
+  pub tables : new.tables.items ≡ old.tables.items ++ table ∷ []
+  pub accounts : new.accounts.items ≡ old.accounts.items ++ account ∷ []
+  pub lists : new.lists.items ≡ old.lists.items ++ list ∷ []
+
+-- the lists have the same kinds
+pub record HasSame {K : Type 0} (old new : Stock K) : Type 0 where
+  pub counters : new.counters.items ≡ old.counters.items
+  pub tables : new.tables.items ≡ old.tables.items
+  pub accounts : new.accounts.items ≡ old.accounts.items
+  pub lists : new.lists.items ≡ old.lists.items

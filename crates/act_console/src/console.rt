@@ -75,9 +75,8 @@ fn answer_of(alloc: Global, stock: Stock, bytes: &[u8]) -> Result<Answer, NoMemo
 /// line of the script's first fault.
 ///
 /// The input is read whole before anything is played, and the report is made whole before it is
-/// written. At most 1,048,577 bytes are read, one more than a script may have. Any failed read is
-/// `Reading`, and any failed write, or one of 0 bytes, is `Writing`. The actors' kinds are taken
-/// from the stock.
+/// written. At most one byte more is read than a script may have. Any failed read is `Reading`, and
+/// any failed write, or one of 0 bytes, is `Writing`. The actors' kinds are taken from the stock.
 pub fn play_script<R: Read, W: Write>(
     alloc: Global,
     stock: Stock,

@@ -6,11 +6,12 @@ ghost use Rattle.act_console.specs.Input.{IsWholeInput};
 ghost use Rattle.act_console.specs.Output.{IsBeforeWriting};
 
 use crate::fault::ConsoleFault;
+use act_types::MOST_SCRIPT_BYTES;
 use std::alloc::Global;
 use std::io::Read;
 
 /// One byte more than a script may have, so that a script that is too long is seen to be.
-pub(crate) const MOST_READ: usize = 1_048_577;
+pub(crate) const MOST_READ: usize = MOST_SCRIPT_BYTES + 1;
 
 const CHUNK: usize = 4096;
 

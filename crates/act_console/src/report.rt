@@ -12,7 +12,7 @@ ghost use Rattle.act_console.specs.Parts.{item_head, owner_line, owner_lines, st
 use act_kinds::Actor;
 use act_owner::Owner;
 use act_rules::{Event, Outcome, RunItem};
-use act_types::{ActorId, Answer, CallerId, FutureId, NoMemory, Settled};
+use act_types::{ActorId, Answer, CallerId, FutureId, MOST_ACTORS, MOST_CALLERS, NoMemory, Settled};
 use act_world::{Stage, World};
 use std::alloc::{AllocError, Global};
 
@@ -182,7 +182,7 @@ fn push_actor<K: Actor>(
 
 /// Adds a line for each future of the caller of this number, where the world has it.
 fn push_caller<K: Actor>(text: &mut String, world: &World<K>, number: u8) -> Result<(), NoMemory>
-    requires { (1 ≤ number) × (number ≤ 16) }
+    requires { (1 ≤ number) × (number ≤ MOST_CALLERS) }
     ensures { OnOk result (string_bytes text.new ≡ string_bytes text.old ++ caller_lines (world_seen K.state world.now) number) }
 {
     let Some(caller) = CallerId::new(number) else {
@@ -197,9 +197,9 @@ fn push_caller<K: Actor>(text: &mut String, world: &World<K>, number: u8) -> Res
 
 /// Adds a line for each future, callers by rising number.
 fn push_callers<K: Actor>(text: &mut String, world: &World<K>) -> Result<(), NoMemory>
-    ensures { OnOk result (string_bytes text.new ≡ string_bytes text.old ++ flat_map (caller_lines (world_seen K.state world.now)) (one_to 16)) }
+    ensures { OnOk result (string_bytes text.new ≡ string_bytes text.old ++ flat_map (caller_lines (world_seen K.state world.now)) (one_to MOST_CALLERS)) }
 {
-    for before in 0..16u8 {
+    for before in 0..MOST_CALLERS {
         push_caller(text, world, before + 1)?;
     }
     Ok(())
@@ -207,7 +207,7 @@ fn push_callers<K: Actor>(text: &mut String, world: &World<K>) -> Result<(), NoM
 
 /// Adds the lines of the actor of this number, where the world has it.
 fn push_stage<K: Actor>(text: &mut String, world: &World<K>, number: u8) -> Result<(), NoMemory>
-    requires { (1 ≤ number) × (number ≤ 8) }
+    requires { (1 ≤ number) × (number ≤ MOST_ACTORS) }
     ensures { OnOk result (string_bytes text.new ≡ string_bytes text.old ++ stage_lines (world_seen K.state world.now) number) }
 {
     let Some(actor) = ActorId::new(number) else {
@@ -223,9 +223,9 @@ fn push_stage<K: Actor>(text: &mut String, world: &World<K>, number: u8) -> Resu
 
 /// Adds the lines of each actor, by rising number.
 fn push_stages<K: Actor>(text: &mut String, world: &World<K>) -> Result<(), NoMemory>
-    ensures { OnOk result (string_bytes text.new ≡ string_bytes text.old ++ flat_map (stage_lines (world_seen K.state world.now)) (one_to 8)) }
+    ensures { OnOk result (string_bytes text.new ≡ string_bytes text.old ++ flat_map (stage_lines (world_seen K.state world.now)) (one_to MOST_ACTORS)) }
 {
-    for before in 0..8u8 {
+    for before in 0..MOST_ACTORS {
         push_stage(text, world, before + 1)?;
     }
     Ok(())

@@ -12,14 +12,8 @@ ghost use Rattle.act_rules.specs.Grammar.{is_plain_byte, plain_at, words_in, lin
 use crate::forms::form_of;
 use crate::line::{BAD_LINE, LineFault, ScriptFault};
 use act_rules::{Event, Line, Role, Wrong};
-use act_types::{ActorId, CallerId, ListOf};
+use act_types::{ActorId, CallerId, ListOf, MOST_ACTORS, MOST_LINE_BYTES, MOST_SCRIPT_BYTES};
 use std::alloc::{AllocError, Global};
-
-/// The bytes that a script may have.
-const MOST_BYTES: usize = 1_048_576;
-
-/// The bytes that a line may have.
-const MOST_IN_LINE: usize = 512;
 
 /// What a script spells.
 #[derive(Debug, Drop)]
@@ -41,7 +35,7 @@ fn are_plain(bytes: &[u8]) -> bool
 fn plain(line: &[u8]) -> Result<&str, LineFault>
     ensures { Gives (λ x. x.now) result (plain_at line.now) }
 {
-    if line.len() > MOST_IN_LINE {
+    if line.len() > MOST_LINE_BYTES {
         return Err(BAD_LINE);
     }
     if !are_plain(line) {
@@ -136,8 +130,8 @@ fn add_role(script: &mut Script, role: Role) -> Result<(), LineFault>
     ensures read { (n : ℕ) → Leaves result script.new (added (spelled_script script.old) n (Line.Role role)) }
     ensures items { script.new.items ≡ script.old.items }
 {
-    // A script has eight actors at most, since there are eight numbers for them.
-    prove!(1 <= role.actor.number() && role.actor.number() <= 8);
+    // A script has no more actors than there are numbers for them.
+    prove!(1 <= role.actor.number() && role.actor.number() <= MOST_ACTORS);
     if let Some(wrong) = fault_of(script, &role) {
         return Err(LineFault::Wrong(wrong));
     }
@@ -186,7 +180,7 @@ fn fault_in(line: u32, fault: LineFault) -> ScriptFault
 
 /// What the lines of a script spell, or their first fault.
 fn read_lines(alloc: Global, bytes: &[u8]) -> Result<Script, ScriptFault>
-    requires { length bytes.now ≤ MOST_BYTES }
+    requires { length bytes.now ≤ MOST_SCRIPT_BYTES }
     ensures sound { IfOk result (λ script. AreSound (map casting script.casts)) }
     ensures spelled { GivesScript spelled_script result (spelled_from play_forms 1 no_lines (lines_in bytes.now)) }
     ensures few { IfOk result (λ script. length script.items < 2 ^ 32) }
@@ -211,7 +205,7 @@ pub fn read_script(alloc: Global, bytes: &[u8]) -> Result<Script, ScriptFault>
     ensures roles { IfOk result (λ script. AreFitting (map casting script.casts)) }
     ensures few { IfOk result (λ script. length script.items < 2 ^ 32) }
 {
-    if bytes.len() > MOST_BYTES {
+    if bytes.len() > MOST_SCRIPT_BYTES {
         return Err(ScriptFault::Line(0, Wrong::TooLong));
     }
     read_lines(alloc, bytes)

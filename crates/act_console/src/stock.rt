@@ -1,19 +1,19 @@
 //! The kinds that a play is made of.
 
-ghost use Rattle.std.specs.Prelude.{◌≡◌, ◌+◌, ◌≤◌, ℕ, length, map, IfOk, OnOk, IfSome, IsSome};
+ghost use Rattle.std.specs.Prelude.{◌≡◌, ◌+◌, ◌≤◌, ℕ, length, map, IfOk, OnOk, OnErr, IfSome, IsSome};
 ghost use Rattle.act_rules.specs.declared.script.KindName.TheVariants as kind;
 ghost use Rattle.act_rules.specs.Scripts.{opening_state, casting as role_casting};
 ghost use Rattle.act_world.specs.Openings.{casting};
-ghost use Rattle.act_console.specs.Stock.{HasEach, IsReady};
+ghost use Rattle.act_console.specs.Stock.{HasEach, HasOneMore, HasSame, IsReady};
 
 use act_actor::Cast;
 use act_kinds::{Actor, Boxed};
 use act_rules::{KindName, Role};
-use act_types::{ListOf, NoMemory};
+use act_types::{ListOf, MOST_ACTORS, NoMemory};
 use std::alloc::Global;
 
-/// Kinds for the actors of a script, which are eight at most: there are eight of each or more, and
-/// each is in its opening state.
+/// Kinds for the actors of a script, each in its opening state. A play asks for as many of each name
+/// as a script may have actors, or more.
 #[derive(Drop)]
 pub struct Stock<K = Boxed> {
     pub counters: Vec<K>,
@@ -23,18 +23,24 @@ pub struct Stock<K = Boxed> {
 }
 
 impl<K: Actor> Stock<K> {
-    /// Adds one kind of each name. Where memory is refused there may be less of some than of others.
+    /// Adds one kind of each name. An `Err` leaves the lists as they were.
     pub fn add(&mut self, counter: K, table: K, account: K, list: K) -> Result<(), NoMemory>
         requires counter { K.state counter ≡ opening_state kind.Counter }
         requires table { K.state table ≡ opening_state kind.Table }
         requires account { K.state account ≡ opening_state kind.Account }
         requires list { K.state list ≡ opening_state kind.ListKind }
-        ensures { OnOk result ((n : ℕ) → HasEach K.state n self.old → HasEach K.state (n + 1) self.new) }
+        ensures ok { OnOk result (HasOneMore counter table account list self.old self.new) }
+        ensures each { OnOk result ((n : ℕ) → HasEach K.state n self.old → HasEach K.state (n + 1) self.new) }
+        ensures err { OnErr result (HasSame self.old self.new) }
     {
-        self.counters.push(counter)?;
-        self.tables.push(table)?;
-        self.accounts.push(account)?;
-        self.lists.push(list)?;
+        self.counters.reserve(1)?;
+        self.tables.reserve(1)?;
+        self.accounts.reserve(1)?;
+        self.lists.reserve(1)?;
+        self.counters.push_reserved(counter);
+        self.tables.push_reserved(table);
+        self.accounts.push_reserved(account);
+        self.lists.push_reserved(list);
         Ok(())
     }
 }
@@ -81,7 +87,7 @@ pub(crate) fn casts_of<K: Actor>(
     roles: ListOf<Role>,
 ) -> Result<Vec<Cast<K>>, NoMemory>
     requires ready { IsReady K.state stock }
-    requires few { length roles ≤ 8 }
+    requires few { length roles ≤ MOST_ACTORS }
     ensures { IfOk result (λ casts. map (casting K.state) casts.items ≡ map role_casting roles) }
 {
     let mut stock = stock;

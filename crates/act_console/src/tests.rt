@@ -6,14 +6,15 @@ use crate::console::play_script;
 use crate::fault::ConsoleFault;
 use crate::reading::{MOST_READ, read_whole};
 use crate::stock::Stock;
-use crate::writing::write_whole;
 use act_kinds::{Account, Boxed, Counter, ListKind, Table};
+use act_types::MOST_ACTORS;
 use fakes::{FakeReader, FakeWriter};
-use rows::{ROWS, Row};
+use rows::ROWS;
 use std::alloc::Global;
 use std::test::Fail;
 
-const TEXT: &str = "run a1 c1\n";
+/// The rows of a shorter script are few, and some of them have a fault.
+const SHORT: usize = 100;
 
 #[test]
 fn a_byte_a_read(rt: HostRuntime) -> Result<(), Fail> {
@@ -33,56 +34,69 @@ fn a_byte_a_read(rt: HostRuntime) -> Result<(), Fail> {
     Ok(())
 }
 
-#[test]
-fn each_read_fails_in_turn(rt: HostRuntime) -> Result<(), Fail> {
-    for at in 1..=TEXT.len() + 1 {
-        let mut reader = FakeReader::failing(TEXT.as_bytes(), at);
-        let answer = read_whole(rt.alloc(), &mut reader);
-        let fault = answer.err();
-        assert_eq!(rt; fault, Some(ConsoleFault::Reading), "at {at}");
-    }
-    Ok(())
-}
-
-#[test]
-fn each_write_fails_in_turn(rt: HostRuntime) -> Result<(), Fail> {
-    for at in 1..=TEXT.len() {
-        for answers_zero in [false, true] {
-            let mut writer = FakeWriter::failing(rt.alloc(), at, answers_zero);
-            let answer = write_whole(&mut writer, TEXT);
-            let seen = (answer, writer.written().len(), writer.writes());
-            assert_eq!(rt; seen, (Err(ConsoleFault::Writing), at - 1, at));
-        }
-    }
-    Ok(())
-}
-
-/// Plays a script with kinds that are made here, and tells whether it ends and is answered so.
-fn is_played(alloc: Global, row: &Row) -> Result<bool, ConsoleFault> {
+/// Plays what a reader has, with kinds that are made here.
+fn played(
+    alloc: Global,
+    reader: &mut FakeReader,
+    writer: &mut FakeWriter,
+) -> Result<(), ConsoleFault> {
     let mut stock = Stock {
         counters: Vec::new(alloc),
         tables: Vec::new(alloc),
         accounts: Vec::new(alloc),
         lists: Vec::new(alloc),
     };
-    for _ in 0..8u8 {
+    for _ in 0..MOST_ACTORS {
         let counter: Boxed = Box::new(alloc, Counter::open())?;
         let table: Boxed = Box::new(alloc, Table::open(alloc))?;
         let account: Boxed = Box::new(alloc, Account::open())?;
         let list: Boxed = Box::new(alloc, ListKind::open(alloc))?;
         stock.add(counter, table, account, list)?;
     }
-    let mut reader = FakeReader::new(row.script.as_bytes());
-    let mut writer = FakeWriter::new(alloc);
-    let answer = play_script(alloc, stock, &mut reader, &mut writer);
-    Ok(answer == row.answer && writer.written() == row.output.as_bytes())
+    play_script(alloc, stock, reader, writer)
 }
 
 #[test]
 fn scripts_are_played(rt: HostRuntime) -> Result<(), Fail> {
     for row in &ROWS {
-        let played = is_played(rt.alloc(), row);
-        assert_eq!(rt; played, Ok(true), "{}", row.script);
+        let mut reader = FakeReader::new(row.script.as_bytes());
+        let mut writer = FakeWriter::new(rt.alloc());
+        let answer = played(rt.alloc(), &mut reader, &mut writer);
+        assert_eq!(rt; answer, row.answer, "{}", row.script);
+        assert_eq!(rt; writer.written(), row.output.as_bytes(), "{}", row.script);
+    }
+    Ok(())
+}
+
+/// A failed read ends the run at once, and nothing is written.
+#[test]
+fn each_read_fails_in_turn(rt: HostRuntime) -> Result<(), Fail> {
+    for row in ROWS.iter().filter(|row| row.script.len() < SHORT) {
+        for at in 1..=row.script.len() + 1 {
+            let mut reader = FakeReader::failing(row.script.as_bytes(), at);
+            let mut writer = FakeWriter::new(rt.alloc());
+            let answer = played(rt.alloc(), &mut reader, &mut writer);
+            let seen = (answer, reader.reads(), writer.writes());
+            assert_eq!(rt; seen, (Err(ConsoleFault::Reading), at, 0), "at {at}");
+        }
+    }
+    Ok(())
+}
+
+/// A failed write, or one of 0 bytes, ends the run at once, and what is written by then is a front.
+#[test]
+fn each_write_fails_in_turn(rt: HostRuntime) -> Result<(), Fail> {
+    for row in ROWS.iter().filter(|row| row.script.len() < SHORT) {
+        for at in 1..=row.output.len() {
+            for answers_zero in [false, true] {
+                let mut reader = FakeReader::new(row.script.as_bytes());
+                let mut writer = FakeWriter::failing(rt.alloc(), at, answers_zero);
+                let answer = played(rt.alloc(), &mut reader, &mut writer);
+                let seen = (answer, writer.writes());
+                assert_eq!(rt; seen, (Err(ConsoleFault::Writing), at), "at {at}");
+                assert_eq!(rt; writer.written(), &row.output.as_bytes()[..at - 1]);
+            }
+        }
     }
     Ok(())
 }

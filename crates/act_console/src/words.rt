@@ -8,7 +8,9 @@ ghost use Rattle.act_rules.specs.Words.{named_by, kind_text, all_kinds, method_a
 
 use crate::line::{BAD_LINE, LineFault};
 use act_rules::KindName;
-use act_types::{ActorId, Arg, CallerId, FutureId, Method, Text, Value, is_good_text};
+use act_types::{
+    ActorId, Arg, CallerId, FutureId, MOST_ACTORS, MOST_CALLERS, Method, Text, Value, is_good_text,
+};
 use std::alloc::Global;
 
 /// The kind that a word names.
@@ -133,7 +135,7 @@ pub(crate) fn caller_of(word: &str) -> Result<CallerId, LineFault>
     ensures { Gives (λ x. x) result (caller_at word.now) }
 {
     let number = number_of(marked(word, 'c')?)?;
-    if number < 1 || number > 16 {
+    if number < 1 || number > MOST_CALLERS as u32 {
         return Err(BAD_LINE);
     }
     match CallerId::new(number as u8) {
@@ -148,7 +150,7 @@ pub(crate) fn actor_of(word: &str) -> Result<ActorId, LineFault>
     ensures { Gives (λ x. x) result (actor_at word.now) }
 {
     let number = number_of(marked(word, 'a')?)?;
-    if number < 1 || number > 8 {
+    if number < 1 || number > MOST_ACTORS as u32 {
         return Err(BAD_LINE);
     }
     match ActorId::new(number as u8) {

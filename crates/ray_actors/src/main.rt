@@ -4,8 +4,11 @@
 mod command;
 mod status;
 
+ghost use Rattle.act_console.specs.Console.{Played};
+
 use act_console::{ConsoleFault, Stock, play_script};
 use act_kinds::{Account, Boxed, Counter, ListKind, Table};
+use act_types::MOST_ACTORS;
 use command::{Mode, mode_given};
 use status::{Stop, exit_code};
 use std::alloc::Global;
@@ -14,19 +17,21 @@ use std::io::{Read, Write};
 use std::process::ExitCode;
 use std::rt::Env;
 
-/// Makes the kinds, eight of each, and plays the script with them.
+/// Makes the kinds, as many of each as a script may have actors, and plays the script with them.
 fn play<R: Read, W: Write>(
     alloc: Global,
     reader: &mut R,
     writer: &mut W,
-) -> Result<(), ConsoleFault> {
+) -> Result<(), ConsoleFault>
+    ensures { Played (R.remaining reader.old) (R.remaining reader.new) (W.contents writer.old) (W.contents writer.new) result }
+{
     let mut stock = Stock {
         counters: Vec::new(alloc),
         tables: Vec::new(alloc),
         accounts: Vec::new(alloc),
         lists: Vec::new(alloc),
     };
-    for _ in 0..8u8 {
+    for _ in 0..MOST_ACTORS {
         let counter: Boxed = Box::new(alloc, Counter::open())?;
         let table: Boxed = Box::new(alloc, Table::open(alloc))?;
         let account: Boxed = Box::new(alloc, Account::open())?;

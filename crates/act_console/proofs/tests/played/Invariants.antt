@@ -1,6 +1,6 @@
 use Rattle.act_console.specs.Stock.{HasEach}
-use Rattle.act_console.proofs.tests.is_played.OwnLists.{own-1}
-use Rattle.act_console.proofs.tests.is_played.Given as goal
+use Rattle.act_console.proofs.tests.played.OwnLists.{own-1}
+use Rattle.act_console.proofs.tests.played.Given as goal
 
 -- so many of each kind are there
 abbrev pub invariant-loop : goal.invariant-loop
