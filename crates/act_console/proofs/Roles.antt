@@ -21,7 +21,7 @@ use Rattle.act_rules.specs.Grammar.{Script, has_twice, role_fault}
 use Rattle.act_rules.specs.Scripts.{casting as role_casting}
 use Rattle.act_actor.specs.declared.cast.Cast.{Cast}
 use Rattle.act_actor.specs.Cast.{CallersDiffer, IsFitting}
-use Rattle.act_world.specs.Openings.{casting}
+use Rattle.act_actor.specs.Casts.{casting}
 use Rattle.act_console.specs.Roles.{AreFitting, AreSound}
 
 -- ---- no more actors than there are numbers for them

@@ -12,7 +12,9 @@ ghost use Rattle.act_console.specs.Parts.{item_head, owner_line, owner_lines, st
 use act_kinds::Actor;
 use act_owner::Owner;
 use act_rules::{Event, Outcome, RunItem};
-use act_types::{ActorId, Answer, CallerId, FutureId, MOST_ACTORS, MOST_CALLERS, NoMemory, Settled};
+use act_types::{
+    ActorId, Answer, CallerId, FutureId, MOST_ACTORS, MOST_CALLERS, NoMemory, Settled,
+};
 use act_world::{Stage, World};
 use std::alloc::{AllocError, Global};
 

@@ -17,7 +17,8 @@ use Rattle.act_actor.specs.Cast.{ActorsDiffer}
 use Rattle.act_owner.specs.Owner.{OwnerValue, opened}
 use Rattle.act_world.specs.Value.{is_owner}
 use Rattle.act_world.specs.Ties.{IsOwnerAt, IsOwnerOf}
-use Rattle.act_world.specs.Openings.{casting, callers_named, actors_naming, HasOwners}
+use Rattle.act_actor.specs.Casts.{casting, callers_named, actors_naming}
+use Rattle.act_world.specs.Openings.{HasOwners}
 
 -- ---- the actors of a caller
 

@@ -14,7 +14,7 @@ use Rattle.act_actor.specs.Cast.{ActorsDiffer, CallersDiffer}
 use Rattle.act_actor.specs.Value.{ActorSeen}
 use Rattle.act_world.specs.Value.{SlotSeen, Runs, Vacant}
 use Rattle.act_world.specs.Ties.{IsLive, IsStage}
-use Rattle.act_world.specs.Openings.{casting}
+use Rattle.act_actor.specs.Casts.{casting}
 use Rattle.act_world.proofs.OpenedOwners.{differ_head, differ_tail}
 
 -- a slot that is written, and the others

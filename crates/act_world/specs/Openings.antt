@@ -1,23 +1,10 @@
--- What a world is opened with.
-use Rattle.std.specs.Prelude.{◌≡◌, ℕ, List, map, filter, find, Some, None, if◌then◌else◌}
-use Rattle.std.specs.List.{flat_map}
-use Rattle.act_types.specs.KindState.{KindState}
-use Rattle.act_rules.specs.History.{Casting, contains}
+-- Whom a world is opened with.
+use Rattle.std.specs.Prelude.{◌≡◌, ℕ, List, find, Some, None, if◌then◌else◌}
+use Rattle.act_rules.specs.History.{contains}
 use Rattle.act_actor.specs.declared.cast.Cast.{Cast}
+use Rattle.act_actor.specs.Casts.{actors_naming}
 use Rattle.act_owner.specs.Owner.{OwnerValue, opened}
 use Rattle.act_world.specs.Value.{is_owner}
-
--- the actor, its callers, and the state that its kind is in
-abbrev pub casting : {K : Type 0} → (K → KindState) → Cast K → Casting
-casting state cast = record { actor = cast.actor; callers = cast.callers; opening = state cast.kind }
-
--- the callers that some cast names, as often as they are named
-abbrev pub callers_named : {K : Type 0} → List (Cast K) → List ℕ
-callers_named casts = flat_map (λ cast. cast.callers) casts
-
--- the actors whose casts name the caller
-abbrev pub actors_naming : {K : Type 0} → ℕ → List (Cast K) → List ℕ
-actors_naming c casts = map (λ cast. cast.actor) (filter (λ cast. contains c cast.callers) casts)
 
 -- of each of these callers there is one, just opened, and there is no other
 abbrev pub HasOwners : {K : Type 0} → List (Cast K) → List ℕ → List OwnerValue → Type 0

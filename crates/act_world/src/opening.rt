@@ -3,33 +3,22 @@
 ghost use Rattle.std.specs.Prelude.{◌≡◌, ◌≢◌, ◌+◌, ◌++◌, ◌∷◌, [], ℕ, List, IfOk, OnOk, AllPairs, length, map, replicate, slice_get, Some, ◌==◌, if◌then◌else◌};
 ghost use Rattle.act_rules.specs.History.{opening};
 ghost use Rattle.act_actor.specs.Cast.{ActorsDiffer, IsFitting};
+ghost use Rattle.act_actor.specs.Casts.{casting, callers_named, actors_naming};
 ghost use Rattle.act_actor.specs.Seen.{live_seen};
 ghost use Rattle.act_owner.specs.Owner.{opened};
 ghost use Rattle.act_world.specs.Value.{Runs, Vacant, slot_seen, world_seen};
 ghost use Rattle.act_world.specs.Ties.{IsStage};
 ghost use Rattle.act_world.specs.Stands.{Stands};
-ghost use Rattle.act_world.specs.Openings.{casting, callers_named, actors_naming, HasOwners};
+ghost use Rattle.act_world.specs.Openings.{HasOwners};
 
 use crate::World;
 use crate::exchange::{Exchange, place_of};
 use crate::slot::{Slot, slot_of};
-use act_actor::{Cast, Live};
+use act_actor::{Cast, Live, actors_of};
 use act_kinds::Actor;
 use act_owner::Owner;
 use act_types::{ActorId, CallerId, NoMemory};
 use std::alloc::Global;
-
-/// The actors whose casts name the caller.
-fn actors_of<K>(alloc: Global, casts: &[Cast<K>], c: CallerId) -> Result<Vec<ActorId>, NoMemory>
-    ensures { IfOk result (λ actors. actors.items ≡ actors_naming c casts.now) }
-{
-    let actors = casts
-        .iter()
-        .filter(|cast| cast.callers.as_slice().contains(&c))
-        .map(|cast| cast.actor)
-        .collect(alloc)?;
-    Ok(actors)
-}
 
 /// A caller with its first handles.
 fn opened_owner<K>(alloc: Global, casts: &[Cast<K>], c: CallerId) -> Result<Owner, NoMemory>

@@ -4,7 +4,7 @@ use Rattle.act_rules.specs.declared.event.Event.{Event}
 use Rattle.act_rules.specs.History.{Casting, opening}
 use Rattle.act_rules.specs.Report.{report}
 use Rattle.act_rules.specs.Scripts.{opened}
-use Rattle.act_world.specs.Openings.{casting}
+use Rattle.act_actor.specs.Casts.{casting}
 use Rattle.act_console.proofs.Roles.{casts_fit}
 use Rattle.act_console.proofs.console.report_on.Goals as goal
 

@@ -3,7 +3,8 @@ use Rattle.std.specs.Prelude.{find}
 use Rattle.std.proofs.lemmas.List.{take_all}
 use Rattle.act_owner.specs.Owner.{OwnerValue}
 use Rattle.act_world.specs.Exchange.{is_owner}
-use Rattle.act_world.specs.Openings.{HasOwners, callers_named}
+use Rattle.act_actor.specs.Casts.{callers_named}
+use Rattle.act_world.specs.Openings.{HasOwners}
 use Rattle.act_world.proofs.OpenedOwners.{cast_more}
 use Rattle.act_world.proofs.opening.owners_of.Goals as goal
 

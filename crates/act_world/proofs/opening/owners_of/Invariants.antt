@@ -1,5 +1,6 @@
 use Rattle.std.proofs.Common.{take}
-use Rattle.act_world.specs.Openings.{HasOwners, callers_named}
+use Rattle.act_actor.specs.Casts.{callers_named}
+use Rattle.act_world.specs.Openings.{HasOwners}
 use Rattle.act_world.proofs.opening.owners_of.Given as goal
 
 -- the callers of the casts so far are there

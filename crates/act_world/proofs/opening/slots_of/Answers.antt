@@ -7,7 +7,7 @@ use Rattle.act_actor.specs.Cast.{CallersDiffer}
 use Rattle.act_actor.specs.Seen.{live_seen}
 use Rattle.act_inbox.specs.Inbox.{IsOpened}
 use Rattle.act_world.specs.Value.{slot_seen}
-use Rattle.act_world.specs.Openings.{casting}
+use Rattle.act_actor.specs.Casts.{casting}
 use Rattle.act_world.proofs.OpenedSlots.{IsToOpen, AreOpened, to_open, none_opened, one_more}
 use Rattle.act_world.proofs.opening.slots_of.Goals as goal
 

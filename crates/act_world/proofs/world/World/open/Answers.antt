@@ -2,7 +2,8 @@ use Rattle.std.proofs.Common.{List, length, ap, subst}
 use Rattle.std.specs.Prelude.{slice_get}
 use Rattle.act_world.specs.declared.exchange.Mailed.{Mailed}
 use Rattle.act_world.specs.declared.exchange.Posted.{Posted}
-use Rattle.act_world.specs.Openings.{HasOwners, callers_named}
+use Rattle.act_actor.specs.Casts.{callers_named}
+use Rattle.act_world.specs.Openings.{HasOwners}
 use Rattle.act_world.proofs.OpenedOwners.{owners_opened, nothing_asked}
 use Rattle.act_world.proofs.world.World.open.Goals as goal
 
