@@ -1,0 +1,8 @@
+//! What the threads of callers and those of actors share.
+#![tactic(auto)]
+
+mod patience;
+mod seat;
+
+pub use patience::Patience;
+pub use seat::Seat;

@@ -1,0 +1,74 @@
+-- Each reply that is due is the answer at its place.
+use Rattle.std.proofs.Common.{◌≡◌, ℕ, zero, suc, ◌+◌, Bool, true, false, cond, List, [], ◌∷◌, Some, None, refl, ap, sym, subst, arith, All}
+use Rattle.std.specs.Prelude.{◌==◌, Option, map, filter, slice_get}
+use Rattle.std.specs.List.{cons_option, enumerate_from}
+use Rattle.act_types.specs.KindState.{KindState}
+use Rattle.act_types.specs.declared.message.Notice.{Notice}
+use Rattle.act_types.specs.declared.message.Notice.TheVariants.{Answered}
+use Rattle.act_rules.specs.declared.history.RunItem.{RunItem}
+use Rattle.act_rules.specs.RunList.{Answer, after_item, answers_from, answer_at}
+use Rattle.act_serve.specs.Served.{replies_to, IsAnswer, place_of, RepliesAreDue}
+use Rattle.act_serve.proofs.Logs.{Tells, same, other, tells, replies_from}
+
+all_cons : {X : Type 0} (P : X → Type 0) (x : X) (xs : List X) → P x → All P xs → All P (x ∷ xs)
+all_cons P x xs here more zero d lt = here
+all_cons P x xs here more (suc k) d lt = more k d (omega (arith, lt))
+
+module _ (opening : KindState) (a c : ℕ) (log : List RunItem) where
+  all_from : (n : ℕ) (state : KindState) (xs : List RunItem)
+      → ((j : ℕ) (item : RunItem) → slice_get xs j ≡ Some item → slice_get log (n + j) ≡ Some item)
+      → ((j : ℕ) (answer : Answer) → slice_get (answers_from state xs) j ≡ Some answer → answer_at opening log (n + j) ≡ Some answer)
+      → All (IsAnswer opening a c log) (replies_from a c n state xs)
+  all_from n state [] items answers = λ k d lt. absurd (omega (arith, lt))
+  all_from n state (x ∷ xs) items answers = go (tells x.caller c) (all_from (n + 1) (after_item state x).0 xs
+      (λ j item e. let m : n + suc j ≡ (n + 1) + j = omega arith in subst (λ (k : ℕ). slice_get log k ≡ Some item) m (items (suc j) item e))
+      (λ j answer e. let m : n + suc j ≡ (n + 1) + j = omega arith in subst (λ (k : ℕ). answer_at opening log k ≡ Some answer) m (answers (suc j) answer e)))
+    where
+      next : KindState
+      next = (after_item state x).0
+
+      notice : Notice
+      notice = Answered (record { actor = a; caller = x.caller; future = x.future; place = n; answer = (after_item state x).1 })
+
+      rest : List Notice
+      rest = replies_from a c (n + 1) next xs
+
+      here : x.caller ≡ c → IsAnswer opening a c log notice
+      here mine = let m : n + 0 ≡ n = omega arith in record {
+        item = x;
+        at = subst (λ (k : ℕ). slice_get log k ≡ Some x) m (items 0 x refl);
+        of_caller = mine;
+        names = (refl, refl, refl);
+        answered = subst (λ (k : ℕ). answer_at opening log k ≡ Some (after_item state x).1) m (answers 0 (after_item state x).1 refl);
+      }
+
+      go : Tells x.caller c → All (IsAnswer opening a c log) rest → All (IsAnswer opening a c log) (cons_option (cond (x.caller == c) (Some notice) None) rest)
+      go (same b e) more = subst (λ (t : Bool). All (IsAnswer opening a c log) (cons_option (cond t (Some notice) None) rest)) (sym b) (all_cons (IsAnswer opening a c log) notice rest (here e) more)
+      go (other b ne) more = subst (λ (t : Bool). All (IsAnswer opening a c log) (cons_option (cond t (Some notice) None) rest)) (sym b) more
+
+  pub replies_answer : All (IsAnswer opening a c log) (replies_to opening a log c)
+  replies_answer = all_from 0 opening log
+      (λ j item e. let m : 0 + j ≡ j = omega arith in subst (λ (k : ℕ). slice_get log k ≡ Some item) (sym m) e)
+      (λ j answer e. let m : 0 + j ≡ j = omega arith in subst (λ (k : ℕ). answer_at opening log k ≡ Some answer) (sym m) e)
+
+-- one for each place
+places_from : (opening : KindState) (a c n : ℕ) (log : List RunItem)
+    → map place_of (replies_from a c n opening log) ≡ map (λ (place : ℕ). Some place) (map (λ (ran : ℕ × RunItem). ran.0) (filter (λ (ran : ℕ × RunItem). ran.1.caller == c) (enumerate_from n log)))
+places_from opening a c n [] = refl
+places_from opening a c n (x ∷ xs) = by (x.caller == c) (places_from (after_item opening x).0 a c (n + 1) xs)
+  where
+    notice : Notice
+    notice = Answered (record { actor = a; caller = x.caller; future = x.future; place = n; answer = (after_item opening x).1 })
+
+    rest : List Notice
+    rest = replies_from a c (n + 1) (after_item opening x).0 xs
+
+    more : List (ℕ × RunItem)
+    more = filter (λ (ran : ℕ × RunItem). ran.1.caller == c) (enumerate_from (n + 1) xs)
+
+    by : (b : Bool) → map place_of rest ≡ map (λ (place : ℕ). Some place) (map (λ (ran : ℕ × RunItem). ran.0) more) → map place_of (cons_option (cond b (Some notice) None) rest) ≡ map (λ (place : ℕ). Some place) (map (λ (ran : ℕ × RunItem). ran.0) (cond b ((n, x) ∷ more) more))
+    by true e = ap (λ (l : List (Option ℕ)). Some n ∷ l) e
+    by false e = e
+
+pub replies_are_due : RepliesAreDue
+replies_are_due opening a c log = record { places = places_from opening a c 0 log; answers = replies_answer opening a c log }

@@ -1,0 +1,5 @@
+pub mod Seats
+pub mod Logs
+pub mod Serving
+pub mod Answered
+pub mod Alone

@@ -1,0 +1,96 @@
+-- What the parts of an actor's turn stand on, and what they leave.
+use Rattle.std.specs.Prelude.{◌≡◌, ◌≢◌, ℕ, ◌+◌, ◌<◌, ◌≤◌, true, List, [], ◌∷◌, ◌++◌, length, slice_index_or, Some, All, AllPairs, Contains}
+use Rattle.atomic_table.specs.Seated.{TableId}
+use Rattle.act_types.specs.KindState.{KindState}
+use Rattle.act_types.specs.declared.message.Packet.{Packet}
+use Rattle.act_types.specs.declared.message.Reply.{Reply}
+use Rattle.act_types.specs.declared.message.Notice.TheVariants.{Death}
+use Rattle.act_rules.specs.declared.history.RunItem.{RunItem}
+use Rattle.act_rules.specs.RunList.{after_item, items_of}
+use Rattle.act_rules.specs.History.{contains}
+use Rattle.act_inbox.specs.Inbox.{is_listed, handed_of, waiting, note_of, IsOpened}
+use Rattle.act_actor.specs.Value.{ActorSeen}
+use Rattle.act_actor.specs.Actor.{HasRunFrom}
+use Rattle.act_mailbox.specs.declared.mail.Letter.{Letter}
+use Rattle.act_mailbox.specs.declared.mail.Letter.TheVariants.{Call}
+use Rattle.act_rules.specs.Consistent.{IsFront}
+use Rattle.act_mailbox.specs.Notices.{RepliesValue, ReplyExecValue, IsReply}
+use Rattle.act_seats.specs.declared.seat.Seat.{Seat}
+use Rattle.act_serve.specs.declared.seat.ExecLines.{ExecLines}
+use Rattle.act_serve.specs.declared.seat.ExecPasses.{ExecPasses}
+use Rattle.act_serve.specs.Served.{IsLogOf, first_note, replies_to, caller_at, callers_of}
+
+-- a pass is of the line at its place, and gave only what this actor's log shows
+pub record IsSeated (lines : List RepliesValue) (actor : ℕ) (log : List RunItem) (seat : Seat ReplyExecValue) : Type 0 where
+  pub below : seat.place < length lines
+  pub line : (d : RepliesValue) → (slice_index_or lines seat.place d).line ≡ seat.pass.line
+  pub actor_is : seat.pass.actor ≡ actor
+  pub grown : IsFront seat.pass.seen log
+  pub alive : All IsReply seat.pass.given
+
+-- no caller has two seats
+abbrev pub SeatsDiffer : List RepliesValue → List (Seat ReplyExecValue) → Type 0
+SeatsDiffer lines seats = AllPairs (λ one other. one ≢ other) (callers_of lines seats)
+
+-- the passes are of these lines, and an actor with this name and log may go on with them
+pub record PassesFit (mail control : TableId) (replies : List RepliesValue) (actor : ℕ) (log : List RunItem) (passes : ExecPasses) : Type 0 where
+  pub mail_is : passes.letters.line ≡ mail
+  pub control_is : passes.kills.line ≡ control
+  pub actor_is : passes.kills.actor ≡ actor
+  pub looked : length log ≤ passes.kills.looked
+  pub seats : All (IsSeated replies actor log) passes.notices.items
+  pub differ : SeatsDiffer replies passes.notices.items
+
+abbrev pub PassesOf : ExecLines → ℕ → List RunItem → ExecPasses → Type 0
+PassesOf lines actor log passes = PassesFit lines.mail.now.line lines.control.now.line lines.replies.now actor log passes
+
+-- passes for these callers with which nothing was done
+pub record IsUnused (lines : List RepliesValue) (callers : List ℕ) (passes : ExecPasses) : Type 0 where
+  pub callers_are : callers_of lines passes.notices.items ≡ callers
+  pub letters : passes.letters.taken ≡ []
+  pub kills : (passes.kills.taken ≡ []) × (passes.kills.lengths ≡ [])
+  pub given : All (λ seat. seat.pass.given ≡ []) passes.notices.items
+
+-- an actor that ran nothing, with such passes
+pub record IsFresh (lines : List RepliesValue) (actor : ActorSeen) (passes : ExecPasses) : Type 0 where
+  pub log : actor.log ≡ []
+  pub inbox : IsOpened (callers_of lines passes.notices.items) actor.inbox
+  pub passes_fresh : IsUnused lines (callers_of lines passes.notices.items) passes
+
+-- the actor holds what these letters brought, and ran nothing else
+pub record IsFed (callers : List ℕ) (letters : List Letter) (actor : ActorSeen) : Type 0 where
+  pub listed : (c : ℕ) → is_listed actor.inbox c ≡ contains c callers
+  pub handed : (c : ℕ) → handed_of actor.inbox c ≡ length (items_of c actor.log)
+  pub waits : (c n : ℕ) (packet : Packet) → waiting actor.inbox c n ≡ Some packet → Contains letters (Call packet) × (packet.actor ≡ actor.id)
+  pub notes : (c : ℕ) → contains c callers ≡ true → note_of actor.inbox c ≡ first_note actor.id c letters
+  pub log : IsLogOf actor.id callers letters actor.log
+
+-- the seat's caller was given its replies
+abbrev pub HasReplies : KindState → List RepliesValue → ℕ → List RunItem → Seat ReplyExecValue → Type 0
+HasReplies opening lines a log seat = seat.pass.given ≡ replies_to opening a log (caller_at lines seat.place)
+
+-- an actor of this opening state that serves these callers
+pub record IsServing (opening : KindState) (callers : List ℕ) (lines : List RepliesValue) (letters : List Letter) (actor : ActorSeen) (seats : List (Seat ReplyExecValue)) : Type 0 where
+  pub fed : IsFed callers letters actor
+  pub follows : HasRunFrom opening actor
+  pub given : All (HasReplies opening lines actor.id actor.log) seats
+
+-- the actor ran a call of the caller, and this is its reply
+pub record HasReplied (caller : ℕ) (reply : Reply) (old new : ActorSeen) : Type 0 where
+  pub item : RunItem
+  pub log : new.log ≡ old.log ++ item ∷ []
+  pub id : new.id ≡ old.id
+  pub of_caller : item.caller ≡ caller
+  pub reply_is : reply ≡ record { actor = old.id; caller = item.caller; future = item.future; place = length old.log; answer = (after_item old.state item).1 }
+  pub state : new.state ≡ (after_item old.state item).0
+  pub fed : (callers : List ℕ) (letters : List Letter) → IsFed callers letters old → IsFed callers letters new
+
+-- the same actor went on from there, by one call at most, and keeps what was promised
+pub record GoesOn (old new : ActorSeen) : Type 0 where
+  pub id : new.id ≡ old.id
+  pub front : IsFront old.log new.log
+  pub long : length new.log ≤ length old.log + 1
+
+-- the seat after a death was given
+abbrev pub told : ℕ → List RunItem → Seat ReplyExecValue → Seat ReplyExecValue
+told a log seat = record seat { pass = record seat.pass { given = seat.pass.given ++ Death a ∷ []; seen = log } }

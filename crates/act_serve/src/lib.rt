@@ -1,0 +1,14 @@
+//! An actor in a thread of its own: it takes letters and kills, runs calls, and gives notices.
+#![tactic(auto)]
+
+mod gate;
+mod laws;
+mod seat;
+#[cfg(test)]
+mod tests;
+mod turn;
+
+pub use gate::{Gate, NoGate};
+pub use laws::replies_are_due;
+pub use seat::{Ended, ExecLines, ExecPasses, Finished};
+pub use turn::serve;

@@ -1,0 +1,161 @@
+//! An actor that serves lines which a test filled.
+
+ghost use Rattle.std.specs.Prelude.{◌≡◌, [], ◌∷◌};
+ghost use Rattle.act_serve.specs.Turns.{PassesFit, PassesOf, IsUnused};
+
+mod kill_at_place;
+mod station;
+
+use crate::{Ended, ExecLines, ExecPasses, Finished, Gate, NoGate, serve};
+use act_actor::Live;
+use act_kinds::{Actor, Counter};
+use act_mailbox::{Replies, ReplyCaller};
+use act_types::{ActorId, CallerId, KillNote, NoMemory, Notice};
+use station::{Station, actor, call, caller, opened};
+use std::alloc::Global;
+use std::sync::Wait;
+use std::test::Fail;
+
+/// How an actor ended, and how many calls it ran.
+#[derive(Clone, Copy, Debug, PartialEq, Eq)]
+enum End {
+    Killed(usize),
+    Retired(usize),
+    Starved(usize),
+}
+
+/// What a caller was given: so many replies, and then so many deaths.
+#[derive(Clone, Copy, Debug, PartialEq, Eq)]
+struct Counted {
+    replies: u32,
+    deaths: u32,
+}
+
+fn end_of<K: Actor>(finished: &Finished<K>) -> End {
+    match &finished.ended {
+        Ended::Killed(dead) => End::Killed(dead.log().len()),
+        Ended::Retired(retired) => End::Retired(retired.log().len()),
+        Ended::Starved(dead) => End::Starved(dead.log().len()),
+    }
+}
+
+/// What the caller was given, where no reply follows a death.
+fn given<R: Wait>(rt: &R, replies: &Replies, collector: &mut ReplyCaller) -> Option<Counted>
+    requires { collector.old.line ≡ replies.now.line }
+{
+    let mut given = Counted {
+        replies: 0,
+        deaths: 0,
+    };
+    for _ in 0..100u32 {
+        match replies.collect(rt, collector) {
+            None => return Some(given),
+            Some(Notice::Death(_)) => given.deaths = given.deaths.wrapping_add(1),
+            Some(Notice::Answered(_)) if given.deaths > 0 => return None,
+            Some(Notice::Answered(_)) => given.replies = given.replies.wrapping_add(1),
+        }
+    }
+    None
+}
+
+/// A counter serves these lines.
+fn serve_counter<R: Wait, G: Gate>(
+    rt: &R,
+    alloc: Global,
+    lines: &ExecLines,
+    passes: ExecPasses,
+    gate: &G,
+) -> Result<End, NoMemory>
+    requires fit { PassesOf lines.now 1 [] passes }
+    requires fresh { IsUnused lines.now.replies.now (1 ∷ []) passes }
+{
+    let live = Live::open(alloc, actor(), &[caller()], Counter::open())?;
+    Ok(end_of(&serve(rt, live, lines, passes, gate)))
+}
+
+/// A counter serves the station's lines.
+fn served<R: Wait>(
+    rt: &R,
+    alloc: Global,
+    station: Station,
+    passes: ExecPasses,
+) -> Result<(End, Option<Counted>), NoMemory>
+    requires fit { PassesFit station.mail.line station.control.line (station.replies ∷ []) 1 [] passes }
+    requires fresh { IsUnused (station.replies ∷ []) (1 ∷ []) passes }
+    requires collector { station.collector.line ≡ station.replies.line }
+{
+    let Station {
+        mail,
+        control,
+        replies,
+        mut collector,
+        ..
+    } = station;
+    let replies = [replies];
+    let lines = ExecLines {
+        mail: &mail,
+        control: &control,
+        replies: &replies,
+    };
+    let end = serve_counter(rt, alloc, &lines, passes, &NoGate)?;
+    Ok((end, given(rt, &replies[0], &mut collector)))
+}
+
+#[test]
+fn retires_after_a_call(rt: HostRuntime) -> Result<(), Fail> {
+    let alloc = rt.alloc();
+    let (mut station, passes) = opened(alloc)?;
+    assert!(rt; station.post(&rt, call(alloc, caller(), actor(), 0)?));
+    assert!(rt; station.note(&rt, actor(), 1));
+    let wanted = Counted {
+        replies: 1,
+        deaths: 0,
+    };
+    let told = served(&rt, alloc, station, passes)?;
+    assert_eq!(rt; told, (End::Retired(1), Some(wanted)));
+    Ok(())
+}
+
+#[test]
+fn kill_first(rt: HostRuntime) -> Result<(), Fail> {
+    let alloc = rt.alloc();
+    let (mut station, passes) = opened(alloc)?;
+    assert!(rt; station.post(&rt, call(alloc, caller(), actor(), 0)?));
+    assert!(rt; station.note(&rt, actor(), 1));
+    let kill = KillNote {
+        caller: caller(),
+        actor: actor(),
+    };
+    assert!(rt; station.control.ask(&rt, &mut station.ask, kill).is_ok());
+    let wanted = Counted {
+        replies: 0,
+        deaths: 1,
+    };
+    let told = served(&rt, alloc, station, passes)?;
+    assert_eq!(rt; told, (End::Killed(0), Some(wanted)));
+    Ok(())
+}
+
+/// Letters that are for another actor, of a number that no call has, or that came before, change
+/// nothing, and nor do notes for another actor and second ones.
+#[test]
+fn forged_letters_change_nothing(rt: HostRuntime) -> Result<(), Fail> {
+    let alloc = rt.alloc();
+    let (mut station, passes) = opened(alloc)?;
+    let other = ActorId::new(2).unwrap();
+    assert!(rt; station.post(&rt, call(alloc, caller(), other, 0)?));
+    assert!(rt; station.post(&rt, call(alloc, caller(), actor(), 65_536)?));
+    assert!(rt; station.post(&rt, call(alloc, caller(), actor(), 0)?));
+    assert!(rt; station.post(&rt, call(alloc, caller(), actor(), 0)?));
+    assert!(rt; station.note(&rt, other, 0));
+    assert!(rt; station.note(&rt, actor(), 2));
+    assert!(rt; station.note(&rt, actor(), 1));
+    assert!(rt; station.post(&rt, call(alloc, caller(), actor(), 1)?));
+    let wanted = Counted {
+        replies: 2,
+        deaths: 0,
+    };
+    let told = served(&rt, alloc, station, passes)?;
+    assert_eq!(rt; told, (End::Retired(2), Some(wanted)));
+    Ok(())
+}

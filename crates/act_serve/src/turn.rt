@@ -1,0 +1,263 @@
+//! One turn of an actor.
+
+ghost use Rattle.std.specs.Prelude.{◌≡◌, ℕ, ◌<◌, List, [], ◌∷◌, ◌++◌, length, map, All, IfOk, OnOk, OnErr, IfSome, IfNone};
+ghost use Rattle.act_types.specs.KindState.{KindState};
+ghost use Rattle.act_mailbox.specs.declared.mail.Letter.{Letter};
+ghost use Rattle.act_actor.specs.Seen.{live_seen};
+ghost use Rattle.act_rules.specs.Consistent.{IsFront};
+ghost use Rattle.act_mailbox.specs.Notices.{actor_of, IsReply, NamesPlace};
+ghost use Rattle.act_serve.specs.Turns.{IsSeated, SeatsDiffer, PassesOf, HasReplied, GoesOn, IsFed, IsServing, IsFresh, told};
+ghost use Rattle.act_serve.specs.Served.{bare, end_seen, HasServed};
+
+use crate::gate::Gate;
+use crate::seat::{Ended, ExecLines, ExecPasses, Finished};
+use act_actor::{Dead, Live, RunItem};
+use act_kinds::Actor;
+use act_mailbox::{Letter, Mail, MailExec, Replies, ReplyExec};
+use act_seats::{Patience, Seat};
+use act_types::{ActorId, CallerId, NoMemory, Notice, Reply};
+use std::sync::Wait;
+
+/// Gives a notice, and tries again while the line is full.
+fn give<R: Wait>(rt: &R, line: &Replies, pass: &mut ReplyExec, log: &[RunItem], mut notice: Notice)
+    requires pass { pass.old.line ≡ line.now.line }
+    requires actor { actor_of notice ≡ pass.old.actor }
+    requires grown { IsFront pass.old.seen log.now }
+    requires place { NamesPlace log.now notice }
+    requires alive { All IsReply pass.old.given }
+    ensures { pass.new ≡ record pass.old { given = pass.old.given ++ notice ∷ []; seen = log.now } }
+{
+    let mut patience = Patience::new();
+    for _ in rt.forever() {
+        match line.give(rt, pass, log, notice) {
+            Ok(()) => return,
+            Err(back) => notice = back,
+        }
+        patience.pause();
+    }
+    unreachable!()
+}
+
+/// Takes a letter in, and whether there was one.
+fn take_in<R: Wait, K: Actor>(
+    rt: &R,
+    live: &mut Live<K>,
+    mail: &Mail,
+    pass: &mut MailExec,
+) -> Result<bool, NoMemory>
+    requires { pass.old.line ≡ mail.now.line }
+    ensures pass { pass.new ≡ record pass.old { taken = pass.new.taken } }
+    ensures same { let after = live_seen K.state live.new in after ≡ record (live_seen K.state live.old) { inbox = after.inbox } }
+    ensures fed { (callers : List ℕ) → IsFed callers pass.old.taken (live_seen K.state live.old) → IsFed callers pass.new.taken (live_seen K.state live.new) }
+{
+    match mail.take(rt, pass) {
+        None => Ok(false),
+        Some(Letter::Call(packet)) => match live.arrive(packet) {
+            Ok(_) => Ok(true),
+            Err(_) => Err(NoMemory),
+        },
+        Some(Letter::Note(note)) => {
+            live.released(note);
+            Ok(true)
+        }
+    }
+}
+
+/// The first seat whose caller's next call came.
+fn next_seat<K: Actor>(
+    live: &Live<K>,
+    replies: &[Replies],
+    notices: &[Seat<ReplyExec>],
+) -> Option<usize>
+    requires { All (λ seat. seat.place < length replies.now) notices.now }
+    ensures { IfSome result (λ at. at < length notices.now) }
+{
+    for (at, seat) in notices.iter().enumerate() {
+        if live.has_next(replies[seat.place].caller()) {
+            return Some(at);
+        }
+    }
+    None
+}
+
+/// Runs the caller's next call, if it came.
+fn run_next<K: Actor>(live: &mut Live<K>, caller: CallerId) -> Result<Option<Reply>, NoMemory>
+    ensures ran { IfOk result (λ reply. IfSome reply (λ reply. HasReplied caller reply (live_seen K.state live.old) (live_seen K.state live.new))) }
+    ensures none { IfOk result (λ reply. IfNone reply (live_seen K.state live.new ≡ live_seen K.state live.old)) }
+    ensures err { OnErr result (live_seen K.state live.new ≡ live_seen K.state live.old) }
+{
+    live.run(caller)
+}
+
+/// Runs the next call of the first caller that has one, and gives its reply. Whether there was one.
+fn run_one<R: Wait, K: Actor, F: Fn(ActorId, u32)>(
+    rt: &R,
+    live: &mut Live<K>,
+    replies: &[Replies],
+    notices: &mut Vec<Seat<ReplyExec>>,
+    pass: &F,
+) -> Result<bool, NoMemory>
+    requires callable { F.IsAlwaysCallable pass.now }
+    requires seats { All (IsSeated replies.now (live_seen K.state live.old).id (live_seen K.state live.old).log) notices.old.items }
+    requires differ { SeatsDiffer replies.now notices.old.items }
+    ensures seats { All (IsSeated replies.now (live_seen K.state live.new).id (live_seen K.state live.new).log) notices.new.items }
+    ensures stay { map bare notices.new.items ≡ map bare notices.old.items }
+    ensures on { GoesOn (live_seen K.state live.old) (live_seen K.state live.new) }
+    ensures serving { (opening : KindState) (callers : List ℕ) (letters : List Letter) → IsServing opening callers replies.now letters (live_seen K.state live.old) notices.old.items → IsServing opening callers replies.now letters (live_seen K.state live.new) notices.new.items }
+{
+    let Some(at) = next_seat(live, replies, notices.as_slice()) else {
+        return Ok(false);
+    };
+    pass(live.id(), live.log().len() as u32);
+    let seat = &mut notices[at];
+    let line = &replies[seat.place];
+    match run_next(live, line.caller()) {
+        Ok(Some(reply)) => {
+            give(
+                rt,
+                line,
+                &mut seat.pass,
+                live.log(),
+                Notice::Answered(reply),
+            );
+            Ok(true)
+        }
+        Ok(None) => Ok(false),
+        Err(NoMemory) => Err(NoMemory),
+    }
+}
+
+/// What a turn came to.
+#[derive(Drop)]
+enum Turn {
+    Moved,
+    Idle,
+    Starved,
+}
+
+/// A turn after the look for a kill: a letter is taken, and a call is run.
+fn take_turn<R: Wait, K: Actor, F: Fn(ActorId, u32)>(
+    rt: &R,
+    live: &mut Live<K>,
+    lines: &ExecLines,
+    letters: &mut MailExec,
+    notices: &mut Vec<Seat<ReplyExec>>,
+    pass: &F,
+) -> Turn
+    requires callable { F.IsAlwaysCallable pass.now }
+    requires mail { letters.old.line ≡ lines.now.mail.now.line }
+    requires seats { All (IsSeated lines.now.replies.now (live_seen K.state live.old).id (live_seen K.state live.old).log) notices.old.items }
+    requires differ { SeatsDiffer lines.now.replies.now notices.old.items }
+    ensures letters { letters.new ≡ record letters.old { taken = letters.new.taken } }
+    ensures seats { All (IsSeated lines.now.replies.now (live_seen K.state live.new).id (live_seen K.state live.new).log) notices.new.items }
+    ensures stay { map bare notices.new.items ≡ map bare notices.old.items }
+    ensures on { GoesOn (live_seen K.state live.old) (live_seen K.state live.new) }
+    ensures serving { (opening : KindState) (callers : List ℕ) → IsServing opening callers lines.now.replies.now letters.old.taken (live_seen K.state live.old) notices.old.items → IsServing opening callers lines.now.replies.now letters.new.taken (live_seen K.state live.new) notices.new.items }
+{
+    let Ok(came) = take_in(rt, live, lines.mail, letters) else {
+        return Turn::Starved;
+    };
+    match run_one(rt, live, lines.replies, notices, pass) {
+        Err(_) => Turn::Starved,
+        Ok(ran) => { if came || ran { Turn::Moved } else { Turn::Idle } }
+    }
+}
+
+/// Gives the actor's death to each caller.
+fn tell_deaths<R: Wait>(
+    rt: &R,
+    replies: &[Replies],
+    notices: &mut Vec<Seat<ReplyExec>>,
+    dead: &Dead,
+)
+    requires seats { All (IsSeated replies.now dead.now.id dead.now.log) notices.old.items }
+    ensures { notices.new.items ≡ map (told dead.now.id dead.now.log) notices.old.items }
+{
+    for seat in notices.iter_mut() {
+        give(
+            rt,
+            &replies[seat.place],
+            &mut seat.pass,
+            dead.log(),
+            Notice::Death(dead.id()),
+        );
+    }
+}
+
+/// Serves until a kill is taken, all is drained, or memory is refused.
+fn serve_by<R: Wait, K: Actor, F: Fn(ActorId, u32)>(
+    rt: &R,
+    mut live: Live<K>,
+    lines: &ExecLines,
+    mut passes: ExecPasses,
+    pass: &F,
+) -> Finished<K>
+    requires callable { F.IsAlwaysCallable pass.now }
+    requires passes { let now = live_seen K.state live in PassesOf lines.now now.id now.log passes }
+    requires fresh { IsFresh lines.now.replies.now (live_seen K.state live) passes }
+    ensures { let now = live_seen K.state live in HasServed now.state now.id lines.now.replies.now passes (end_seen K.state result.ended) result.passes }
+{
+    let mut patience = Patience::new();
+    for _ in rt.forever() {
+        if lines.control.take(rt, &mut passes.kills, &live).is_some() {
+            let dead = live.kill();
+            tell_deaths(rt, lines.replies, &mut passes.notices, &dead);
+            return Finished {
+                ended: Ended::Killed(dead),
+                passes,
+            };
+        }
+        match take_turn(
+            rt,
+            &mut live,
+            lines,
+            &mut passes.letters,
+            &mut passes.notices,
+            pass,
+        ) {
+            Turn::Moved => patience.reset(),
+            Turn::Starved => {
+                let dead = live.kill();
+                tell_deaths(rt, lines.replies, &mut passes.notices, &dead);
+                return Finished {
+                    ended: Ended::Starved(dead),
+                    passes,
+                };
+            }
+            Turn::Idle => match live.retire() {
+                Ok(retired) => {
+                    return Finished {
+                        ended: Ended::Retired(retired),
+                        passes,
+                    };
+                }
+                Err(back) => {
+                    live = back;
+                    patience.pause();
+                }
+            },
+        }
+    }
+    unreachable!()
+}
+
+/// The same, where a gate is passed before each run.
+pub fn serve<R: Wait, K: Actor, G: Gate>(
+    rt: &R,
+    live: Live<K>,
+    lines: &ExecLines,
+    passes: ExecPasses,
+    gate: &G,
+) -> Finished<K>
+    requires passes { let now = live_seen K.state live in PassesOf lines.now now.id now.log passes }
+    requires fresh { IsFresh lines.now.replies.now (live_seen K.state live) passes }
+    ensures { let now = live_seen K.state live in HasServed now.state now.id lines.now.replies.now passes (end_seen K.state result.ended) result.passes }
+{
+    serve_by(
+        rt,
+        live,
+        lines,
+        passes,
+        &|actor, place| gate.pass(actor, place),
+    )
+}
