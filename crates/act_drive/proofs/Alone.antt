@@ -1,0 +1,75 @@
+-- What the tests stand on: the passes of a caller with one actor as they are opened, and what an actor's run leaves.
+use Rattle.std.proofs.Common.{◌≡◌, ◌≢◌, ℕ, List, [], ◌∷◌, ◌++◌, length, get_or, refl, sym, ap, ◌∙◌, subst, arith, All, AllPairs, Option, Some, None, Ok, Err, Result, append-nil}
+use Rattle.std.specs.Prelude.{slice_get, option_map, IfOk, OnOk, OnErr, IfSome, IfNone}
+use Rattle.act_types.specs.declared.message.Packet.{Packet}
+use Rattle.act_types.specs.declared.message.Reply.{Reply}
+use Rattle.act_types.specs.declared.message.Notice.{Notice}
+use Rattle.act_types.specs.declared.message.Notice.TheVariants.{Answered}
+use Rattle.act_rules.specs.declared.history.RunItem.{RunItem}
+use Rattle.act_rules.specs.Consistent.{IsFront}
+use Rattle.act_inbox.specs.Inbox.{next_of}
+use Rattle.act_actor.specs.Value.{ActorSeen}
+use Rattle.act_actor.specs.Actor.{item_of, reply_to, HasRun}
+use Rattle.std.proofs.lemmas.List.Elements.{All-push}
+use Rattle.act_mailbox.specs.Mails.{MailValue}
+use Rattle.act_mailbox.specs.Controls.{ControlValue}
+use Rattle.act_mailbox.specs.Notices.{RepliesValue, ReplyExecValue, IsReply, NamesPlace}
+use Rattle.act_mailbox.specs.Passes.{PutterValue, new_putter, new_taker}
+use Rattle.act_mailbox.specs.declared.control.Asked.{Asked}
+use Rattle.act_mailbox.specs.declared.mail.Letter.{Letter}
+use Rattle.act_seats.specs.declared.seat.Seat.{Seat}
+use Rattle.act_drive.specs.declared.desk.CallerPasses.{CallerPasses}
+use Rattle.act_drive.specs.Driven.{IsFreshSeat, IsKillSeat, AreKillSeats, IsUnused}
+
+one_seat : (mail : MailValue) (c : ℕ) (post : PutterValue Letter Unit) → post ≡ new_putter mail.line c → IsFreshSeat (mail ∷ []) c (record { place = 0; pass = post })
+one_seat mail c post is = record {
+  below = omega arith;
+  line = λ d. sym (ap (λ (p : PutterValue Letter Unit). p.line) is);
+  number = ap (λ (p : PutterValue Letter Unit). p.number) is;
+  put = ap (λ (p : PutterValue Letter Unit). p.put) is;
+}
+
+one_kill : (control : ControlValue) (c : ℕ) (pass : PutterValue Asked ℕ) → pass ≡ new_putter control.line c → AreKillSeats (control ∷ []) (record { place = 0; pass = pass } ∷ [])
+one_kill control c pass is = (
+  All-push (IsKillSeat (control ∷ [])) [] (record { place = 0; pass = pass }) (λ k d below. absurd (omega arith)) (record { below = omega arith; line = λ d. sym (ap (λ (p : PutterValue Asked ℕ). p.line) is) }),
+  λ i j d lt below. absurd (omega arith),
+)
+
+pub unused_alone : (passes : CallerPasses) (a c : ℕ) (mail : MailValue) (control : ControlValue) (replies : RepliesValue) (post : PutterValue Letter Unit) (ask : PutterValue Asked ℕ)
+    → post ≡ new_putter mail.line c → ask ≡ new_putter control.line c → passes.letters.items ≡ record { place = 0; pass = post } ∷ [] → passes.kills.items ≡ record { place = 0; pass = ask } ∷ [] → passes.collects ≡ new_taker replies.line (a ∷ []) → IsUnused (mail ∷ []) (control ∷ []) replies c passes
+unused_alone passes a c mail control replies post ask posted asked letters kills collects = record {
+  collects = ap (λ (t : _). t.line) collects;
+  taken = ap (λ (t : _). t.taken) collects;
+  letters = rw letters (All-push (IsFreshSeat (mail ∷ []) c) [] (record { place = 0; pass = post }) (λ k d below. absurd (omega arith)) (one_seat mail c post posted));
+  kills = rw kills (one_kill control c ask asked);
+  asked = rw kills (All-push (λ (s : Seat (PutterValue Asked ℕ)). s.pass.put ≡ []) [] (record { place = 0; pass = ask }) (λ k d below. absurd (omega arith)) (ap (λ (p : PutterValue Asked ℕ). p.put) asked));
+}
+
+-- ---- an actor's run, and what is given
+
+get_last : (xs : List RunItem) (x : RunItem) → slice_get (xs ++ x ∷ []) (length xs) ≡ Some x
+get_last [] x = refl
+get_last (y ∷ xs) x = get_last xs x
+
+named : (caller : ℕ) (before after : ActorSeen) (next : Option Packet) (reply : Reply) → Some reply ≡ option_map (reply_to before) next → IfSome next (λ packet. HasRun caller packet before after) → (after.id ≡ before.id) × IsFront before.log after.log × ((reply.actor ≡ before.id) × NamesPlace after.log (Answered reply))
+named caller before after None reply is ran = absurd (cc is)
+named caller before after (Some packet) reply is ran =
+    let same : reply ≡ reply_to before packet = cc is in
+    let at : slice_get after.log reply.place ≡ Some (item_of packet) = subst (λ (l : List RunItem). slice_get l reply.place ≡ Some (item_of packet)) (sym ran.log) (subst (λ (n : ℕ). slice_get (before.log ++ item_of packet ∷ []) n ≡ Some (item_of packet)) (sym (ap (λ (r : Reply). r.place) same)) (get_last before.log (item_of packet))) in
+    (ran.id, (item_of packet ∷ [], sym ran.log), (ap (λ (r : Reply). r.actor) same, (item_of packet, at, ap (λ (r : Reply). r.caller) same, ap (λ (r : Reply). r.future) same)))
+
+same_front : (before after : ActorSeen) → after ≡ before → IsFront before.log after.log
+same_front before after same = ([], append-nil before.log ∙ sym (ap (λ (a : ActorSeen). a.log) same))
+
+pub run_named : {E : Type 0} (caller : ℕ) (before after : ActorSeen) (result : Result (Option Reply) E) → IfOk result (λ reply. reply ≡ option_map (reply_to before) (next_of before.inbox caller)) → OnOk result (IfSome (next_of before.inbox caller) (λ packet. HasRun caller packet before after)) → IfOk result (λ reply. IfNone reply (after ≡ before)) → OnErr result (after ≡ before)
+    → (after.id ≡ before.id) × IsFront before.log after.log × IfOk result (λ ran. IfSome ran (λ reply. (reply.actor ≡ before.id) × NamesPlace after.log (Answered reply)))
+run_named caller before after (Err e) told ran gap same = (ap (λ (a : ActorSeen). a.id) same, same_front before after same, tt)
+run_named caller before after (Ok None) told ran gap same = (ap (λ (a : ActorSeen). a.id) gap, same_front before after gap, tt)
+run_named caller before after (Ok (Some reply)) told ran gap same = named caller before after (next_of before.inbox caller) reply told ran
+
+pub given_on : (result : Result Unit Notice) (old new : ReplyExecValue) (log : List RunItem) (reply : Reply) → OnOk result (new ≡ record old { given = old.given ++ Answered reply ∷ []; seen = log }) → OnErr result (new ≡ old) → IsFront old.seen log → All IsReply old.given
+    → (new.line ≡ old.line) × (new.actor ≡ old.actor) × IsFront new.seen log × All IsReply new.given
+given_on (Ok x) old new log reply ok err front alive =
+    (ap (λ (p : ReplyExecValue). p.line) ok, ap (λ (p : ReplyExecValue). p.actor) ok, ([], append-nil new.seen ∙ ap (λ (p : ReplyExecValue). p.seen) ok), subst (λ (p : ReplyExecValue). All IsReply p.given) (sym ok) (All-push IsReply old.given (Answered reply) alive tt))
+given_on (Err e) old new log reply ok err front alive =
+    (ap (λ (p : ReplyExecValue). p.line) err, ap (λ (p : ReplyExecValue). p.actor) err, subst (λ (p : ReplyExecValue). IsFront p.seen log) (sym err) front, subst (λ (p : ReplyExecValue). All IsReply p.given) (sym err) alive)

@@ -1,0 +1,44 @@
+use Rattle.std.proofs.Common.{refl, rules, ◌≡◌, ◌∙◌, ap, get_or, length, List}
+use Rattle.std.proofs.lemmas.List.{length_push}
+use Rattle.act_mailbox.specs.declared.control.Asked.{Asked}
+use Rattle.act_drive.specs.Driven.{bare_ask}
+use Rattle.act_drive.proofs.Doings.{kills_asked, ask_refused, asked_stays}
+use Rattle.act_drive.proofs.desk.Desk.ask.Goals as goal
+
+pub returns-in-Ok-clause-asked : goal.returns-in-Ok-clause-asked
+returns-in-Ok-clause-asked g c _ =
+    let seat = c.index_mut-seat.result.now in
+    let items = c.args.self.now.passes.kills.items in
+    let here : seat ≡ get_or items c.args.at seat = search rules in
+    record {
+      owner = refl;
+      collects = refl;
+      kills = λ taken steps. kills_asked c.args.lines.now.controls.now taken items c.args.a c.args.at seat c.ask.new.pass c.requires.calling.kills c.requires.below here
+          (λ d. ap (λ (x : _). (get_or c.args.lines.now.controls.now x.place d).actor) here ∙ c.requires.place seat d)
+          (ap (λ (p : _). length p.put) c.in-Ok.ensures.ok ∙ length_push seat.pass.put _) steps;
+    }
+
+pub returns-in-Err-clause-refused : goal.returns-in-Err-clause-refused
+returns-in-Err-clause-refused g c _ =
+    let seat = c.index_mut-seat.result.now in
+    let items = c.args.self.now.passes.kills.items in
+    let here : seat ≡ get_or items c.args.at seat = search rules in
+    record {
+      stay = asked_stays c.args.self.now _ c.args.at seat c.ask.new.pass here (ap (λ (p : _). bare_ask (record { place = seat.place; pass = p })) c.in-Err.ensures.err) refl refl refl refl;
+      calls = refl;
+      handles = refl;
+      kills = ask_refused items c.args.at seat c.ask.new.pass here c.in-Err.ensures.err;
+      heard = λ notice has. has;
+    }
+
+pub returns-in-Ok-clause-stays : goal.returns-in-Ok-clause-stays
+returns-in-Ok-clause-stays g c =
+    let seat = c.index_mut-seat.result.now in
+    let here : seat ≡ get_or c.args.self.now.passes.kills.items c.args.at seat = search rules in
+    asked_stays c.args.self.now _ c.args.at seat c.ask.new.pass here (ap (λ (p : _). bare_ask (record { place = seat.place; pass = p })) c.in-Ok.ensures.ok) refl refl refl refl
+
+pub returns-in-Err-clause-stays : goal.returns-in-Err-clause-stays
+returns-in-Err-clause-stays g c =
+    let seat = c.index_mut-seat.result.now in
+    let here : seat ≡ get_or c.args.self.now.passes.kills.items c.args.at seat = search rules in
+    asked_stays c.args.self.now _ c.args.at seat c.ask.new.pass here (ap (λ (p : _). bare_ask (record { place = seat.place; pass = p })) c.in-Err.ensures.err) refl refl refl refl

@@ -1,0 +1,21 @@
+use Rattle.std.proofs.Common.{refl, rules, ◌≡◌, ◌∙◌, sym, ap, None, Some}
+use Rattle.act_drive.proofs.Desks.{calling_dropped, calling_posted, posted_waits}
+use Rattle.act_drive.specs.Driven.{actor_of}
+use Rattle.act_drive.proofs.desk.Desk.send.Goals as goal
+
+pub returns-then-is_dead-clause-calling : goal.returns-then-is_dead-clause-calling
+returns-then-is_dead-clause-calling g c = calling_dropped c.args.lines.now c.args.self.now _ refl refl (search rules) c.requires.calling
+
+pub returns-in_default-letter_seat-clause-calling : goal.returns-in_default-letter_seat-clause-calling
+returns-in_default-letter_seat-clause-calling g c = calling_dropped c.args.lines.now c.args.self.now _ refl refl (search rules) c.requires.calling
+
+pub returns-clause-calling : goal.returns-clause-calling
+returns-clause-calling g c =
+    let seat = c.index_mut-seat.result.now in
+    let hand : c.args.self.now.hand ≡ Some c.in-Some.letter = search rules in
+    calling_posted c.args.lines.now c.args.self.now _ c.in-Some.letter c.in-Some-letter_seat.at seat c.post.new.pass hand (search rules) (search rules) (λ d. search rules) (search rules) refl (search rules) refl refl (search rules) c.requires.calling
+
+pub returns-clause-waits : goal.returns-clause-waits
+returns-clause-waits g c =
+    let seat = c.index_mut-seat.result.now in
+    posted_waits c.args.self.now _ c.in-Some-letter_seat.at seat c.post.new.pass (search rules) (search rules) refl refl refl refl

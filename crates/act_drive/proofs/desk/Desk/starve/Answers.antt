@@ -1,0 +1,11 @@
+use Rattle.act_drive.proofs.Desks.{stays_trans}
+use Rattle.act_drive.proofs.desk.Desk.starve.Goals as goal
+
+pub returns-then-end_all-clause-stays : goal.returns-then-end_all-clause-stays
+returns-then-end_all-clause-stays g c = stays_trans _ _ _ c.loop.invariant.stay c.end_all.ensures.stays
+
+pub loop-preserved : goal.loop-preserved
+loop-preserved g c = record {
+  calling = c.collect-has_heard.ensures.calling;
+  stay = stays_trans _ _ _ (stays_trans _ _ _ c.loop.invariant.stay c.end_all.ensures.stays) c.collect-has_heard.ensures.waits.stay;
+}

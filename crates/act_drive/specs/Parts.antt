@@ -1,0 +1,20 @@
+-- What parts of a caller's work leave.
+use Rattle.std.specs.Prelude.{◌≡◌, ℕ, ◌⊎◌, true, ◌∷◌, ◌++◌, [], is_some}
+use Rattle.act_types.specs.declared.message.Notice.{Notice}
+use Rattle.act_rules.specs.declared.script.Step.{Step}
+use Rattle.act_rules.specs.declared.script.Step.TheVariants.{Submit, Copy, Release, Kill, Await}
+use Rattle.act_rules.specs.Submissions.{kept_at}
+use Rattle.act_owner.specs.Owner.{OwnerValue, after_collect}
+use Rattle.act_drive.specs.declared.desk.Desk.{Desk}
+
+-- nothing came, or a notice came, and the owner collected it
+abbrev pub IsHeard : Desk → Desk → Type 0
+IsHeard old new = ((new.owner ≡ old.owner) × (new.passes.collects ≡ old.passes.collects)) ⊎ ((notice : Notice) × (new.passes.collects.taken ≡ old.passes.collects.taken ++ notice ∷ []) × (new.owner ≡ after_collect old.owner notice))
+
+-- a future that a step awaits is answered after it
+abbrev pub IsAwaited : Step → OwnerValue → Type 0
+IsAwaited (Submit a method args) owner = Unit {0}
+IsAwaited (Copy a) owner = Unit {0}
+IsAwaited (Release a) owner = Unit {0}
+IsAwaited (Kill a) owner = Unit {0}
+IsAwaited (Await k) owner = is_some (kept_at owner.kept k) ≡ true

@@ -1,0 +1,135 @@
+//! One caller: it does the steps of its plan, and sends and collects meanwhile.
+
+ghost use Rattle.std.specs.Prelude.{◌≡◌, ℕ, List, [], None, OnOk, false};
+ghost use Rattle.act_rules.specs.Plans.{first_bad};
+ghost use Rattle.act_handles.specs.Handles.{actors_in};
+ghost use Rattle.act_drive.specs.Driven.{IsCalling, Follows, Stays, Winds, IsFresh, HasDone, HasDriven};
+
+use crate::desk::{CallerLines, CallerPasses, Desk, NUMBERS};
+use act_owner::Owner;
+use act_rules::Step;
+use act_types::{ActorId, NoMemory};
+use std::alloc::Global;
+use std::sync::Wait;
+
+/// What a caller's thread does, in order.
+pub type Plan = Vec<Step>;
+
+/// What a caller leaves.
+#[derive(Drop)]
+pub struct Driven {
+    pub owner: Owner,
+    pub starved: bool,
+    pub passes: CallerPasses,
+}
+
+impl Desk {
+    /// Does the steps in order, with a turn after each.
+    fn steps<R: Wait>(
+        &mut self,
+        rt: &R,
+        alloc: Global,
+        lines: &CallerLines,
+        plan: Plan,
+    ) -> Result<(), NoMemory>
+        requires calling { IsCalling lines.now self.old }
+        ensures calling { IsCalling lines.now self.new }
+        ensures stays { Stays self.old self.new }
+        ensures follows { OnOk result ((actors : List ℕ) → first_bad actors plan.items ≡ None → Follows lines.now actors [] self.old → Follows lines.now actors plan.items self.new) }
+    {
+        for step in plan {
+            self.step(rt, alloc, lines, step)?;
+            self.turn(rt, alloc, lines)?;
+        }
+        Ok(())
+    }
+
+    /// Lets all copies of an actor's handle go.
+    fn let_go<R: Wait>(&mut self, rt: &R, lines: &CallerLines, a: ActorId) -> Result<(), NoMemory>
+        requires calling { IsCalling lines.now self.old }
+        ensures calling { IsCalling lines.now self.new }
+        ensures winds { Winds self.old self.new }
+    {
+        for _ in 0..self.owner.holds(a) {
+            self.release(rt, lines, a)?;
+        }
+        Ok(())
+    }
+
+    /// Lets all handles go.
+    fn close<R: Wait>(&mut self, rt: &R, lines: &CallerLines) -> Result<(), NoMemory>
+        requires calling { IsCalling lines.now self.old }
+        ensures calling { IsCalling lines.now self.new }
+        ensures winds { Winds self.old self.new }
+    {
+        for mail in lines.mails {
+            self.let_go(rt, lines, mail.actor())?;
+        }
+        Ok(())
+    }
+
+    /// The whole of a plan.
+    fn whole<R: Wait>(
+        &mut self,
+        rt: &R,
+        alloc: Global,
+        lines: &CallerLines,
+        plan: Plan,
+    ) -> Result<(), NoMemory>
+        requires calling { IsCalling lines.now self.old }
+        ensures calling { IsCalling lines.now self.new }
+        ensures stays { Stays self.old self.new }
+        ensures done { OnOk result ((actors : List ℕ) → first_bad actors plan.items ≡ None → Follows lines.now actors [] self.old → HasDone lines.now actors plan.items self.new.owner self.new.passes) }
+    {
+        self.steps(rt, alloc, lines, plan)?;
+        self.close(rt, lines)?;
+        self.finish(rt, alloc, lines)?;
+        Ok(())
+    }
+
+    /// The whole of a plan, and else what is left to do without memory. Whether memory was refused.
+    fn run<R: Wait>(&mut self, rt: &R, alloc: Global, lines: &CallerLines, plan: Plan) -> bool
+        requires calling { IsCalling lines.now self.old }
+        ensures calling { IsCalling lines.now self.new }
+        ensures stays { Stays self.old self.new }
+        ensures done { result ≡ false → (actors : List ℕ) → first_bad actors plan.items ≡ None → Follows lines.now actors [] self.old → HasDone lines.now actors plan.items self.new.owner self.new.passes }
+    {
+        match self.whole(rt, alloc, lines, plan) {
+            Ok(()) => false,
+            Err(_) => {
+                self.starve(rt, lines);
+                true
+            }
+        }
+    }
+}
+
+/// Does the steps of the plan in order, lets all handles go, and ends when all is answered. A caller
+/// that is refused memory asks the kill of each of its actors, and ends when each has told its death
+/// or needs nothing more of it.
+pub fn drive<R: Wait>(
+    rt: &R,
+    alloc: Global,
+    owner: Owner,
+    plan: Plan,
+    lines: &CallerLines,
+    passes: CallerPasses,
+) -> Driven
+    requires fresh { IsFresh lines.now owner passes }
+    requires fits { first_bad (actors_in owner.handles) plan.items ≡ None }
+    ensures { HasDriven lines.now owner passes plan.items result }
+{
+    let mut desk = Desk {
+        owner,
+        passes,
+        hand: None,
+        noted: [false; NUMBERS],
+    };
+    let starved = desk.run(rt, alloc, lines, plan);
+    let Desk { owner, passes, .. } = desk;
+    Driven {
+        owner,
+        starved,
+        passes,
+    }
+}

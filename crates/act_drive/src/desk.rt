@@ -1,0 +1,252 @@
+//! A caller at work.
+
+ghost use Rattle.std.specs.Prelude.{◌≡◌, ◌<◌, length, slice_index_or, All, None, Some, IfSome, IfNone, OnOk, is_some, true};
+ghost use Rattle.std.specs.List.{list_all};
+ghost use Rattle.act_rules.specs.Submissions.{kept_at};
+ghost use Rattle.act_drive.specs.Driven.{IsCalling, Waits, IsAtSeat, actor_of};
+ghost use Rattle.act_drive.specs.Parts.{IsHeard};
+
+use act_mailbox::{Control, ControlCaller, Letter, Mail, MailCaller, Replies, ReplyCaller};
+use act_owner::Owner;
+use act_seats::{Patience, Seat};
+use act_types::{ActorId, FutureId, MOST_ACTORS, NoMemory};
+use std::alloc::Global;
+use std::sync::Wait;
+
+/// The lines of one caller. Those of its actors are found by the places of its seats.
+#[derive(Clone, Copy)]
+pub struct CallerLines<'a> {
+    pub mails: &'a [Mail],
+    pub controls: &'a [Control],
+    pub replies: &'a Replies,
+}
+
+/// A caller's passes on its lines.
+#[derive(Drop)]
+pub struct CallerPasses {
+    pub letters: Vec<Seat<MailCaller>>,
+    pub kills: Vec<Seat<ControlCaller>>,
+    pub collects: ReplyCaller,
+}
+
+/// How many places a list by the actors' numbers has.
+pub(crate) const NUMBERS: usize = MOST_ACTORS as usize + 1;
+
+/// A caller at work: the letter that its line didn't take yet, and whether the note was posted, by
+/// the actors' numbers.
+#[derive(Drop)]
+pub(crate) struct Desk {
+    pub(crate) owner: Owner,
+    pub(crate) passes: CallerPasses,
+    pub(crate) hand: Option<Letter>,
+    pub(crate) noted: [bool; NUMBERS],
+}
+
+/// To whom a letter goes.
+fn actor_of(letter: &Letter) -> ActorId
+    ensures { result ≡ actor_of letter.now }
+{
+    match letter {
+        Letter::Call(packet) => packet.actor,
+        Letter::Note(note) => note.actor,
+    }
+}
+
+fn is_note(letter: &Letter) -> bool {
+    match letter {
+        Letter::Call(_) => false,
+        Letter::Note(_) => true,
+    }
+}
+
+/// Marks the actor whose note was posted.
+fn mark(noted: &mut [bool; NUMBERS], actor: ActorId, is_note: bool) {
+    if is_note {
+        noted[actor.number() as usize] = true;
+    }
+}
+
+/// The place in the list of the first seat at the actor's mail line.
+fn letter_seat(mails: &[Mail], seats: &[Seat<MailCaller>], actor: ActorId) -> Option<usize>
+    requires { All (λ seat. seat.place < length mails.now) seats.now }
+    ensures { IfSome result (λ at. (at < length seats.now) × IsAtSeat mails.now seats.now at actor) }
+{
+    for (at, seat) in seats.iter().enumerate() {
+        if mails[seat.place].actor() == actor {
+            return Some(at);
+        }
+    }
+    None
+}
+
+/// Waits a little where nothing was done.
+pub(crate) fn rest(patience: &mut Patience, has_moved: bool) {
+    if has_moved {
+        patience.reset();
+    } else {
+        patience.pause();
+    }
+}
+
+impl Desk {
+    /// Collects a notice, if there is one.
+    pub(crate) fn collect<R: Wait>(&mut self, rt: &R, lines: &CallerLines) -> bool
+        requires calling { IsCalling lines.now self.old }
+        ensures calling { IsCalling lines.now self.new }
+        ensures waits { Waits self.old self.new }
+        ensures heard { IsHeard self.old self.new }
+    {
+        match lines.replies.collect(rt, &mut self.passes.collects) {
+            None => false,
+            Some(notice) => {
+                self.owner.collect(notice);
+                true
+            }
+        }
+    }
+
+    /// Takes the letter of the next ready call in hand, if the hand is empty and memory serves.
+    pub(crate) fn take_up(&mut self, alloc: Global) -> Result<(), NoMemory>
+        ensures waits { Waits self.old self.new }
+        ensures calling { (lines : CallerLines) → IsCalling lines self.old → IsCalling lines self.new }
+    {
+        if self.hand.is_some() {
+            return Ok(());
+        }
+        if let Some(k) = self.owner.ready() {
+            let Ok(packet) = self.owner.packet(alloc, k) else {
+                return Err(NoMemory);
+            };
+            self.hand = Some(Letter::Call(packet));
+        }
+        Ok(())
+    }
+
+    /// Posts what is in hand, unless its actor is known dead. A full line leaves it there.
+    pub(crate) fn send<R: Wait>(&mut self, rt: &R, lines: &CallerLines) -> bool
+        requires calling { IsCalling lines.now self.old }
+        ensures calling { IsCalling lines.now self.new }
+        ensures waits { Waits self.old self.new }
+    {
+        let Some(letter) = self.hand.take() else {
+            return false;
+        };
+        let actor = actor_of(&letter);
+        if self.owner.is_dead(actor) {
+            return true;
+        }
+        let Some(at) = letter_seat(lines.mails, self.passes.letters.as_slice(), actor) else {
+            return true;
+        };
+        let is_note = is_note(&letter);
+        let seat = &mut self.passes.letters[at];
+        if let Err(back) = lines.mails[seat.place].post(rt, &mut seat.pass, letter) {
+            self.hand = Some(back);
+            return false;
+        }
+        mark(&mut self.noted, actor, is_note);
+        true
+    }
+
+    /// Sends a letter and collects a notice, where there is one, and says whether there was.
+    pub(crate) fn turn<R: Wait>(
+        &mut self,
+        rt: &R,
+        alloc: Global,
+        lines: &CallerLines,
+    ) -> Result<bool, NoMemory>
+        requires calling { IsCalling lines.now self.old }
+        ensures calling { IsCalling lines.now self.new }
+        ensures waits { Waits self.old self.new }
+    {
+        let taken = self.take_up(alloc);
+        let has_sent = self.send(rt, lines);
+        let has_heard = self.collect(rt, lines);
+        match taken {
+            Ok(()) => Ok(has_sent || has_heard),
+            Err(_) => Err(NoMemory),
+        }
+    }
+
+    /// A turn of a loop that waits.
+    pub(crate) fn wait_turn<R: Wait>(
+        &mut self,
+        rt: &R,
+        alloc: Global,
+        lines: &CallerLines,
+        patience: &mut Patience,
+    ) -> Result<(), NoMemory>
+        requires calling { IsCalling lines.now self.old }
+        ensures calling { IsCalling lines.now self.new }
+        ensures waits { Waits self.old self.new }
+    {
+        let has_moved = self.turn(rt, alloc, lines)?;
+        rest(patience, has_moved);
+        Ok(())
+    }
+
+    /// Goes on when nothing is in hand.
+    pub(crate) fn clear<R: Wait>(&mut self, rt: &R, lines: &CallerLines)
+        requires calling { IsCalling lines.now self.old }
+        ensures calling { IsCalling lines.now self.new }
+        ensures waits { Waits self.old self.new }
+        ensures empty { self.new.hand ≡ None }
+    {
+        let mut patience = Patience::new();
+        for _ in rt.forever() {
+            if self.hand.is_none() {
+                return;
+            }
+            let has_sent = self.send(rt, lines);
+            let has_heard = self.collect(rt, lines);
+            rest(&mut patience, has_sent || has_heard);
+        }
+        unreachable!()
+    }
+
+    /// Goes on when the future is answered.
+    pub(crate) fn wait_for<R: Wait>(
+        &mut self,
+        rt: &R,
+        alloc: Global,
+        lines: &CallerLines,
+        k: FutureId,
+    ) -> Result<(), NoMemory>
+        requires calling { IsCalling lines.now self.old }
+        ensures calling { IsCalling lines.now self.new }
+        ensures waits { Waits self.old self.new }
+        ensures answered { OnOk result (is_some (kept_at self.new.owner.kept k) ≡ true) }
+    {
+        let mut patience = Patience::new();
+        for _ in rt.forever() {
+            if self.owner.answer(k).is_some() {
+                return Ok(());
+            }
+            self.wait_turn(rt, alloc, lines, &mut patience)?;
+        }
+        unreachable!()
+    }
+
+    /// Goes on when all is answered and posted.
+    pub(crate) fn finish<R: Wait>(
+        &mut self,
+        rt: &R,
+        alloc: Global,
+        lines: &CallerLines,
+    ) -> Result<(), NoMemory>
+        requires calling { IsCalling lines.now self.old }
+        ensures calling { IsCalling lines.now self.new }
+        ensures waits { Waits self.old self.new }
+        ensures answered { OnOk result (list_all is_some self.new.owner.kept ≡ true) }
+        ensures empty { OnOk result (self.new.hand ≡ None) }
+    {
+        let mut patience = Patience::new();
+        for _ in rt.forever() {
+            if self.owner.all_answered() && self.hand.is_none() {
+                return Ok(());
+            }
+            self.wait_turn(rt, alloc, lines, &mut patience)?;
+        }
+        unreachable!()
+    }
+}

@@ -1,0 +1,12 @@
+//! The thread of a caller: it does the steps of a plan, and sends and collects meanwhile.
+#![tactic(auto)]
+
+mod caller;
+mod desk;
+mod starve;
+mod steps;
+#[cfg(test)]
+mod tests;
+
+pub use caller::{Driven, Plan, drive};
+pub use desk::{CallerLines, CallerPasses};

@@ -1,0 +1,92 @@
+//! A caller that was refused memory: it asks for the end of its actors, and takes no more memory.
+
+ghost use Rattle.std.specs.Prelude.{◌≡◌, ◌<◌, length};
+ghost use Rattle.act_drive.specs.Driven.{IsCalling, IsAtKillSeat, Stays};
+
+use crate::desk::{CallerLines, Desk, NUMBERS, rest};
+use act_seats::Patience;
+use act_types::ActorId;
+use std::sync::Wait;
+
+impl Desk {
+    /// Whether the caller is through with an actor: its death was collected, or its note was posted
+    /// and all its calls are answered.
+    fn is_through(&self, a: ActorId) -> bool {
+        self.owner.is_dead(a) || (self.noted[a.number() as usize] && !self.owner.awaits(a))
+    }
+
+    /// Asks the kill of an actor, if it wasn't asked.
+    fn ask_once<R: Wait>(
+        &mut self,
+        rt: &R,
+        lines: &CallerLines,
+        asked: &mut [bool; NUMBERS],
+        at: usize,
+        a: ActorId,
+    )
+        requires calling { IsCalling lines.now self.old }
+        requires below { at < length self.old.passes.kills.items }
+        requires place { IsAtKillSeat lines.now.controls.now self.old.passes.kills.items at a }
+        ensures calling { IsCalling lines.now self.new }
+        ensures stays { Stays self.old self.new }
+    {
+        let number = a.number() as usize;
+        if !asked[number] {
+            asked[number] = self.ask(rt, lines, at, a);
+        }
+    }
+
+    /// Asks the kill of the actor at a place of the list of seats, if it wasn't asked, unless the
+    /// caller is through with it. Whether it is.
+    fn end<R: Wait>(
+        &mut self,
+        rt: &R,
+        lines: &CallerLines,
+        asked: &mut [bool; NUMBERS],
+        at: usize,
+    ) -> bool
+        requires calling { IsCalling lines.now self.old }
+        requires below { at < length self.old.passes.kills.items }
+        ensures calling { IsCalling lines.now self.new }
+        ensures stays { Stays self.old self.new }
+    {
+        let actor = lines.controls[self.passes.kills[at].place].actor();
+        if self.is_through(actor) {
+            return true;
+        }
+        self.ask_once(rt, lines, asked, at, actor);
+        false
+    }
+
+    /// Asks the kills that weren't asked. Whether the caller is through with all its actors.
+    fn end_all<R: Wait>(&mut self, rt: &R, lines: &CallerLines, asked: &mut [bool; NUMBERS]) -> bool
+        requires calling { IsCalling lines.now self.old }
+        ensures calling { IsCalling lines.now self.new }
+        ensures stays { Stays self.old self.new }
+    {
+        let mut is_through = true;
+        for at in 0..self.passes.kills.len() {
+            let is_ended = self.end(rt, lines, asked, at);
+            is_through = is_through && is_ended;
+        }
+        is_through
+    }
+
+    /// Asks the kill of each actor, and collects until the caller is through with all.
+    pub(crate) fn starve<R: Wait>(&mut self, rt: &R, lines: &CallerLines)
+        requires calling { IsCalling lines.now self.old }
+        ensures calling { IsCalling lines.now self.new }
+        ensures stays { Stays self.old self.new }
+    {
+        let mut patience = Patience::new();
+        let mut asked = [false; NUMBERS];
+        for _ in rt.forever() {
+            if self.end_all(rt, lines, &mut asked) {
+                return;
+            }
+            let has_heard = self.collect(rt, lines);
+            rest(&mut patience, has_heard);
+        }
+        unreachable!()
+    }
+}

@@ -1,0 +1,196 @@
+//! The steps of a plan.
+
+ghost use Rattle.std.specs.Prelude.{◌≡◌, ◌<◌, length, true, false, is_some, All, Some, IfSome, IfNone, OnOk};
+ghost use Rattle.act_rules.specs.declared.script.Step.TheVariants.{Submit, Copy, Release, Kill, Await};
+ghost use Rattle.act_rules.specs.Submissions.{kept_at};
+ghost use Rattle.act_handles.specs.Handles.{copies_in};
+ghost use Rattle.act_owner.specs.Owner.{release_note};
+ghost use Rattle.act_mailbox.specs.declared.mail.Letter.TheVariants.{Note};
+ghost use Rattle.act_drive.specs.declared.desk.CallerLines.{CallerLines};
+ghost use Rattle.act_drive.specs.Driven.{IsCalling, FollowsBy, IsAtKillSeat, IsElsewhere, AsksMore, Stays, Waits, Winds};
+ghost use Rattle.act_drive.specs.Parts.{IsAwaited};
+
+use crate::desk::{CallerLines as Lines, Desk};
+use act_mailbox::{Control, ControlCaller, Letter};
+use act_rules::Step;
+use act_seats::{Patience, Seat};
+use act_types::{ActorId, Arg, FutureId, KillNote, ListOf, Method, NoMemory};
+use std::alloc::Global;
+use std::sync::Wait;
+
+/// The place in the list of the seat at the actor's control line.
+fn kill_seat(controls: &[Control], seats: &[Seat<ControlCaller>], actor: ActorId) -> Option<usize>
+    requires { All (λ seat. seat.place < length controls.now) seats.now }
+    ensures some { IfSome result (λ at. (at < length seats.now) × IsAtKillSeat controls.now seats.now at actor) }
+    ensures none { IfNone result (All (IsElsewhere controls.now actor) seats.now) }
+{
+    for at in 0..seats.len() {
+        if controls[seats[at].place].actor() == actor {
+            return Some(at);
+        }
+    }
+    None
+}
+
+impl Desk {
+    /// Submits a call. A refusal is a want of memory, where the plan fits.
+    fn submit(&mut self, a: ActorId, method: Method, args: ListOf<Arg>) -> Result<(), NoMemory>
+        ensures calling { (lines : CallerLines) → IsCalling lines self.old → IsCalling lines self.new }
+        ensures stays { Stays self.old self.new }
+        ensures follows { OnOk result ((lines : CallerLines) → FollowsBy lines (Submit a method args) self.old self.new) }
+    {
+        match self.owner.submit(a, method, args) {
+            Ok(_) => Ok(()),
+            Err(_) => Err(NoMemory),
+        }
+    }
+
+    /// Copies a handle, which nothing refuses where the plan fits.
+    fn copy(&mut self, a: ActorId) -> Result<(), NoMemory>
+        ensures calling { (lines : CallerLines) → IsCalling lines self.old → IsCalling lines self.new }
+        ensures stays { Stays self.old self.new }
+        ensures follows { OnOk result ((lines : CallerLines) → FollowsBy lines (Copy a) self.old self.new) }
+    {
+        match self.owner.copy(a) {
+            Ok(_) => Ok(()),
+            Err(_) => Err(NoMemory),
+        }
+    }
+
+    /// Lets a copy of a handle go, and takes the note in hand after the last one.
+    pub(crate) fn release<R: Wait>(
+        &mut self,
+        rt: &R,
+        lines: &Lines,
+        a: ActorId,
+    ) -> Result<(), NoMemory>
+        requires calling { IsCalling lines.now self.old }
+        ensures calling { IsCalling lines.now self.new }
+        ensures follows { OnOk result (FollowsBy lines.now (Release a) self.old self.new) }
+        ensures noted { OnOk result (copies_in a self.old.owner.handles ≡ Some 1 → self.new.hand ≡ Some (Note (release_note self.old.owner a))) }
+        ensures winds { Winds self.old self.new }
+    {
+        self.clear(rt, lines);
+        match self.owner.release(a) {
+            Ok(Some(note)) => {
+                self.hand = Some(Letter::Note(note));
+                Ok(())
+            }
+            Ok(None) => Ok(()),
+            Err(_) => Err(NoMemory),
+        }
+    }
+
+    /// Goes on when the future is answered.
+    fn wait_step<R: Wait>(
+        &mut self,
+        rt: &R,
+        alloc: Global,
+        lines: &Lines,
+        k: FutureId,
+    ) -> Result<(), NoMemory>
+        requires calling { IsCalling lines.now self.old }
+        ensures calling { IsCalling lines.now self.new }
+        ensures stays { Stays self.old self.new }
+        ensures answered { OnOk result (is_some (kept_at self.new.owner.kept k) ≡ true) }
+        ensures follows { OnOk result (FollowsBy lines.now (Await k) self.old self.new) }
+    {
+        self.wait_for(rt, alloc, lines, k)?;
+        Ok(())
+    }
+
+    /// Asks a kill once. A full line refuses it.
+    pub(crate) fn ask<R: Wait>(&mut self, rt: &R, lines: &Lines, at: usize, a: ActorId) -> bool
+        requires calling { IsCalling lines.now self.old }
+        requires below { at < length self.old.passes.kills.items }
+        requires place { IsAtKillSeat lines.now.controls.now self.old.passes.kills.items at a }
+        ensures calling { IsCalling lines.now self.new }
+        ensures stays { Stays self.old self.new }
+        ensures asked { result ≡ true → AsksMore lines.now.controls.now a self.old self.new }
+        ensures refused { result ≡ false → Waits self.old self.new }
+    {
+        let note = KillNote {
+            caller: self.owner.id(),
+            actor: a,
+        };
+        let seat = &mut self.passes.kills[at];
+        match lines.controls[seat.place].ask(rt, &mut seat.pass, note) {
+            Ok(()) => true,
+            Err(_) => false,
+        }
+    }
+
+    /// Goes on when the kill was asked at this seat, or its actor is known dead.
+    fn ask_until<R: Wait>(
+        &mut self,
+        rt: &R,
+        alloc: Global,
+        lines: &Lines,
+        at: usize,
+        a: ActorId,
+    ) -> Result<(), NoMemory>
+        requires calling { IsCalling lines.now self.old }
+        requires below { at < length self.old.passes.kills.items }
+        requires place { IsAtKillSeat lines.now.controls.now self.old.passes.kills.items at a }
+        ensures calling { IsCalling lines.now self.new }
+        ensures stays { Stays self.old self.new }
+        ensures follows { OnOk result (FollowsBy lines.now (Kill a) self.old self.new) }
+    {
+        let mut patience = Patience::new();
+        for _ in rt.forever() {
+            if self.owner.is_dead(a) {
+                return Ok(());
+            }
+            if self.ask(rt, lines, at, a) {
+                return Ok(());
+            }
+            self.wait_turn(rt, alloc, lines, &mut patience)?;
+        }
+        unreachable!()
+    }
+
+    /// Goes on when the kill was asked, or its actor is known dead.
+    fn kill<R: Wait>(
+        &mut self,
+        rt: &R,
+        alloc: Global,
+        lines: &Lines,
+        a: ActorId,
+    ) -> Result<(), NoMemory>
+        requires calling { IsCalling lines.now self.old }
+        ensures calling { IsCalling lines.now self.new }
+        ensures stays { Stays self.old self.new }
+        ensures follows { OnOk result (FollowsBy lines.now (Kill a) self.old self.new) }
+    {
+        match self.owner.ask_kill(a) {
+            Err(_) => Err(NoMemory),
+            Ok(_) => match kill_seat(lines.controls, self.passes.kills.as_slice(), a) {
+                None => Ok(()),
+                Some(at) => self.ask_until(rt, alloc, lines, at, a),
+            },
+        }
+    }
+
+    /// Does a step.
+    pub(crate) fn step<R: Wait>(
+        &mut self,
+        rt: &R,
+        alloc: Global,
+        lines: &Lines,
+        step: Step,
+    ) -> Result<(), NoMemory>
+        requires calling { IsCalling lines.now self.old }
+        ensures calling { IsCalling lines.now self.new }
+        ensures stays { Stays self.old self.new }
+        ensures awaited { OnOk result (IsAwaited step self.new.owner) }
+        ensures follows { OnOk result (FollowsBy lines.now step self.old self.new) }
+    {
+        match step {
+            Step::Submit(a, method, args) => self.submit(a, method, args),
+            Step::Copy(a) => self.copy(a),
+            Step::Release(a) => self.release(rt, lines, a),
+            Step::Kill(a) => self.kill(rt, alloc, lines, a),
+            Step::Await(k) => self.wait_step(rt, alloc, lines, k),
+        }
+    }
+}

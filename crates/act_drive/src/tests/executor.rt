@@ -1,0 +1,238 @@
+//! The executors of the tests.
+
+ghost use Rattle.std.specs.Prelude.{◌≡◌, [], All, IfOk, IfSome};
+ghost use Rattle.act_types.specs.declared.message.Notice.TheVariants.{Answered};
+ghost use Rattle.act_rules.specs.Consistent.{IsFront};
+ghost use Rattle.act_actor.specs.Seen.{live_seen};
+ghost use Rattle.act_mailbox.specs.Notices.{new_exec, IsReply, NamesPlace};
+
+use super::station::{ExecPasses, actor, caller};
+use act_actor::Live;
+use act_kinds::{Actor, Counter};
+use act_mailbox::{Control, ControlExec, Letter, Mail, MailExec, Replies, ReplyExec};
+use act_types::{CopyOf, NoMemory, Notice, Reply};
+use std::alloc::Global;
+use std::sync::Wait;
+use std::thread;
+
+/// How often an executor looks for a kill that is not to come.
+const LOOKS: u32 = 100_000;
+
+/// What an executor does to its caller.
+#[derive(Clone, Copy)]
+pub(super) enum Way {
+    /// It takes a call, looks for a kill, runs the call, and ends by the kill that comes then.
+    Holds,
+    /// It takes two calls, gives the first reply twice, and ends.
+    Repeats,
+    /// It takes two calls and the note, and retires.
+    Retires,
+}
+
+/// The lines of an executor with one caller.
+#[derive(Clone, Copy)]
+pub(super) struct ExecLines<'a> {
+    pub(super) mail: &'a Mail,
+    pub(super) control: &'a Control,
+    pub(super) replies: &'a Replies,
+}
+
+/// Takes a letter, and has it arrive.
+fn take_one<R: Wait, K: Actor>(rt: &R, mail: &Mail, letters: &mut MailExec, live: &mut Live<K>)
+    requires line { letters.old.line ≡ mail.now.line }
+    ensures line { letters.new.line ≡ letters.old.line }
+    ensures same { let after = live_seen K.state live.new in after ≡ record (live_seen K.state live.old) { inbox = after.inbox } }
+{
+    for _ in rt.forever() {
+        match mail.take(rt, letters) {
+            None => thread::yield_now(),
+            Some(Letter::Note(note)) => {
+                live.released(note);
+                return;
+            }
+            Some(Letter::Call(packet)) => {
+                let _ = live.arrive(packet);
+                return;
+            }
+        }
+    }
+    unreachable!()
+}
+
+/// Looks for a kill so many times, and says whether none came.
+fn sees_none<R: Wait, K: Actor>(
+    rt: &R,
+    control: &Control,
+    kills: &mut ControlExec,
+    live: &Live<K>,
+) -> bool
+    requires line { kills.old.line ≡ control.now.line }
+    requires actor { (live_seen K.state live.now).id ≡ kills.old.actor }
+    ensures line { kills.new.line ≡ kills.old.line }
+    ensures actor { kills.new.actor ≡ kills.old.actor }
+{
+    for _ in 0..LOOKS {
+        if control.take(rt, kills, live).is_some() {
+            return false;
+        }
+        thread::yield_now();
+    }
+    true
+}
+
+/// Waits for a kill.
+fn take_kill<R: Wait, K: Actor>(rt: &R, control: &Control, kills: &mut ControlExec, live: &Live<K>)
+    requires line { kills.old.line ≡ control.now.line }
+    requires actor { (live_seen K.state live.now).id ≡ kills.old.actor }
+{
+    for _ in rt.forever() {
+        if control.take(rt, kills, live).is_some() {
+            return;
+        }
+        thread::yield_now();
+    }
+    unreachable!()
+}
+
+/// Runs the caller's next call.
+fn run_next<K: Actor>(live: &mut Live<K>) -> Result<Option<Reply>, NoMemory>
+    ensures id { (live_seen K.state live.new).id ≡ (live_seen K.state live.old).id }
+    ensures front { IsFront (live_seen K.state live.old).log (live_seen K.state live.new).log }
+    ensures names { IfOk result (λ ran. IfSome ran (λ reply. (reply.actor ≡ (live_seen K.state live.old).id) × NamesPlace (live_seen K.state live.new).log (Answered reply))) }
+{
+    live.run(caller())
+}
+
+/// Gives a reply so many times.
+fn give_times<R: Wait, K: Actor>(
+    rt: &R,
+    alloc: Global,
+    live: &Live<K>,
+    line: &Replies,
+    gives: &mut ReplyExec,
+    reply: &Reply,
+    times: u32,
+) -> Result<(), NoMemory>
+    requires line { gives.old.line ≡ line.now.line }
+    requires names { (reply.now.actor ≡ gives.old.actor) × NamesPlace (live_seen K.state live.now).log (Answered reply.now) }
+    requires grown { IsFront gives.old.seen (live_seen K.state live.now).log }
+    requires alive { All IsReply gives.old.given }
+    ensures line { (gives.new.line ≡ gives.old.line) × (gives.new.actor ≡ gives.old.actor) }
+    ensures grown { IsFront gives.new.seen (live_seen K.state live.now).log }
+    ensures alive { All IsReply gives.new.given }
+{
+    for _ in 0..times {
+        let copy = reply.copy_of(alloc)?;
+        let _ = line.give(rt, gives, live.log(), Notice::Answered(copy));
+    }
+    Ok(())
+}
+
+/// Runs the caller's next call, and gives its reply so many times.
+fn run_one<R: Wait, K: Actor>(
+    rt: &R,
+    alloc: Global,
+    live: &mut Live<K>,
+    line: &Replies,
+    gives: &mut ReplyExec,
+    times: u32,
+) -> Result<(), NoMemory>
+    requires line { gives.old.line ≡ line.now.line }
+    requires actor { gives.old.actor ≡ (live_seen K.state live.old).id }
+    requires grown { IsFront gives.old.seen (live_seen K.state live.old).log }
+    requires alive { All IsReply gives.old.given }
+    ensures line { gives.new.line ≡ gives.old.line }
+    ensures actor { (gives.new.actor ≡ gives.old.actor) × ((live_seen K.state live.new).id ≡ (live_seen K.state live.old).id) }
+    ensures grown { IsFront gives.new.seen (live_seen K.state live.new).log }
+    ensures alive { All IsReply gives.new.given }
+{
+    let Some(reply) = run_next(live)? else {
+        return Ok(());
+    };
+    give_times(rt, alloc, live, line, gives, &reply, times)
+}
+
+/// An executor of the way `Holds`. Whether it saw no kill before it ran the call.
+fn hold<R: Wait, K: Actor>(
+    rt: &R,
+    alloc: Global,
+    mut live: Live<K>,
+    lines: &ExecLines,
+    mut passes: ExecPasses,
+) -> Result<bool, NoMemory>
+    requires live { ((live_seen K.state live).id ≡ 1) × ((live_seen K.state live).log ≡ []) }
+    requires letters { passes.letters.line ≡ lines.now.mail.now.line }
+    requires kills { (passes.kills.line ≡ lines.now.control.now.line) × (passes.kills.actor ≡ 1) }
+    requires gives { passes.gives ≡ new_exec lines.now.replies.now.line 1 }
+{
+    take_one(rt, lines.mail, &mut passes.letters, &mut live);
+    let is_quiet = sees_none(rt, lines.control, &mut passes.kills, &live);
+    run_one(rt, alloc, &mut live, lines.replies, &mut passes.gives, 1)?;
+    take_kill(rt, lines.control, &mut passes.kills, &live);
+    let _ = lines
+        .replies
+        .give(rt, &mut passes.gives, live.log(), Notice::Death(actor()));
+    Ok(is_quiet)
+}
+
+/// An executor of the way `Repeats`. Whether it ran both calls.
+fn repeat<R: Wait, K: Actor>(
+    rt: &R,
+    alloc: Global,
+    mut live: Live<K>,
+    lines: &ExecLines,
+    mut passes: ExecPasses,
+) -> Result<bool, NoMemory>
+    requires live { ((live_seen K.state live).id ≡ 1) × ((live_seen K.state live).log ≡ []) }
+    requires letters { passes.letters.line ≡ lines.now.mail.now.line }
+    requires gives { passes.gives ≡ new_exec lines.now.replies.now.line 1 }
+{
+    take_one(rt, lines.mail, &mut passes.letters, &mut live);
+    take_one(rt, lines.mail, &mut passes.letters, &mut live);
+    run_one(rt, alloc, &mut live, lines.replies, &mut passes.gives, 2)?;
+    run_one(rt, alloc, &mut live, lines.replies, &mut passes.gives, 0)?;
+    let _ = lines
+        .replies
+        .give(rt, &mut passes.gives, live.log(), Notice::Death(actor()));
+    Ok(live.log().len() == 2)
+}
+
+/// An executor of the way `Retires`. Whether the actor retired.
+fn retire<R: Wait, K: Actor>(
+    rt: &R,
+    alloc: Global,
+    mut live: Live<K>,
+    lines: &ExecLines,
+    mut passes: ExecPasses,
+) -> Result<bool, NoMemory>
+    requires live { ((live_seen K.state live).id ≡ 1) × ((live_seen K.state live).log ≡ []) }
+    requires letters { passes.letters.line ≡ lines.now.mail.now.line }
+    requires gives { passes.gives ≡ new_exec lines.now.replies.now.line 1 }
+{
+    for _ in 0..3u32 {
+        take_one(rt, lines.mail, &mut passes.letters, &mut live);
+    }
+    run_one(rt, alloc, &mut live, lines.replies, &mut passes.gives, 1)?;
+    run_one(rt, alloc, &mut live, lines.replies, &mut passes.gives, 1)?;
+    Ok(live.retire().is_ok())
+}
+
+/// A counter's executor. Whether all was as it should be.
+pub(super) fn serve_counter<R: Wait>(
+    rt: &R,
+    alloc: Global,
+    lines: &ExecLines,
+    passes: ExecPasses,
+    way: Way,
+) -> Result<bool, NoMemory>
+    requires letters { passes.letters.line ≡ lines.now.mail.now.line }
+    requires kills { (passes.kills.line ≡ lines.now.control.now.line) × (passes.kills.actor ≡ 1) }
+    requires gives { passes.gives ≡ new_exec lines.now.replies.now.line 1 }
+{
+    let live = Live::open(alloc, actor(), &[caller()], Counter::open())?;
+    match way {
+        Way::Holds => hold(rt, alloc, live, lines, passes),
+        Way::Repeats => repeat(rt, alloc, live, lines, passes),
+        Way::Retires => retire(rt, alloc, live, lines, passes),
+    }
+}
