@@ -1,5 +1,6 @@
 -- How the futures that wait for an answer are linked, those of each actor in their order.
 use Rattle.std.specs.Prelude.{◌≡◌, ◌≢◌, ℕ, ◌<◌, ◌≤◌, List, map, length, get_or, slice_set, Option, Some, None}
+use Rattle.act_types.specs.declared.limits.TheConstants.{MOST_ACTORS}
 use Rattle.act_replies.specs.declared.waiting.Link.{Link}
 
 -- the actor that each future waits for, none where it waits no more, and for how many more futures there is room
@@ -28,7 +29,7 @@ IsFirstAbove actors a k (Some f) = (k < f) × (found_at actors f ≡ Some a) × 
 
 -- each future that waits is linked to the nearest ones of its actor, and the last of each actor is known
 pub record IsChained (actors before after last : List (Option ℕ)) : Type 0 where
-  pub ends : (a : ℕ) → a ≤ 8 → IsLastBelow actors a (length actors) (found_at last a)
+  pub ends : (a : ℕ) → a ≤ MOST_ACTORS → IsLastBelow actors a (length actors) (found_at last a)
   pub befores : (k a : ℕ) → found_at actors k ≡ Some a → IsLastBelow actors a k (found_at before k)
   pub afters : (k a : ℕ) → found_at actors k ≡ Some a → IsFirstAbove actors a k (found_at after k)
 
