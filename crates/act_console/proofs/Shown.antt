@@ -1,5 +1,5 @@
 -- What a world shows, as a report tells it.
-use Rattle.std.proofs.Common.{◌≡◌, ℕ, true, false, Bool, List, [], ◌∷◌, ◌++◌, ◌||◌, length, Option, Some, None, option_map, refl, ap, sym, ◌∙◌, subst, suc, ◌+◌, append_assoc, add-one}
+use Rattle.std.proofs.Common.{◌≡◌, ℕ, true, false, Bool, List, [], ◌∷◌, ◌++◌, ◌||◌, Option, Some, None, option_map, refl, ap, sym, ◌∙◌, subst, suc, ◌+◌, append_assoc, add-one}
 use Rattle.std.specs.Prelude.{find, slice_get, if◌then◌else◌}
 use Rattle.std.proofs.lemmas.Bool.{eqb-true}
 use Rattle.std.proofs.lemmas.Grind.{flat_map-append}
@@ -18,10 +18,10 @@ use Rattle.act_rules.specs.Rules.{Outcome, outcomes}
 use Rattle.act_owner.specs.Owner.{OwnerValue}
 use Rattle.act_world.specs.Exchange.{is_owner}
 use Rattle.act_world.specs.Value.{SlotSeen, Runs, Died, Ended, Vacant, WorldSeen, stage_of_slot, stage_in}
-use Rattle.act_world.specs.Ties.{IsOwnerAt, IsStage, Ties}
+use Rattle.act_world.specs.Ties.{IsStage}
 use Rattle.act_world.specs.Stands.{Stands, Played}
-use Rattle.act_world.specs.Headline.{calls_in, kept_in, log_of, log_in}
-use Rattle.act_world.proofs.Lawful.{IsLawful, world_lawful}
+use Rattle.act_world.specs.Headline.{kept_in, log_of, log_in}
+use Rattle.act_world.proofs.Lawful.{world_lawful}
 use Rattle.act_world.proofs.Headline.{calls_are, kept_are, logs_are}
 use Rattle.act_console.specs.Parts.{owner_lines, standing_text, standing_in, caller_lines, stage_lines, world_summary, world_report}
 

@@ -1,6 +1,6 @@
 -- The parts of a report, as its text is made.
 
-use Rattle.std.specs.Prelude.{ℕ, List, [], ◌++◌, codes, decimal, find, slice_get, Option, option_map}
+use Rattle.std.specs.Prelude.{ℕ, List, [], ◌++◌, codes, decimal, slice_get, Option, option_map}
 use Rattle.std.specs.Option.{option_map_or}
 use Rattle.act_types.specs.Texts.{space, actor_text, method_text, state_text}
 use Rattle.act_rules.specs.Report.{future_text, future_line, future_lines, actor_lines, outcome_lines, summary_of}
@@ -8,7 +8,7 @@ use Rattle.act_rules.specs.Rules.{Outcome}
 use Rattle.act_rules.specs.declared.history.RunItem.{RunItem}
 use Rattle.act_owner.specs.Owner.{OwnerValue}
 use Rattle.act_world.specs.Value.{SlotSeen, Runs, Died, Ended, Vacant, WorldSeen, stage_in}
-use Rattle.act_world.specs.Headline.{calls_in, kept_in, log_of, log_in}
+use Rattle.act_world.specs.Headline.{calls_in, kept_in, log_in}
 
 -- the front of the line of a call that an actor ran, without its arguments
 abbrev pub item_head : ℕ → ℕ → RunItem → List ℕ

@@ -1,4 +1,4 @@
-use Rattle.std.proofs.Common.{List, string_bytes, ◌∙◌}
+use Rattle.std.proofs.Common.{◌∙◌}
 use Rattle.std.proofs.lemmas.Result.{IfOk-weaker}
 use Rattle.act_world.specs.Value.{world_seen}
 use Rattle.act_console.proofs.Shown.{report_is}

@@ -1,4 +1,4 @@
-use Rattle.std.proofs.Common.{map, ◌++◌, ◌∷◌, [], List, sym, ◌∙◌, subst}
+use Rattle.std.proofs.Common.{map, List, sym, ◌∙◌, subst}
 use Rattle.act_rules.specs.declared.script.Role.{Role}
 use Rattle.act_rules.specs.Scripts.{casting}
 use Rattle.act_console.specs.Spelled.{spelled_script}
