@@ -1,8 +1,8 @@
 -- Where what a caller keeps comes from.
-use Rattle.std.proofs.Common.{◌≡◌, ℕ, zero, suc, ◌+◌, ◌<◌, ◌==◌, ◌&&◌, ◌⊎◌, rules, Bool, true, false, if◌then◌else◌, not, List, [], ◌∷◌, ◌++◌, length, map, replicate, Option, Some, None, is_some, Err, inl, inr, refl, sym, ◌∙◌, ap, subst, arith, Contains, append_assoc, append-nil, filter}
+use Rattle.std.proofs.Common.{◌≡◌, ℕ, zero, suc, ◌+◌, ◌<◌, ◌==◌, ◌&&◌, ◌⊎◌, rules, Bool, true, false, if◌then◌else◌, not, List, [], ◌∷◌, ◌++◌, length, map, replicate, Option, Some, None, is_some, Err, inl, inr, refl, sym, ◌∙◌, ap, subst, Contains, append_assoc, append-nil, filter}
 use Rattle.std.specs.Prelude.{slice_get, slice_set, zip, unwrap_or}
-use Rattle.std.specs.List.{filter_map, enumerate_from}
-use Rattle.std.proofs.lemmas.List.Elements.{Contains-append_left, Contains-append_right, Contains-push}
+use Rattle.std.specs.List.{enumerate_from}
+use Rattle.std.proofs.lemmas.List.Elements.{Contains-append_left, Contains-push}
 use Rattle.std.proofs.lemmas.Bool.Decides.{eqb_tells}
 use Rattle.act_types.specs.declared.fault.Fault.TheVariants.{ActorDied}
 use Rattle.act_types.specs.declared.message.Reply.{Reply}
@@ -13,12 +13,11 @@ use Rattle.act_rules.specs.RunList.{Answer}
 use Rattle.act_rules.specs.Submissions.{kept_at, calls_to}
 use Rattle.act_handles.specs.Handles.{copies_in, given_in}
 use Rattle.act_owner.specs.declared.owner.Collected.TheVariants.{First, Late, Stray}
-use Rattle.act_owner.specs.Owner.{OwnerValue, submission_of, opened, with_call, with_death, after_reply_that, is_of_call, is_sent, is_dead, is_to, is_death, first_answer, answer_after_death}
+use Rattle.act_owner.specs.Owner.{OwnerValue, submission_of, opened, with_death, after_reply_that, is_of_call, is_sent, is_dead, is_to, is_death, first_answer, answer_after_death}
 use Rattle.act_owner.specs.declared.owner.Call.{Call}
-use Rattle.act_owner.specs.Life.{Change, Copied, Released, Submitted, Sent, Noticed, after, after_all, notice_of, notices_in, IsReplied, IsBereft, IsToldBy, Hears}
+use Rattle.act_owner.specs.Life.{Change, Copied, Released, Submitted, Sent, Noticed, after, after_all, notices_in, IsToldBy, Hears}
 use Rattle.act_owner.proofs.Life.{Extends, step, found_below}
 use Rattle.act_owner.proofs.Calls.{get_last}
-use Rattle.act_owner.proofs.Waiting.{and_parts}
 
 -- ---- sent
 
