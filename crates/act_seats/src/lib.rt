@@ -4,5 +4,5 @@
 mod patience;
 mod seat;
 
-pub use patience::Patience;
+pub use patience::{Patience, SHORT_PAUSES};
 pub use seat::Seat;

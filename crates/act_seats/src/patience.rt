@@ -1,9 +1,12 @@
 //! How a loop waits that found nothing to do.
 
-use crossbeam_utils::Backoff;
+ghost use Rattle.std.specs.Prelude.{◌≡◌, ◌+◌, min};
 
-/// How many short pauses come before longer ones.
-const SHORT_PAUSES: u32 = 64;
+use crossbeam_utils::Backoff;
+use std::marker::Model;
+
+/// So many pauses are short, from the last time on that something was done.
+pub const SHORT_PAUSES: u32 = 64;
 
 /// Pauses that are short at first, and give the processor away in the end.
 #[derive(Drop)]
@@ -12,9 +15,22 @@ pub struct Patience {
     pauses: u32,
 }
 
+impl Model for Patience {
+    ghost use Rattle.std.specs.Prelude.{ℕ, ◌≤◌};
+    ghost use Rattle.act_seats.specs.declared.patience.TheConstants.{SHORT_PAUSES};
+
+    ghost Value = { ℕ };
+
+    ghost view = { λ patience. patience.pauses };
+
+    ghost invariant = { λ patience. patience.pauses ≤ SHORT_PAUSES };
+}
+
 impl Patience {
     /// Nothing was waited for yet.
-    pub fn new() -> Patience {
+    pub fn new() -> Patience
+        ensures { result ≡ 0 }
+    {
         Patience {
             backoff: Backoff::new(),
             pauses: 0,
@@ -22,13 +38,17 @@ impl Patience {
     }
 
     /// Something was done, so that the next pauses are short again.
-    pub fn reset(&mut self) {
+    pub fn reset(&mut self)
+        ensures { self.new ≡ 0 }
+    {
         self.backoff.reset();
         self.pauses = 0;
     }
 
     /// Nothing was done.
-    pub fn pause(&mut self) {
+    pub fn pause(&mut self)
+        ensures { self.new ≡ min (self.old + 1) SHORT_PAUSES }
+    {
         if self.pauses < SHORT_PAUSES {
             self.pauses += 1;
             self.backoff.spin();
