@@ -1,7 +1,8 @@
 //! Tasks, each in a thread of its own.
 #![tactic(auto)]
 
-ghost use Rattle.std.specs.Prelude.{◌≡◌, ℕ, ◌+◌, ◌<◌, ◌≤◌, List, [], ◌∷◌, ◌++◌, length, IfOk, OnErr, IfSome, vec_len};
+ghost use Rattle.std.specs.Prelude.{◌≡◌, ℕ, ◌+◌, ◌<◌, ◌≤◌, List, [], ◌∷◌, ◌++◌, length, IfOk, IfErr, OnErr, IfSome, vec_len};
+ghost use Rattle.act_tasks.specs.declared.Refusal.TheVariants.{NoMemory};
 ghost use Rattle.act_tasks.specs.Each.{Each, EachReady, Promised};
 
 #[cfg(test)]
@@ -119,7 +120,8 @@ where
     R: Threads,
     T: Task,
     requires { Promised tasks.value.items handles.items }
-    ensures { IfOk result (λ v. Each T.done tasks.value.items v.items) }
+    ensures done { IfOk result (λ v. Each T.done tasks.value.items v.items) }
+    ensures memory { IfErr result (λ refusal. refusal ≡ NoMemory) }
 {
     let _ = tasks;
     match thread::join_promised(rt, handles) {
