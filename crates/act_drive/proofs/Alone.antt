@@ -1,5 +1,5 @@
 -- What the tests stand on: the passes of a caller with one actor as they are opened, and what an actor's run leaves.
-use Rattle.std.proofs.Common.{◌≡◌, ◌≢◌, ℕ, List, [], ◌∷◌, ◌++◌, length, get_or, refl, sym, ap, ◌∙◌, subst, arith, All, AllPairs, Option, Some, None, Ok, Err, Result, append-nil}
+use Rattle.std.proofs.Common.{◌≡◌, ◌≢◌, ℕ, zero, suc, ◌<◌, List, [], ◌∷◌, ◌++◌, length, get_or, refl, sym, ap, ◌∙◌, subst, arith, All, AllPairs, Option, Some, None, Ok, Err, Result, append-nil}
 use Rattle.std.specs.Prelude.{slice_get, option_map, IfOk, OnOk, OnErr, IfSome, IfNone}
 use Rattle.act_types.specs.declared.message.Packet.{Packet}
 use Rattle.act_types.specs.declared.message.Reply.{Reply}
@@ -11,6 +11,7 @@ use Rattle.act_inbox.specs.Inbox.{next_of}
 use Rattle.act_actor.specs.Value.{ActorSeen}
 use Rattle.act_actor.specs.Actor.{item_of, reply_to, HasRun}
 use Rattle.std.proofs.lemmas.List.Elements.{All-push}
+use Rattle.std.proofs.lemmas.List.Quantifiers.{all_pairs_push}
 use Rattle.act_mailbox.specs.Mails.{MailValue}
 use Rattle.act_mailbox.specs.Controls.{ControlValue}
 use Rattle.act_mailbox.specs.Notices.{RepliesValue, ReplyExecValue, IsReply, NamesPlace}
@@ -44,6 +45,38 @@ unused_alone passes a c mail control replies post ask posted asked letters kills
   kills = rw kills (one_kill control c ask asked);
   asked = rw kills (All-push (λ (s : Seat (PutterValue Asked ℕ)). s.pass.put ≡ []) [] (record { place = 0; pass = ask }) (λ k d below. absurd (omega arith)) (ap (λ (p : PutterValue Asked ℕ). p.put) asked));
 }
+
+-- ---- the same with two actors
+
+at_one : {X : Type 0} (x d : X) (j : ℕ) → j < length (x ∷ []) → get_or (x ∷ []) j d ≡ x
+at_one x d zero below = refl
+at_one x d (suc j) below = absurd (omega (arith, below))
+
+two_all : {X : Type 0} (P : X → Type 0) (x y : X) → P x → P y → All P (x ∷ y ∷ [])
+two_all P x y px py = All-push P (x ∷ []) y (All-push P [] x (λ k d below. absurd (omega arith)) px) py
+
+pub unused_pair : (passes : CallerPasses) (c : ℕ) (mail mail2 : MailValue) (control control2 : ControlValue) (replies : RepliesValue) (post post2 : PutterValue Letter Unit) (ask ask2 : PutterValue Asked ℕ) (actors : List ℕ)
+    → post ≡ new_putter mail.line c → post2 ≡ new_putter mail2.line c → ask ≡ new_putter control.line c → ask2 ≡ new_putter control2.line c → control.actor ≢ control2.actor
+    → passes.letters.items ≡ record { place = 0; pass = post } ∷ record { place = 1; pass = post2 } ∷ [] → passes.kills.items ≡ record { place = 0; pass = ask } ∷ record { place = 1; pass = ask2 } ∷ [] → passes.collects ≡ new_taker replies.line actors
+    → IsUnused (mail ∷ mail2 ∷ []) (control ∷ control2 ∷ []) replies c passes
+unused_pair passes c mail mail2 control control2 replies post post2 ask ask2 actors posted posted2 asked asked2 apart letters kills collects =
+    let controls : List ControlValue = control ∷ control2 ∷ [] in
+    let one : Seat (PutterValue Asked ℕ) = record { place = 0; pass = ask } in
+    let two : Seat (PutterValue Asked ℕ) = record { place = 1; pass = ask2 } in
+    let P : Seat (PutterValue Asked ℕ) → Seat (PutterValue Asked ℕ) → Type 0 = λ s t. (d : ControlValue) → (get_or controls s.place d).actor ≢ (get_or controls t.place d).actor in
+    let differ : AllPairs P (one ∷ two ∷ []) = all_pairs_push P (one ∷ []) two (λ i j d lt below. absurd (omega (arith, lt, below))) (λ j d below. subst (λ (s : Seat (PutterValue Asked ℕ)). P s two) (sym (at_one one d j below)) (λ d. apart)) in
+    record {
+      collects = ap (λ (t : _). t.line) collects;
+      taken = ap (λ (t : _). t.taken) collects;
+      letters = rw letters (two_all (IsFreshSeat (mail ∷ mail2 ∷ []) c) (record { place = 0; pass = post }) (record { place = 1; pass = post2 })
+          (record { below = omega arith; line = λ d. sym (ap (λ (p : PutterValue Letter Unit). p.line) posted); number = ap (λ (p : PutterValue Letter Unit). p.number) posted; put = ap (λ (p : PutterValue Letter Unit). p.put) posted })
+          (record { below = omega arith; line = λ d. sym (ap (λ (p : PutterValue Letter Unit). p.line) posted2); number = ap (λ (p : PutterValue Letter Unit). p.number) posted2; put = ap (λ (p : PutterValue Letter Unit). p.put) posted2 }));
+      kills = rw kills (
+        two_all (IsKillSeat controls) one two (record { below = omega arith; line = λ d. sym (ap (λ (p : PutterValue Asked ℕ). p.line) asked) }) (record { below = omega arith; line = λ d. sym (ap (λ (p : PutterValue Asked ℕ). p.line) asked2) }),
+        differ,
+      );
+      asked = rw kills (two_all (λ (s : Seat (PutterValue Asked ℕ)). s.pass.put ≡ []) one two (ap (λ (p : PutterValue Asked ℕ). p.put) asked) (ap (λ (p : PutterValue Asked ℕ). p.put) asked2));
+    }
 
 -- ---- an actor's run, and what is given
 

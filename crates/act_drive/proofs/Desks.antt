@@ -1,10 +1,10 @@
 -- What stays while a caller goes on.
-use Rattle.std.proofs.Common.{◌≡◌, ◌≢◌, ℕ, zero, suc, ◌+◌, ◌<◌, Bool, true, false, if◌then◌else◌, not, ◌&&◌, List, [], ◌∷◌, ◌++◌, length, get_or, set, Option, Some, None, is_some, refl, sym, ◌∙◌, ap, subst, arith, rules, All, AllPairs, Contains, append_assoc, append-nil, option_to_list, length-append, inl, inr}
+use Rattle.std.proofs.Common.{◌≡◌, ◌≢◌, ℕ, zero, suc, ◌+◌, ◌<◌, Bool, true, false, if◌then◌else◌, not, ◌&&◌, List, [], ◌∷◌, ◌++◌, length, get_or, set, Option, Some, None, is_some, refl, sym, ◌∙◌, ap, subst, arith, All, AllPairs, Contains, append-nil, option_to_list, length-append}
 use Rattle.std.proofs.lemmas.Option.{slice_get_within}
 use Rattle.std.proofs.Math.Seq.{map-set_same}
 use Rattle.act_mailbox.specs.Passes.{TakerValue}
 use Rattle.std.specs.Prelude.{map, slice_get, slice_set, find, unwrap_or, option_map}
-use Rattle.std.specs.List.{filter_map, range_with_len}
+use Rattle.std.specs.List.{range_with_len}
 use Rattle.std.proofs.lemmas.List.Elements.{All-push, All-set, All-weaker, Contains-append_left, filter_map-append}
 use Rattle.std.proofs.lemmas.List.Quantifiers.{all_pairs_push}
 use Rattle.std.proofs.lemmas.List.{get_or_append_left, length-set}
@@ -14,16 +14,15 @@ use Rattle.act_types.specs.declared.message.Notice.{Notice}
 use Rattle.act_types.specs.declared.message.Notice.TheVariants.{Answered, Death}
 use Rattle.act_rules.specs.declared.history.Submission.{Submission}
 use Rattle.act_rules.specs.declared.history.RunItem.{RunItem}
-use Rattle.act_rules.specs.RunList.{Answer}
 use Rattle.act_rules.specs.Submissions.{calls_to, copies_held, kept_at}
 use Rattle.act_handles.specs.Handles.{copies_in}
 use Rattle.act_handles.specs.declared.handles.Handle.{Handle}
 use Rattle.act_owner.specs.declared.owner.Collected.TheVariants.{First, Late, Stray}
 use Rattle.act_owner.specs.Owner.{OwnerValue, packet_at, packet_of, is_sent, is_of_call, after_reply_that, with_death, after_collect, with_sent, is_ready, first_ready, is_known_call}
 use Rattle.act_owner.specs.Life.{Change, Sent, Noticed, after, is_known_at, Hears}
-use Rattle.act_owner.proofs.Life.{Extends, step, packet_stays}
+use Rattle.act_owner.proofs.Life.{step, packet_stays}
 use Rattle.act_owner.proofs.Told.{sent_stays, hears_step}
-use Rattle.act_mailbox.specs.Mails.{MailValue, caller_of}
+use Rattle.act_mailbox.specs.Mails.{MailValue}
 use Rattle.act_mailbox.specs.Passes.{PutterValue}
 use Rattle.act_mailbox.specs.declared.mail.Letter.{Letter}
 use Rattle.act_mailbox.specs.declared.mail.Letter.TheVariants.{Call, Note}
@@ -31,7 +30,8 @@ use Rattle.act_seats.specs.declared.seat.Seat.{Seat}
 use Rattle.act_drive.specs.declared.desk.CallerLines.{CallerLines}
 use Rattle.act_drive.specs.declared.desk.Desk.{Desk}
 use Rattle.act_drive.specs.declared.desk.CallerPasses.{CallerPasses}
-use Rattle.act_drive.specs.Driven.{actor_of, future_of, futures_in, IsSent, IsHeld, IsPosting, IsSeat, AreKillSeats, IsCalling, PassesStay, Stays, Waits, GoesOn, bare_post, bare_ask}
+use Rattle.act_drive.specs.Driven.{actor_of, future_of, futures_in, IsSent, IsHeld, IsPosting, IsSeat, AreKillSeats, IsCalling, Stays, Waits, GoesOn, bare_post, bare_ask, IsIdle, IsKeeping}
+use Rattle.act_drive.proofs.Keeps.{keeps_on, same_returns, keeps_taken, keeps_dropped, keeps_posted}
 
 -- ---- the owner goes on
 
@@ -127,6 +127,12 @@ calling_heard lines old new notice is collects letters kills hand calling =
             (subst (λ (h : Option Letter). All (IsSeat lines.mails.now (after_collect old.owner notice) (option_to_list h)) new.passes.letters.items) (sym hand)
             (subst (λ (l : _). All (IsSeat lines.mails.now (after_collect old.owner notice) (option_to_list old.hand)) l.items) (sym letters) (seats_on lines.mails.now old.owner _ (option_to_list old.hand) old.passes.letters.items on calling.letters)));
         kills = subst (λ (l : _). AreKillSeats lines.controls.now l.items) (sym kills) calling.kills;
+        keeps =
+            let heard : (n : Notice) → Contains old.passes.collects.taken n → Contains (old.passes.collects.taken ++ notice ∷ []) n = λ n has. Contains-append_left old.passes.collects.taken (notice ∷ []) n has in
+            let kept : IsKeeping lines.mails.now (after_collect old.owner notice) (old.passes.collects.taken ++ notice ∷ []) old.passes.letters.items (option_to_list old.hand) =
+            keeps_on lines.mails.now old.owner _ _ _ old.passes.letters.items (option_to_list old.hand) on (same_returns old.owner _ (notice_sent old.owner notice) keeps.2) heard calling.keeps in
+            rw (is, taken, letters, hand) kept;
+        names = rw (is, keeps.0, kills) calling.names;
       },
       record {
         stay = record {
@@ -262,6 +268,8 @@ calling_taken lines old new k packet ready at empty is passes hand calling =
         posting = λ d. posting_held owner sent _ seat.pass.put packet on fresh now (s.posting d);
       }) old.passes.letters.items seats;
       kills = calling.kills;
+      keeps = keeps_taken lines.mails.now owner old.passes.collects.taken old.passes.letters.items k packet at tells.0 (subst (λ (h : Option Letter). IsKeeping lines.mails.now owner old.passes.collects.taken old.passes.letters.items (option_to_list h)) empty calling.keeps);
+      names = calling.names;
     } in
     subst (IsCalling lines) (sym (desk_same new _ _ _ is passes hand)) good
 
@@ -296,9 +304,9 @@ posting_put owner a put letter mine is = record {
 seats_less : (mails : List MailValue) (owner : OwnerValue) (held : List Letter) (seats : List (Seat (PutterValue Letter Unit))) → All (IsSeat mails owner held) seats → All (IsSeat mails owner []) seats
 seats_less mails owner held seats is = All-weaker (IsSeat mails owner held) (IsSeat mails owner []) (λ seat s. record { below = s.below; line = s.line; number = s.number; posting = λ d. posting_less owner _ held seat.pass.put (s.posting d) }) seats is
 
--- the letter in hand is let go
-pub calling_dropped : (lines : CallerLines) (old new : Desk) → new.owner ≡ old.owner → new.passes ≡ old.passes → new.hand ≡ None → IsCalling lines old → IsCalling lines new
-calling_dropped lines old new is passes hand calling =
+-- the letter in hand is let go, which need not be posted
+pub calling_dropped : (lines : CallerLines) (old new : Desk) (letter : Letter) → old.hand ≡ Some letter → IsIdle lines.mails.now old.passes.collects.taken old.passes.letters.items (actor_of letter) → new.owner ≡ old.owner → new.passes ≡ old.passes → new.hand ≡ None → IsCalling lines old → IsCalling lines new
+calling_dropped lines old new letter held idle is passes hand calling =
     let after : Desk = record { owner = old.owner; passes = old.passes; hand = None; noted = new.noted } in
     let good : IsCalling lines after = record {
       places = calling.places;
@@ -308,6 +316,8 @@ calling_dropped lines old new is passes hand calling =
       held = tt;
       letters = seats_less lines.mails.now old.owner (option_to_list old.hand) old.passes.letters.items calling.letters;
       kills = calling.kills;
+      keeps = keeps_dropped lines.mails.now old.owner old.passes.collects.taken old.passes.letters.items letter idle (subst (λ (h : Option Letter). IsKeeping lines.mails.now old.owner old.passes.collects.taken old.passes.letters.items (option_to_list h)) held calling.keeps);
+      names = calling.names;
     } in
     subst (IsCalling lines) (sym (desk_same new _ _ _ is passes hand)) good
 
@@ -332,6 +342,8 @@ calling_posted lines old new letter at seat pass hand below here there put is le
     let one : IsSeat mails owner [] (record { place = seat.place; pass = pass }) = subst (λ (p : PutterValue Letter Unit). IsSeat mails owner [] (record { place = seat.place; pass = p })) (sym put) one in
     let all : All (IsSeat mails owner []) new.passes.letters.items = subst (λ (l : List (Seat (PutterValue Letter Unit))). All (IsSeat mails owner []) l) (sym letters)
     (All-set (IsSeat mails owner []) old.passes.letters.items at _ one (seats_less mails owner (option_to_list old.hand) old.passes.letters.items calling.letters)) in
+    let kept : IsKeeping mails owner old.passes.collects.taken (set old.passes.letters.items at (record { place = seat.place; pass = pass })) [] =
+    keeps_posted mails owner old.passes.collects.taken old.passes.letters.items at seat pass letter below here (ap (λ (p : PutterValue Letter Unit). p.put) put) (subst (λ (h : Option Letter). IsKeeping mails owner old.passes.collects.taken old.passes.letters.items (option_to_list h)) hand calling.keeps) in
     record {
       places = rw is calling.places;
       flags = rw is calling.flags;
@@ -340,4 +352,6 @@ calling_posted lines old new letter at seat pass hand below here there put is le
       held = rw empty tt;
       letters = rw (is, empty) all;
       kills = rw kills calling.kills;
+      keeps = rw (is, collects, letters, empty) kept;
+      names = rw (is, kills) calling.names;
     }

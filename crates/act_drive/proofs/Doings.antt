@@ -1,13 +1,13 @@
 -- What the steps of a plan leave.
-use Rattle.std.proofs.Common.{◌≡◌, ◌≢◌, ℕ, zero, suc, ◌+◌, ◌-◌, ◌<◌, ◌≤◌, ◌==◌, ◌⊎◌, Bool, true, false, if◌then◌else◌, nat_lt, List, [], ◌∷◌, ◌++◌, length, filter, Option, Some, None, is_some, Ok, Err, Result, get_or, set, refl, sym, ◌∙◌, ap, subst, arith, rules, All, AllPairs, Contains, append_assoc, append-nil, option_to_list, length-append, inl, inr}
+use Rattle.std.proofs.Common.{◌≡◌, ◌≢◌, ℕ, zero, suc, ◌+◌, ◌-◌, ◌<◌, ◌≤◌, ◌==◌, ◌⊎◌, Bool, true, false, if◌then◌else◌, ◌||◌, nat_lt, List, [], ◌∷◌, ◌++◌, length, filter, Option, Some, None, is_some, Ok, Err, Result, get_or, set, refl, sym, ◌∙◌, ap, subst, arith, rules, All, AllPairs, Contains, append-nil, option_to_list, length-append, take, inl, inr}
 use Rattle.std.specs.Prelude.{map, option_map}
 use Rattle.std.proofs.Math.Seq.{map-set_same}
 use Rattle.act_mailbox.specs.Passes.{TakerValue}
-use Rattle.std.specs.List.{filter_map, list_any, list_all}
-use Rattle.std.specs.Prelude.{OnOk, is_err}
-use Rattle.std.proofs.lemmas.List.{set-get_or, length-map}
+use Rattle.std.specs.List.{list_any, list_all}
+use Rattle.std.specs.Prelude.{OnOk}
+use Rattle.std.proofs.lemmas.List.{set-get_or, length-map, take_more}
 use Rattle.std.proofs.lemmas.List.{get_or_default, get_or-set_same, get_or-set_other, length-set}
-use Rattle.std.proofs.lemmas.Bool.{ne_eqb}
+use Rattle.std.proofs.lemmas.Bool.{ne_eqb, or_right}
 use Rattle.std.proofs.lemmas.Bool.Decides.{eqb_tells, leb_tells}
 use Rattle.std.proofs.lemmas.List.Elements.{All-push, All-set, All-weaker, filter-append, filter_map-append}
 use Rattle.act_types.specs.declared.call.Method.{Method}
@@ -20,35 +20,36 @@ use Rattle.act_rules.specs.RunList.{Answer}
 use Rattle.act_rules.specs.declared.history.Submission.{Submission}
 use Rattle.act_rules.specs.declared.script.Step.{Step}
 use Rattle.act_rules.specs.declared.script.Step.TheVariants.{Submit, Copy, Release, Kill, Await}
-use Rattle.act_rules.specs.Plans.{Progress, planned, first_bad, first_bad_from, holds, occurrences, done_by, nothing_done, is_refused, stepped, kills_to, is_kill_of}
+use Rattle.act_rules.specs.Plans.{Progress, first_bad, first_bad_from, holds, occurrences, done_by, nothing_done, is_refused, stepped, kills_to, is_kill_of}
 use Rattle.act_rules.specs.declared.outcome.HandleRefusal.{HandleRefusal}
 use Rattle.act_rules.specs.Submissions.{needs, calls_to, copies_held, kept_at, copy_refusal, handle_refusal, submit_refusal}
 use Rattle.act_handles.specs.Handles.{copies_in, given_in, with_copy, with_number, without_copy, or_else, actors_in}
 use Rattle.act_handles.specs.declared.handles.Handle.{Handle}
 use Rattle.act_handles.proofs.Lookups.{copies-opened, copies-with_copy, copies-with_copy-other, copies-without_copy, copies-without_copy-other, copies-with_number}
-use Rattle.act_owner.specs.Owner.{OwnerValue, opened, is_sent, is_dead, with_call, with_handles, submission_refusal, release_note}
-use Rattle.act_owner.specs.Life.{Change, Copied, Released, Submitted, after, notices_in, Hears}
+use Rattle.act_owner.specs.Owner.{OwnerValue, is_sent, with_call, with_handles, submission_refusal, release_note}
+use Rattle.act_owner.specs.Life.{Change, Released, after, notices_in, Hears}
 use Rattle.act_owner.proofs.Life.{step}
 use Rattle.act_owner.proofs.Told.{hears_opened, hears_step, calls_to-length}
 use Rattle.act_mailbox.specs.Passes.{PutterValue}
 use Rattle.act_mailbox.specs.Controls.{ControlValue}
+use Rattle.act_mailbox.specs.Mails.{MailValue}
 use Rattle.act_mailbox.specs.declared.control.Asked.{Asked}
 use Rattle.act_mailbox.specs.declared.mail.Letter.{Letter}
-use Rattle.act_mailbox.specs.declared.mail.Letter.TheVariants.{Call, Note}
+use Rattle.act_mailbox.specs.declared.mail.Letter.TheVariants.{Note}
 use Rattle.act_seats.specs.declared.seat.Seat.{Seat}
 use Rattle.act_drive.specs.declared.desk.CallerLines.{CallerLines}
 use Rattle.act_drive.specs.declared.desk.Desk.{Desk}
 use Rattle.act_drive.specs.declared.desk.CallerPasses.{CallerPasses}
-use Rattle.act_drive.specs.declared.caller.Driven.{Driven}
-use Rattle.act_drive.specs.Driven.{IsSent, IsHeld, IsSeat, IsPosting, IsCalling, Stays, Waits, GoesOn, bare_post, bare_ask, Follows, FollowsBy, HasAsked, AreAsked, AreKillSeats, IsKillSeat, IsElsewhere, AsksMore, Winds, IsFresh, IsFreshSeat, HasDone, HasDriven, HasPosted, futures_in, future_of}
-use Rattle.act_drive.proofs.Desks.{change_on, held_on, seats_on, desk_same, posting_on, posting_less, stays_same, stays_trans}
+use Rattle.act_drive.specs.Driven.{IsSent, IsSeat, IsPosting, IsCalling, Stays, Waits, GoesOn, bare_post, bare_ask, Follows, FollowsBy, HasAsked, AreAsked, AreKillSeats, IsKillSeat, IsElsewhere, Winds, IsFresh, IsFreshSeat, HasDone, HasDriven, futures_in, future_of, last_note, IsKeeping, HasNamed, posted_in, IsIdle, IsDue, actor_of}
+use Rattle.act_drive.proofs.Keeps.{Returns, keeps_on, keeps_noted, keeps_opened}
+use Rattle.act_drive.proofs.Desks.{change_on, held_on, seats_on, desk_same, posting_less, stays_same, stays_trans}
 
 -- ---- the owner changes by itself
 
 pub calling_step : (lines : CallerLines) (old new : Desk) (change : Change) → new.owner ≡ after old.owner change → new.passes ≡ old.passes → new.hand ≡ old.hand → notices_in (change ∷ []) ≡ [] → length (after old.owner change).sent ≡ length (after old.owner change).calls
     → ((b : ℕ) → copies_held (copies_in b old.owner.handles) ≡ 0 → (copies_held (copies_in b (after old.owner change).handles) ≡ 0) × (length (calls_to b (after old.owner change).calls) ≡ length (calls_to b old.owner.calls)))
-    → IsCalling lines old → IsCalling lines new
-calling_step lines old new change is passes hand quiet flags ended calling =
+    → Returns old.owner (after old.owner change) → IsCalling lines old → IsCalling lines new
+calling_step lines old new change is passes hand quiet flags ended back calling =
     let now = after old.owner change in
     let on : GoesOn old.owner now = change_on old.owner change calling.places ended in
     let later : Desk = record { owner = now; passes = old.passes; hand = old.hand; noted = new.noted } in
@@ -60,6 +61,8 @@ calling_step lines old new change is passes hand quiet flags ended calling =
       held = held_on old.owner now old.hand on calling.held;
       letters = seats_on lines.mails.now old.owner now (option_to_list old.hand) old.passes.letters.items on calling.letters;
       kills = calling.kills;
+      keeps = keeps_on lines.mails.now old.owner now old.passes.collects.taken old.passes.collects.taken old.passes.letters.items (option_to_list old.hand) on back (λ n has. has) calling.keeps;
+      names = subst (λ (n : ℕ). All (HasNamed lines.controls.now n) old.passes.kills.items) (sym on.id) calling.names;
     } in
     subst (IsCalling lines) (sym (desk_same new _ _ _ is passes hand)) good
 
@@ -249,18 +252,22 @@ pub calling_noted : (lines : CallerLines) (old new : Desk) (a : ℕ) (note : Rel
     → given_in a old.owner.handles ≡ length (calls_to a old.owner.calls) → copies_held (copies_in a old.owner.handles) ≡ 1 → IsCalling lines old → IsCalling lines new
 calling_noted lines old new a note is passes empty hand told given one calling =
     let now : OwnerValue = with_handles old.owner (without_copy a old.owner.handles) in
-    let mid : Desk = record { owner = now; passes = old.passes; hand = None; noted = new.noted } in
-    let first : IsCalling lines mid = calling_step lines old mid (Released a) refl refl (sym empty) refl calling.flags (ended_released old.owner a) calling in
+    let on : GoesOn old.owner now = change_on old.owner (Released a) calling.places (ended_released old.owner a) in
+    let seats : All (IsSeat lines.mails.now old.owner []) old.passes.letters.items = subst (λ (h : Option Letter). All (IsSeat lines.mails.now old.owner (option_to_list h)) old.passes.letters.items) empty calling.letters in
+    let kept : IsKeeping lines.mails.now old.owner old.passes.collects.taken old.passes.letters.items [] = subst (λ (h : Option Letter). IsKeeping lines.mails.now old.owner old.passes.collects.taken old.passes.letters.items (option_to_list h)) empty calling.keeps in
+    let last : note ≡ record { caller = old.owner.id; actor = a; after = length (calls_to a old.owner.calls) } = told ∙ ap (λ (n : ℕ). record { caller = old.owner.id; actor = a; after = n }) given in
     let mine : IsSent now note.actor (Note note) = subst (λ (n : ReleaseNote). IsSent now n.actor (Note n)) (sym told)
     (ap (λ (n : ℕ). record { caller = old.owner.id; actor = a; after = n }) given, ap copies_held (copies-without_copy a old.owner.handles) ∙ one_less (copies_in a old.owner.handles) one) in
     let good : IsCalling lines (record { owner = now; passes = old.passes; hand = Some (Note note); noted = new.noted }) = record {
-      places = first.places;
-      flags = first.flags;
-      hears = first.hears;
-      collects = first.collects;
+      places = calling.places;
+      flags = calling.flags;
+      hears = subst (Hears now) (append-nil old.passes.collects.taken) (hears_step old.owner old.passes.collects.taken (Released a) calling.places calling.hears);
+      collects = calling.collects;
       held = mine;
-      letters = All-weaker (IsSeat lines.mails.now now []) (IsSeat lines.mails.now now (Note note ∷ [])) (λ seat s. record { below = s.below; line = s.line; number = s.number; posting = λ d. posting_note now _ seat.pass.put note (s.posting d) }) old.passes.letters.items first.letters;
-      kills = first.kills;
+      letters = All-weaker (IsSeat lines.mails.now now []) (IsSeat lines.mails.now now (Note note ∷ [])) (λ seat s. record { below = s.below; line = s.line; number = s.number; posting = λ d. posting_note now _ seat.pass.put note (s.posting d) }) old.passes.letters.items (seats_on lines.mails.now old.owner now [] old.passes.letters.items on seats);
+      kills = calling.kills;
+      keeps = keeps_noted lines.mails.now old.owner old.passes.collects.taken old.passes.letters.items a note (ap Note last) kept;
+      names = calling.names;
     } in
     subst (IsCalling lines) (sym (desk_same new _ _ _ is passes hand)) good
 
@@ -358,9 +365,9 @@ set_place seats at i seat s pass below here =
 
 -- a caller after a kill is asked
 pub calling_asked : (lines : CallerLines) (old new : Desk) (at : ℕ) (seat : Seat (PutterValue Asked ℕ)) (pass : PutterValue Asked ℕ) → at < length old.passes.kills.items → seat ≡ get_or old.passes.kills.items at seat → pass.line ≡ seat.pass.line
-    → new.owner ≡ old.owner → new.hand ≡ old.hand → new.passes.letters ≡ old.passes.letters → new.passes.collects ≡ old.passes.collects → new.passes.kills.items ≡ set old.passes.kills.items at (record { place = seat.place; pass = pass })
+    → HasNamed lines.controls.now old.owner.id (record { place = seat.place; pass = pass }) → new.owner ≡ old.owner → new.hand ≡ old.hand → new.passes.letters ≡ old.passes.letters → new.passes.collects ≡ old.passes.collects → new.passes.kills.items ≡ set old.passes.kills.items at (record { place = seat.place; pass = pass })
     → IsCalling lines old → IsCalling lines new
-calling_asked lines old new at seat pass below here line is hand letters collects kills calling =
+calling_asked lines old new at seat pass below here line named is hand letters collects kills calling =
     let seats = old.passes.kills.items in
     let controls = lines.controls.now in
     let next : Seat (PutterValue Asked ℕ) = record { place = seat.place; pass = pass } in
@@ -378,18 +385,48 @@ calling_asked lines old new at seat pass below here line is hand letters collect
       held = rw (is, hand) calling.held;
       letters = rw (is, hand, letters) calling.letters;
       kills = rw kills good;
+      keeps = rw (is, hand, letters, collects) calling.keeps;
+      names = rw (is, kills) (All-set (HasNamed controls old.owner.id) seats at next named calling.names);
     }
+
+-- a kill more that names the actor of its line
+pub named_more : (controls : List ControlValue) (id a : ℕ) (seat : Seat (PutterValue Asked ℕ)) (pass : PutterValue Asked ℕ) (kill : Asked) → ((d : ControlValue) → (get_or controls seat.place d).actor ≡ a) → kill.note ≡ record { caller = id; actor = a } → pass.put ≡ seat.pass.put ++ kill ∷ []
+    → HasNamed controls id seat → HasNamed controls id (record { place = seat.place; pass = pass })
+named_more controls id a seat pass kill there note put named d =
+    let one : kill.note ≡ record { caller = id; actor = (get_or controls seat.place d).actor } = note ∙ ap (λ (n : ℕ). record { caller = id; actor = n }) (sym (there d)) in
+    subst (λ (l : List Asked). All (λ k. k.note ≡ record { caller = id; actor = (get_or controls seat.place d).actor }) l) (sym put) (All-push (λ (k : Asked). k.note ≡ record { caller = id; actor = (get_or controls seat.place d).actor }) seat.pass.put kill (named d) one)
 
 -- ---- what is let go
 
 pub winds_same : (desk : Desk) → Winds desk desk
-winds_same desk = record { stay = stays_same desk desk refl refl; calls = refl; kills = refl; heard = λ notice has. has }
+winds_same desk = record { stay = stays_same desk desk refl refl; calls = refl; kills = refl; heard = λ notice has. has; handles = λ a. (refl, omega arith) }
 
 pub winds_trans : (one two three : Desk) → Winds one two → Winds two three → Winds one three
-winds_trans one two three a b = record { stay = stays_trans one two three a.stay b.stay; calls = b.calls ∙ a.calls; kills = b.kills ∙ a.kills; heard = λ notice has. b.heard notice (a.heard notice has) }
+winds_trans one two three a b = record { stay = stays_trans one two three a.stay b.stay; calls = b.calls ∙ a.calls; kills = b.kills ∙ a.kills; heard = λ notice has. b.heard notice (a.heard notice has); handles = λ n. ((b.handles n).0 ∙ (a.handles n).0, omega (arith, (b.handles n).1, (a.handles n).1)) }
+
+-- handles that stay
+same_handles : (one two : List Handle) (a : ℕ) → two ≡ one → (is_some (copies_in a two) ≡ is_some (copies_in a one)) × (copies_held (copies_in a two) ≤ copies_held (copies_in a one))
+same_handles one two a same =
+    let held : copies_held (copies_in a two) ≡ copies_held (copies_in a one) = ap (λ (h : List Handle). copies_held (copies_in a h)) same in
+    (ap (λ (h : List Handle). is_some (copies_in a h)) same, omega (arith, held))
 
 pub waits_wind : (one two : Desk) → Waits one two → Winds one two
-waits_wind one two a = record { stay = a.stay; calls = a.calls; kills = a.kills; heard = a.heard }
+waits_wind one two a = record { stay = a.stay; calls = a.calls; kills = a.kills; heard = a.heard; handles = λ n. same_handles one.owner.handles two.owner.handles n a.handles }
+
+less_copies : (copies : Option ℕ) → (is_some (option_map (λ n. n - 1) copies) ≡ is_some copies) × (copies_held (option_map (λ n. n - 1) copies) ≤ copies_held copies)
+less_copies None = (refl, omega arith)
+less_copies (Some n) = (refl, omega arith)
+
+less_handles : (handles : List Handle) (a b : ℕ) → (is_some (copies_in b (without_copy a handles)) ≡ is_some (copies_in b handles)) × (copies_held (copies_in b (without_copy a handles)) ≤ copies_held (copies_in b handles))
+less_handles handles a b =
+    elim (eqb_tells a b) [
+      | inl t ↦ subst (λ (n : ℕ). (is_some (copies_in n (without_copy a handles)) ≡ is_some (copies_in n handles)) × (copies_held (copies_in n (without_copy a handles)) ≤ copies_held (copies_in n handles))) t.1
+          (subst (λ (o : Option ℕ). (is_some o ≡ is_some (copies_in a handles)) × (copies_held o ≤ copies_held (copies_in a handles))) (sym (copies-without_copy a handles)) (less_copies (copies_in a handles)))
+      | inr f ↦
+          let same : copies_in b (without_copy a handles) ≡ copies_in b handles = copies-without_copy-other a b handles f.1 in
+          let held : copies_held (copies_in b (without_copy a handles)) ≡ copies_held (copies_in b handles) = ap copies_held same in
+          (ap (λ (o : Option ℕ). is_some o) same, omega (arith, held))
+    ]
 
 pub released_winds : (old between new : Desk) (a : ℕ) → Waits old between → new.owner ≡ with_handles between.owner (without_copy a between.owner.handles) → new.passes ≡ between.passes → Winds old new
 released_winds old between new a waits is passes = record {
@@ -397,7 +434,27 @@ released_winds old between new a waits is passes = record {
   calls = ap (λ (o : OwnerValue). o.calls) is ∙ waits.calls;
   kills = ap (λ (p : CallerPasses). p.kills.items) passes ∙ waits.kills;
   heard = λ notice has. rw passes (waits.heard notice has);
+  handles = λ b.
+      let less = less_handles between.owner.handles a b in
+      let now = same_handles old.owner.handles between.owner.handles b waits.handles in
+      rw is (less.0 ∙ now.0, omega (arith, less.1, now.1));
 }
+
+-- one copy less
+pub one_gone : (handles : List Handle) (a : ℕ) → copies_held (copies_in a (without_copy a handles)) ≡ copies_held (copies_in a handles) - 1
+one_gone handles a = ap copies_held (copies-without_copy a handles) ∙ go (copies_in a handles)
+  where
+    go : (copies : Option ℕ) → copies_held (option_map (λ n. n - 1) copies) ≡ copies_held copies - 1
+    go None = refl
+    go (Some n) = refl
+
+-- no copy is left of one actor more
+pub none_more : (mails : List MailValue) (i a : ℕ) (old new : Desk) → i < length mails → ((d : MailValue) → (get_or mails i d).actor ≡ a) → Winds old new → copies_held (copies_in a new.owner.handles) ≡ 0
+    → All (λ mail. copies_held (copies_in mail.actor old.owner.handles) ≡ 0) (take i mails) → All (λ mail. copies_held (copies_in mail.actor new.owner.handles) ≡ 0) (take (i + 1) mails)
+none_more mails i a old new long here winds none before k d below =
+    let P : MailValue → Type 0 = λ mail. copies_held (copies_in mail.actor new.owner.handles) ≡ 0 in
+    let was : All P (take i mails) = All-weaker (λ mail. copies_held (copies_in mail.actor old.owner.handles) ≡ 0) P (λ mail is. let less = (winds.handles mail.actor).1 in omega (arith, less, is)) (take i mails) before in
+    subst (λ (l : List MailValue). All P l) (sym (take_more mails i d long)) (All-push P (take i mails) (get_or mails i d) was (ap (λ (n : ℕ). copies_held (copies_in n new.owner.handles)) (here d) ∙ none)) k d below
 
 -- ---- a kill that was refused
 
@@ -448,13 +505,50 @@ kept_all (None ∷ kept) k all below = absurd (cc all)
 kept_all (Some answer ∷ kept) zero all below = refl
 kept_all (Some answer ∷ kept) (suc k) all below = kept_all kept k all (omega arith)
 
-pub done_of : (lines : CallerLines) (actors : List ℕ) (plan : List Step) (one two three : Desk) → Winds one two → Waits two three → length three.owner.kept ≡ length three.owner.calls → list_all is_some three.owner.kept ≡ true → Follows lines actors plan one → HasDone lines actors plan three.owner three.passes
-done_of lines actors plan one two three winds waits places answered f = record {
-  calls = waits.calls ∙ winds.calls ∙ f.calls;
-  answered = λ k below. kept_all three.owner.kept k answered (omega (arith, below, places));
-  kills = subst (λ (v : List (Seat (PutterValue Asked ℕ))). All (HasAsked lines.controls.now plan three.passes.collects.taken) v) (sym (waits.kills ∙ winds.kills))
-      (kills_on lines.controls.now plan plan one.passes.collects.taken three.passes.collects.taken one.passes.kills.items (λ a. refl) (λ n has. waits.heard n (winds.heard n has)) f.kills);
-}
+any_at : (a : ℕ) (xs : List ℕ) (k : ℕ) → k < length xs → get_or xs k a ≡ a → list_any (λ b. b == a) xs ≡ true
+any_at a [] k below here = absurd (omega (arith, below))
+any_at a (x ∷ xs) zero below here = let same : (a == a) ≡ true = search rules in ap (λ (t : Bool). t || list_any (λ b. b == a) xs) (ap (λ (n : ℕ). n == a) here ∙ same)
+any_at a (x ∷ xs) (suc k) below here = or_right (x == a) _ (any_at a xs k (omega (arith, below)) here)
+
+listed_holds : (a : ℕ) (actors : List ℕ) (p : Progress) → Contains actors a → is_some (holds a actors p) ≡ true
+listed_holds a actors p has = ap (λ (t : Bool). is_some (if t then Some ((1 + occurrences a p.copied) - occurrences a p.released) else None)) (any_at a actors has.0 has.1 has.2)
+
+let_go_all : (copies : Option ℕ) → is_some copies ≡ true → copies_held copies ≡ 0 → copies ≡ Some 0
+let_go_all None some none = absurd (cc some)
+let_go_all (Some n) some none = ap Some none
+
+-- what was kept of what is due, with nothing in hand
+due_posted : (mails : List MailValue) (taken : List Notice) (seats : List (Seat (PutterValue Letter Unit))) (hand : Option Letter) (letter : Letter) → hand ≡ None → Contains (posted_in seats ++ option_to_list hand) letter ⊎ IsIdle mails taken seats (actor_of letter) → Contains (posted_in seats) letter ⊎ IsIdle mails taken seats (actor_of letter)
+due_posted mails taken seats hand letter empty is =
+    subst (λ (l : List Letter). Contains l letter ⊎ IsIdle mails taken seats (actor_of letter)) (ap (λ (h : Option Letter). posted_in seats ++ option_to_list h) empty ∙ append-nil (posted_in seats)) is
+
+-- at a seat nothing is idle but after the death
+note_posted : (mails : List MailValue) (taken : List Notice) (seats : List (Seat (PutterValue Letter Unit))) (letter : Letter) (a k : ℕ) (s : Seat (PutterValue Letter Unit)) (d : MailValue) → k < length seats → (get_or mails (get_or seats k s).place d).actor ≡ a → Contains (posted_in seats) letter ⊎ IsIdle mails taken seats a → Contains (posted_in seats) letter ⊎ Contains taken (Death a)
+note_posted mails taken seats letter a k s d below here (inl posted) = inl posted
+note_posted mails taken seats letter a k s d below here (inr (inl dead)) = inr dead
+note_posted mails taken seats letter a k s d below here (inr (inr apart)) = absurd (apart k s below d here)
+
+pub done_of : (lines : CallerLines) (actors : List ℕ) (plan : List Step) (one two three : Desk) → Winds one two → All (λ mail. copies_held (copies_in mail.actor two.owner.handles) ≡ 0) lines.mails.now → Waits two three → IsCalling lines three → list_all is_some three.owner.kept ≡ true → three.hand ≡ None
+    → Follows lines actors plan one → HasDone lines actors plan three.owner three.passes
+done_of lines actors plan one two three winds closed waits calling answered empty f =
+    let mails = lines.mails.now in
+    let taken = three.passes.collects.taken in
+    let seats = three.passes.letters.items in
+    let sent : (letter : Letter) → IsDue three.owner letter → Contains (posted_in seats) letter ⊎ IsIdle mails taken seats (actor_of letter) = λ letter due. due_posted mails taken seats three.hand letter empty (calling.keeps.due letter due) in
+    record {
+      calls = waits.calls ∙ winds.calls ∙ f.calls;
+      answered = λ k below. kept_all three.owner.kept k answered (let places = calling.places in omega (arith, below, places));
+      kills = subst (λ (v : List (Seat (PutterValue Asked ℕ))). All (HasAsked lines.controls.now plan taken) v) (sym (waits.kills ∙ winds.kills))
+          (kills_on lines.controls.now plan plan one.passes.collects.taken taken one.passes.kills.items (λ a. refl) (λ n has. waits.heard n (winds.heard n has)) f.kills);
+      sent = sent;
+      noted = λ k s below d listed.
+          let place = (get_or seats k s).place in
+          let a = (get_or mails place d).actor in
+          let some : is_some (copies_in a three.owner.handles) ≡ true =
+          ap (λ (h : List Handle). is_some (copies_in a h)) waits.handles ∙ (winds.handles a).0 ∙ ap (λ (o : Option ℕ). is_some o) (f.copies a) ∙ listed_holds a actors (done_by actors nothing_done plan) listed in
+          let none : copies_held (copies_in a three.owner.handles) ≡ 0 = ap (λ (h : List Handle). copies_held (copies_in a h)) waits.handles ∙ closed place d (calling.letters k s below).below in
+          note_posted mails taken seats (last_note three.owner a) a k s d below refl (sent (last_note three.owner a) (refl, let_go_all (copies_in a three.owner.handles) some none));
+    }
 
 -- ---- the opening
 
@@ -480,6 +574,8 @@ fresh_calling lines owner passes noted fresh =
         posting = λ d. posting_fresh owner (get_or lines.mails.now seat.place d).actor seat.pass.put s.put;
       }) passes.letters.items fresh.unused.letters;
       kills = fresh.unused.kills;
+      keeps = rw fresh.unused.taken (subst (λ (o : OwnerValue). IsKeeping lines.mails.now o [] passes.letters.items []) (sym fresh.owner_is) (keeps_opened lines.mails.now owner.id actors passes.letters.items));
+      names = λ k s below d. subst (λ (l : List Asked). All (λ kill. kill.note ≡ record { caller = owner.id; actor = (get_or lines.controls.now (get_or passes.kills.items k s).place d).actor }) l) (sym (fresh.unused.asked k s below)) (λ i e inside. absurd (omega arith));
     }
 
 pub fresh_follows : (lines : CallerLines) (owner : OwnerValue) (passes : CallerPasses) (noted : List Bool) → IsFresh lines owner passes → Follows lines (actors_in owner.handles) [] (record { owner = owner; passes = passes; hand = None; noted = noted })
@@ -501,5 +597,6 @@ driven_of lines plan starved start new calling stay done = record {
         subst (λ (l : List Letter). AllPairs (λ one other. one ≢ other) (futures_in l)) (append-nil (get_or new.passes.letters.items k s).pass.put) less.distinct,
       );
   hears = calling.hears;
+  names = calling.names;
   done = done;
 }

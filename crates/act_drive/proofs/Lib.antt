@@ -1,3 +1,5 @@
 pub mod Alone
 pub mod Desks
 pub mod Doings
+pub mod Keeps
+pub mod Seats

@@ -1,10 +1,9 @@
 -- What a caller's thread did so far.
-use Rattle.std.specs.Prelude.{◌≡◌, ◌≢◌, ℕ, ◌<◌, ◌≤◌, ◌==◌, ◌⊎◌, Bool, true, false, List, [], ◌∷◌, ◌++◌, length, map, filter_map, slice_index_or, option_to_list, Option, Some, None, is_some, All, AllPairs, Contains}
-use Rattle.act_types.specs.declared.message.Packet.{Packet}
+use Rattle.std.specs.Prelude.{◌≡◌, ◌≢◌, ℕ, ◌<◌, ◌≤◌, ◌⊎◌, true, false, List, [], ◌∷◌, ◌++◌, length, map, filter_map, slice_index_or, option_to_list, flat_map, Option, Some, None, is_some, All, AllPairs, Contains}
 use Rattle.act_types.specs.declared.message.Notice.{Notice}
 use Rattle.act_types.specs.declared.message.Notice.TheVariants.{Death}
 use Rattle.act_rules.specs.declared.script.Step.{Step}
-use Rattle.act_rules.specs.declared.script.Step.TheVariants.{Submit, Copy, Release, Kill, Await}
+use Rattle.act_rules.specs.declared.script.Step.TheVariants.{Kill}
 use Rattle.act_rules.specs.Plans.{planned, holds, done_by, nothing_done, is_refused, kills_to}
 use Rattle.act_rules.specs.Submissions.{calls_to, copies_held, kept_at}
 use Rattle.act_handles.specs.Handles.{copies_in, actors_in}
@@ -79,6 +78,36 @@ IsElsewhere controls a seat = (d : ControlValue) → (slice_index_or controls se
 abbrev pub IsAtSeat : List MailValue → List (Seat (PutterValue Letter Unit)) → ℕ → ℕ → Type 0
 IsAtSeat mails seats at a = (s : Seat (PutterValue Letter Unit)) (d : MailValue) → (slice_index_or mails (slice_index_or seats at s).place d).actor ≡ a
 
+-- the note of the last handle of an actor
+abbrev pub last_note : OwnerValue → ℕ → Letter
+last_note owner a = Note (record { caller = owner.id; actor = a; after = length (calls_to a owner.calls) })
+
+-- a letter is due: the packet of a call that is marked sent, or the note of an actor of which each handle was let go
+abbrev pub IsDue : OwnerValue → Letter → Type 0
+IsDue owner (Call packet) = (packet_at owner packet.future ≡ Some packet) × (is_sent owner packet.future ≡ true)
+IsDue owner (Note note) = (Note note ≡ last_note owner note.actor) × (copies_in note.actor owner.handles ≡ Some 0)
+
+-- all that was posted at these seats
+abbrev pub posted_in : List (Seat (PutterValue Letter Unit)) → List Letter
+posted_in seats = flat_map (λ seat. seat.pass.put) seats
+
+-- a seat is at another actor's mail line
+abbrev pub IsApart : List MailValue → ℕ → Seat (PutterValue Letter Unit) → Type 0
+IsApart mails a seat = (d : MailValue) → (slice_index_or mails seat.place d).actor ≢ a
+
+-- a letter to this actor need not be posted, since its death was collected, or no seat is at its line
+abbrev pub IsIdle : List MailValue → List Notice → List (Seat (PutterValue Letter Unit)) → ℕ → Type 0
+IsIdle mails collected seats a = Contains collected (Death a) ⊎ All (IsApart mails a) seats
+
+-- no letter that is due is lost: it was posted, is held, or need not be posted
+pub record IsKeeping (mails : List MailValue) (owner : OwnerValue) (collected : List Notice) (seats : List (Seat (PutterValue Letter Unit))) (held : List Letter) : Type 0 where
+  pub known : (k : ℕ) → is_sent owner k ≡ true → is_known_at owner k ≡ true
+  pub due : (letter : Letter) → IsDue owner letter → Contains (posted_in seats ++ held) letter ⊎ IsIdle mails collected seats (actor_of letter)
+
+-- each kill that was asked at a seat names the caller and the actor of its line
+abbrev pub HasNamed : List ControlValue → ℕ → Seat (PutterValue Asked ℕ) → Type 0
+HasNamed controls id seat = (d : ControlValue) → All (λ kill. kill.note ≡ record { caller = id; actor = (slice_index_or controls seat.place d).actor }) seat.pass.put
+
 -- a caller at work: what it keeps comes from the notices collected, and what it posted is its own
 pub record IsCalling (lines : CallerLines) (desk : Desk) : Type 0 where
   pub places : length desk.owner.kept ≡ length desk.owner.calls
@@ -88,6 +117,8 @@ pub record IsCalling (lines : CallerLines) (desk : Desk) : Type 0 where
   pub held : IsHeld desk.owner desk.hand
   pub letters : All (IsSeat lines.mails.now desk.owner (option_to_list desk.hand)) desk.passes.letters.items
   pub kills : AreKillSeats lines.controls.now desk.passes.kills.items
+  pub keeps : IsKeeping lines.mails.now desk.owner desk.passes.collects.taken desk.passes.letters.items (option_to_list desk.hand)
+  pub names : All (HasNamed lines.controls.now desk.owner.id) desk.passes.kills.items
 
 -- a seat without what was put there
 abbrev pub bare_post : Seat (PutterValue Letter Unit) → Seat (PutterValue Letter Unit)
@@ -152,6 +183,7 @@ pub record Winds (old new : Desk) : Type 0 where
   pub calls : new.owner.calls ≡ old.owner.calls
   pub kills : new.passes.kills.items ≡ old.passes.kills.items
   pub heard : (notice : Notice) → Contains old.passes.collects.taken notice → Contains new.passes.collects.taken notice
+  pub handles : (a : ℕ) → (is_some (copies_in a new.owner.handles) ≡ is_some (copies_in a old.owner.handles)) × (copies_held (copies_in a new.owner.handles) ≤ copies_held (copies_in a old.owner.handles))
 
 -- a pass that posted, or asked, nothing yet
 pub record IsFreshSeat (mails : List MailValue) (id : ℕ) (seat : Seat (PutterValue Letter Unit)) : Type 0 where
@@ -173,15 +205,30 @@ pub record IsFresh (lines : CallerLines) (owner : OwnerValue) (passes : CallerPa
   pub owner_is : owner ≡ opened owner.id (actors_in owner.handles)
   pub unused : IsUnused lines.mails.now lines.controls.now lines.replies.now owner.id passes
 
+-- the note of the last handle of an actor among these was posted at a seat, or its death was collected
+abbrev pub HasNote : List ℕ → OwnerValue → CallerPasses → ℕ → Type 0
+HasNote actors owner passes a = Contains actors a → Contains (posted_in passes.letters.items) (last_note owner a) ⊎ Contains passes.collects.taken (Death a)
+
 -- a plan was done to its end, by a caller of these actors
 pub record HasDone (lines : CallerLines) (actors : List ℕ) (plan : List Step) (owner : OwnerValue) (passes : CallerPasses) : Type 0 where
   pub calls : owner.calls ≡ planned actors plan
   pub answered : (k : ℕ) → k < length owner.calls → is_some (kept_at owner.kept k) ≡ true
   pub kills : All (HasAsked lines.controls.now plan passes.collects.taken) passes.kills.items
+  pub sent : (letter : Letter) → IsDue owner letter → Contains (posted_in passes.letters.items) letter ⊎ IsIdle lines.mails.now passes.collects.taken passes.letters.items (actor_of letter)
+  pub noted : All (λ seat. (d : MailValue) → HasNote actors owner passes (slice_index_or lines.mails.now seat.place d).actor) passes.letters.items
 
 -- the letters at a seat are the owner's, and no call is there twice
 abbrev pub HasPosted : List MailValue → OwnerValue → Seat (PutterValue Letter Unit) → Type 0
 HasPosted mails owner seat = (d : MailValue) → All (IsSent owner (slice_index_or mails seat.place d).actor) seat.pass.put × AllPairs (λ one other. one ≢ other) (futures_in seat.pass.put)
+
+-- no two of these seats are at mail lines of the same actor
+abbrev pub AreDistinct : List MailValue → List (Seat (PutterValue Letter Unit)) → Type 0
+AreDistinct mails seats = AllPairs (λ one other. (d : MailValue) → (slice_index_or mails one.place d).actor ≢ (slice_index_or mails other.place d).actor) seats
+
+-- what was posted among such seats was posted at the one of its actor
+abbrev pub LettersStandAtTheirSeats : Type 0
+LettersStandAtTheirSeats = (mails : List MailValue) (owner : OwnerValue) (seats : List (Seat (PutterValue Letter Unit))) (letter : Letter) → AreDistinct mails seats → All (HasPosted mails owner) seats → Contains (posted_in seats) letter
+    → All (λ seat. (d : MailValue) → (slice_index_or mails seat.place d).actor ≡ actor_of letter → Contains seat.pass.put letter) seats
 
 -- what a caller's thread leaves, of the owner and the passes that it was given and its plan
 pub record HasDriven (lines : CallerLines) (owner : OwnerValue) (before : CallerPasses) (plan : List Step) (driven : Driven) : Type 0 where
@@ -189,4 +236,5 @@ pub record HasDriven (lines : CallerLines) (owner : OwnerValue) (before : Caller
   pub stay : PassesStay before driven.passes
   pub letters : All (HasPosted lines.mails.now driven.owner) driven.passes.letters.items
   pub hears : Hears driven.owner driven.passes.collects.taken
+  pub names : All (HasNamed lines.controls.now driven.owner.id) driven.passes.kills.items
   pub done : driven.starved ≡ false → HasDone lines (actors_in owner.handles) plan driven.owner driven.passes

@@ -1,8 +1,9 @@
 //! One caller: it does the steps of its plan, and sends and collects meanwhile.
 
-ghost use Rattle.std.specs.Prelude.{◌≡◌, ℕ, List, [], None, OnOk, false};
+ghost use Rattle.std.specs.Prelude.{◌≡◌, ℕ, List, [], None, OnOk, All, false};
 ghost use Rattle.act_rules.specs.Plans.{first_bad};
-ghost use Rattle.act_handles.specs.Handles.{actors_in};
+ghost use Rattle.act_rules.specs.Submissions.{copies_held};
+ghost use Rattle.act_handles.specs.Handles.{actors_in, copies_in};
 ghost use Rattle.act_drive.specs.Driven.{IsCalling, Follows, Stays, Winds, IsFresh, HasDone, HasDriven};
 
 use crate::desk::{CallerLines, CallerPasses, Desk, NUMBERS};
@@ -49,8 +50,9 @@ impl Desk {
         requires calling { IsCalling lines.now self.old }
         ensures calling { IsCalling lines.now self.new }
         ensures winds { Winds self.old self.new }
+        ensures none { OnOk result (copies_held (copies_in a self.new.owner.handles) ≡ 0) }
     {
-        for _ in 0..self.owner.holds(a) {
+        for _gone in 0..self.owner.holds(a) {
             self.release(rt, lines, a)?;
         }
         Ok(())
@@ -61,6 +63,7 @@ impl Desk {
         requires calling { IsCalling lines.now self.old }
         ensures calling { IsCalling lines.now self.new }
         ensures winds { Winds self.old self.new }
+        ensures none { OnOk result (All (λ mail. copies_held (copies_in mail.actor self.new.owner.handles) ≡ 0) lines.now.mails.now) }
     {
         for mail in lines.mails {
             self.let_go(rt, lines, mail.actor())?;

@@ -3,7 +3,7 @@
 ghost use Rattle.std.specs.Prelude.{◌≡◌, ◌<◌, length, slice_index_or, All, None, Some, IfSome, IfNone, OnOk, is_some, true};
 ghost use Rattle.std.specs.List.{list_all};
 ghost use Rattle.act_rules.specs.Submissions.{kept_at};
-ghost use Rattle.act_drive.specs.Driven.{IsCalling, Waits, IsAtSeat, actor_of};
+ghost use Rattle.act_drive.specs.Driven.{IsCalling, Waits, IsApart, IsAtSeat, actor_of};
 ghost use Rattle.act_drive.specs.Parts.{IsHeard};
 
 use act_mailbox::{Control, ControlCaller, Letter, Mail, MailCaller, Replies, ReplyCaller};
@@ -69,10 +69,11 @@ fn mark(noted: &mut [bool; NUMBERS], actor: ActorId, is_note: bool) {
 /// The place in the list of the first seat at the actor's mail line.
 fn letter_seat(mails: &[Mail], seats: &[Seat<MailCaller>], actor: ActorId) -> Option<usize>
     requires { All (λ seat. seat.place < length mails.now) seats.now }
-    ensures { IfSome result (λ at. (at < length seats.now) × IsAtSeat mails.now seats.now at actor) }
+    ensures some { IfSome result (λ at. (at < length seats.now) × IsAtSeat mails.now seats.now at actor) }
+    ensures none { IfNone result (All (IsApart mails.now actor) seats.now) }
 {
-    for (at, seat) in seats.iter().enumerate() {
-        if mails[seat.place].actor() == actor {
+    for at in 0..seats.len() {
+        if mails[seats[at].place].actor() == actor {
             return Some(at);
         }
     }

@@ -3,6 +3,7 @@
 
 mod caller;
 mod desk;
+mod laws;
 mod starve;
 mod steps;
 #[cfg(test)]
@@ -10,3 +11,4 @@ mod tests;
 
 pub use caller::{Driven, Plan, drive};
 pub use desk::{CallerLines, CallerPasses};
+pub use laws::letters_stand_at_their_seats;

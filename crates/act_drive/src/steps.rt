@@ -3,7 +3,7 @@
 ghost use Rattle.std.specs.Prelude.{◌≡◌, ◌<◌, length, true, false, is_some, All, Some, IfSome, IfNone, OnOk};
 ghost use Rattle.act_rules.specs.declared.script.Step.TheVariants.{Submit, Copy, Release, Kill, Await};
 ghost use Rattle.act_rules.specs.Submissions.{kept_at};
-ghost use Rattle.act_handles.specs.Handles.{copies_in};
+ghost use Rattle.act_handles.specs.Handles.{copies_in, without_copy};
 ghost use Rattle.act_owner.specs.Owner.{release_note};
 ghost use Rattle.act_mailbox.specs.declared.mail.Letter.TheVariants.{Note};
 ghost use Rattle.act_drive.specs.declared.desk.CallerLines.{CallerLines};
@@ -69,6 +69,7 @@ impl Desk {
         ensures follows { OnOk result (FollowsBy lines.now (Release a) self.old self.new) }
         ensures noted { OnOk result (copies_in a self.old.owner.handles ≡ Some 1 → self.new.hand ≡ Some (Note (release_note self.old.owner a))) }
         ensures winds { Winds self.old self.new }
+        ensures handles { OnOk result (self.new.owner.handles ≡ without_copy a self.old.owner.handles) }
     {
         self.clear(rt, lines);
         match self.owner.release(a) {

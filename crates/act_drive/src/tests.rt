@@ -12,12 +12,14 @@ ghost use Rattle.act_mailbox.specs.Notices.{new_exec};
 ghost use Rattle.act_drive.specs.Driven.{IsUnused};
 
 mod executor;
+mod pair;
+mod starved;
 mod station;
 
 use crate::{CallerLines, CallerPasses, Plan, drive};
 use act_owner::Owner;
 use act_rules::Step;
-use act_types::{Arg, Fault, FutureId, ListOf, Method, NoMemory, Value};
+use act_types::{ActorId, Arg, Fault, FutureId, ListOf, Method, NoMemory, Value};
 use executor::{ExecLines, Way, serve_counter};
 use station::{ExecPasses, Station, actor, caller, opened};
 use std::alloc::Global;
@@ -53,20 +55,20 @@ fn answer_of(owner: &Owner, k: u32) -> Said {
 }
 
 /// The step `add 1`.
-fn add(alloc: Global) -> Result<Step, NoMemory>
-    ensures { IfOk result (λ step. step ≡ Submit 1 Add (Plain (Int (pos 1)) ∷ [])) }
+fn add(alloc: Global, a: ActorId) -> Result<Step, NoMemory>
+    ensures { IfOk result (λ step. step ≡ Submit a Add (Plain (Int (pos 1)) ∷ [])) }
 {
     let mut args = ListOf::new(alloc);
     args.push(Arg::Plain(Value::Int(1)))?;
-    Ok(Step::Submit(actor(), Method::Add, args))
+    Ok(Step::Submit(a, Method::Add, args))
 }
 
 fn two_calls(alloc: Global) -> Result<Plan, NoMemory>
     ensures { IfOk result (λ plan. first_bad (1 ∷ []) plan.items ≡ None) }
 {
     let mut plan = Vec::new(alloc);
-    plan.push(add(alloc)?)?;
-    plan.push(add(alloc)?)?;
+    plan.push(add(alloc, actor())?)?;
+    plan.push(add(alloc, actor())?)?;
     Ok(plan)
 }
 
@@ -74,7 +76,7 @@ fn call_and_kill(alloc: Global) -> Result<Plan, NoMemory>
     ensures { IfOk result (λ plan. first_bad (1 ∷ []) plan.items ≡ None) }
 {
     let mut plan = Vec::new(alloc);
-    plan.push(add(alloc)?)?;
+    plan.push(add(alloc, actor())?)?;
     plan.push(Step::Await(FutureId::new(0)))?;
     plan.push(Step::Kill(actor()))?;
     Ok(plan)

@@ -1,5 +1,5 @@
 -- One seat, as it is opened.
-use Rattle.std.proofs.Common.{rules, arith, ◌≡◌, ℕ, zero, suc, ◌<◌, List, [], ◌∷◌, length, get_or, refl, sym, subst}
+use Rattle.std.proofs.Common.{arith, ◌≡◌, ℕ, zero, suc, ◌<◌, List, [], ◌∷◌, length, get_or, refl, sym, subst}
 use Rattle.act_mailbox.specs.Notices.{RepliesValue, ReplyExecValue, new_exec}
 use Rattle.act_seats.specs.declared.seat.Seat.{Seat}
 use Rattle.act_serve.specs.Served.{callers_of}

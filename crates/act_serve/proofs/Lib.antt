@@ -3,3 +3,4 @@ pub mod Logs
 pub mod Serving
 pub mod Answered
 pub mod Alone
+pub mod Nexts

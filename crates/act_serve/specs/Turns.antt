@@ -1,5 +1,5 @@
 -- What the parts of an actor's turn stand on, and what they leave.
-use Rattle.std.specs.Prelude.{◌≡◌, ◌≢◌, ℕ, ◌+◌, ◌<◌, ◌≤◌, true, List, [], ◌∷◌, ◌++◌, length, slice_index_or, Some, All, AllPairs, Contains}
+use Rattle.std.specs.Prelude.{◌≡◌, ◌≢◌, ℕ, ◌+◌, ◌<◌, ◌≤◌, Bool, true, false, List, [], ◌∷◌, ◌++◌, length, slice_index_or, Some, is_some, All, AllPairs, Contains}
 use Rattle.atomic_table.specs.Seated.{TableId}
 use Rattle.act_types.specs.KindState.{KindState}
 use Rattle.act_types.specs.declared.message.Packet.{Packet}
@@ -8,11 +8,11 @@ use Rattle.act_types.specs.declared.message.Notice.TheVariants.{Death}
 use Rattle.act_rules.specs.declared.history.RunItem.{RunItem}
 use Rattle.act_rules.specs.RunList.{after_item, items_of}
 use Rattle.act_rules.specs.History.{contains}
-use Rattle.act_inbox.specs.Inbox.{is_listed, handed_of, waiting, note_of, IsOpened}
+use Rattle.act_inbox.specs.Inbox.{is_listed, handed_of, waiting, waiting_after, next_of, note_of, note_after, IsOpened}
 use Rattle.act_actor.specs.Value.{ActorSeen}
-use Rattle.act_actor.specs.Actor.{HasRunFrom}
+use Rattle.act_actor.specs.Actor.{HasRunFrom, arrival_at, note_arrival_at}
 use Rattle.act_mailbox.specs.declared.mail.Letter.{Letter}
-use Rattle.act_mailbox.specs.declared.mail.Letter.TheVariants.{Call}
+use Rattle.act_mailbox.specs.declared.mail.Letter.TheVariants.{Call, Note}
 use Rattle.act_rules.specs.Consistent.{IsFront}
 use Rattle.act_mailbox.specs.Notices.{RepliesValue, ReplyExecValue, IsReply}
 use Rattle.act_seats.specs.declared.seat.Seat.{Seat}
@@ -65,6 +65,20 @@ pub record IsFed (callers : List ℕ) (letters : List Letter) (actor : ActorSeen
   pub notes : (c : ℕ) → contains c callers ≡ true → note_of actor.inbox c ≡ first_note actor.id c letters
   pub log : IsLogOf actor.id callers letters actor.log
 
+-- the letter is in the actor's inbox
+abbrev pub IsIn : Letter → ActorSeen → ActorSeen → Type 0
+IsIn (Call packet) old new = (c n : ℕ) → waiting new.inbox c n ≡ waiting_after (arrival_at old.id old.inbox packet) packet old.inbox c n
+IsIn (Note note) old new = (c : ℕ) → note_of new.inbox c ≡ note_after (note_arrival_at old.id old.inbox note) note old.inbox c
+
+-- a letter more was taken into the actor's inbox, or none came and nothing changed
+abbrev pub HasCome : Bool → List Letter → List Letter → ActorSeen → ActorSeen → Type 0
+HasCome true before after old new = (letter : Letter) × (after ≡ before ++ letter ∷ []) × IsIn letter old new
+HasCome false before after old new = (after ≡ before) × (new ≡ old)
+
+-- whether the next call of the seat's caller came
+abbrev pub has_next : List RepliesValue → ActorSeen → Seat ReplyExecValue → Bool
+has_next lines actor seat = is_some (next_of actor.inbox (caller_at lines seat.place))
+
 -- the seat's caller was given its replies
 abbrev pub HasReplies : KindState → List RepliesValue → ℕ → List RunItem → Seat ReplyExecValue → Type 0
 HasReplies opening lines a log seat = seat.pass.given ≡ replies_to opening a log (caller_at lines seat.place)
@@ -90,6 +104,11 @@ pub record GoesOn (old new : ActorSeen) : Type 0 where
   pub id : new.id ≡ old.id
   pub front : IsFront old.log new.log
   pub long : length new.log ≤ length old.log + 1
+
+-- one more call ran, or no seat's caller had one and nothing changed
+abbrev pub HasGone : Bool → List RepliesValue → List (Seat ReplyExecValue) → ActorSeen → ActorSeen → Type 0
+HasGone true lines seats old new = length new.log ≡ length old.log + 1
+HasGone false lines seats old new = (new ≡ old) × All (λ seat. has_next lines old seat ≡ false) seats
 
 -- the seat after a death was given
 abbrev pub told : ℕ → List RunItem → Seat ReplyExecValue → Seat ReplyExecValue

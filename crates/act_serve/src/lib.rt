@@ -11,4 +11,4 @@ mod turn;
 pub use gate::{Gate, NoGate};
 pub use laws::replies_are_due;
 pub use seat::{Ended, ExecLines, ExecPasses, Finished};
-pub use turn::serve;
+pub use turn::{serve, serve_by};

@@ -159,3 +159,31 @@ fn forged_letters_change_nothing(rt: HostRuntime) -> Result<(), Fail> {
     assert_eq!(rt; told, (End::Retired(2), Some(wanted)));
     Ok(())
 }
+
+/// Whether an actor without memory ended as it should: a reply for each call that it ran, and then
+/// its death.
+fn is_starved(end: End, given: Option<Counted>) -> bool {
+    match (end, given) {
+        (End::Starved(ran), Some(given)) => given.replies as usize == ran && given.deaths == 1,
+        _ => false,
+    }
+}
+
+/// Where a request for memory is refused, the actor is starved. With ample memory it retires.
+#[test]
+fn refused_memory_starves(rt: HostRuntime) -> Result<(), Fail> {
+    let alloc = rt.alloc();
+    let (mut station, passes) = opened(alloc)?;
+    assert!(rt; station.post(&rt, call(alloc, caller(), actor(), 1)?));
+    assert!(rt; station.post(&rt, call(alloc, caller(), actor(), 0)?));
+    assert!(rt; station.post(&rt, call(alloc, caller(), actor(), 2)?));
+    assert!(rt; station.note(&rt, actor(), 3));
+    let wanted = Counted {
+        replies: 3,
+        deaths: 0,
+    };
+    let (end, given) = served(&rt, alloc, station, passes)?;
+    let is_whole = (end, given) == (End::Retired(3), Some(wanted));
+    assert!(rt; is_whole || is_starved(end, given));
+    Ok(())
+}

@@ -1,12 +1,14 @@
 //! One turn of an actor.
 
-ghost use Rattle.std.specs.Prelude.{◌≡◌, ℕ, ◌<◌, List, [], ◌∷◌, ◌++◌, length, map, All, IfOk, OnOk, OnErr, IfSome, IfNone};
+ghost use Rattle.std.specs.Prelude.{◌≡◌, ℕ, ◌+◌, ◌<◌, false, List, [], ◌∷◌, ◌++◌, length, map, position, is_some, All, IfOk, OnOk, OnErr, IfSome, IsSome, IfNone};
 ghost use Rattle.act_types.specs.KindState.{KindState};
 ghost use Rattle.act_mailbox.specs.declared.mail.Letter.{Letter};
+ghost use Rattle.act_inbox.specs.Inbox.{next_of};
 ghost use Rattle.act_actor.specs.Seen.{live_seen};
 ghost use Rattle.act_rules.specs.Consistent.{IsFront};
 ghost use Rattle.act_mailbox.specs.Notices.{actor_of, IsReply, NamesPlace};
-ghost use Rattle.act_serve.specs.Turns.{IsSeated, SeatsDiffer, PassesOf, HasReplied, GoesOn, IsFed, IsServing, IsFresh, told};
+ghost use Rattle.act_serve.specs.Turns.{IsSeated, SeatsDiffer, PassesOf, HasReplied, GoesOn, IsFed, IsServing, IsFresh, HasCome, has_next, HasGone, told};
+ghost use Rattle.act_serve.specs.declared.turn.Turn.TheVariants.{Moved, Idle};
 ghost use Rattle.act_serve.specs.Served.{bare, end_seen, HasServed};
 
 use crate::gate::Gate;
@@ -49,6 +51,7 @@ fn take_in<R: Wait, K: Actor>(
     ensures pass { pass.new ≡ record pass.old { taken = pass.new.taken } }
     ensures same { let after = live_seen K.state live.new in after ≡ record (live_seen K.state live.old) { inbox = after.inbox } }
     ensures fed { (callers : List ℕ) → IsFed callers pass.old.taken (live_seen K.state live.old) → IsFed callers pass.new.taken (live_seen K.state live.new) }
+    ensures came { IfOk result (λ came. HasCome came pass.old.taken pass.new.taken (live_seen K.state live.old) (live_seen K.state live.new)) }
 {
     match mail.take(rt, pass) {
         None => Ok(false),
@@ -70,7 +73,7 @@ fn next_seat<K: Actor>(
     notices: &[Seat<ReplyExec>],
 ) -> Option<usize>
     requires { All (λ seat. seat.place < length replies.now) notices.now }
-    ensures { IfSome result (λ at. at < length notices.now) }
+    ensures { result ≡ position (has_next replies.now (live_seen K.state live.now)) notices.now }
 {
     for (at, seat) in notices.iter().enumerate() {
         if live.has_next(replies[seat.place].caller()) {
@@ -84,6 +87,8 @@ fn next_seat<K: Actor>(
 fn run_next<K: Actor>(live: &mut Live<K>, caller: CallerId) -> Result<Option<Reply>, NoMemory>
     ensures ran { IfOk result (λ reply. IfSome reply (λ reply. HasReplied caller reply (live_seen K.state live.old) (live_seen K.state live.new))) }
     ensures none { IfOk result (λ reply. IfNone reply (live_seen K.state live.new ≡ live_seen K.state live.old)) }
+    ensures next { IfOk result (λ reply. is_some reply ≡ is_some (next_of (live_seen K.state live.old).inbox caller)) }
+    ensures last { OnErr result (IsSome (next_of (live_seen K.state live.old).inbox caller)) }
     ensures err { OnErr result (live_seen K.state live.new ≡ live_seen K.state live.old) }
 {
     live.run(caller)
@@ -103,6 +108,8 @@ fn run_one<R: Wait, K: Actor, F: Fn(ActorId, u32)>(
     ensures seats { All (IsSeated replies.now (live_seen K.state live.new).id (live_seen K.state live.new).log) notices.new.items }
     ensures stay { map bare notices.new.items ≡ map bare notices.old.items }
     ensures on { GoesOn (live_seen K.state live.old) (live_seen K.state live.new) }
+    ensures gone { IfOk result (λ ran. HasGone ran replies.now notices.old.items (live_seen K.state live.old) (live_seen K.state live.new)) }
+    ensures err { OnErr result (live_seen K.state live.new ≡ live_seen K.state live.old) }
     ensures serving { (opening : KindState) (callers : List ℕ) (letters : List Letter) → IsServing opening callers replies.now letters (live_seen K.state live.old) notices.old.items → IsServing opening callers replies.now letters (live_seen K.state live.new) notices.new.items }
 {
     let Some(at) = next_seat(live, replies, notices.as_slice()) else {
@@ -152,6 +159,8 @@ fn take_turn<R: Wait, K: Actor, F: Fn(ActorId, u32)>(
     ensures seats { All (IsSeated lines.now.replies.now (live_seen K.state live.new).id (live_seen K.state live.new).log) notices.new.items }
     ensures stay { map bare notices.new.items ≡ map bare notices.old.items }
     ensures on { GoesOn (live_seen K.state live.old) (live_seen K.state live.new) }
+    ensures moved { result ≡ Moved → length letters.old.taken + length (live_seen K.state live.old).log < length letters.new.taken + length (live_seen K.state live.new).log }
+    ensures idle { result ≡ Idle → (letters.new ≡ letters.old) × HasGone false lines.now.replies.now notices.old.items (live_seen K.state live.old) (live_seen K.state live.new) }
     ensures serving { (opening : KindState) (callers : List ℕ) → IsServing opening callers lines.now.replies.now letters.old.taken (live_seen K.state live.old) notices.old.items → IsServing opening callers lines.now.replies.now letters.new.taken (live_seen K.state live.new) notices.new.items }
 {
     let Ok(came) = take_in(rt, live, lines.mail, letters) else {
@@ -185,7 +194,7 @@ fn tell_deaths<R: Wait>(
 }
 
 /// Serves until a kill is taken, all is drained, or memory is refused.
-fn serve_by<R: Wait, K: Actor, F: Fn(ActorId, u32)>(
+pub fn serve_by<R: Wait, K: Actor, F: Fn(ActorId, u32)>(
     rt: &R,
     mut live: Live<K>,
     lines: &ExecLines,

@@ -129,7 +129,7 @@ fn give_times<R: Wait, K: Actor>(
 }
 
 /// Runs the caller's next call, and gives its reply so many times.
-fn run_one<R: Wait, K: Actor>(
+pub(super) fn run_one<R: Wait, K: Actor>(
     rt: &R,
     alloc: Global,
     live: &mut Live<K>,

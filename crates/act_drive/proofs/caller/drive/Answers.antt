@@ -1,4 +1,3 @@
-use Rattle.std.proofs.Common.{rules}
 use Rattle.act_handles.specs.Handles.{actors_in}
 use Rattle.act_drive.proofs.Doings.{fresh_calling, fresh_follows, driven_of}
 use Rattle.act_drive.proofs.caller.drive.Goals as goal

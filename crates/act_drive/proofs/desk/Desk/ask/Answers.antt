@@ -1,8 +1,8 @@
-use Rattle.std.proofs.Common.{refl, rules, ◌≡◌, ◌∙◌, ap, get_or, length, List}
+use Rattle.std.proofs.Common.{refl, rules, ◌≡◌, ℕ, ◌∙◌, ap, sym, subst, get_or, length}
 use Rattle.std.proofs.lemmas.List.{length_push}
-use Rattle.act_mailbox.specs.declared.control.Asked.{Asked}
-use Rattle.act_drive.specs.Driven.{bare_ask}
-use Rattle.act_drive.proofs.Doings.{kills_asked, ask_refused, asked_stays}
+use Rattle.act_mailbox.specs.Controls.{ControlValue}
+use Rattle.act_drive.specs.Driven.{bare_ask, HasNamed}
+use Rattle.act_drive.proofs.Doings.{kills_asked, ask_refused, asked_stays, calling_asked, named_more}
 use Rattle.act_drive.proofs.desk.Desk.ask.Goals as goal
 
 pub returns-in-Ok-clause-asked : goal.returns-in-Ok-clause-asked
@@ -42,3 +42,15 @@ returns-in-Err-clause-stays g c =
     let seat = c.index_mut-seat.result.now in
     let here : seat ≡ get_or c.args.self.now.passes.kills.items c.args.at seat = search rules in
     asked_stays c.args.self.now _ c.args.at seat c.ask.new.pass here (ap (λ (p : _). bare_ask (record { place = seat.place; pass = p })) c.in-Err.ensures.err) refl refl refl refl
+
+pub returns-in-Ok-clause-calling : goal.returns-in-Ok-clause-calling
+returns-in-Ok-clause-calling g c =
+    let seat = c.index_mut-seat.result.now in
+    let items = c.args.self.now.passes.kills.items in
+    let controls = c.args.lines.now.controls.now in
+    let id : c.id.result ≡ c.args.self.now.owner.id = search rules in
+    let here : seat ≡ get_or items c.args.at seat = search rules in
+    let there : (d : ControlValue) → (get_or controls seat.place d).actor ≡ c.args.a = λ d. ap (λ (x : _). (get_or controls x.place d).actor) here ∙ c.requires.place seat d in
+    let was : HasNamed controls c.args.self.now.owner.id seat = subst (HasNamed controls c.args.self.now.owner.id) (sym here) (c.requires.calling.names c.args.at seat c.requires.below) in
+    calling_asked c.args.lines.now c.args.self.now _ c.args.at seat c.ask.new.pass c.requires.below here (ap (λ (p : _). p.line) c.in-Ok.ensures.ok)
+    (named_more controls c.args.self.now.owner.id c.args.a seat c.ask.new.pass _ there (ap (λ (n : ℕ). record { caller = n; actor = c.args.a }) id) (ap (λ (p : _). p.put) c.in-Ok.ensures.ok) was) refl refl refl refl refl c.requires.calling

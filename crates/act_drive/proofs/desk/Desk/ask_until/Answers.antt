@@ -1,4 +1,4 @@
-use Rattle.std.proofs.Common.{refl, rules, ◌≡◌, ◌∙◌, sym, true}
+use Rattle.std.proofs.Common.{refl, rules, ◌≡◌, true}
 use Rattle.act_owner.specs.Owner.{is_dead}
 use Rattle.act_drive.proofs.Desks.{stays_trans, waits_trans}
 use Rattle.act_drive.proofs.Doings.{kill_follows, kills_dead}

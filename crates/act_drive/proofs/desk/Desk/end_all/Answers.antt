@@ -1,5 +1,5 @@
-use Rattle.std.proofs.Common.{arith, ◌<◌, length}
-use Rattle.act_drive.proofs.Desks.{stays_same, stays_trans}
+use Rattle.std.proofs.Common.{arith}
+use Rattle.act_drive.proofs.Desks.{stays_trans}
 use Rattle.act_drive.proofs.Doings.{kills_long}
 use Rattle.act_drive.proofs.desk.Desk.end_all.Goals as goal
 

@@ -1,10 +1,11 @@
-use Rattle.std.proofs.Common.{refl, rules, ◌≡◌, Some, None, Ok, ◌∙◌, ap}
-use Rattle.act_owner.specs.Owner.{with_handles, release_told}
+use Rattle.std.proofs.Common.{refl, ◌≡◌, Some, None, Ok, ◌∙◌, ap}
+use Rattle.act_owner.specs.Owner.{OwnerValue, with_handles, release_told}
 use Rattle.act_owner.specs.Life.{Released}
 use Rattle.act_handles.specs.Handles.{copies_in, without_copy}
 use Rattle.act_types.specs.declared.message.ReleaseNote.{ReleaseNote}
 use Rattle.act_mailbox.specs.declared.mail.Letter.TheVariants.{Note}
 use Rattle.act_drive.proofs.Doings.{calling_step, calling_noted, last_of, ended_released, release_follows, released_winds, note_stays, not_last}
+use Rattle.act_drive.proofs.Keeps.{release_returns}
 use Rattle.act_drive.proofs.desk.Desk.release.Goals as goal
 
 pub returns-in-Ok-Some-clause-calling : goal.returns-in-Ok-Some-clause-calling
@@ -21,7 +22,8 @@ returns-in-Ok-Some-clause-follows g c = release_follows c.args.lines.now c.args.
 pub returns-in-Ok-None-clause-calling : goal.returns-in-Ok-None-clause-calling
 returns-in-Ok-None-clause-calling g c =
     let between = c.clear.new.self in
-    calling_step c.args.lines.now between _ (Released c.args.a) c.in-Ok-None.ensures.ok refl refl refl c.clear.ensures.calling.flags (ended_released between.owner c.args.a) c.clear.ensures.calling
+    let told : Ok None ≡ release_told between.owner c.args.a = rw c.in-Ok-None.field-0-is at c.in-Ok-None.ensures.value in
+    calling_step c.args.lines.now between _ (Released c.args.a) c.in-Ok-None.ensures.ok refl refl refl c.clear.ensures.calling.flags (ended_released between.owner c.args.a) (release_returns between.owner c.args.a (λ one. not_last _ _ told one)) c.clear.ensures.calling
 
 pub returns-in-Ok-None-clause-follows : goal.returns-in-Ok-None-clause-follows
 returns-in-Ok-None-clause-follows g c = release_follows c.args.lines.now c.args.self.now c.clear.new.self _ c.args.a c.clear.ensures.waits c.in-Ok-None.ensures.ok refl
@@ -44,3 +46,9 @@ returns-in-Ok-None-clause-noted g c one =
     let between = c.clear.new.self in
     let told : Ok None ≡ release_told between.owner c.args.a = rw c.in-Ok-None.field-0-is at c.in-Ok-None.ensures.value in
     absurd (not_last _ _ told (ap (copies_in c.args.a) c.clear.ensures.waits.handles ∙ one))
+
+pub returns-in-Ok-Some-clause-handles : goal.returns-in-Ok-Some-clause-handles
+returns-in-Ok-Some-clause-handles g c = ap (λ (o : OwnerValue). o.handles) c.in-Ok-Some.ensures.ok ∙ ap (without_copy c.args.a) c.clear.ensures.waits.handles
+
+pub returns-in-Ok-None-clause-handles : goal.returns-in-Ok-None-clause-handles
+returns-in-Ok-None-clause-handles g c = ap (λ (o : OwnerValue). o.handles) c.in-Ok-None.ensures.ok ∙ ap (without_copy c.args.a) c.clear.ensures.waits.handles

@@ -1,5 +1,4 @@
 use Rattle.std.proofs.Common.{◌≡◌}
-use Rattle.act_actor.specs.Seen.{live_seen}
 use Rattle.act_drive.proofs.tests.executor.take_one.Given as goal
 
 abbrev pub invariant-loop : goal.invariant-loop

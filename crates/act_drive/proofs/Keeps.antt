@@ -1,0 +1,210 @@
+-- No letter that is due is lost.
+use Rattle.std.proofs.Common.{◌≡◌, ◌≢◌, ℕ, zero, suc, ◌+◌, ◌-◌, ◌<◌, ◌⊎◌, Bool, true, false, if◌then◌else◌, List, [], ◌∷◌, ◌++◌, length, get_or, set, Option, Some, None, refl, sym, ◌∙◌, ap, subst, arith, All, Contains, inl, inr}
+use Rattle.std.specs.Prelude.{slice_get, unwrap_or, option_map}
+use Rattle.std.proofs.lemmas.Option.{unwrap_or-slice_get}
+use Rattle.std.proofs.lemmas.List.{get_or_default, get_or-set_other}
+use Rattle.std.proofs.lemmas.Bool.Decides.{eqb_tells}
+use Rattle.std.proofs.lemmas.List.Elements.{All-set, Contains-append_left, Contains-append_right, Contains-append_cases, Contains-push, Contains-push_cases}
+use Rattle.act_types.specs.declared.call.Method.{Method}
+use Rattle.act_types.specs.declared.call.Arg.{Arg}
+use Rattle.act_types.specs.declared.message.Packet.{Packet}
+use Rattle.act_types.specs.declared.message.ReleaseNote.{ReleaseNote}
+use Rattle.act_types.specs.declared.message.Notice.{Notice}
+use Rattle.act_types.specs.declared.message.Notice.TheVariants.{Death}
+use Rattle.act_rules.specs.Submissions.{calls_to, copies_held}
+use Rattle.act_handles.specs.Handles.{copies_in, with_copy, without_copy}
+use Rattle.act_handles.proofs.Lookups.{copies-opened, copies-with_copy, copies-with_copy-other, copies-without_copy, copies-without_copy-other, copies-with_number}
+use Rattle.act_owner.specs.Owner.{OwnerValue, opened, packet_at, is_sent, with_handles, with_call, with_sent}
+use Rattle.act_owner.specs.Life.{is_known_at}
+use Rattle.act_mailbox.specs.Mails.{MailValue}
+use Rattle.act_mailbox.specs.Passes.{PutterValue}
+use Rattle.act_mailbox.specs.declared.mail.Letter.{Letter}
+use Rattle.act_mailbox.specs.declared.mail.Letter.TheVariants.{Call, Note}
+use Rattle.act_seats.specs.declared.seat.Seat.{Seat}
+use Rattle.act_drive.specs.Driven.{actor_of, GoesOn, last_note, IsDue, posted_in, IsApart, IsIdle, IsKeeping}
+
+-- ---- the owner goes on
+
+-- what is marked sent, or let go, later was so before
+pub record Returns (owner later : OwnerValue) : Type 0 where
+  pub sent : (k : ℕ) → is_sent later k ≡ true → is_sent owner k ≡ true
+  pub ended : (a : ℕ) → copies_in a later.handles ≡ Some 0 → copies_in a owner.handles ≡ Some 0
+
+due_before : (owner later : OwnerValue) (letter : Letter) → GoesOn owner later → Returns owner later → ((k : ℕ) → is_sent owner k ≡ true → is_known_at owner k ≡ true) → IsDue later letter → IsDue owner letter
+due_before owner later (Call packet) on back known due =
+    let sent = back.sent packet.future due.1 in
+    (sym (on.packets packet.future (known packet.future sent)).1 ∙ due.0, sent)
+due_before owner later (Note note) on back known due =
+    let none = back.ended note.actor due.1 in
+    let count = (on.ended note.actor (ap copies_held none)).1 in (
+      due.0 ∙ ap (λ (n : ℕ). Note (record { caller = n; actor = note.actor; after = length (calls_to note.actor later.calls) })) on.id ∙ ap (λ (n : ℕ). Note (record { caller = owner.id; actor = note.actor; after = n })) count,
+      none,
+    )
+
+-- a letter among these, or that need not be posted, is so with more letters and notices
+more : (mails : List MailValue) (taken later : List Notice) (seats : List (Seat (PutterValue Letter Unit))) (letters others : List Letter) (letter : Letter) → ((n : Notice) → Contains taken n → Contains later n) → (Contains letters letter → Contains others letter)
+    → Contains letters letter ⊎ IsIdle mails taken seats (actor_of letter) → Contains others letter ⊎ IsIdle mails later seats (actor_of letter)
+more mails taken later seats letters others letter heard grown (inl here) = inl (grown here)
+more mails taken later seats letters others letter heard grown (inr (inl dead)) = inr (inl (heard (Death (actor_of letter)) dead))
+more mails taken later seats letters others letter heard grown (inr (inr apart)) = inr (inr apart)
+
+pub keeps_on : (mails : List MailValue) (owner later : OwnerValue) (taken more_taken : List Notice) (seats : List (Seat (PutterValue Letter Unit))) (held : List Letter) → GoesOn owner later → Returns owner later → ((n : Notice) → Contains taken n → Contains more_taken n)
+    → IsKeeping mails owner taken seats held → IsKeeping mails later more_taken seats held
+keeps_on mails owner later taken more_taken seats held on back heard keeps = record {
+  known = λ k is. (on.packets k (keeps.known k (back.sent k is))).0;
+  due = λ letter due. more mails taken more_taken seats (posted_in seats ++ held) (posted_in seats ++ held) letter heard (λ here. here) (keeps.due letter (due_before owner later letter on back keeps.known due));
+}
+
+pub same_returns : (owner later : OwnerValue) → later.sent ≡ owner.sent → later.handles ≡ owner.handles → Returns owner later
+same_returns owner later sent handles = record {
+  sent = λ k is. ap (λ (l : List Bool). unwrap_or (slice_get l k) false) (sym sent) ∙ is;
+  ended = λ a is. ap (copies_in a) (sym handles) ∙ is;
+}
+
+sent_before : (flags : List Bool) (k : ℕ) → unwrap_or (slice_get (flags ++ false ∷ []) k) false ≡ true → unwrap_or (slice_get flags k) false ≡ true
+sent_before [] zero is = is
+sent_before [] (suc k) is = is
+sent_before (b ∷ flags) zero is = is
+sent_before (b ∷ flags) (suc k) is = sent_before flags k is
+
+pub submit_returns : (owner : OwnerValue) (a : ℕ) (method : Method) (args : List Arg) → Returns owner (with_call owner a method args)
+submit_returns owner a method args = record {
+  sent = λ k is. sent_before owner.sent k is;
+  ended = λ b is. sym (copies-with_number a b owner.handles) ∙ is;
+}
+
+not_more : (copies : Option ℕ) → option_map (λ n. n + 1) copies ≡ Some 0 → copies ≡ Some 0
+not_more None is = absurd (cc is)
+not_more (Some n) is = let one : n + 1 ≡ 0 = cc is in absurd (omega (arith, one))
+
+pub copy_returns : (owner : OwnerValue) (a : ℕ) → Returns owner (with_handles owner (with_copy a owner.handles))
+copy_returns owner a = record {
+  sent = λ k is. is;
+  ended = λ b is. elim (eqb_tells a b) [
+    | inl t ↦ subst (λ (n : ℕ). copies_in n (with_copy a owner.handles) ≡ Some 0 → copies_in n owner.handles ≡ Some 0) t.1 (λ none. not_more (copies_in a owner.handles) (sym (copies-with_copy a owner.handles) ∙ none)) is
+    | inr f ↦ sym (copies-with_copy-other a b owner.handles f.1) ∙ is
+  ];
+}
+
+not_less : (copies : Option ℕ) → copies ≢ Some 1 → option_map (λ n. n - 1) copies ≡ Some 0 → copies ≡ Some 0
+not_less None one is = absurd (cc is)
+not_less (Some zero) one is = refl
+not_less (Some (suc zero)) one is = absurd (one refl)
+not_less (Some (suc (suc n))) one is = let none : suc (suc n) - 1 ≡ 0 = cc is in absurd (omega (arith, none))
+
+pub release_returns : (owner : OwnerValue) (a : ℕ) → copies_in a owner.handles ≢ Some 1 → Returns owner (with_handles owner (without_copy a owner.handles))
+release_returns owner a one = record {
+  sent = λ k is. is;
+  ended = λ b is. elim (eqb_tells a b) [
+    | inl t ↦ subst (λ (n : ℕ). copies_in n (without_copy a owner.handles) ≡ Some 0 → copies_in n owner.handles ≡ Some 0) t.1 (λ none. not_less (copies_in a owner.handles) one (sym (copies-without_copy a owner.handles) ∙ none)) is
+    | inr f ↦ sym (copies-without_copy-other a b owner.handles f.1) ∙ is
+  ];
+}
+
+-- ---- the opening
+
+one_is_some : (listed : Bool) → if◌then◌else◌ {A = Option ℕ} listed (Some 1) None ≡ Some 0 → ⊥
+one_is_some true is = cc is
+one_is_some false is = cc is
+
+pub keeps_opened : (mails : List MailValue) (id : ℕ) (actors : List ℕ) (seats : List (Seat (PutterValue Letter Unit))) → IsKeeping mails (opened id actors) [] seats []
+keeps_opened mails id actors seats = record { known = λ k is. absurd (cc is); due = due }
+  where
+    due : (letter : Letter) → IsDue (opened id actors) letter → Contains (posted_in seats ++ []) letter ⊎ IsIdle mails [] seats (actor_of letter)
+    due (Call packet) is = absurd (cc is.1)
+    due (Note note) is = absurd (one_is_some _ (sym (copies-opened note.actor actors) ∙ is.1))
+
+-- ---- what is in hand
+
+sent_other : (owner : OwnerValue) (k j : ℕ) → j ≢ k → is_sent (with_sent owner k) j ≡ is_sent owner j
+sent_other owner k j apart = unwrap_or-slice_get (set owner.sent k true) j false ∙ get_or-set_other owner.sent k j true false apart ∙ sym (unwrap_or-slice_get owner.sent j false)
+
+held_more : (mails : List MailValue) (taken : List Notice) (seats : List (Seat (PutterValue Letter Unit))) (held letter : Letter) → Contains (posted_in seats ++ []) letter ⊎ IsIdle mails taken seats (actor_of letter) → Contains (posted_in seats ++ held ∷ []) letter ⊎ IsIdle mails taken seats (actor_of letter)
+held_more mails taken seats held letter is =
+    more mails taken taken seats _ _ letter (λ n has. has) (λ here. elim (Contains-append_cases (posted_in seats) [] letter here) [
+      | inl before ↦ Contains-append_left (posted_in seats) (held ∷ []) letter before
+      | inr none ↦ absurd (let below = none.1 in omega (arith, below))
+    ]) is
+
+pub keeps_taken : (mails : List MailValue) (owner : OwnerValue) (taken : List Notice) (seats : List (Seat (PutterValue Letter Unit))) (k : ℕ) (packet : Packet) → packet_at owner k ≡ Some packet → is_known_at owner k ≡ true
+    → IsKeeping mails owner taken seats [] → IsKeeping mails (with_sent owner k) taken seats (Call packet ∷ [])
+keeps_taken mails owner taken seats k packet at known keeps = record {
+  known = λ j is. elim (eqb_tells j k) [
+    | inl t ↦ subst (λ (n : ℕ). is_known_at owner n ≡ true) (sym t.1) known
+    | inr f ↦ keeps.known j (sym (sent_other owner k j f.1) ∙ is)
+  ];
+  due = due;
+}
+  where
+    due : (letter : Letter) → IsDue (with_sent owner k) letter → Contains (posted_in seats ++ Call packet ∷ []) letter ⊎ IsIdle mails taken seats (actor_of letter)
+    due (Call other) is = elim (eqb_tells other.future k) [
+      | inl t ↦
+          let same : packet ≡ other = cc (sym at ∙ sym (ap (packet_at owner) t.1) ∙ is.0) in
+          inl (subst (λ (p : Packet). Contains (posted_in seats ++ Call packet ∷ []) (Call p)) same (Contains-push (posted_in seats) (Call packet)))
+      | inr f ↦ held_more mails taken seats (Call packet) (Call other) (keeps.due (Call other) (is.0, sym (sent_other owner k other.future f.1) ∙ is.1))
+    ]
+    due (Note note) is = held_more mails taken seats (Call packet) (Note note) (keeps.due (Note note) is)
+
+-- the last handle is let go, and its note is held
+pub keeps_noted : (mails : List MailValue) (owner : OwnerValue) (taken : List Notice) (seats : List (Seat (PutterValue Letter Unit))) (a : ℕ) (note : ReleaseNote) → Note note ≡ last_note owner a
+    → IsKeeping mails owner taken seats [] → IsKeeping mails (with_handles owner (without_copy a owner.handles)) taken seats (Note note ∷ [])
+keeps_noted mails owner taken seats a note last keeps = record { known = keeps.known; due = due }
+  where
+    due : (letter : Letter) → IsDue (with_handles owner (without_copy a owner.handles)) letter → Contains (posted_in seats ++ Note note ∷ []) letter ⊎ IsIdle mails taken seats (actor_of letter)
+    due (Call packet) is = held_more mails taken seats (Note note) (Call packet) (keeps.due (Call packet) is)
+    due (Note other) is = elim (eqb_tells a other.actor) [
+      | inl t ↦
+          let same : Note note ≡ Note other = last ∙ ap (last_note owner) t.1 ∙ sym is.0 in
+          inl (subst (λ (l : Letter). Contains (posted_in seats ++ Note note ∷ []) l) same (Contains-push (posted_in seats) (Note note)))
+      | inr f ↦ held_more mails taken seats (Note note) (Note other) (keeps.due (Note other) (is.0, sym (copies-without_copy-other a other.actor owner.handles f.1) ∙ is.1))
+    ]
+
+-- the letter that is held need not be posted
+pub keeps_dropped : (mails : List MailValue) (owner : OwnerValue) (taken : List Notice) (seats : List (Seat (PutterValue Letter Unit))) (held : Letter) → IsIdle mails taken seats (actor_of held) → IsKeeping mails owner taken seats (held ∷ []) → IsKeeping mails owner taken seats []
+keeps_dropped mails owner taken seats held idle keeps = record { known = keeps.known; due = λ letter due. go letter (keeps.due letter due) }
+  where
+    go : (letter : Letter) → Contains (posted_in seats ++ held ∷ []) letter ⊎ IsIdle mails taken seats (actor_of letter) → Contains (posted_in seats ++ []) letter ⊎ IsIdle mails taken seats (actor_of letter)
+    go letter (inr is) = inr is
+    go letter (inl here) = elim (Contains-push_cases (posted_in seats) held letter here) [
+      | inl before ↦ inl (Contains-append_left (posted_in seats) [] letter before)
+      | inr same ↦ inr (subst (λ (l : Letter). IsIdle mails taken seats (actor_of l)) same idle)
+    ]
+
+-- ---- what is posted
+
+-- at a seat more was put
+put_stays : (seats : List (Seat (PutterValue Letter Unit))) (at : ℕ) (next : Seat (PutterValue Letter Unit)) (letter : Letter) → (Contains (get_or seats at next).pass.put letter → Contains next.pass.put letter) → Contains (posted_in seats) letter → Contains (posted_in (set seats at next)) letter
+put_stays [] at next letter grown here = here
+put_stays (seat ∷ seats) zero next letter grown here = elim (Contains-append_cases seat.pass.put (posted_in seats) letter here) [
+  | inl first ↦ Contains-append_left next.pass.put (posted_in seats) letter (grown first)
+  | inr later ↦ Contains-append_right next.pass.put (posted_in seats) letter later
+]
+put_stays (seat ∷ seats) (suc at) next letter grown here = elim (Contains-append_cases seat.pass.put (posted_in seats) letter here) [
+  | inl first ↦ Contains-append_left seat.pass.put (posted_in (set seats at next)) letter first
+  | inr later ↦ Contains-append_right seat.pass.put (posted_in (set seats at next)) letter (put_stays seats at next letter grown later)
+]
+
+put_here : (seats : List (Seat (PutterValue Letter Unit))) (at : ℕ) (next : Seat (PutterValue Letter Unit)) (letter : Letter) → at < length seats → Contains next.pass.put letter → Contains (posted_in (set seats at next)) letter
+put_here [] at next letter below here = absurd (omega (arith, below))
+put_here (seat ∷ seats) zero next letter below here = Contains-append_left next.pass.put (posted_in seats) letter here
+put_here (seat ∷ seats) (suc at) next letter below here = Contains-append_right seat.pass.put (posted_in (set seats at next)) letter (put_here seats at next letter (omega (arith, below)) here)
+
+all_posted : (mails : List MailValue) (taken : List Notice) (seats later : List (Seat (PutterValue Letter Unit))) (held : Letter) → ((letter : Letter) → Contains (posted_in seats) letter → Contains (posted_in later) letter) → Contains (posted_in later) held → ((a : ℕ) → All (IsApart mails a) seats → All (IsApart mails a) later)
+    → (letter : Letter) → Contains (posted_in seats ++ held ∷ []) letter ⊎ IsIdle mails taken seats (actor_of letter) → Contains (posted_in later ++ []) letter ⊎ IsIdle mails taken later (actor_of letter)
+all_posted mails taken seats later held stays posted apart letter (inl here) = elim (Contains-push_cases (posted_in seats) held letter here) [
+  | inl before ↦ inl (Contains-append_left (posted_in later) [] letter (stays letter before))
+  | inr same ↦ inl (Contains-append_left (posted_in later) [] letter (subst (Contains (posted_in later)) same posted))
+]
+all_posted mails taken seats later held stays posted apart letter (inr (inl dead)) = inr (inl dead)
+all_posted mails taken seats later held stays posted apart letter (inr (inr off)) = inr (inr (apart (actor_of letter) off))
+
+pub keeps_posted : (mails : List MailValue) (owner : OwnerValue) (taken : List Notice) (seats : List (Seat (PutterValue Letter Unit))) (at : ℕ) (seat : Seat (PutterValue Letter Unit)) (pass : PutterValue Letter Unit) (held : Letter) → at < length seats → seat ≡ get_or seats at seat → pass.put ≡ seat.pass.put ++ held ∷ []
+    → IsKeeping mails owner taken seats (held ∷ []) → IsKeeping mails owner taken (set seats at (record { place = seat.place; pass = pass })) []
+keeps_posted mails owner taken seats at seat pass held below here put keeps =
+    let next : Seat (PutterValue Letter Unit) = record { place = seat.place; pass = pass } in
+    let there : get_or seats at next ≡ seat = get_or_default seats at next seat below ∙ sym here in
+    let stays : (letter : Letter) → Contains (posted_in seats) letter → Contains (posted_in (set seats at next)) letter = λ letter. put_stays seats at next letter
+    (λ has. subst (λ (l : List Letter). Contains l letter) (sym put) (Contains-append_left seat.pass.put (held ∷ []) letter (subst (λ (s : Seat (PutterValue Letter Unit)). Contains s.pass.put letter) there has))) in
+    let posted : Contains (posted_in (set seats at next)) held = put_here seats at next held below (subst (λ (l : List Letter). Contains l held) (sym put) (Contains-push seat.pass.put held)) in
+    let apart : (a : ℕ) → All (IsApart mails a) seats → All (IsApart mails a) (set seats at next) = λ a all. All-set (IsApart mails a) seats at next (subst (IsApart mails a) (sym here) (all at seat below)) all in
+    record { known = keeps.known; due = λ letter due. all_posted mails taken seats (set seats at next) held stays posted apart letter (keeps.due letter due) }

@@ -1,0 +1,86 @@
+-- The first seat whose caller's next call came.
+use Rattle.std.proofs.Common.{◌≡◌, ℕ, ◌+◌, ◌<◌, ◌≤◌, List, [], ◌∷◌, ◌++◌, length, Option, Some, None, is_some, Bool, true, false, cond, nat_lt, refl, sym, ◌∙◌, ap, subst, get_or, find, position, arith, All}
+use Rattle.std.specs.List.{position_or_len}
+use Rattle.std.proofs.lemmas.Bool.{lt-ltb, le-ltb}
+use Rattle.std.proofs.lemmas.List.{get_or_default}
+use Rattle.std.proofs.lemmas.List.Elements.{All-cons}
+use Rattle.std.proofs.lemmas.List.Quantifiers.{position-Some}
+use Rattle.std.proofs.lemmas.List.Sums.{position_or_len_is}
+use Rattle.act_types.specs.declared.message.Reply.{Reply}
+use Rattle.act_types.specs.declared.message.Notice.TheVariants.{Answered}
+use Rattle.act_rules.specs.declared.history.RunItem.{RunItem}
+use Rattle.act_rules.proofs.Lists.{slice_get_last}
+use Rattle.act_inbox.specs.Inbox.{next_of}
+use Rattle.act_inbox.proofs.Finding.{find-None}
+use Rattle.act_actor.specs.Value.{ActorSeen}
+use Rattle.act_mailbox.specs.declared.mail.Letter.{Letter}
+use Rattle.act_mailbox.specs.Passes.{TakerValue}
+use Rattle.act_mailbox.specs.Notices.{RepliesValue, ReplyExecValue, NamesPlace}
+use Rattle.act_seats.specs.declared.seat.Seat.{Seat}
+use Rattle.act_serve.specs.Turns.{HasReplied, HasCome, has_next, HasGone}
+use Rattle.act_serve.proofs.Logs.{Tells, same, other, tells}
+use Rattle.act_serve.proofs.Serving.{caller_here}
+
+-- none of the first n items passes
+abbrev pub NoneOf : {X : Type 0} → (X → Bool) → List X → ℕ → Type 0
+NoneOf {X} p xs n = (k : ℕ) (d : X) → k < n → p (get_or xs k d) ≡ false
+
+pub none_more : {X : Type 0} (p : X → Bool) (xs : List X) (n : ℕ) → NoneOf p xs n → ((d : X) → p (get_or xs n d) ≡ false) → NoneOf p xs (n + 1)
+none_more {X} p xs n before here k d lt = go (tells k n)
+  where
+    go : Tells k n → p (get_or xs k d) ≡ false
+    go (same b e) = ap (λ i. p (get_or xs i d)) e ∙ here d
+    go (other b ne) = before k d (omega (arith, lt, ne))
+
+pub position_here : {X : Type 0} (p : X → Bool) (xs : List X) (i : ℕ) (d : X) → i < length xs → p (get_or xs i d) ≡ true → NoneOf p xs i → Some i ≡ position p xs
+position_here p xs i d lt passes before =
+    let at : position_or_len p xs ≡ i = position_or_len_is p xs i d (omega (arith, lt)) (λ k below. before k d below) (λ _. passes) in
+    sym (ap (λ n. cond (nat_lt n (length xs)) (Some n) None) at ∙ ap (λ b. cond b (Some i) None) (lt-ltb i (length xs) lt))
+
+pub position_nowhere : {X : Type 0} (p : X → Bool) (xs : List X) (n : ℕ) → length xs ≤ n → NoneOf p xs n → None ≡ position p xs
+position_nowhere p [] n le none = refl
+position_nowhere p (x ∷ xs) n le none =
+    let long : ℕ = length (x ∷ xs) in
+    let at : position_or_len p (x ∷ xs) ≡ long = position_or_len_is p (x ∷ xs) long x (omega arith) (λ k lt. none k x (omega (arith, lt, le))) (λ lt. absurd (omega (arith, lt))) in
+    sym (ap (λ n. cond (nat_lt n long) (Some n) None) at ∙ ap (λ b. cond b (Some long) None) (le-ltb long long (omega arith)))
+
+-- whether the call of a seat's caller came, where the caller is known
+pub next_is : (lines : List RepliesValue) (actor : ActorSeen) (seats : List (Seat ReplyExecValue)) (k : ℕ) (d seat : Seat ReplyExecValue) (line : RepliesValue) (caller : ℕ) (told b : Bool)
+    → k < length seats → seat ≡ get_or seats k seat → seat.place < length lines → line ≡ get_or lines seat.place line → caller ≡ line.caller → told ≡ is_some (next_of actor.inbox caller) → told ≡ b
+    → has_next lines actor (get_or seats k d) ≡ b
+next_is lines actor seats k d seat line caller told b lt here below is named came so =
+    ap (has_next lines actor) (get_or_default seats k d seat lt ∙ sym here)
+    ∙ ap (λ c. is_some (next_of actor.inbox c)) (sym (named ∙ caller_here lines seat.place line below is))
+    ∙ sym came
+    ∙ so
+
+not_first : {X : Type 0} (b : Bool) (x : X) (rest : Option X) → cond b (Some x) rest ≡ None → (b ≡ false) × (rest ≡ None)
+not_first true x rest e = absurd (cc)
+not_first false x rest e = (refl, e)
+
+none_found : {X : Type 0} (p : X → Bool) (xs : List X) → find p xs ≡ None → All (λ x. p x ≡ false) xs
+none_found p [] e = λ k d lt. absurd (omega (arith, lt))
+none_found p (x ∷ xs) e = let later = not_first (p x) x (find p xs) e in All-cons (λ y. p y ≡ false) x xs later.0 (none_found p xs later.1)
+
+-- no seat has a next call
+pub nowhere : {X : Type 0} (p : X → Bool) (xs ys : List X) (found : Option ℕ) → found ≡ position p xs → xs ≡ ys → found ≡ None → All (λ x. p x ≡ false) ys
+nowhere p xs ys found is alike none = subst (λ l. All (λ x. p x ≡ false) l) alike (none_found p xs (find-None p xs (sym is ∙ none)))
+
+-- the seat that was found has one
+pub somewhere : {X : Type 0} (p : X → Bool) (xs ys : List X) (found : Option ℕ) (i : ℕ) (d : X) → found ≡ position p xs → xs ≡ ys → found ≡ Some i → p (get_or ys i d) ≡ true
+somewhere p xs ys found i d is alike some = subst (λ l. p (get_or l i d) ≡ true) alike (position-Some p xs i d (sym is ∙ some)).1
+
+-- the reply names the place where its call ran
+pub replied_place : (caller : ℕ) (reply : Reply) (before after : ActorSeen) (log : List RunItem) → HasReplied caller reply before after → log ≡ after.log → NamesPlace log (Answered reply)
+replied_place caller reply before after log ran shown =
+    subst (λ (l : List RunItem). NamesPlace l (Answered reply)) (sym (shown ∙ ran.log))
+    (subst (λ (r : Reply). NamesPlace (before.log ++ ran.item ∷ []) (Answered r)) (sym ran.reply_is) (ran.item, slice_get_last before.log ran.item, refl, refl))
+
+-- no letter came, and no call ran
+pub idle_turn : (lines : List RepliesValue) (seats : List (Seat ReplyExecValue)) (old new : TakerValue Letter (Unit {0})) (before between after : ActorSeen) (came ran : Bool)
+    → new ≡ record old { taken = new.taken } → HasCome came old.taken new.taken before between → HasGone ran lines seats between after
+    → came ≡ false → ran ≡ false → (new ≡ old) × HasGone false lines seats before after
+idle_turn lines seats old new before between after came ran letters arrived gone no_letter no_call =
+    let here : HasCome false old.taken new.taken before between = subst (λ b. HasCome b old.taken new.taken before between) no_letter arrived in
+    let there : HasGone false lines seats between after = subst (λ b. HasGone b lines seats between after) no_call gone in
+    (letters ∙ ap (λ (l : List Letter). record old { taken = l }) here.0, (there.0 ∙ here.1, subst (λ (s : ActorSeen). All (λ seat. has_next lines s seat ≡ false) seats) here.1 there.1))

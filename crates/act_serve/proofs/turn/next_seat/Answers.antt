@@ -1,0 +1,23 @@
+use Rattle.std.proofs.Common.{rules}
+use Rattle.act_actor.specs.Seen.{live_seen}
+use Rattle.act_serve.specs.Turns.{has_next}
+use Rattle.act_serve.proofs.Nexts.{none_more, position_here, position_nowhere, next_is}
+use Rattle.act_serve.proofs.turn.next_seat.Goals as goal
+
+pub returns-then-has_next : goal.returns-then-has_next
+returns-then-has_next g c =
+    let actor = live_seen g.K.Actor.state c.args.live.now in
+    let seat = c.index-notices-at.result in
+    position_here (has_next c.args.replies.now actor) c.args.notices.now c.loop-at.at seat c.loop-at-test.true
+    (next_is c.args.replies.now actor c.args.notices.now c.loop-at.at seat seat c.index-replies-seat.result c.caller.result c.has_next.result _
+    c.loop-at-test.true c.index-notices-at.is (search rules) c.index-replies-seat.is c.caller.ensures c.has_next.ensures c.if-has_next.true) c.loop-at.invariant
+
+pub loop-at-preserved : goal.loop-at-preserved
+loop-at-preserved g c =
+    let actor = live_seen g.K.Actor.state c.args.live.now in
+    none_more (has_next c.args.replies.now actor) c.args.notices.now c.loop-at.at c.loop-at.invariant
+    (λ d. next_is c.args.replies.now actor c.args.notices.now c.loop-at.at d c.index-notices-at.result c.index-replies-seat.result c.caller.result c.has_next.result _
+    c.loop-at-test.true c.index-notices-at.is (search rules) c.index-replies-seat.is c.caller.ensures c.has_next.ensures c.if-has_next.false)
+
+pub returns : goal.returns
+returns g c = position_nowhere (has_next c.args.replies.now (live_seen g.K.Actor.state c.args.live.now)) c.args.notices.now c.loop-at.at c.loop-at-test.false c.loop-at.invariant
