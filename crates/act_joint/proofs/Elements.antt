@@ -1,0 +1,147 @@
+-- Elements of lists by their places, and look-ups.
+use Rattle.std.proofs.Common.{◌≡◌, ℕ, zero, suc, ◌+◌, Bool, true, false, cond, List, [], ◌∷◌, ◌++◌, length, Some, None, refl, ap, sym, ◌∙◌, subst, arith, inl, inr, ◌<◌, length-append}
+use Rattle.std.specs.Prelude.{◌==◌, ◌||◌, map, filter, find, slice_get, option_map, All, Contains, ◌⊎◌}
+use Rattle.std.specs.List.{AllByRecursion, list_any, range_with_len, enumerate_from}
+use Rattle.std.proofs.lemmas.Bool.{eq-eqb, eqb-true}
+use Rattle.std.proofs.lemmas.Option.{slice_get_read, slice_get-get_or, slice_get_within, get_or_from_slice_get}
+use Rattle.std.proofs.lemmas.List.{append-nil}
+use Rattle.std.proofs.lemmas.List.Elements.{All-contains}
+use Rattle.act_rules.specs.Consistent.{IsFront}
+use Rattle.act_rules.proofs.Lists.{slice_get-filter, slice_get_front}
+use Rattle.act_rules.specs.History.{contains}
+
+-- x stands in xs
+pub record IsIn {A : Type 0} (xs : List A) (x : A) : Type 0 where
+  pub place : ℕ
+  pub at : slice_get xs place ≡ Some x
+
+pub in_from_contains : {A : Type 0} (xs : List A) (x : A) → Contains xs x → IsIn xs x
+in_from_contains xs x c = record { place = c.0; at = slice_get_read xs (length xs) c.0 x refl c.1 (sym c.2) }
+
+pub contains_from_in : {A : Type 0} (xs : List A) (x : A) → IsIn xs x → Contains xs x
+contains_from_in xs x i = (i.place, slice_get_within xs i.place x i.at, get_or_from_slice_get xs i.place x x i.at)
+
+-- what holds of all holds of one that stands there
+pub all_in : {A : Type 0} (P : A → Type 0) (xs : List A) (x : A) → All P xs → IsIn xs x → P x
+all_in P xs x all i = All-contains P xs x all (contains_from_in xs x i)
+
+pub in_filter : {A : Type 0} (p : A → Bool) (xs : List A) (x : A) → IsIn xs x → p x ≡ true → IsIn (filter p xs) x
+in_filter p xs x i passes = record { place = _; at = slice_get-filter p xs i.place x i.at passes }
+
+-- what stands in a front stands in the whole
+pub in_front : {A : Type 0} (xs ys : List A) (x : A) → IsFront xs ys → IsIn xs x → IsIn ys x
+in_front xs ys x f i = record { place = i.place; at = slice_get_front xs ys i.place x f i.at }
+
+pub all_from_places : {A : Type 0} (P : A → Type 0) (xs : List A) → ((k : ℕ) (x : A) → slice_get xs k ≡ Some x → P x) → AllByRecursion P xs
+all_from_places P [] f = tt
+all_from_places P (x ∷ xs) f = (f 0 x refl, all_from_places P xs (λ k y e. f (suc k) y e))
+
+pub all_by_places : {A : Type 0} (P : A → Type 0) (xs : List A) → ((k : ℕ) (x : A) → slice_get xs k ≡ Some x → P x) → All P xs
+all_by_places P xs f k d below = f k _ (slice_get-get_or xs k d below)
+
+-- a list whose elements stand at the same places of another is its front
+pub front_by_places : {A : Type 0} (xs ys : List A) → ((k : ℕ) (x : A) → slice_get xs k ≡ Some x → slice_get ys k ≡ Some x) → IsFront xs ys
+front_by_places [] ys f = (ys, refl)
+front_by_places (x ∷ xs) [] f = let bad : None ≡ Some x = f 0 x refl in cc
+front_by_places {A = A} (x ∷ xs) (y ∷ ys) f =
+    let is : Some y ≡ Some x = f 0 x refl in
+    let same : x ≡ y = cc in
+    let rest : IsFront xs ys = front_by_places xs ys (λ k z e. f (suc k) z e) in
+    (rest.0, ap (λ (z : A). z ∷ xs ++ rest.0) same ∙ ap (λ (l : List A). y ∷ l) rest.1)
+
+pub range_at : (from n k m : ℕ) → slice_get (range_with_len from n) k ≡ Some m → m ≡ from + k
+range_at from zero k m e = cc
+range_at from (suc n) zero m e = let same : from ≡ m = cc in omega arith
+range_at from (suc n) (suc k) m e = let more : m ≡ (from + 1) + k = range_at (from + 1) n k m e in omega arith
+
+-- ---- look-ups
+
+pub record IsFound {A : Type 0} (p : A → Bool) (xs : List A) (x : A) : Type 0 where
+  pub inside : IsIn xs x
+  pub passes : p x ≡ true
+
+pub found_is : {A : Type 0} (p : A → Bool) (xs : List A) (x : A) → find p xs ≡ Some x → IsFound p xs x
+found_is p [] x e = cc
+found_is {A = A} p (y ∷ xs) x e = go (p y) refl (found_is p xs x) e
+  where
+    later : IsFound p xs x → IsFound p (y ∷ xs) x
+    later r = record { inside = record { place = suc r.inside.place; at = r.inside.at }; passes = r.passes }
+
+    go : (b : Bool) → p y ≡ b → (find p xs ≡ Some x → IsFound p xs x) → cond b (Some y) (find p xs) ≡ Some x → IsFound p (y ∷ xs) x
+    go true is rest e = let same : y ≡ x = cc in record { inside = record { place = 0; at = e }; passes = subst (λ (z : A). p z ≡ true) same is }
+    go false is rest e = later (rest e)
+
+pub record Finds {A : Type 0} (p : A → Bool) (xs : List A) : Type 0 where
+  pub one : A
+  pub is : find p xs ≡ Some one
+
+-- where one passes, one is found
+pub finds : {A : Type 0} (p : A → Bool) (xs : List A) (k : ℕ) (x : A) → slice_get xs k ≡ Some x → p x ≡ true → Finds p xs
+finds p [] k x e passes = cc
+finds {A = A} p (y ∷ xs) k x e passes = go (p y) refl k (λ j f. finds p xs j x f passes) e
+  where
+    go : (b : Bool) → p y ≡ b → (k : ℕ) → ((j : ℕ) → slice_get xs j ≡ Some x → Finds p xs) → slice_get (y ∷ xs) k ≡ Some x → Finds p (y ∷ xs)
+    go true is k rest e = record { one = y; is = ap (λ (b : Bool). cond b (Some y) (find p xs)) is }
+    go false is zero rest e = let same : y ≡ x = cc in let bad : p y ≡ true = ap p same ∙ passes in cc
+    go false is (suc k) rest e = let r = rest k e in record { one = r.one; is = ap (λ (b : Bool). cond b (Some y) (find p xs)) is ∙ r.is }
+
+pub find-map : {A B : Type 0} (p : B → Bool) (f : A → B) (xs : List A) → find p (map f xs) ≡ option_map f (find (λ x. p (f x)) xs)
+find-map p f [] = refl
+find-map {A = A} {B = B} p f (x ∷ xs) = go (p (f x)) (find-map p f xs)
+  where
+    go : (b : Bool) → find p (map f xs) ≡ option_map f (find (λ (y : A). p (f y)) xs) → cond b (Some (f x)) (find p (map f xs)) ≡ option_map f (cond b (Some x) (find (λ (y : A). p (f y)) xs))
+    go true e = refl
+    go false e = e
+
+-- an element that passes in a list, from `list_any`
+pub any_is : {A : Type 0} (p : A → Bool) (xs : List A) → list_any p xs ≡ true → (x : A) × IsFound p xs x
+any_is p [] e = cc
+any_is {A = A} p (y ∷ xs) e = go (p y) refl (any_is p xs) e
+  where
+    go : (b : Bool) → p y ≡ b → (list_any p xs ≡ true → (x : A) × IsFound p xs x) → (b || list_any p xs) ≡ true → (x : A) × IsFound p (y ∷ xs) x
+    go true is rest e = (y, record { inside = record { place = 0; at = refl }; passes = is })
+    go false is rest e = let r = rest e in (r.0, record { inside = record { place = suc r.1.inside.place; at = r.1.inside.at }; passes = r.1.passes })
+
+pub any_from : {A : Type 0} (p : A → Bool) (xs : List A) (k : ℕ) (x : A) → slice_get xs k ≡ Some x → p x ≡ true → list_any p xs ≡ true
+any_from p [] k x e passes = cc
+any_from {A = A} p (y ∷ xs) zero x e passes = let same : y ≡ x = cc in let is : p y ≡ true = ap p same ∙ passes in ap (λ (b : Bool). b || list_any p xs) is
+any_from {A = A} p (y ∷ xs) (suc k) x e passes = go (p y) (any_from p xs k x e passes)
+  where
+    go : (b : Bool) → list_any p xs ≡ true → (b || list_any p xs) ≡ true
+    go true e = refl
+    go false e = e
+
+-- a number of a list, and `contains`
+pub contains_is : (n : ℕ) (ns : List ℕ) → contains n ns ≡ true → IsIn ns n
+contains_is n ns e = let r = any_is (λ (m : ℕ). m == n) ns e in subst (IsIn ns) (eqb-true r.0 n r.1.passes) r.1.inside
+
+pub is_contained : (n : ℕ) (ns : List ℕ) → IsIn ns n → contains n ns ≡ true
+is_contained n ns i = any_from (λ (m : ℕ). m == n) ns i.place n i.at (eq-eqb n n refl)
+
+pub empty_by_places : {A : Type 0} (xs : List A) → ((k : ℕ) (x : A) → slice_get xs k ≡ Some x → ⊥) → xs ≡ []
+empty_by_places [] f = refl
+empty_by_places (x ∷ xs) f = absurd (f 0 x refl)
+
+-- a front that is as long is the whole
+pub whole_by_length : {A : Type 0} (xs ys : List A) → IsFront xs ys → length xs ≡ length ys → xs ≡ ys
+whole_by_length {A = A} xs ys f same = go f.0 f.1
+  where
+    go : (rest : List A) → xs ++ rest ≡ ys → xs ≡ ys
+    go [] e = sym (append-nil xs) ∙ e
+    go (r ∷ rest) e = let long : length (xs ++ r ∷ rest) ≡ length ys = ap length e in absurd (omega (arith, length-append xs (r ∷ rest)))
+
+pub enumerated : {A : Type 0} (n : ℕ) (xs : List A) → map (λ (pair : ℕ × A). pair.1) (enumerate_from n xs) ≡ xs
+enumerated n [] = refl
+enumerated {A = A} n (x ∷ xs) = ap (λ (l : List A). x ∷ l) (enumerated (n + 1) xs)
+
+pub in_none : {A : Type 0} (x : A) → IsIn [] x → ⊥
+in_none x i = let bad : None ≡ Some x = i.at in cc
+
+-- the first of a list, or one behind it
+pub in_first : {A : Type 0} (y x : A) (ys : List A) (k : ℕ) → slice_get (y ∷ ys) k ≡ Some x → (y ≡ x) ⊎ IsIn ys x
+in_first y x ys zero e = inl (cc)
+in_first y x ys (suc k) e = inr (record { place = k; at = e })
+
+pub some_long : {A : Type 0} (xs : List A) (x : A) → IsIn xs x → 0 < length xs
+some_long [] x i = absurd (in_none x i)
+some_long (y ∷ xs) x i = omega arith

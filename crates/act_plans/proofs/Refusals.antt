@@ -1,0 +1,188 @@
+-- What a draft knows of a step, and the first step of a plan that is refused.
+use Rattle.std.proofs.Common.{◌≡◌, ◌≢◌, ℕ, ◌+◌, ◌-◌, ◌≤◌, ◌<◌, ◌==◌, Bool, true, false, not, if◌then◌else◌, nat_lt, nat_le, List, [], ◌∷◌, ◌++◌, length, filter, map, drop, get_or, Option, Some, None, is_some, Result, Ok, Err, refl, sym, ◌∙◌, ap, subst, arith, rules, append-nil, length-append, inl, inr}
+use Rattle.std.specs.Prelude.{option_map, OnOk}
+use Rattle.std.specs.Result.{is_ok, is_err}
+use Rattle.std.specs.List.{list_all, list_any, fold}
+use Rattle.std.proofs.lemmas.Bool.{ne_eqb, le-leb}
+use Rattle.std.proofs.lemmas.Bool.Decides.{eqb_tells}
+use Rattle.std.proofs.lemmas.List.{drop_more}
+use Rattle.std.proofs.lemmas.List.Elements.{filter-append}
+use Rattle.act_types.specs.declared.call.Method.{Method}
+use Rattle.act_types.specs.declared.call.Arg.{Arg}
+use Rattle.act_rules.specs.declared.outcome.HandleRefusal.{HandleRefusal}
+use Rattle.act_rules.specs.declared.script.Step.{Step}
+use Rattle.act_rules.specs.declared.script.Step.TheVariants.{Submit, Copy, Release}
+use Rattle.act_rules.specs.Plans.{Progress, nothing_done, holds, occurrences, stepped, is_refused, first_bad, first_bad_from}
+use Rattle.act_rules.specs.Submissions.{needs, copies_held, copy_refusal, handle_refusal, submit_refusal, is_earlier}
+use Rattle.act_handles.specs.declared.handles.Handle.{Handle}
+use Rattle.act_handles.specs.Handles.{is_of, changed, opened, copies_in, given_of_all, with_copy, with_number, without_copy, number_refusal, or_else, copied, numbered, released}
+use Rattle.act_handles.proofs.Lookups.{copies-opened, given_of_all-opened, copies-with_copy, copies-with_copy-other, copies-without_copy, copies-without_copy-other, copies-with_number}
+use Rattle.act_plans.specs.declared.draft.Draft.{Draft}
+use Rattle.act_plans.specs.Drafts.{IsAfter, GoesOn}
+
+-- ---- what was not refused
+
+needs_both : {R : Type 0} (b : Bool) (r : R) (next : Option R) → needs b r next ≡ None → (b ≡ true) × (next ≡ None)
+needs_both true r next is = (refl, is)
+needs_both false r next is = absurd (cc is)
+
+-- what an answer by its refusal says
+accepted_is : {X : Type 0} (refusal : Option HandleRefusal) (value : X) → is_ok (or_else refusal value) ≡ not (is_some refusal)
+accepted_is None value = refl
+accepted_is (Some refusal) value = refl
+
+ok_changes : {X : Type 0} {P : Type 0} (answer : Result X HandleRefusal) → OnOk answer P → is_ok answer ≡ true → P
+ok_changes (Ok value) changes ok = changes
+ok_changes (Err refusal) changes ok = absurd (cc ok)
+
+not_err : {X : Type 0} (answer : Result X HandleRefusal) → is_err answer ≡ false → is_ok answer ≡ true
+not_err (Ok value) is = refl
+not_err (Err refusal) is = absurd (cc is)
+
+none_of : {X : Type 0} (o : Option X) → true ≡ not (is_some o) → o ≡ None
+none_of None is = refl
+none_of (Some x) is = absurd (cc is)
+
+submit_fine : (copies : Option ℕ) (count given : ℕ) (args : List Arg) → nat_le (length args) 4 ≡ true → list_all (is_earlier count) args ≡ true → given ≡ count
+    → is_some copies ≡ true → nat_lt 0 (copies_held copies) ≡ true → nat_lt given 65536 ≡ true → submit_refusal copies count args ≡ None
+submit_fine copies count given args few earlier same one two three =
+    let below : nat_lt count 65536 ≡ true = ap (λ n. nat_lt n 65536) (sym same) ∙ three in
+    rw (one, two, few, earlier, below) refl
+
+-- ---- numbers given
+
+chosen_given : (b : Bool) (one other : Handle) → one.given ≡ other.given → (if b then one else other).given ≡ other.given
+chosen_given true one other same = same
+chosen_given false one other same = refl
+
+given_from : (a : ℕ) (change : Handle → Handle) → ((handle : Handle) → (change handle).given ≡ handle.given) → (n : ℕ) (handles : List Handle)
+    → fold (λ sum (handle : Handle). sum + handle.given) n (changed a change handles) ≡ fold (λ sum (handle : Handle). sum + handle.given) n handles
+given_from a change same n [] = refl
+given_from a change same n (handle ∷ handles) =
+    ap (λ given. fold (λ sum (handle : Handle). sum + handle.given) (n + given) (changed a change handles)) (chosen_given (is_of a handle) (change handle) handle (same handle))
+    ∙ given_from a change same (n + handle.given) handles
+
+-- ---- a submission
+
+pub submit_on : (a : ℕ) (method : Method) (args : List Arg) (old new : Draft) (answer : Result ℕ HandleRefusal) → length args ≤ 4 → list_all (is_earlier old.count) args ≡ true → answer ≡ numbered a old.handles → is_err answer ≡ false
+    → OnOk answer (new.handles ≡ with_number a old.handles) → OnOk answer (given_of_all new.handles ≡ given_of_all old.handles + 1) → new.count ≡ old.count + 1 → GoesOn true (Submit a method args) old new
+submit_on a method args old new answer few earlier is ok changes counts count =
+    let accepted = not_err answer ok in
+    let fine : number_refusal old.handles a ≡ None = none_of _ (sym accepted ∙ ap is_ok is ∙ accepted_is (number_refusal old.handles a) _) in
+    let handles = ok_changes answer changes accepted in
+    let given = ok_changes answer counts accepted in
+    let one = needs_both _ _ _ fine in
+    let two = needs_both _ _ _ one.1 in
+    let three = needs_both _ _ _ two.1 in
+    record {
+      told = λ actors p is.
+          let none : submit_refusal (copies_in a old.handles) old.count args ≡ None = submit_fine (copies_in a old.handles) old.count (given_of_all old.handles) args (le-leb (length args) 4 few) earlier (is.given ∙ sym is.count) one.0 two.0 three.0 in
+          let same : submit_refusal (holds a actors p) (length p.submitted) args ≡ None = ap (λ copies. submit_refusal copies (length p.submitted) args) (sym (is.copies a)) ∙ ap (λ n. submit_refusal (copies_in a old.handles) n args) (sym is.count) ∙ none in
+          sym (ap (λ refusal. not (is_some refusal)) same);
+      after = λ actors p is accepted.
+          let more = length-append p.submitted (record { actor = a; method = method; args = args } ∷ []) in record {
+            count = omega (arith, more, count, is.count);
+            given = omega (arith, more, given, is.given);
+            copies = λ b. ap (copies_in b) handles ∙ copies-with_number a b old.handles ∙ is.copies b;
+          };
+    }
+
+-- ---- a copy and a release
+
+positive : (n : ℕ) → nat_lt 0 n ≡ true → n ≢ 0
+positive n is none = absurd (cc (sym is ∙ ap (nat_lt 0) none))
+
+copy_holds : (copies : Option ℕ) → copy_refusal copies ≡ None → copies_held copies ≢ 0
+copy_holds copies is = positive (copies_held copies) (needs_both _ _ _ (needs_both _ _ _ is).1).0
+
+occurs_more : (a : ℕ) (xs : List ℕ) → occurrences a (xs ++ a ∷ []) ≡ occurrences a xs + 1
+occurs_more a xs =
+    ap (λ (l : List ℕ). length l) (filter-append (λ b. b == a) xs (a ∷ []))
+    ∙ length-append (filter (λ b. b == a) xs) (filter (λ b. b == a) (a ∷ []))
+    ∙ ap (λ (t : Bool). occurrences a xs + length (if t then a ∷ [] else [])) (let same : (a == a) ≡ true = search rules in same)
+
+occurs_other : (a b : ℕ) (xs : List ℕ) → a ≢ b → occurrences b (xs ++ a ∷ []) ≡ occurrences b xs
+occurs_other a b xs apart =
+    ap (λ (l : List ℕ). length l) (filter-append (λ c. c == b) xs (a ∷ []) ∙ ap (λ (t : Bool). filter (λ c. c == b) xs ++ (if t then a ∷ [] else [])) (ne_eqb a b apart) ∙ append-nil (filter (λ c. c == b) xs))
+
+copy_count : (listed : Bool) (c r c2 : ℕ) → c2 ≡ c + 1 → copies_held (if listed then Some ((1 + c) - r) else None) ≢ 0 → option_map (λ n. n + 1) (if listed then Some ((1 + c) - r) else None) ≡ (if listed then Some ((1 + c2) - r) else None)
+copy_count true c r c2 more some = ap Some (omega (arith, more, some))
+copy_count false c r c2 more some = refl
+
+release_count : (listed : Bool) (c r r2 : ℕ) → r2 ≡ r + 1 → option_map (λ n. n - 1) (if listed then Some ((1 + c) - r) else None) ≡ (if listed then Some ((1 + c) - r2) else None)
+release_count true c r r2 more = ap Some (omega (arith, more))
+release_count false c r r2 more = refl
+
+copy_copies : (handles : List Handle) (a b : ℕ) (actors : List ℕ) (p : Progress) → ((c : ℕ) → copies_in c handles ≡ holds c actors p) → copy_refusal (holds a actors p) ≡ None → copies_in b (with_copy a handles) ≡ holds b actors (stepped p (Copy a))
+copy_copies handles a b actors p same fine =
+    elim (eqb_tells a b) [
+      | inl t ↦ subst (λ (n : ℕ). copies_in n (with_copy a handles) ≡ holds n actors (stepped p (Copy a))) t.1
+          (copies-with_copy a handles ∙ ap (option_map (λ n. n + 1)) (same a) ∙ copy_count (list_any (λ c. c == a) actors) (occurrences a p.copied) (occurrences a p.released) (occurrences a (p.copied ++ a ∷ [])) (occurs_more a p.copied) (copy_holds (holds a actors p) fine))
+      | inr f ↦ copies-with_copy-other a b handles f.1 ∙ same b ∙ ap (λ (n : ℕ). if list_any (λ c. c == b) actors then Some ((1 + n) - occurrences b p.released) else None) (sym (occurs_other a b p.copied f.1))
+    ]
+
+release_copies : (handles : List Handle) (a b : ℕ) (actors : List ℕ) (p : Progress) → ((c : ℕ) → copies_in c handles ≡ holds c actors p) → copies_in b (without_copy a handles) ≡ holds b actors (stepped p (Release a))
+release_copies handles a b actors p same =
+    elim (eqb_tells a b) [
+      | inl t ↦ subst (λ (n : ℕ). copies_in n (without_copy a handles) ≡ holds n actors (stepped p (Release a))) t.1
+          (copies-without_copy a handles ∙ ap (option_map (λ n. n - 1)) (same a) ∙ release_count (list_any (λ c. c == a) actors) (occurrences a p.copied) (occurrences a p.released) (occurrences a (p.released ++ a ∷ [])) (occurs_more a p.released))
+      | inr f ↦ copies-without_copy-other a b handles f.1 ∙ same b ∙ ap (λ (n : ℕ). if list_any (λ c. c == b) actors then Some ((1 + occurrences b p.copied) - n) else None) (sym (occurs_other a b p.released f.1))
+    ]
+
+pub copy_on : (a : ℕ) (old new : Draft) (answer : Result ℕ HandleRefusal) → answer ≡ copied a old.handles → OnOk answer (new.handles ≡ with_copy a old.handles) → new.count ≡ old.count → GoesOn (is_ok answer) (Copy a) old new
+copy_on a old new answer is changes count =
+    let says : is_ok answer ≡ not (is_some (copy_refusal (copies_in a old.handles))) = ap is_ok is ∙ accepted_is (copy_refusal (copies_in a old.handles)) (copies_held (copies_in a old.handles) + 1) in
+    record {
+      told = λ actors p after. says ∙ ap (λ copies. not (is_some (copy_refusal copies))) (after.copies a);
+      after = λ actors p after accepted.
+          let handles = ok_changes answer changes accepted in
+          let fine : copy_refusal (holds a actors p) ≡ None = none_of _ (sym accepted ∙ says ∙ ap (λ copies. not (is_some (copy_refusal copies))) (after.copies a)) in record {
+            count = count ∙ after.count;
+            given = ap given_of_all handles ∙ given_from a (λ (handle : Handle). record handle { copies = handle.copies + 1 }) (λ _. refl) 0 old.handles ∙ after.given;
+            copies = λ b. ap (copies_in b) handles ∙ copy_copies old.handles a b actors p after.copies fine;
+          };
+    }
+
+pub release_on : (a : ℕ) (old new : Draft) (answer : Result (Option ℕ) HandleRefusal) → answer ≡ released a old.handles → OnOk answer (new.handles ≡ without_copy a old.handles) → new.count ≡ old.count → GoesOn (is_ok answer) (Release a) old new
+release_on a old new answer is changes count = record {
+  told = λ actors p after. ap is_ok is ∙ accepted_is (handle_refusal (copies_in a old.handles)) _ ∙ ap (λ copies. not (is_some (handle_refusal copies))) (after.copies a);
+  after = λ actors p after accepted.
+      let handles = ok_changes answer changes accepted in record {
+        count = count ∙ after.count;
+        given = ap given_of_all handles ∙ given_from a (λ (handle : Handle). record handle { copies = handle.copies - 1 }) (λ _. refl) 0 old.handles ∙ after.given;
+        copies = λ b. ap (copies_in b) handles ∙ release_copies old.handles a b actors p after.copies;
+      };
+}
+
+-- ---- the first step that is refused
+
+-- what is known after the first steps of a plan: they were accepted, and the first refused one stands among the rest
+abbrev pub HasPassed : List ℕ → List Step → ℕ → Draft → Type 0
+HasPassed actors plan place draft = (p : Progress) × IsAfter actors p draft × (first_bad actors plan ≡ first_bad_from place actors p (drop place plan))
+
+pub begins : (actors : List ℕ) (plan : List Step) (draft : Draft) → draft.handles ≡ map opened actors → draft.count ≡ 0 → HasPassed actors plan 0 draft
+begins actors plan draft handles count = (
+  nothing_done,
+  record {
+    count = count;
+    given = ap given_of_all handles ∙ given_of_all-opened actors;
+    copies = λ a. ap (copies_in a) handles ∙ copies-opened a actors;
+  },
+  refl,
+)
+
+at_step : (actors : List ℕ) (plan : List Step) (place : ℕ) (step : Step) (p : Progress) → place < length plan → step ≡ get_or plan place step → first_bad_from place actors p (drop place plan) ≡ first_bad_from place actors p (step ∷ drop (place + 1) plan)
+at_step actors plan place step p below is = ap (first_bad_from place actors p) (drop_more plan place step below ∙ ap (λ s. s ∷ drop (place + 1) plan) (sym is))
+
+accepted_as : (b accepted : Bool) → accepted ≡ not b → accepted ≡ true → b ≡ false
+accepted_as true accepted told is = absurd (cc (told, is))
+accepted_as false accepted told is = refl
+
+pub passes : (actors : List ℕ) (plan : List Step) (place : ℕ) (step : Step) (accepted : Bool) (old new : Draft) → place < length plan → step ≡ get_or plan place step → HasPassed actors plan place old → GoesOn accepted step old new → accepted ≡ true → HasPassed actors plan (place + 1) new
+passes actors plan place step accepted old new below is passed on ok =
+    let p = passed.0 in
+    let same : is_refused actors p step ≡ false = accepted_as _ accepted (on.told actors p passed.1) ok in (
+      stepped p step,
+      on.after actors p passed.1 ok,
+      passed.2 ∙ at_step actors plan place step p below is ∙ ap (λ (b : Bool). if b then Some place else first_bad_from (place + 1) actors (stepped p step) (drop (place + 1) plan)) same,
+    )

@@ -1,0 +1,15 @@
+//! A caller's part in a run.
+
+use act_rules::Step;
+use act_types::{ActorId, CallerId};
+
+/// What a caller's thread does, in order.
+pub type Plan = Vec<Step>;
+
+/// A caller, the actors whose casts name it, and its plan.
+#[derive(Drop)]
+pub struct Part {
+    pub caller: CallerId,
+    pub actors: Vec<ActorId>,
+    pub plan: Plan,
+}

@@ -1,0 +1,134 @@
+//! Plans that fit and others that don't, steps that would be refused, and casts and plans that are
+//! given out of order.
+
+use crate::{Plan, bad_step, first_bad_part, plans_fit, prepare};
+use act_actor::{Cast, cast_fits};
+use act_kinds::Counter;
+use act_rules::Step;
+use act_types::{ActorId, Arg, CallerId, FutureId, ListOf, Method, NoMemory};
+use std::alloc::Global;
+use std::test::Fail;
+
+/// An actor and its callers.
+type Role = (ActorId, [CallerId; 2]);
+
+fn casts_of(alloc: Global, roles: &[Role]) -> Result<Vec<Cast<Counter>>, NoMemory> {
+    let mut casts = Vec::new(alloc);
+    for (actor, names) in roles {
+        let mut callers = ListOf::new(alloc);
+        for caller in names {
+            callers.push(*caller)?;
+        }
+        casts.push(Cast {
+            actor: *actor,
+            callers,
+            kind: Counter::open(),
+        })?;
+    }
+    Ok(casts)
+}
+
+/// The step `get` with a future among its arguments.
+fn get(alloc: Global, actor: ActorId, future: Option<u32>) -> Result<Step, NoMemory> {
+    let mut args = ListOf::new(alloc);
+    if let Some(number) = future {
+        args.push(Arg::Fut(FutureId::new(number)))?;
+    }
+    Ok(Step::Submit(actor, Method::Get, args))
+}
+
+/// A plan that releases the handles of these actors.
+fn releases(alloc: Global, actors: &[ActorId]) -> Result<Plan, NoMemory> {
+    let mut plan = Vec::new(alloc);
+    for actor in actors {
+        plan.push(Step::Release(*actor))?;
+    }
+    Ok(plan)
+}
+
+#[test]
+fn plans_that_fit(rt: HostRuntime) -> Result<(), Fail> {
+    let alloc = rt.alloc();
+    let a1 = ActorId::new(1).unwrap();
+    let a2 = ActorId::new(2).unwrap();
+    let c1 = CallerId::new(1).unwrap();
+    let c2 = CallerId::new(2).unwrap();
+    let c3 = CallerId::new(3).unwrap();
+    let c4 = CallerId::new(4).unwrap();
+    let casts = casts_of(alloc, &[(a2, [c3, c1]), (a1, [c1, c2])])?;
+    let rows: [([CallerId; 3], bool); 4] = [
+        ([c1, c2, c3], true),
+        ([c3, c1, c2], true),
+        ([c1, c3, c1], false),
+        ([c1, c2, c4], false),
+    ];
+    for (callers, fit) in rows {
+        let mut plans = Vec::new(alloc);
+        for caller in callers {
+            plans.push((caller, Vec::new(alloc)))?;
+        }
+        assert_eq!(rt; plans_fit(casts.as_slice(), plans.as_slice()), fit);
+    }
+    Ok(())
+}
+
+#[test]
+fn steps_that_would_be_refused(rt: HostRuntime) -> Result<(), Fail> {
+    let alloc = rt.alloc();
+    let a1 = ActorId::new(1).unwrap();
+    let a2 = ActorId::new(2).unwrap();
+    let first = FutureId::new(0);
+    let no_handle = vec![in alloc; Step::Release(a1), get(alloc, a1, None)?]?;
+    assert_eq!(rt; bad_step(alloc, &[a1], no_handle.as_slice())?, Some(1));
+    let no_future = vec![in alloc; Step::Await(first)]?;
+    assert_eq!(rt; bad_step(alloc, &[a1], no_future.as_slice())?, Some(0));
+    let its_own = vec![in alloc; get(alloc, a1, None)?, get(alloc, a1, Some(1))?]?;
+    assert_eq!(rt; bad_step(alloc, &[a1], its_own.as_slice())?, Some(1));
+    let no_actor = vec![in alloc; Step::Kill(a1), Step::Copy(a1), Step::Kill(a2)]?;
+    assert_eq!(rt; bad_step(alloc, &[a1], no_actor.as_slice())?, Some(2));
+    let copied = vec![in alloc; Step::Copy(a1), Step::Release(a1), get(alloc, a1, None)?]?;
+    assert_eq!(rt; bad_step(alloc, &[a1], copied.as_slice())?, None);
+    let good = vec![in alloc;
+        get(alloc, a1, None)?,
+        get(alloc, a1, Some(0))?,
+        Step::Await(first),
+    ]?;
+    assert_eq!(rt; bad_step(alloc, &[a1], good.as_slice())?, None);
+    Ok(())
+}
+
+#[test]
+fn a_run_is_prepared(rt: HostRuntime) -> Result<(), Fail> {
+    let alloc = rt.alloc();
+    let a1 = ActorId::new(1).unwrap();
+    let a2 = ActorId::new(2).unwrap();
+    let a3 = ActorId::new(3).unwrap();
+    let c2 = CallerId::new(2).unwrap();
+    let c5 = CallerId::new(5).unwrap();
+    let c9 = CallerId::new(9).unwrap();
+    let casts = casts_of(alloc, &[(a3, [c5, c2]), (a1, [c2, c9]), (a2, [c9, c5])])?;
+    let nine = releases(alloc, &[a1, a1])?;
+    let five = releases(alloc, &[a2, a3, a1])?;
+    let plans = vec![in alloc; (c9, nine), (c5, five)]?;
+    assert!(rt; cast_fits(casts.as_slice()) && plans_fit(casts.as_slice(), plans.as_slice()));
+    let prepared = prepare(alloc, casts, plans)?;
+    let actors = [a1, a2, a3];
+    assert_eq!(rt; prepared.casts.len(), 3);
+    for (place, cast) in prepared.casts.iter().enumerate() {
+        assert_eq!(rt; actors.get(place).copied(), Some(cast.actor));
+    }
+    let parts: [(CallerId, [ActorId; 2], usize); 3] = [
+        (c2, [a3, a1], 0),
+        (c5, [a3, a2], 3),
+        (c9, [a1, a2], 2),
+    ];
+    assert_eq!(rt; prepared.parts.len(), 3);
+    for (wanted, part) in parts.iter().zip(prepared.parts.iter()) {
+        assert_eq!(rt; part.caller, wanted.0);
+        assert_eq!(rt; part.actors.as_slice(), &wanted.1[..]);
+        assert_eq!(rt; part.plan.len(), wanted.2);
+    }
+    let bad = first_bad_part(alloc, prepared.parts.as_slice())?;
+    assert_eq!(rt; bad, Some((c5, 2)));
+    Ok(())
+}
