@@ -1,0 +1,10 @@
+pub mod Lists
+pub mod Owners
+pub mod Starters
+pub mod Settled
+pub mod Tasks
+pub mod Actors
+pub mod Callers
+pub mod Prepared
+pub mod Faults
+pub mod Joining

@@ -1,0 +1,80 @@
+-- From what the tasks were given and left to the casts and the parts.
+use Rattle.std.proofs.Common.{◌≡◌, ℕ, ◌<◌, zero, suc, List, [], ◌∷◌, length, map, drop, zip, get_or, slice_get, Some, sym, ap, ◌∙◌, subst, refl, arith}
+use Rattle.std.proofs.lemmas.Option.{slice_get_within, get_or_from_slice_get}
+use Rattle.std.proofs.lemmas.List.{length-map}
+use Rattle.act_types.specs.KindState.{KindState}
+use Rattle.act_actor.specs.declared.cast.Cast.{Cast}
+use Rattle.act_tasks.specs.Each.{Each}
+use Rattle.act_seats.specs.declared.seat.Seat.{Seat}
+use Rattle.act_serve.specs.declared.seat.ExecPasses.{ExecPasses}
+use Rattle.act_serve.specs.declared.seat.Finished.{Finished}
+use Rattle.act_serve.specs.Served.{HasServed, end_seen}
+use Rattle.act_drive.specs.declared.desk.CallerPasses.{CallerPasses}
+use Rattle.act_drive.specs.declared.caller.Driven.{Driven}
+use Rattle.act_drive.specs.Driven.{HasDriven}
+use Rattle.act_plans.specs.declared.part.Part.{Part}
+use Rattle.act_lines.specs.declared.opened.Lines.{Lines}
+use Rattle.act_executor.specs.declared.work.Serving.{Serving}
+use Rattle.act_executor.specs.declared.work.Driving.{Driving}
+use Rattle.act_executor.specs.Work.{IsServedBy, IsDrivenBy, ActorStart, serving_start, cast_start, CallerStart, driving_start, part_start}
+use Rattle.act_executor.specs.Joins.{AreServed, AreDriven}
+
+-- the elements at a place of a list, and of two lists beside each other, that agree
+pub starts_at : {X A B Z : Type 0} (f : X → Z) (g : A × B → Z) (xs : List X) (ls : List A) (ms : List B) (j : ℕ) (x : X) (a : A) (b : B) → map f xs ≡ map g (zip ls ms) →
+    slice_get xs j ≡ Some x → slice_get ls j ≡ Some a → slice_get ms j ≡ Some b → f x ≡ g (a, b)
+starts_at f g [] ls ms j x a b same at_x at_a at_b = cc
+starts_at f g (y ∷ xs) [] ms j x a b same at_x at_a at_b = cc
+starts_at f g (y ∷ xs) (c ∷ ls) [] j x a b same at_x at_a at_b = cc
+starts_at f g (y ∷ xs) (c ∷ ls) (d ∷ ms) zero x a b same at_x at_a at_b =
+    let heads : f y ≡ g (c, d) = ap (λ l. get_or l 0 (f y)) same in
+    let is_x : y ≡ x = cc in
+    let is_a : c ≡ a = cc in
+    let is_b : d ≡ b = cc in
+    ap f (sym is_x) ∙ heads ∙ (λ i. g (is_a i, is_b i))
+starts_at f g (y ∷ xs) (c ∷ ls) (d ∷ ms) (suc j) x a b same at_x at_a at_b = starts_at f g xs ls ms j x a b (ap (drop 1) same) at_x at_a at_b
+
+pub element : {X : Type 0} (xs : List X) (i : ℕ) → i < length xs → (x : X) × (slice_get xs i ≡ Some x)
+element [] i lt = absurd (omega (arith, lt))
+element (x ∷ xs) zero lt = (x, refl)
+element (x ∷ xs) (suc i) lt = element xs i (omega arith)
+
+pub each_at : {T X : Type 0} (D : T → X → Type 0) (ts : List T) (xs : List X) (i : ℕ) (t : T) (x : X) → Each D ts xs → slice_get ts i ≡ Some t → slice_get xs i ≡ Some x → D t x
+each_at D ts xs i t x each at_t at_x = subst (λ y. D t y) (get_or_from_slice_get xs i x x at_x) (subst (λ s. D s (get_or xs i x)) (get_or_from_slice_get ts i t t at_t) (each.1 i t x (slice_get_within ts i t at_t)))
+
+zip_length : {A B : Type 0} (ls : List A) (ms : List B) → length ms ≡ length ls → length (zip ls ms) ≡ length ls
+zip_length [] ms long = refl
+zip_length (a ∷ ls) [] long = absurd (omega (arith, long))
+zip_length (a ∷ ls) (b ∷ ms) long = let more = zip_length ls ms (omega (arith, long)) in omega (arith, more)
+
+-- the tasks are ls many ls their casts
+tasks_long : {X A B Z : Type 0} (f : X → Z) (g : A × B → Z) (xs : List X) (ls : List A) (ms : List B) → map f xs ≡ map g (zip ls ms) → length ms ≡ length ls → length xs ≡ length ls
+tasks_long f g xs ls ms same long = sym (length-map xs f) ∙ ap length same ∙ length-map (zip ls ms) g ∙ zip_length ls ms long
+
+pub all_served : {K G : Type 0} (state : K → KindState) (lines : Lines) (casts : List (Cast K)) (execs : List (Seat ExecPasses)) (servings : List (Serving K G)) (actors : List (Finished K)) →
+    length execs ≡ length casts → map (serving_start state) servings ≡ map (cast_start state lines.replies.items) (zip casts execs) → Each (IsServedBy state) servings actors → AreServed state lines casts execs actors
+all_served state lines casts execs servings actors long starts each = record {
+  long = each.0 ∙ tasks_long (serving_start state) (cast_start state lines.replies.items) servings casts execs starts long;
+  each = λ j cast exec actor at_cast at_exec at_actor.
+      let below = slice_get_within actors j actor at_actor in
+      let serving = element servings j (omega (arith, below, each.0)) in
+      let start = starts_at (serving_start state) (cast_start state lines.replies.items) servings casts execs j serving.0 cast exec starts serving.1 at_cast at_exec in
+      let P : ActorStart → Type 0 = λ s. HasServed s.state s.id s.replies s.passes (end_seen state actor.ended) actor.passes in
+      subst P start (each_at (IsServedBy state) servings actors j serving.0 actor each serving.1 at_actor);
+}
+
+pub all_driven : (lines : Lines) (parts : List Part) (callers : List (Seat CallerPasses)) (drivings : List Driving) (driven : List Driven) →
+    length callers ≡ length parts → map driving_start drivings ≡ map (part_start lines) (zip parts callers) → Each IsDrivenBy drivings driven → AreDriven lines parts callers driven
+all_driven lines parts callers drivings driven long starts each = record {
+  long = each.0 ∙ tasks_long driving_start (part_start lines) drivings parts callers starts long;
+  each = λ i part caller d at_part at_caller at_d.
+      let below = slice_get_within driven i d at_d in
+      let driving = element drivings i (omega (arith, below, each.0)) in
+      let start = starts_at driving_start (part_start lines) drivings parts callers i driving.0 part caller starts driving.1 at_part at_caller in
+      let P : CallerStart → Type 0 = λ s. HasDriven driving.0.lines s.owner s.passes s.plan d in
+      record {
+        at = driving.0.lines;
+        mails = ap (λ (s : CallerStart). s.mails) start;
+        controls = ap (λ (s : CallerStart). s.controls) start;
+        driven_is = subst P start (each_at IsDrivenBy drivings driven i driving.0 d each driving.1 at_d);
+      };
+}

@@ -1,0 +1,35 @@
+use Rattle.std.proofs.Common.{rules, List, map, All, ap, sym, ◌∙◌, subst}
+use Rattle.act_mailbox.specs.Controls.{ControlValue}
+use Rattle.act_serve.specs.declared.seat.Finished.{Finished}
+use Rattle.act_drive.specs.declared.caller.Driven.{Driven}
+use Rattle.act_executor.specs.Audits.{HasSeats, KillTold, CallerTold, Left, left_of}
+use Rattle.act_executor.specs.Joins.{ended_starved}
+use Rattle.act_executor.proofs.Settled.{seen_through, none_any}
+use Rattle.act_executor.proofs.joined.settle.Goals as goal
+
+pub audit_kills-requires-clause-lines : goal.audit_kills-requires-clause-lines
+audit_kills-requires-clause-lines g c = ap (map (λ (k : ControlValue). k.line)) c.as_slice-3.ensures.value ∙ c.requires.controls ∙ sym (seen_through (λ (l : Left _). l.kills.line) c.audit_actors.new.actors.items c.args.ends.actors.items c.audit_actors.ensures.same_actors)
+
+pub audit_callers-requires-clause-mails : goal.audit_callers-requires-clause-mails
+audit_callers-requires-clause-mails g c = c.requires.mails ∙ sym (seen_through (λ (l : Left _). l.letters.line) c.audit_actors.new.actors.items c.args.ends.actors.items c.audit_actors.ensures.same_actors) ∙ ap (map (λ (f : Finished _). f.passes.letters.line)) (sym c.audit_kills.ensures.same)
+
+pub audit_callers-requires-clause-controls : goal.audit_callers-requires-clause-controls
+audit_callers-requires-clause-controls g c = c.requires.controls ∙ sym (seen_through (λ (l : Left _). l.kills.line) c.audit_actors.new.actors.items c.args.ends.actors.items c.audit_actors.ensures.same_actors) ∙ ap (map (λ (f : Finished _). f.passes.kills.line)) (sym c.audit_kills.ensures.same)
+
+pub audit_callers-requires-clause-sit : goal.audit_callers-requires-clause-sit
+audit_callers-requires-clause-sit g c = subst (λ (l : List Driven). All (HasSeats c.args.lines.now) l) (sym c.audit_actors.ensures.same) c.requires.callers
+
+pub returns : goal.returns
+returns g c =
+    let same = c.in_ok-owners.ensures.same in
+    let kills = c.audit_kills.ensures.same in
+    let callers = c.audit_actors.ensures.same in
+    record {
+      fed = none_any (λ (f : Finished _). ended_starved f.ended) c.args.ends.actors.items (search rules);
+      fed_callers = none_any (λ (d : Driven). d.starved) c.args.ends.callers.items (search rules);
+      same = ap (map left_of) (same ∙ kills) ∙ c.audit_actors.ensures.same_actors;
+      owners = c.in_ok-owners.ensures.owners ∙ ap (map (λ (d : Driven). d.owner)) callers;
+      notices = c.audit_actors.ensures.told;
+      callers = subst (λ (l : List (Finished _)). All (CallerTold l) c.args.ends.callers.items) (sym same) (subst (λ (l : List Driven). All (CallerTold c.audit_kills.new.actors.items) l) callers c.in_ok-owners.ensures.told);
+      starters = subst (λ (l : List (Finished _)). All (KillTold l) c.args.ends.starters.items) (sym (same ∙ kills)) c.audit_kills.ensures.told;
+    }

@@ -1,0 +1,74 @@
+use Rattle.std.proofs.Common.{rules, ◌≡◌, ◌<◌, ◌++◌, ◌∷◌, List, length, map, zip, All, None, ◌⊎◌, inl, inr, ap, sym, ◌∙◌, subst}
+use Rattle.std.specs.Vec.Iter.{into_iter_items}
+use Rattle.std.proofs.lemmas.List.{append-nil}
+use Rattle.std.proofs.lemmas.List.Elements.{All-push}
+use Rattle.act_rules.specs.Plans.{first_bad}
+use Rattle.act_seats.specs.declared.seat.Seat.{Seat}
+use Rattle.act_drive.specs.declared.desk.CallerPasses.{CallerPasses}
+use Rattle.act_actor.specs.Cast.{CallersDiffer}
+use Rattle.act_tasks.specs.Each.{Each}
+use Rattle.act_plans.specs.declared.part.Part.{Part}
+use Rattle.act_lines.specs.Opened.{IsCaller}
+use Rattle.act_executor.specs.Work.{CanDrive, driving_start, part_start}
+use Rattle.act_executor.proofs.Lists.{all_head, all_tail, each_pop, map_over, nothing_zips}
+use Rattle.act_executor.proofs.work.drivings.Goals as goal
+
+pub loop-part-init : goal.loop-part-init
+loop-part-init c =
+    let parts = into_iter_items c.into_iter-part-iterator.result.a in
+    let callers = into_iter_items c.into_iter-part-iterator.result.b in
+    let first : parts ≡ c.args.parts.items = search rules in
+    let second : callers ≡ c.args.callers.items = search rules in
+    let At : List Part × List (Seat CallerPasses) → Type 0 = λ p. Each (IsCaller c.args.lines.now) p.0 p.1 in
+    record {
+      first_long = search rules;
+      second_long = search rules;
+      actors = subst (λ (l : List Part). All (λ (part : Part). CallersDiffer part.actors.items) l) (sym first) c.requires.actors;
+      places = subst (λ (l : List (Seat CallerPasses)). All (λ (caller : Seat CallerPasses). caller.place < length c.args.lines.now.replies.items) l) (sym second) c.requires.places;
+      callers = subst At (λ i. (sym first i, sym second i)) c.requires.callers;
+      fits = subst (λ (l : List Part). All (λ (part : Part). first_bad part.actors.items part.plan.items ≡ None) l) (sym first) c.requires.fits;
+      ready = search rules;
+      starts = search (rules, first, second);
+    }
+
+pub one_driving-requires-clause-caller : goal.one_driving-requires-clause-caller
+one_driving-requires-clause-caller c = (each_pop (IsCaller c.args.lines.now) _ _ _ _ _ _ c.in-Some.ensures.steps.0.0 c.in-Some.ensures.steps.1.0 c.loop-part.invariant.callers).0
+
+pub one_driving-requires-clause-actors : goal.one_driving-requires-clause-actors
+one_driving-requires-clause-actors c = all_head (λ (part : Part). CallersDiffer part.actors.items) _ _ (subst (λ (l : List Part). All (λ (part : Part). CallersDiffer part.actors.items) l) c.in-Some.ensures.steps.0.0 c.loop-part.invariant.actors)
+
+pub loop-part-preserved : goal.loop-part-preserved
+loop-part-preserved c =
+    let inv = c.loop-part.invariant in
+    let lines = c.args.lines.now in
+    let before = c.loop-part.drivings.items in
+    let parts = into_iter_items c.next.new.self.a in
+    let callers = into_iter_items c.next.new.self.b in
+    let one = c.in_ok-one_driving.field-0 in
+    let first : into_iter_items c.loop-part.part-iterator.a ≡ c.in-Some.part ∷ parts = c.in-Some.ensures.steps.0.0 in
+    let second : into_iter_items c.loop-part.part-iterator.b ≡ c.in-Some.caller ∷ callers = c.in-Some.ensures.steps.1.0 in
+    let P : Seat CallerPasses → Type 0 = λ caller. caller.place < length lines.replies.items in
+    let Q : Part → Type 0 = λ part. CallersDiffer part.actors.items in
+    let F : Part → Type 0 = λ part. first_bad part.actors.items part.plan.items ≡ None in
+    let rest = map (part_start lines) (zip parts callers) in
+    record {
+      first_long = search (rules, first);
+      second_long = search (rules, second);
+      actors = all_tail Q _ _ (subst (λ (l : List Part). All Q l) first inv.actors);
+      places = all_tail P _ _ (subst (λ (l : List (Seat CallerPasses)). All P l) second inv.places);
+      callers = (each_pop (IsCaller lines) _ _ _ _ _ _ first second inv.callers).1;
+      fits = all_tail F _ _ (subst (λ (l : List Part). All F l) first inv.fits);
+      ready = subst (λ l. All CanDrive l) (sym c.in_ok-push.ensures.items) (All-push CanDrive before one inv.ready c.in_ok-one_driving.ensures.ready);
+      starts = ap (λ l. map driving_start l ++ rest) c.in_ok-push.ensures.items ∙ map_over driving_start before one rest
+          ∙ ap (λ x. map driving_start before ++ x ∷ rest) c.in_ok-one_driving.ensures.start
+          ∙ (λ i. map driving_start before ++ map (part_start lines) (zip (sym first i) (sym second i))) ∙ inv.starts;
+    }
+
+pub returns-clause-starts : goal.returns-clause-starts
+returns-clause-starts c =
+    let inv = c.loop-part.invariant in
+    let lines = c.args.lines.now in
+    let parts = into_iter_items c.loop-part.part-iterator.a in
+    let callers = into_iter_items c.loop-part.part-iterator.b in
+    let ends : (length parts ≡ 0) ⊎ (length callers ≡ 0) = elim c.in-None.ensures.steps [ inl s ↦ inl (sym inv.first_long ∙ s.1.0) | inr s ↦ inr (sym inv.second_long ∙ s.1.0) ] in
+    sym (append-nil (map driving_start c.loop-part.drivings.items)) ∙ ap (λ l. map driving_start c.loop-part.drivings.items ++ map (part_start lines) l) (sym (nothing_zips parts callers ends)) ∙ inv.starts

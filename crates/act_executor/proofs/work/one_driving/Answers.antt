@@ -1,0 +1,19 @@
+use Rattle.std.proofs.Common.{rules, ◌≡◌, List, get_or, ap, sym, ◌∙◌, subst}
+use Rattle.act_mailbox.specs.Mails.{MailValue}
+use Rattle.act_mailbox.specs.Controls.{ControlValue}
+use Rattle.act_mailbox.specs.Notices.{RepliesValue}
+use Rattle.act_drive.specs.Driven.{IsUnused}
+use Rattle.act_owner.specs.Owner.{opened}
+use Rattle.act_executor.proofs.Owners.{can_drive}
+use Rattle.act_executor.proofs.work.one_driving.Goals as goal
+
+pub returns-clause-ready : goal.returns-clause-ready
+returns-clause-ready c =
+    let lines = c.args.lines.now in
+    let mails : c.as_slice-2.result.now ≡ lines.mails.items = search rules in
+    let controls : c.as_slice-3.result.now ≡ lines.controls.items = search rules in
+    let reply : c.index.result.now ≡ get_or lines.replies.items c.args.caller.place c.index.result.now = search rules in
+    let actors : c.as_slice.result.now ≡ c.args.part.actors.items = search rules in
+    let At : List MailValue × List ControlValue × RepliesValue → Type 0 = λ l. IsUnused l.0 l.1 l.2 c.args.part.caller c.args.caller.pass in
+    let unused = subst At (λ i. (sym mails i, sym controls i, sym reply i)) (c.requires.caller c.index.result.now) in
+    can_drive (record { mails = c.as_slice-2.result; controls = c.as_slice-3.result; replies = c.index.result }) c.in_ok-owner.owner c.args.part.caller c.args.part.actors.items c.args.caller.pass c.args.part.plan.items (c.in_ok-owner.ensures ∙ ap (opened c.args.part.caller) actors) unused c.requires.fits

@@ -1,0 +1,64 @@
+-- What the threads gave back, and what the comparison of their lines tells.
+use Rattle.std.specs.Prelude.{◌≡◌, ℕ, Bool, true, false, List, length, map, slice_get, Some, All}
+use Rattle.std.specs.List.{range_with_len}
+use Rattle.act_types.specs.KindState.{KindState}
+use Rattle.act_owner.specs.Owner.{opened}
+use Rattle.act_actor.specs.declared.cast.Cast.{Cast}
+use Rattle.act_mailbox.specs.declared.control.Asked.{Asked}
+use Rattle.act_mailbox.specs.Passes.{PutterValue}
+use Rattle.act_mailbox.specs.Controls.{ControlValue}
+use Rattle.act_seats.specs.declared.seat.Seat.{Seat}
+use Rattle.act_serve.specs.declared.seat.Ended.{Ended}
+use Rattle.act_serve.specs.declared.seat.Ended.TheVariants.{Killed, Retired, Starved}
+use Rattle.act_serve.specs.declared.seat.ExecPasses.{ExecPasses}
+use Rattle.act_serve.specs.declared.seat.Finished.{Finished}
+use Rattle.act_serve.specs.Served.{HasServed, end_seen}
+use Rattle.act_drive.specs.declared.desk.CallerLines.{CallerLines}
+use Rattle.act_drive.specs.declared.desk.CallerPasses.{CallerPasses}
+use Rattle.act_drive.specs.declared.caller.Driven.{Driven}
+use Rattle.act_drive.specs.Driven.{HasDriven}
+use Rattle.act_plans.specs.declared.part.Part.{Part}
+use Rattle.act_lines.specs.declared.opened.Lines.{Lines}
+use Rattle.act_executor.specs.declared.joined.Ends.{Ends}
+use Rattle.act_executor.specs.declared.joined.Joined.{Joined}
+use Rattle.act_executor.specs.Audits.{NoticeTold, KillTold, CallerTold, left_of}
+use Rattle.act_executor.specs.Work.{IsUnusedStarter}
+
+-- whether an actor was refused memory
+abbrev pub ended_starved : {K : Type 0} → Ended K → Bool
+ended_starved (Killed dead) = false
+ended_starved (Retired retired) = false
+ended_starved (Starved dead) = true
+
+-- each cast's actor was served to its end, with its passes
+pub record AreServed {K : Type 0} (state : K → KindState) (lines : Lines) (casts : List (Cast K)) (execs : List (Seat ExecPasses)) (actors : List (Finished K)) : Type 0 where
+  pub long : length actors ≡ length casts
+  pub each : (j : ℕ) (cast : Cast K) (exec : Seat ExecPasses) (actor : Finished K) → slice_get casts j ≡ Some cast → slice_get execs j ≡ Some exec → slice_get actors j ≡ Some actor →
+      HasServed (state cast.kind) cast.actor lines.replies.items exec.pass (end_seen state actor.ended) actor.passes
+
+-- the caller of a part was driven, at these lines
+pub record IsDrivenAt (lines : Lines) (part : Part) (caller : Seat CallerPasses) (driven : Driven) : Type 0 where
+  pub at : CallerLines
+  pub mails : at.mails.now ≡ lines.mails.items
+  pub controls : at.controls.now ≡ lines.controls.items
+  pub driven_is : HasDriven at (opened part.caller part.actors.items) caller.pass part.plan.items driven
+
+-- each part's caller was driven, with its passes
+pub record AreDriven (lines : Lines) (parts : List Part) (callers : List (Seat CallerPasses)) (driven : List Driven) : Type 0 where
+  pub long : length driven ≡ length parts
+  pub each : (i : ℕ) (part : Part) (caller : Seat CallerPasses) (d : Driven) → slice_get parts i ≡ Some part → slice_get callers i ≡ Some caller → slice_get driven i ≡ Some d → IsDrivenAt lines part caller d
+
+-- the starter has a pass on each control line, and asked nothing
+pub record AreStarters (controls : List ControlValue) (seats : List (Seat (PutterValue Asked ℕ))) : Type 0 where
+  pub unused : All (IsUnusedStarter controls) seats
+  pub places : map (λ seat. seat.place) seats ≡ range_with_len 0 (length controls)
+
+-- nobody was refused memory, and what each side of a line took is a front of what the other put
+pub record AreCompared {K : Type 0} (ends : Ends K) (joined : Joined K) : Type 0 where
+  pub fed : All (λ actor. ended_starved actor.ended ≡ false) ends.actors.items
+  pub fed_callers : All (λ caller. caller.starved ≡ false) ends.callers.items
+  pub same : map left_of joined.actors.items ≡ map left_of ends.actors.items
+  pub owners : joined.owners.items ≡ map (λ caller. caller.owner) ends.callers.items
+  pub notices : All (λ actor. All (NoticeTold ends.callers.items) actor.passes.notices.items) ends.actors.items
+  pub callers : All (CallerTold joined.actors.items) ends.callers.items
+  pub starters : All (KillTold joined.actors.items) ends.starters.items

@@ -1,0 +1,4 @@
+pub mod Audits
+pub mod Joins
+pub mod Runs
+pub mod Work

@@ -1,0 +1,43 @@
+-- What a run leaves, and why one has no end to show.
+use Rattle.std.specs.Prelude.{◌≡◌, ℕ, List, Some, None}
+use Rattle.act_types.specs.KindState.{KindState}
+use Rattle.std.specs.Global.{Vec}
+use Rattle.act_rules.specs.declared.script.Step.{Step}
+use Rattle.act_rules.specs.History.{Casting}
+use Rattle.act_plans.specs.Runs.{first_bad_plan}
+use Rattle.act_plans.specs.declared.rising.Prepared.{Prepared}
+use Rattle.act_lines.specs.declared.opened.Opened.{Opened}
+use Rattle.act_lines.specs.Opened.{AreOpened}
+use Rattle.act_executor.specs.declared.joined.Ends.{Ends}
+use Rattle.act_executor.specs.declared.joined.Joined.{Joined}
+use Rattle.act_executor.specs.declared.run.RunFault.{RunFault}
+use Rattle.act_executor.specs.Joins.{AreServed, AreDriven, AreStarters, AreCompared}
+use Rattle.act_executor.specs.declared.run.RunFault.TheVariants.{TooMany, BadPlan, NoThread, NoMemory}
+
+-- a caller's plan as a list of steps
+abbrev pub plan_seen : ℕ × Vec Step → ℕ × List Step
+plan_seen plan = (plan.0, plan.1.items)
+
+-- a fault that the threads and the memory of the machine give
+abbrev pub IsThreadFault : RunFault → Type 0
+IsThreadFault TooMany = ⊥
+IsThreadFault (BadPlan caller place) = ⊥
+IsThreadFault NoThread = Unit {0}
+IsThreadFault NoMemory = Unit {0}
+
+-- which fault comes: a bad plan's first step that would be refused; a thread is missed only where all plans are good
+abbrev pub IsFault : List Casting → List (ℕ × List Step) → RunFault → Type 0
+IsFault casts plans TooMany = ⊥
+IsFault casts plans (BadPlan caller place) = first_bad_plan casts plans ≡ Some (caller, place)
+IsFault casts plans NoThread = first_bad_plan casts plans ≡ None
+IsFault casts plans NoMemory = Unit {0}
+
+-- lines were opened for what was prepared, all threads ended at them, and their lines were compared
+pub record HasRun {K : Type 0} (state : K → KindState) (prepared : Prepared K) (joined : Joined K) : Type 0 where
+  pub opened : Opened
+  pub ends : Ends K
+  pub opening : AreOpened prepared.casts.items prepared.parts.items opened
+  pub served : AreServed state opened.lines prepared.casts.items opened.execs.items ends.actors.items
+  pub driven : AreDriven opened.lines prepared.parts.items opened.callers.items ends.callers.items
+  pub starters : AreStarters opened.lines.controls.items ends.starters.items
+  pub compared : AreCompared ends joined

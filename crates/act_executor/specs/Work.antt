@@ -1,0 +1,74 @@
+-- What the threads are given, and what they leave.
+use Rattle.std.specs.Prelude.{◌≡◌, ℕ, ◌<◌, List, length, slice_index_or, None}
+use Rattle.act_types.specs.KindState.{KindState}
+use Rattle.act_rules.specs.declared.script.Step.{Step}
+use Rattle.act_rules.specs.Plans.{first_bad}
+use Rattle.act_handles.specs.Handles.{actors_in}
+use Rattle.act_owner.specs.Owner.{OwnerValue, opened}
+use Rattle.act_actor.specs.Seen.{live_seen}
+use Rattle.act_actor.specs.declared.cast.Cast.{Cast}
+use Rattle.act_mailbox.specs.declared.control.Asked.{Asked}
+use Rattle.act_mailbox.specs.Passes.{PutterValue, new_putter}
+use Rattle.act_mailbox.specs.Mails.{MailValue}
+use Rattle.act_mailbox.specs.Controls.{ControlValue, starter}
+use Rattle.act_mailbox.specs.Notices.{RepliesValue}
+use Rattle.act_seats.specs.declared.seat.Seat.{Seat}
+use Rattle.act_serve.specs.declared.seat.ExecPasses.{ExecPasses}
+use Rattle.act_serve.specs.declared.seat.Finished.{Finished}
+use Rattle.act_serve.specs.Served.{HasServed, end_seen}
+use Rattle.act_serve.specs.Turns.{PassesOf, IsFresh}
+use Rattle.act_drive.specs.declared.desk.CallerPasses.{CallerPasses}
+use Rattle.act_drive.specs.declared.caller.Driven.{Driven}
+use Rattle.act_drive.specs.Driven.{HasDriven, IsFresh as IsFreshCaller}
+use Rattle.act_plans.specs.declared.part.Part.{Part}
+use Rattle.act_lines.specs.declared.opened.Lines.{Lines}
+use Rattle.act_executor.specs.declared.work.Serving.{Serving}
+use Rattle.act_executor.specs.declared.work.Driving.{Driving}
+
+-- an actor's thread may run
+abbrev pub IsReady : {K G : Type 0} → (K → KindState) → Serving K G → Type 0
+IsReady state serving = let now = live_seen state serving.live in PassesOf serving.lines now.id now.log serving.passes × IsFresh serving.lines.replies.now now serving.passes
+
+-- what it leaves
+abbrev pub IsServedBy : {K G : Type 0} → (K → KindState) → Serving K G → Finished K → Type 0
+IsServedBy state serving finished = let now = live_seen state serving.live in HasServed now.state now.id serving.lines.replies.now serving.passes (end_seen state finished.ended) finished.passes
+
+-- a caller's thread may run
+abbrev pub CanDrive : Driving → Type 0
+CanDrive driving = IsFreshCaller driving.lines driving.owner driving.passes × (first_bad (actors_in driving.owner.handles) driving.plan.items ≡ None)
+
+-- what it leaves
+abbrev pub IsDrivenBy : Driving → Driven → Type 0
+IsDrivenBy driving driven = HasDriven driving.lines driving.owner driving.passes driving.plan.items driven
+
+-- how an actor begins
+pub record ActorStart : Type 0 where
+  pub id : ℕ
+  pub state : KindState
+  pub passes : ExecPasses
+  pub replies : List RepliesValue
+
+abbrev pub serving_start : {K G : Type 0} → (K → KindState) → Serving K G → ActorStart
+serving_start state serving = let now = live_seen state serving.live in record { id = now.id; state = now.state; passes = serving.passes; replies = serving.lines.replies.now }
+
+abbrev pub cast_start : {K : Type 0} → (K → KindState) → List RepliesValue → Cast K × Seat ExecPasses → ActorStart
+cast_start state replies given = record { id = given.0.actor; state = state given.0.kind; passes = given.1.pass; replies = replies }
+
+-- how a caller begins
+pub record CallerStart : Type 0 where
+  pub owner : OwnerValue
+  pub plan : List Step
+  pub passes : CallerPasses
+  pub mails : List MailValue
+  pub controls : List ControlValue
+
+abbrev pub driving_start : Driving → CallerStart
+driving_start driving = record { owner = driving.owner; plan = driving.plan.items; passes = driving.passes; mails = driving.lines.mails.now; controls = driving.lines.controls.now }
+
+abbrev pub part_start : Lines → Part × Seat CallerPasses → CallerStart
+part_start lines given = record { owner = opened given.0.caller given.0.actors.items; plan = given.0.plan.items; passes = given.1.pass; mails = lines.mails.items; controls = lines.controls.items }
+
+-- the starter's pass at its place of the control lines, with which nothing was asked
+pub record IsUnusedStarter (controls : List ControlValue) (seat : Seat (PutterValue Asked ℕ)) : Type 0 where
+  pub below : seat.place < length controls
+  pub new : (k : ControlValue) → seat.pass ≡ new_putter (slice_index_or controls seat.place k).line starter

@@ -1,0 +1,157 @@
+//! After the joins the two sides of each line are compared.
+
+ghost use Rattle.std.specs.Prelude.{◌≡◌, map, All, IfOk, OnOk};
+ghost use Rattle.act_executor.specs.Audits.{SitsAtMail, SitsAtControl, SitsAtReplies, LetterTold, KillTold, NoticeTold, CallerTold, HasSeats, left_of};
+
+use act_drive::{CallerPasses, Driven};
+use act_lines::Lines;
+use act_mailbox::{Control, ControlCaller, Mail, MailCaller, Replies, ReplyExec};
+use act_owner::Owner;
+use act_seats::Seat;
+use act_serve::Finished;
+use act_types::NoMemory;
+use std::alloc::Global;
+use std::sync::Wait;
+
+fn audit_letter<K, R: Wait>(
+    rt: &R,
+    mails: &[Mail],
+    seat: Seat<MailCaller>,
+    actors: &mut Vec<Finished<K>>,
+)
+    requires lines { map (λ mail. mail.line) mails.now ≡ map (λ actor. actor.passes.letters.line) actors.old.items }
+    requires sits { SitsAtMail mails.now seat }
+    ensures same { actors.new.items ≡ actors.old.items }
+    ensures told { LetterTold actors.old.items seat }
+{
+    let Seat { place, mut pass } = seat;
+    mails[place].audit(rt, &mut pass, &mut actors[place].passes.letters);
+}
+
+/// Compares what a caller posted with what was taken.
+pub(crate) fn audit_letters<K, R: Wait>(
+    rt: &R,
+    mails: &[Mail],
+    seats: Vec<Seat<MailCaller>>,
+    actors: &mut Vec<Finished<K>>,
+)
+    requires lines { map (λ mail. mail.line) mails.now ≡ map (λ actor. actor.passes.letters.line) actors.old.items }
+    requires sit { All (SitsAtMail mails.now) seats.items }
+    ensures same { actors.new.items ≡ actors.old.items }
+    ensures told { All (LetterTold actors.old.items) seats.items }
+{
+    for seat in seats {
+        audit_letter(rt, mails, seat, actors);
+    }
+}
+
+fn audit_kill<K, R: Wait>(
+    rt: &R,
+    controls: &[Control],
+    seat: Seat<ControlCaller>,
+    actors: &mut Vec<Finished<K>>,
+)
+    requires lines { map (λ control. control.line) controls.now ≡ map (λ actor. actor.passes.kills.line) actors.old.items }
+    requires sits { SitsAtControl controls.now seat }
+    ensures same { actors.new.items ≡ actors.old.items }
+    ensures told { KillTold actors.old.items seat }
+{
+    let Seat { place, mut pass } = seat;
+    controls[place].audit(rt, &mut pass, &mut actors[place].passes.kills);
+}
+
+/// Compares the kills that were asked with those that were taken.
+pub(crate) fn audit_kills<K, R: Wait>(
+    rt: &R,
+    controls: &[Control],
+    seats: Vec<Seat<ControlCaller>>,
+    actors: &mut Vec<Finished<K>>,
+)
+    requires lines { map (λ control. control.line) controls.now ≡ map (λ actor. actor.passes.kills.line) actors.old.items }
+    requires sit { All (SitsAtControl controls.now) seats.items }
+    ensures same { actors.new.items ≡ actors.old.items }
+    ensures told { All (KillTold actors.old.items) seats.items }
+{
+    for seat in seats {
+        audit_kill(rt, controls, seat, actors);
+    }
+}
+
+fn audit_notice<R: Wait>(
+    rt: &R,
+    replies: &[Replies],
+    seat: &mut Seat<ReplyExec>,
+    callers: &mut Vec<Driven>,
+)
+    requires lines { map (λ line. line.line) replies.now ≡ map (λ caller. caller.passes.collects.line) callers.old.items }
+    requires sits { SitsAtReplies replies.now seat.old }
+    ensures same_seat { seat.new ≡ seat.old }
+    ensures same { callers.new.items ≡ callers.old.items }
+    ensures told { NoticeTold callers.old.items seat.old }
+{
+    let place = seat.place;
+    replies[place].audit(rt, &mut seat.pass, &mut callers[place].passes.collects);
+}
+
+/// Compares what an actor gave with what was collected.
+fn audit_notices<R: Wait>(
+    rt: &R,
+    replies: &[Replies],
+    seats: &mut Vec<Seat<ReplyExec>>,
+    callers: &mut Vec<Driven>,
+)
+    requires lines { map (λ line. line.line) replies.now ≡ map (λ caller. caller.passes.collects.line) callers.old.items }
+    requires sit { All (SitsAtReplies replies.now) seats.old.items }
+    ensures same_seats { seats.new.items ≡ seats.old.items }
+    ensures same { callers.new.items ≡ callers.old.items }
+    ensures told { All (NoticeTold callers.old.items) seats.old.items }
+{
+    for at in 0..seats.len() {
+        audit_notice(rt, replies, &mut seats[at], callers);
+    }
+}
+
+/// Compares what the actors gave with what the callers collected.
+pub(crate) fn audit_actors<K, R: Wait>(
+    rt: &R,
+    replies: &[Replies],
+    actors: &mut Vec<Finished<K>>,
+    callers: &mut Vec<Driven>,
+)
+    requires lines { map (λ line. line.line) replies.now ≡ map (λ caller. caller.passes.collects.line) callers.old.items }
+    requires sit { All (λ actor. All (SitsAtReplies replies.now) actor.passes.notices.items) actors.old.items }
+    ensures same_actors { map left_of actors.new.items ≡ map left_of actors.old.items }
+    ensures same { callers.new.items ≡ callers.old.items }
+    ensures told { All (λ actor. All (NoticeTold callers.old.items) actor.passes.notices.items) actors.old.items }
+{
+    for at in 0..actors.len() {
+        let actor = &mut actors[at];
+        audit_notices(rt, replies, &mut actor.passes.notices, callers);
+    }
+}
+
+/// Compares what the callers posted and asked with what the actors took. The owners are left.
+pub(crate) fn audit_callers<K, R: Wait>(
+    rt: &R,
+    alloc: Global,
+    lines: &Lines,
+    callers: Vec<Driven>,
+    actors: &mut Vec<Finished<K>>,
+) -> Result<Vec<Owner>, NoMemory>
+    requires mails { map (λ mail. mail.line) lines.now.mails.items ≡ map (λ actor. actor.passes.letters.line) actors.old.items }
+    requires controls { map (λ control. control.line) lines.now.controls.items ≡ map (λ actor. actor.passes.kills.line) actors.old.items }
+    requires sit { All (HasSeats lines.now) callers.items }
+    ensures same { actors.new.items ≡ actors.old.items }
+    ensures told { OnOk result (All (CallerTold actors.old.items) callers.items) }
+    ensures owners { IfOk result (λ owners. owners.items ≡ map (λ caller. caller.owner) callers.items) }
+{
+    let mut owners = Vec::new(alloc);
+    for caller in callers {
+        let Driven { owner, passes, .. } = caller;
+        let CallerPasses { letters, kills, .. } = passes;
+        audit_letters(rt, lines.mails.as_slice(), letters, actors);
+        audit_kills(rt, lines.controls.as_slice(), kills, actors);
+        owners.push(owner)?;
+    }
+    Ok(owners)
+}

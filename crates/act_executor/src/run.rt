@@ -1,0 +1,194 @@
+//! A whole run: each actor and each caller in a thread of its own.
+
+ghost use Rattle.std.specs.Prelude.{◌≡◌, ◌<◌, length, map, All, None, IfOk, IfErr};
+ghost use Rattle.act_rules.specs.Plans.{first_bad};
+ghost use Rattle.act_actor.specs.Cast.{IsFitting, CallersDiffer};
+ghost use Rattle.act_actor.specs.Casts.{casting};
+ghost use Rattle.act_mailbox.specs.Passes.{new_putter};
+ghost use Rattle.act_mailbox.specs.Controls.{starter};
+ghost use Rattle.act_tasks.specs.Each.{Each, EachReady};
+ghost use Rattle.act_serve.specs.Served.{end_seen};
+ghost use Rattle.act_plans.specs.Parts.{PlansFit, AreMatched};
+ghost use Rattle.act_plans.specs.Runs.{first_bad_plan};
+ghost use Rattle.act_lines.specs.Opened.{IsExec, IsCaller};
+ghost use Rattle.act_joint.specs.Joined.{IsJoined};
+ghost use Rattle.act_executor.specs.Audits.{SitsAtControl};
+ghost use Rattle.act_executor.specs.Joins.{AreServed, AreDriven, AreStarters};
+ghost use Rattle.act_executor.specs.Work.{IsReady, IsServedBy, CanDrive, IsDrivenBy};
+ghost use Rattle.act_executor.specs.Runs.{plan_seen, HasRun, IsFault, IsThreadFault};
+
+use crate::joined::{Ends, Joined, settle};
+use crate::starter::{Starter, seated};
+use crate::work::{Driving, Serving, drivings, servings};
+use act_actor::Cast;
+use act_drive::{CallerPasses, Driven};
+use act_kinds::Actor;
+use act_lines::{Lines, Opened, open_lines};
+use act_mailbox::ControlCaller;
+use act_plans::{Part, Plan, Prepared, first_bad_part, prepare};
+use act_seats::Seat;
+use act_serve::{ExecPasses, Finished, Gate};
+use act_tasks::{Refusal, run_both};
+use act_types::{CallerId, NoMemory};
+use std::alloc::Global;
+use std::sync::Wait;
+use std::thread::Threads;
+
+/// Why a run has no end to show.
+#[derive(Clone, Copy, Debug, PartialEq, Eq)]
+pub enum RunFault {
+    /// More callers or actors than are served. Ids are so few that no casts meet it.
+    TooMany,
+    /// The caller's step at this place, from 0, would be refused. Nothing was run.
+    BadPlan(CallerId, u32),
+    /// A thread could not be started. All that were started have ended.
+    NoThread,
+    /// Memory was refused to the starter, to a caller or to an actor. All have ended.
+    NoMemory,
+}
+
+impl From<NoMemory> for RunFault {
+    ghost use Rattle.std.specs.Prelude.{◌≡◌};
+    ghost use Rattle.act_executor.specs.declared.run.RunFault.TheVariants as fault;
+
+    ghost from_gives = { λ _ result. result ≡ fault.NoMemory };
+
+    fn from(_error: NoMemory) -> RunFault {
+        RunFault::NoMemory
+    }
+}
+
+impl From<Refusal> for RunFault {
+    ghost from_gives = { λ _ fault. IsThreadFault fault };
+
+    fn from(refusal: Refusal) -> RunFault {
+        match refusal {
+            Refusal::NoThread => RunFault::NoThread,
+            Refusal::NoMemory => RunFault::NoMemory,
+        }
+    }
+}
+
+/// The passes of the executors, of the callers and of the starter.
+#[derive(Drop)]
+struct Passes {
+    execs: Vec<Seat<ExecPasses>>,
+    callers: Vec<Seat<CallerPasses>>,
+    starters: Vec<ControlCaller>,
+}
+
+/// Runs the tasks in threads of their own.
+fn run_tasks<R: Threads + Wait + Sync, K: Actor + Send, G: Gate>(
+    rt: &R,
+    alloc: Global,
+    servings: Vec<Serving<K, G>>,
+    drivings: Vec<Driving>,
+    starter: Starter,
+) -> Result<Ends<K>, RunFault>
+    requires servings { All (IsReady K.state) servings.items }
+    requires drivings { All CanDrive drivings.items }
+    requires starter { All (SitsAtControl starter.controls.now) starter.seats.items }
+    ensures actors { IfOk result (λ ends. Each (IsServedBy K.state) servings.entry.items ends.actors.items) }
+    ensures callers { IfOk result (λ ends. Each IsDrivenBy drivings.entry.items ends.callers.items) }
+    ensures starters { IfOk result (λ ends. ends.starters.items ≡ starter.entry.seats.items) }
+    ensures fault { IfErr result IsThreadFault }
+{
+    let (actors, callers, starter) = run_both(rt, alloc, servings, drivings, starter)?;
+    let Starter { seats, .. } = starter;
+    Ok(Ends {
+        actors,
+        callers,
+        starters: seats,
+    })
+}
+
+/// Runs each actor and each caller in a thread of its own, at these lines.
+fn run_threads<R: Threads + Wait + Sync, K: Actor + Send, G: Gate>(
+    rt: &R,
+    alloc: Global,
+    prepared: Prepared<K>,
+    lines: &Lines,
+    passes: Passes,
+    gate: &G,
+) -> Result<Ends<K>, RunFault>
+    requires matched { AreMatched prepared.casts.items prepared.parts.items }
+    requires fits { All (λ part. first_bad part.actors.items part.plan.items ≡ None) prepared.parts.items }
+    requires exec_places { All (λ exec. (exec.place < length lines.now.mails.items) × (exec.place < length lines.now.controls.items)) passes.execs.items }
+    requires execs { Each (IsExec lines.now) prepared.casts.items passes.execs.items }
+    requires caller_places { All (λ caller. caller.place < length lines.now.replies.items) passes.callers.items }
+    requires callers { Each (IsCaller lines.now) prepared.parts.items passes.callers.items }
+    requires starters { passes.starters.items ≡ map (λ control. new_putter control.line starter) lines.now.controls.items }
+    ensures actors { IfOk result (λ ends. AreServed K.state lines.now prepared.casts.items passes.execs.items ends.actors.items) }
+    ensures callers { IfOk result (λ ends. AreDriven lines.now prepared.parts.items passes.callers.items ends.callers.items) }
+    ensures starters { IfOk result (λ ends. AreStarters lines.now.controls.items ends.starters.items) }
+    ensures fault { IfErr result IsThreadFault }
+{
+    let Prepared { casts, parts } = prepared;
+    let Passes {
+        execs,
+        callers,
+        starters,
+    } = passes;
+    let servings = servings(alloc, casts, lines, execs, gate)?;
+    let drivings = drivings(alloc, parts, lines, callers)?;
+    let seats = seated(alloc, lines.controls.as_slice(), starters)?;
+    let starter = Starter {
+        controls: lines.controls.as_slice(),
+        seats,
+    };
+    let ends = run_tasks(rt, alloc, servings, drivings, starter)?;
+    Ok(ends)
+}
+
+/// Opens all lines, runs all threads, and compares what they left.
+fn run_prepared<R: Threads + Wait + Sync, K: Actor + Send, G: Gate>(
+    rt: &R,
+    alloc: Global,
+    prepared: Prepared<K>,
+    gate: &G,
+) -> Result<Joined<K>, RunFault>
+    requires matched { AreMatched prepared.casts.items prepared.parts.items }
+    requires fits { All (λ part. first_bad part.actors.items part.plan.items ≡ None) prepared.parts.items }
+    ensures joined { IfOk result (HasRun K.state prepared) }
+    ensures fault { IfErr result IsThreadFault }
+{
+    let opened = open_lines(alloc, prepared.casts.as_slice(), prepared.parts.as_slice())?;
+    let Opened {
+        lines,
+        execs,
+        callers,
+        starters,
+    } = opened;
+    let passes = Passes {
+        execs,
+        callers,
+        starters,
+    };
+    let ends = run_threads(rt, alloc, prepared, &lines, passes, gate)?;
+    let joined = settle(rt, alloc, &lines, ends)?;
+    Ok(joined)
+}
+
+/// Runs each actor and each caller in a thread of its own, each caller by its plan, and ends when
+/// all have ended. A caller without a plan has an empty one. The gate is passed before each run of a
+/// call. That a run ends is not promised.
+pub fn run_plans<R: Threads + Wait + Sync, K: Actor + Send, G: Gate>(
+    rt: &R,
+    alloc: Global,
+    casts: Vec<Cast<K>>,
+    plans: Vec<(CallerId, Plan)>,
+    gate: &G,
+) -> Result<Joined<K>, RunFault>
+    requires fit { IsFitting casts.items }
+    requires plans { PlansFit casts.items plans.items }
+    ensures joined { IfOk result (λ joined. IsJoined (map (casting K.state) casts.items) (map plan_seen plans.items) joined.owners.items (map (λ actor. end_seen K.state actor.ended) joined.actors.items)) }
+    ensures good { IfOk result (λ _. first_bad_plan (map (casting K.state) casts.items) (map plan_seen plans.items) ≡ None) }
+    ensures fault { IfErr result (IsFault (map (casting K.state) casts.items) (map plan_seen plans.items)) }
+{
+    let prepared = prepare(alloc, casts, plans)?;
+    if let Some(bad) = first_bad_part(alloc, prepared.parts.as_slice())? {
+        return Err(RunFault::BadPlan(bad.0, bad.1));
+    }
+    let joined = run_prepared(rt, alloc, prepared, gate)?;
+    Ok(joined)
+}

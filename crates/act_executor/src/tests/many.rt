@@ -1,0 +1,133 @@
+//! As many callers and actors as there can be, and more calls than a line has room for.
+
+use super::scene::{
+    Given, Ids, Row, all_actors, all_callers, counters, few_ids, plans_for_all, plans_of, ran,
+};
+use crate::{Ended, Finished, NoGate};
+use act_kinds::Actor;
+use act_owner::Owner;
+use act_rules::RunItem;
+use act_types::{FutureId, MOST_ACTORS, MOST_CALLERS, Method, NoMemory, Value};
+use std::alloc::Global;
+use std::test::Fail;
+
+fn number_at(owner: &Owner, place: u32) -> Option<i64> {
+    match owner.answer(FutureId::new(place)) {
+        Some(Ok(Value::Int(number))) => Some(*number),
+        _ => None,
+    }
+}
+
+/// Whether each answer is a number.
+fn has_numbers(owner: &Owner) -> bool {
+    for place in 0..owner.count() {
+        if number_at(owner, place).is_none() {
+            return false;
+        }
+    }
+    true
+}
+
+/// Whether these are all callers by rising number, each with a number from each actor.
+fn all_have_numbers(owners: &[Owner]) -> bool {
+    for (caller, owner) in (1..=MOST_CALLERS).zip(owners) {
+        if owner.id().number() != caller
+            || owner.count() != MOST_ACTORS as u32
+            || !has_numbers(owner)
+        {
+            return false;
+        }
+    }
+    owners.len() == MOST_CALLERS as usize
+}
+
+fn has_call_of(log: &[RunItem], caller: u8) -> bool {
+    for item in log {
+        if item.caller.number() == caller {
+            return true;
+        }
+    }
+    false
+}
+
+/// Whether a log has one call of each caller.
+fn has_one_of_each(log: &[RunItem]) -> bool {
+    for caller in 1..=MOST_CALLERS {
+        if !has_call_of(log, caller) {
+            return false;
+        }
+    }
+    log.len() == MOST_CALLERS as usize
+}
+
+/// Whether this is the actor of a number, and retired as a counter that each caller added 1 to.
+fn has_counted<K: Actor>(
+    alloc: Global,
+    actor: u8,
+    finished: &Finished<K>,
+) -> Result<bool, NoMemory> {
+    let Ended::Retired(retired) = &finished.ended else {
+        return Ok(false);
+    };
+    let mut text = String::new(alloc);
+    retired.state_text(&mut text)?;
+    Ok(
+        retired.id().number() == actor
+            && text.as_str() == "counter 16"
+            && has_one_of_each(retired.log()),
+    )
+}
+
+/// Whether these are all actors by rising number, each of which ran a call of each caller.
+fn all_have_counted<K: Actor>(alloc: Global, actors: &[Finished<K>]) -> Result<bool, NoMemory> {
+    for (actor, finished) in (1..=MOST_ACTORS).zip(actors) {
+        if !has_counted(alloc, actor, finished)? {
+            return Ok(false);
+        }
+    }
+    Ok(actors.len() == MOST_ACTORS as usize)
+}
+
+/// Each of sixteen callers adds 1 to each of eight counters, whose casts come by falling number.
+#[test]
+fn all_sizes(rt: HostRuntime) -> Result<(), Fail> {
+    let alloc = rt.alloc();
+    let callers = all_callers(alloc)?;
+    let actors = all_actors(alloc)?;
+    let plans = plans_for_all(alloc, callers.as_slice(), actors.as_slice())?;
+    let mut casts = counters(alloc, actors.as_slice(), callers.as_slice())?;
+    casts.reverse();
+    let joined = ran(&rt, alloc, casts, plans, &NoGate)?;
+    assert!(rt; all_have_numbers(joined.owners.as_slice()));
+    assert!(rt; all_have_counted(alloc, joined.actors.as_slice())?);
+    Ok(())
+}
+
+/// Whether a caller has so many answers: 1, 2, 3, .. .
+fn has_counted_to(owner: &Owner, count: u32) -> bool {
+    for place in 0..count {
+        if number_at(owner, place) != Some(place as i64 + 1) {
+            return false;
+        }
+    }
+    owner.count() == count
+}
+
+fn have_counted_to(owners: &[Owner], count: u32) -> bool {
+    match owners {
+        [owner] => has_counted_to(owner, count),
+        _ => false,
+    }
+}
+
+#[test]
+fn two_hundred_in_order(rt: HostRuntime) -> Result<(), Fail> {
+    let alloc = rt.alloc();
+    let Ids { c1, a1, .. } = few_ids();
+    let row = (c1, Row::Call(a1, Method::Add, Given::Int(1)));
+    let casts = counters(alloc, &[a1], &[c1])?;
+    let plans = plans_of(alloc, &[c1], &[row; 200])?;
+    let joined = ran(&rt, alloc, casts, plans, &NoGate)?;
+    assert!(rt; have_counted_to(joined.owners.as_slice(), 200));
+    Ok(())
+}

@@ -1,0 +1,194 @@
+//! What the threads are given.
+
+ghost use Rattle.std.specs.Prelude.{◌≡◌, ◌<◌, length, map, zip, All, None, IfOk};
+ghost use Rattle.act_rules.specs.Plans.{first_bad};
+ghost use Rattle.act_actor.specs.Cast.{CallersDiffer};
+ghost use Rattle.act_tasks.specs.Each.{Each, EachReady};
+ghost use Rattle.act_lines.specs.Opened.{IsExec, IsCaller};
+ghost use Rattle.act_executor.specs.Work.{IsReady, IsServedBy, CanDrive, IsDrivenBy, serving_start, cast_start, driving_start, part_start};
+
+use act_actor::{Cast, Live};
+use act_drive::{CallerLines, CallerPasses, Driven, Plan, drive};
+use act_kinds::Actor;
+use act_lines::Lines;
+use act_owner::Owner;
+use act_plans::Part;
+use act_seats::Seat;
+use act_serve::{ExecLines, ExecPasses, Finished, Gate, serve_by};
+use act_tasks::Task;
+use act_types::NoMemory;
+use std::alloc::Global;
+use std::sync::Wait;
+
+/// What an actor's thread is given.
+#[derive(Drop)]
+pub(crate) struct Serving<'a, K, G> {
+    live: Live<K>,
+    lines: ExecLines<'a>,
+    passes: ExecPasses,
+    gate: &'a G,
+}
+
+impl<'a, K: Actor + Send, G: Gate> Task for Serving<'a, K, G> {
+    type Output = Finished<K>;
+
+    ghost ready = { IsReady K.state };
+
+    ghost done = { IsServedBy K.state };
+
+    fn run<R: Wait>(self, rt: &R) -> Finished<K> {
+        let Serving {
+            live,
+            lines,
+            passes,
+            gate,
+        } = self;
+        serve_by(
+            rt,
+            live,
+            &lines,
+            passes,
+            &|actor, place| { gate.pass(actor, place) },
+        )
+    }
+}
+
+/// What a caller's thread is given.
+#[derive(Drop)]
+pub(crate) struct Driving<'a> {
+    alloc: Global,
+    owner: Owner,
+    plan: Plan,
+    lines: CallerLines<'a>,
+    passes: CallerPasses,
+}
+
+impl<'a> Task for Driving<'a> {
+    type Output = Driven;
+
+    ghost ready = { CanDrive };
+
+    ghost done = { IsDrivenBy };
+
+    fn run<R: Wait>(self, rt: &R) -> Driven {
+        let Driving {
+            alloc,
+            owner,
+            plan,
+            lines,
+            passes,
+        } = self;
+        drive(rt, alloc, owner, plan, &lines, passes)
+    }
+}
+
+/// What one actor's thread is given.
+fn one_serving<'a, K: Actor, G>(
+    alloc: Global,
+    cast: Cast<K>,
+    lines: &'a Lines,
+    exec: Seat<ExecPasses>,
+    gate: &'a G,
+) -> Result<Serving<'a, K, G>, NoMemory>
+    requires callers { CallersDiffer cast.callers }
+    requires place { (exec.place < length lines.now.mails.items) × (exec.place < length lines.now.controls.items) }
+    requires exec { IsExec lines.now cast exec }
+    ensures ready { IfOk result (IsReady K.state) }
+    ensures start { IfOk result (λ serving. serving_start K.state serving ≡ cast_start K.state lines.now.replies.items (cast, exec)) }
+{
+    let Cast {
+        actor,
+        callers,
+        kind,
+    } = cast;
+    let Seat { place, pass } = exec;
+    let live = Live::open(alloc, actor, callers.as_slice(), kind)?;
+    let lines = ExecLines {
+        mail: &lines.mails[place],
+        control: &lines.controls[place],
+        replies: lines.replies.as_slice(),
+    };
+    Ok(Serving {
+        live,
+        lines,
+        passes: pass,
+        gate,
+    })
+}
+
+/// What the actors' threads are given.
+pub(crate) fn servings<'a, K: Actor, G>(
+    alloc: Global,
+    casts: Vec<Cast<K>>,
+    lines: &'a Lines,
+    execs: Vec<Seat<ExecPasses>>,
+    gate: &'a G,
+) -> Result<Vec<Serving<'a, K, G>>, NoMemory>
+    requires callers { All (λ cast. CallersDiffer cast.callers) casts.items }
+    requires places { All (λ exec. (exec.place < length lines.now.mails.items) × (exec.place < length lines.now.controls.items)) execs.items }
+    requires execs { Each (IsExec lines.now) casts.items execs.items }
+    ensures ready { IfOk result (λ servings. All (IsReady K.state) servings.items) }
+    ensures starts { IfOk result (λ servings. map (serving_start K.state) servings.items ≡ map (cast_start K.state lines.now.replies.items) (zip casts.items execs.items)) }
+{
+    let mut servings = Vec::new(alloc);
+    for (cast, exec) in casts.into_iter().zip(execs) {
+        servings.push(one_serving(alloc, cast, lines, exec, gate)?)?;
+    }
+    Ok(servings)
+}
+
+/// What one caller's thread is given.
+fn one_driving<'a>(
+    alloc: Global,
+    part: Part,
+    lines: &'a Lines,
+    caller: Seat<CallerPasses>,
+) -> Result<Driving<'a>, NoMemory>
+    requires actors { CallersDiffer part.actors.items }
+    requires place { caller.place < length lines.now.replies.items }
+    requires caller { IsCaller lines.now part caller }
+    requires fits { first_bad part.actors.items part.plan.items ≡ None }
+    ensures ready { IfOk result CanDrive }
+    ensures start { IfOk result (λ driving. driving_start driving ≡ part_start lines.now (part, caller)) }
+{
+    let Part {
+        caller: id,
+        actors,
+        plan,
+    } = part;
+    let Seat { place, pass } = caller;
+    let owner = Owner::open(alloc, id, actors.as_slice())?;
+    let lines = CallerLines {
+        mails: lines.mails.as_slice(),
+        controls: lines.controls.as_slice(),
+        replies: &lines.replies[place],
+    };
+    Ok(Driving {
+        alloc,
+        owner,
+        plan,
+        lines,
+        passes: pass,
+    })
+}
+
+/// What the callers' threads are given.
+pub(crate) fn drivings<'a>(
+    alloc: Global,
+    parts: Vec<Part>,
+    lines: &'a Lines,
+    callers: Vec<Seat<CallerPasses>>,
+) -> Result<Vec<Driving<'a>>, NoMemory>
+    requires actors { All (λ part. CallersDiffer part.actors.items) parts.items }
+    requires places { All (λ caller. caller.place < length lines.now.replies.items) callers.items }
+    requires callers { Each (IsCaller lines.now) parts.items callers.items }
+    requires fits { All (λ part. first_bad part.actors.items part.plan.items ≡ None) parts.items }
+    ensures ready { IfOk result (λ drivings. All CanDrive drivings.items) }
+    ensures starts { IfOk result (λ drivings. map driving_start drivings.items ≡ map (part_start lines.now) (zip parts.items callers.items)) }
+{
+    let mut drivings = Vec::new(alloc);
+    for (part, caller) in parts.into_iter().zip(callers) {
+        drivings.push(one_driving(alloc, part, lines, caller)?)?;
+    }
+    Ok(drivings)
+}
