@@ -1,36 +1,55 @@
 #!/usr/bin/env python3
-"""Refuses each request for memory of some proved tests in turn.
+"""Refuses each request for memory of some proved tests in turn, and each thread.
 
-Each of these tests makes calls that may want memory. Where a call is refused it must have changed
-nothing, and it succeeds when it is made again; a world stops at the event, and plays on from there.
-So the test passes; where the test itself is refused while it sets things up, its result is an
-error. Anything else is a failure, and so is a test of which no call is refused. The requests are
-refused from outside, by tools/refuse.c.
+Each of the first tests makes calls that may want memory. Where a call is refused it must have
+changed nothing, and it succeeds when it is made again; a world stops at the event, and plays on from
+there. So the test passes; where the test itself is refused while it sets things up, its result is an
+error. An actor or a caller in a thread of its own ends, and has told or heard by then what is due.
+Anything else is a failure, as a run is that doesn't end, and so is a test of which no call is refused.
+
+Each of the others is a run of callers and actors in threads. It ends, whatever is refused: as if
+nothing were, or the test's result is an error, and always one where a thread is refused. The number
+of requests may vary there, so the sweep goes on until no run that it saw made so many.
+
+All is refused from outside, by tools/refuse.c.
 """
 import sys
 import tempfile
+from itertools import chain
 
-from refusing import TOP, Refusing
+from refusing import HANGS, TOP, Refusing
 
 PARTS = ["act_inbox", "act_replies", "act_resolver", "act_owner", "act_actor"]
 TESTS = [(crate, "tests::refused_memory_changes_nothing") for crate in PARTS]
 ROWS = ["another_caller_passes", "one_packet_for_good", "release_and_retire", "ran_and_yet_died"]
 TESTS += [("act_world", f"tests::{row}") for row in ROWS]
+TESTS += [("act_serve", "tests::refused_memory_starves"), ("act_drive", "tests::starved::refused_memory_starves")]
+RUNS = [("act_executor", f"tests::{run}") for run in ["a_table_and_an_account", "kills::a_kill_once"]]
 PASSED = 0
 ERROR = 101
+NO_THREAD = b"error: NoThread"
+
+
+def command_of(crate, test):
+    return [TOP / f"crates/{crate}/out/{crate}_tests", test]
+
+
+def whole_of(refusing, crate, test):
+    """What comes of a test that is refused nothing."""
+    whole = refusing.run(command_of(crate, test), 0)
+    if whole[0] != PASSED or b"test result: ok" not in whole[1]:
+        sys.exit(f"sweep_tests: {crate}: {test} goes wrong with ample memory: {whole!r:.600}")
+    return whole
 
 
 def sweep(refusing, crate, test):
     """How many of a test's requests pass when they are refused, and what is wrong."""
-    command = [TOP / f"crates/{crate}/out/{crate}_tests", test]
-    whole = refusing.run(command, 0)
-    if whole[0] != PASSED or b"test result: ok" not in whole[1]:
-        sys.exit(f"sweep_tests: {crate}: {test} goes wrong with ample memory: {whole!r:.600}")
+    whole = whole_of(refusing, crate, test)
     requests = refusing.requests()
     wrong = []
     refused_calls = 0
     for nth in range(1, requests + 1):
-        got = refusing.run(command, nth)
+        got = refusing.run(command_of(crate, test), nth)
         refused_calls += got == whole
         if got != whole and got[0] != ERROR:
             wrong.append(f"request {nth} of {requests} refused: got {got!r:.600}")
@@ -40,16 +59,54 @@ def sweep(refusing, crate, test):
     return passed, wrong
 
 
+def refuse_requests(refusing, command, whole):
+    """Which request a run of threads was refused, what came of it, and whether that is well."""
+    most = refusing.requests()
+    nth = 0
+    while nth < most:
+        nth += 1
+        got = refusing.run(command, nth)
+        most = max(most, refusing.requests())
+        yield f"request {nth}", got, got == whole or got[0] == ERROR
+
+
+def refuse_threads(refusing, command, threads):
+    """Which thread a run was refused, what came of it, and whether that is well."""
+    for nth in range(1, threads + 1):
+        got = refusing.run(command, 0, thread=nth)
+        yield f"thread {nth} of {threads}", got, got[0] == ERROR and NO_THREAD in got[2]
+
+
+def sweep_run(refusing, crate, test):
+    """How many refused requests and threads a run ends well after, and what is wrong. Where a run
+    does not end, no more are made."""
+    whole = whole_of(refusing, crate, test)
+    command = command_of(crate, test)
+    threads = refusing.threads()
+    passed = 0
+    wrong = [] if threads else ["no thread was to start"]
+    for refused, got, is_well in chain(
+        refuse_requests(refusing, command, whole), refuse_threads(refusing, command, threads)
+    ):
+        passed += is_well
+        if not is_well:
+            wrong.append(f"{refused} refused: got {got!r:.600}")
+        if got == HANGS:
+            break
+    return passed, wrong
+
+
 def main():
     passed = failed = 0
     with tempfile.TemporaryDirectory() as folder:
         refusing = Refusing(folder)
-        for crate, test in TESTS:
-            right, wrong = sweep(refusing, crate, test)
-            for line in wrong:
-                print(f"{crate}: {test}: {line}")
-            passed += right
-            failed += len(wrong)
+        for sweep_one, tests in [(sweep, TESTS), (sweep_run, RUNS)]:
+            for crate, test in tests:
+                right, wrong = sweep_one(refusing, crate, test)
+                for line in wrong:
+                    print(f"{crate}: {test}: {line}")
+                passed += right
+                failed += len(wrong)
     print(f"sweep_tests: {passed} passed, {failed} failed")
     sys.exit(1 if failed else 0)
 
