@@ -5,6 +5,8 @@ use Rattle.std.specs.Global.{Vec}
 use Rattle.act_rules.specs.declared.script.Step.{Step}
 use Rattle.act_rules.specs.History.{Casting}
 use Rattle.act_plans.specs.Runs.{first_bad_plan}
+use Rattle.act_tasks.specs.declared.Refusal.{Refusal}
+use Rattle.act_tasks.specs.declared.Refusal.TheVariants as refusal
 use Rattle.act_plans.specs.declared.rising.Prepared.{Prepared}
 use Rattle.act_lines.specs.declared.opened.Opened.{Opened}
 use Rattle.act_lines.specs.Opened.{AreOpened}
@@ -24,6 +26,11 @@ IsThreadFault TooMany = ⊥
 IsThreadFault (BadPlan caller place) = ⊥
 IsThreadFault NoThread = Unit {0}
 IsThreadFault NoMemory = Unit {0}
+
+-- why a thread's refusal ends a run
+abbrev pub fault_of : Refusal → RunFault
+fault_of refusal.NoThread = NoThread
+fault_of refusal.NoMemory = NoMemory
 
 -- which fault comes: a bad plan's first step that would be refused; a thread is missed only where all plans are good
 abbrev pub IsFault : List Casting → List (ℕ × List Step) → RunFault → Type 0

@@ -15,7 +15,7 @@ ghost use Rattle.act_joint.specs.Joined.{IsJoined};
 ghost use Rattle.act_executor.specs.Audits.{SitsAtControl};
 ghost use Rattle.act_executor.specs.Joins.{AreServed, AreDriven, AreStarters};
 ghost use Rattle.act_executor.specs.Work.{IsReady, IsServedBy, CanDrive, IsDrivenBy};
-ghost use Rattle.act_executor.specs.Runs.{plan_seen, HasRun, IsFault, IsThreadFault};
+ghost use Rattle.act_executor.specs.Runs.{plan_seen, HasRun, IsFault, IsThreadFault, fault_of};
 
 use crate::joined::{Ends, Joined, settle};
 use crate::starter::{Starter, seated};
@@ -59,7 +59,9 @@ impl From<NoMemory> for RunFault {
 }
 
 impl From<Refusal> for RunFault {
-    ghost from_gives = { λ _ fault. IsThreadFault fault };
+    ghost use Rattle.std.specs.Prelude.{◌≡◌};
+
+    ghost from_gives = { λ refusal result. result ≡ fault_of refusal };
 
     fn from(refusal: Refusal) -> RunFault {
         match refusal {
