@@ -103,6 +103,36 @@ fn driven<R: Wait>(
     }
 }
 
+/// A caller drives its plan, with an executor in a thread beside it.
+fn beside<R: Threads + Wait + Sync>(
+    rt: &R,
+    alloc: Global,
+    caller: (Owner, Plan, CallerPasses),
+    exec: ExecPasses,
+    lines: (&CallerLines, &ExecLines),
+    way: Way,
+) -> (Told, Result<bool, NoMemory>)
+    requires sync { IsSync R.row }
+    requires owner { caller.0 ≡ opened_owner 1 (1 ∷ []) }
+    requires fits { first_bad (1 ∷ []) caller.1.items ≡ None }
+    requires unused { IsUnused lines.0.now.mails.now lines.0.now.controls.now lines.0.now.replies.now 1 caller.2 }
+    requires letters { exec.letters.line ≡ lines.1.now.mail.now.line }
+    requires kills { (exec.kills.line ≡ lines.1.now.control.now.line) × (exec.kills.actor ≡ 1) }
+    requires gives { exec.gives ≡ new_exec lines.1.now.replies.now.line 1 }
+{
+    let (owner, plan, passes) = caller;
+    let (lines, exec_lines) = lines;
+    thread::join(
+        rt,
+        move || -> Told
+            requires { (owner ≡ opened_owner 1 (1 ∷ [])) × (first_bad (1 ∷ []) plan.items ≡ None) × IsUnused lines.now.mails.now lines.now.controls.now lines.now.replies.now 1 passes }
+        { driven(rt, alloc, owner, plan, lines, passes) },
+        move || -> Result<bool, NoMemory>
+            requires { (exec.letters.line ≡ exec_lines.now.mail.now.line) × (exec.kills.line ≡ exec_lines.now.control.now.line) × (exec.kills.actor ≡ 1) × (exec.gives ≡ new_exec exec_lines.now.replies.now.line 1) }
+        { serve_counter(rt, alloc, exec_lines, exec, way) },
+    )
+}
+
 /// Drives a plan against an executor. What the caller keeps, and whether the executor saw all as it
 /// should be.
 fn joined<R: Threads + Wait + Sync>(
@@ -132,15 +162,8 @@ fn joined<R: Threads + Wait + Sync>(
         control: &controls[0],
         replies: &replies,
     };
-    let (told, is_right) = thread::join(
-        rt,
-        move || -> Told
-            requires { (owner ≡ opened_owner 1 (1 ∷ [])) × (first_bad (1 ∷ []) plan.items ≡ None) × IsUnused lines.mails.now lines.controls.now lines.replies.now 1 passes }
-        { driven(rt, alloc, owner, plan, &lines, passes) },
-        move || -> Result<bool, NoMemory>
-            requires { (exec.letters.line ≡ exec_lines.mail.now.line) × (exec.kills.line ≡ exec_lines.control.now.line) × (exec.kills.actor ≡ 1) × (exec.gives ≡ new_exec exec_lines.replies.now.line 1) }
-        { serve_counter(rt, alloc, &exec_lines, exec, way) },
-    );
+    let caller = (owner, plan, passes);
+    let (told, is_right) = beside(rt, alloc, caller, exec, (&lines, &exec_lines), way);
     Ok((told, is_right?))
 }
 

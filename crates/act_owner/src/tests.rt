@@ -101,15 +101,30 @@ fn asked(alloc: Global, owner: &mut Owner, ask: Ask) -> Result<Told, NoMemory> {
     }
 }
 
-#[test]
-fn from_the_first_call_to_a_death(rt: HostRuntime) -> Result<(), Fail> {
+/// Asks for what each row asks for, of which this is to be told.
+fn assert_told(rt: &impl Abort, alloc: Global, owner: &mut Owner, rows: &[(Ask, Told)]) {
+    for (ask, want) in rows {
+        assert_eq!(rt; asked(alloc, owner, *ask), Ok(*want), "at {ask:?}");
+    }
+}
+
+/// Caller 1, which has handles of actors 1 and 2.
+fn opened(alloc: Global) -> Result<Owner, NoMemory> {
     let c1 = CallerId::new(1).unwrap();
     let a1 = ActorId::new(1).unwrap();
     let a2 = ActorId::new(2).unwrap();
+    Owner::open(alloc, c1, &[a1, a2])
+}
+
+fn first_calls() -> [(Ask, Told); 8] {
+    let a1 = ActorId::new(1).unwrap();
+    let a2 = ActorId::new(2).unwrap();
     let a3 = ActorId::new(3).unwrap();
-    let [k0, k1, k2, k3] = [0, 1, 2, 3].map(FutureId::new);
-    let mut owner = Owner::open(rt.alloc(), c1, &[a1, a2])?;
-    for (ask, want) in [
+    let k0 = FutureId::new(0);
+    let k1 = FutureId::new(1);
+    let k2 = FutureId::new(2);
+    let k3 = FutureId::new(3);
+    [
         (Ask::Submit(a1, Method::Add, 1, 5), Told::Future(k0)),
         (Ask::Submit(a2, Method::Get, 0, 0), Told::Future(k1)),
         (Ask::Submit(a1, Method::Get, 0, 0), Told::Future(k2)),
@@ -124,6 +139,15 @@ fn from_the_first_call_to_a_death(rt: HostRuntime) -> Result<(), Fail> {
         (Ask::Packet(k3), Told::NotSent(SendRefusal::NoFuture)),
         (Ask::Packet(k0), Told::Packet(0, Some(5))),
         (Ask::Packet(k0), Told::Packet(0, Some(5))),
+    ]
+}
+
+fn first_answers() -> [(Ask, Told); 5] {
+    let a1 = ActorId::new(1).unwrap();
+    let a2 = ActorId::new(2).unwrap();
+    let k0 = FutureId::new(0);
+    let k2 = FutureId::new(2);
+    [
         (Ask::Reply(a2, k0, Ok(5)), Told::Collected(Collected::Stray)),
         (Ask::Reply(a1, k2, Ok(5)), Told::Collected(Collected::Stray)),
         (
@@ -138,6 +162,16 @@ fn from_the_first_call_to_a_death(rt: HostRuntime) -> Result<(), Fail> {
             Ask::Reply(a1, k0, Ok(5)),
             Told::Collected(Collected::Late(k0)),
         ),
+    ]
+}
+
+fn a_death() -> [(Ask, Told); 7] {
+    let a1 = ActorId::new(1).unwrap();
+    let a3 = ActorId::new(3).unwrap();
+    let k0 = FutureId::new(0);
+    let k2 = FutureId::new(2);
+    let k3 = FutureId::new(3);
+    [
         (Ask::Death(a1), Told::Collected(Collected::Died(1))),
         (Ask::Death(a1), Told::Collected(Collected::Died(0))),
         (Ask::Death(a3), Told::Collected(Collected::Stray)),
@@ -145,27 +179,42 @@ fn from_the_first_call_to_a_death(rt: HostRuntime) -> Result<(), Fail> {
         (Ask::Packet(k0), Told::Packet(0, Some(5))),
         (Ask::Submit(a1, Method::Get, 0, 0), Told::Future(k3)),
         (Ask::Packet(k3), Told::NotSent(SendRefusal::Answered)),
-    ] {
-        assert_eq!(rt; asked(rt.alloc(), &mut owner, ask), Ok(want), "at {ask:?}");
-    }
-    for (a, is_dead, awaits) in [(a1, true, false), (a2, false, true), (a3, false, false)] {
+    ]
+}
+
+/// Of these actors the caller knows which are dead, and of which it awaits an answer.
+fn assert_awaits(rt: &impl Abort, owner: &Owner, rows: [(ActorId, bool, bool); 3]) {
+    for (a, is_dead, awaits) in rows {
         assert_eq!(rt;
             (owner.is_dead(a), owner.awaits(a)),
             (is_dead, awaits),
             "of {a}"
         );
     }
-    Ok(())
 }
 
 #[test]
-fn calls_wait_for_answers(rt: HostRuntime) -> Result<(), Fail> {
-    let c1 = CallerId::new(1).unwrap();
+fn from_the_first_call_to_a_death(rt: HostRuntime) -> Result<(), Fail> {
+    let mut owner = opened(rt.alloc())?;
+    assert_told(&rt, rt.alloc(), &mut owner, &first_calls());
+    assert_told(&rt, rt.alloc(), &mut owner, &first_answers());
+    assert_told(&rt, rt.alloc(), &mut owner, &a_death());
     let a1 = ActorId::new(1).unwrap();
     let a2 = ActorId::new(2).unwrap();
-    let [k0, k1, k2, k3] = [0, 1, 2, 3].map(FutureId::new);
-    let mut owner = Owner::open(rt.alloc(), c1, &[a1, a2])?;
-    for (ask, want) in [
+    let a3 = ActorId::new(3).unwrap();
+    let rows = [(a1, true, false), (a2, false, true), (a3, false, false)];
+    assert_awaits(&rt, &owner, rows);
+    Ok(())
+}
+
+fn waiting_calls() -> [(Ask, Told); 7] {
+    let a1 = ActorId::new(1).unwrap();
+    let a2 = ActorId::new(2).unwrap();
+    let k0 = FutureId::new(0);
+    let k1 = FutureId::new(1);
+    let k2 = FutureId::new(2);
+    let k3 = FutureId::new(3);
+    [
         (Ask::Submit(a2, Method::Add, 1, 7), Told::Future(k0)),
         (Ask::SubmitFuture(a1, k0), Told::Future(k1)),
         (Ask::Submit(a1, Method::Add, 1, 1), Told::Future(k2)),
@@ -176,6 +225,15 @@ fn calls_wait_for_answers(rt: HostRuntime) -> Result<(), Fail> {
         (Ask::Ready, Told::Ready(Some(k0))),
         (Ask::Packet(k1), Told::NotSent(SendRefusal::NotReady)),
         (Ask::Packet(k0), Told::Packet(0, Some(7))),
+    ]
+}
+
+fn calls_that_waited() -> [(Ask, Told); 6] {
+    let a2 = ActorId::new(2).unwrap();
+    let k0 = FutureId::new(0);
+    let k1 = FutureId::new(1);
+    let k2 = FutureId::new(2);
+    [
         (Ask::Ready, Told::Ready(Some(k2))),
         (Ask::Packet(k2), Told::Packet(1, Some(1))),
         (Ask::Ready, Told::Ready(None)),
@@ -185,10 +243,22 @@ fn calls_wait_for_answers(rt: HostRuntime) -> Result<(), Fail> {
         ),
         (Ask::Ready, Told::Ready(Some(k1))),
         (Ask::Packet(k1), Told::Packet(0, Some(7))),
-    ] {
-        assert_eq!(rt; asked(rt.alloc(), &mut owner, ask), Ok(want), "at {ask:?}");
-    }
+    ]
+}
+
+#[test]
+fn calls_wait_for_answers(rt: HostRuntime) -> Result<(), Fail> {
+    let mut owner = opened(rt.alloc())?;
+    assert_told(&rt, rt.alloc(), &mut owner, &waiting_calls());
+    assert_told(&rt, rt.alloc(), &mut owner, &calls_that_waited());
     Ok(())
+}
+
+/// A caller that has these answers.
+fn assert_answers(rt: &impl Abort, owner: &Owner, answers: &[(FutureId, Option<Answer>)]) {
+    for (k, want) in answers {
+        assert_eq!(rt; owner.answer(*k), want.as_ref());
+    }
 }
 
 /// Compares all that can be read of a caller which submitted these calls and has these answers.
@@ -198,51 +268,100 @@ fn assert_stands(
     answers: &[(FutureId, Option<Answer>)],
     ready: Option<FutureId>,
 ) {
-    for (k, want) in answers {
-        assert_eq!(rt; owner.answer(*k), want.as_ref());
-    }
+    assert_answers(rt, owner, answers);
     assert_eq!(rt; owner.count() as usize, answers.len());
     assert_eq!(rt; owner.ready(), ready);
+    assert_holds_one(rt, owner);
+}
+
+/// Of actors 1 and 2 the caller holds a handle each.
+fn assert_holds_one(rt: &impl Abort, owner: &Owner) {
     for number in 1..3 {
         let a = ActorId::new(number).unwrap();
         assert_eq!(rt; owner.holds(a), 1);
     }
 }
 
-#[test]
-fn forged_notices_change_nothing(rt: HostRuntime) -> Result<(), Fail> {
+/// Three calls, of which two are sent and the first is answered.
+fn three_calls() -> [(Ask, Told); 6] {
+    let a1 = ActorId::new(1).unwrap();
+    let a2 = ActorId::new(2).unwrap();
+    let k0 = FutureId::new(0);
+    let k1 = FutureId::new(1);
+    let k2 = FutureId::new(2);
+    [
+        (Ask::Submit(a1, Method::Add, 1, 5), Told::Future(k0)),
+        (Ask::Submit(a2, Method::Get, 0, 0), Told::Future(k1)),
+        (Ask::Submit(a1, Method::Get, 0, 0), Told::Future(k2)),
+        (Ask::Packet(k0), Told::Packet(0, Some(5))),
+        (Ask::Packet(k1), Told::Packet(0, None)),
+        (
+            Ask::Reply(a1, k0, Ok(5)),
+            Told::Collected(Collected::First(k0)),
+        ),
+    ]
+}
+
+fn forged_notices() -> [Notice; 6] {
     let c1 = CallerId::new(1).unwrap();
     let c2 = CallerId::new(2).unwrap();
     let a1 = ActorId::new(1).unwrap();
     let a2 = ActorId::new(2).unwrap();
-    let a3 = ActorId::new(3).unwrap();
-    let [k0, k1, k2, k9] = [0, 1, 2, 9].map(FutureId::new);
-    let mut owner = Owner::open(rt.alloc(), c1, &[a1, a2])?;
-    for ask in [
-        Ask::Submit(a1, Method::Add, 1, 5),
-        Ask::Submit(a2, Method::Get, 0, 0),
-        Ask::Submit(a1, Method::Get, 0, 0),
-        Ask::Packet(k0),
-        Ask::Packet(k1),
-        Ask::Reply(a1, k0, Ok(5)),
-    ] {
-        asked(rt.alloc(), &mut owner, ask)?;
-    }
-    let answers = [(k0, Some(Ok(Value::Int(5)))), (k1, None), (k2, None)];
-    for notice in [
+    let k1 = FutureId::new(1);
+    [
         notice_of(a2, c2, k1, Ok(7)),
         notice_of(a1, c1, k1, Ok(7)),
-        notice_of(a2, c1, k9, Ok(7)),
-        notice_of(a1, c1, k2, Ok(7)),
+        notice_of(a2, c1, FutureId::new(9), Ok(7)),
+        notice_of(a1, c1, FutureId::new(2), Ok(7)),
         notice_of(a2, c1, k1, Err(Fault::ActorDied)),
-        Notice::Death(a3),
-    ] {
-        assert_eq!(rt; owner.collect(notice), Collected::Stray);
-        assert_stands(&rt, &owner, &answers, Some(k2));
+        Notice::Death(ActorId::new(3).unwrap()),
+    ]
+}
+
+/// A stray notice, after which the caller stands as before.
+fn assert_stray(
+    rt: &impl Abort,
+    owner: &mut Owner,
+    notice: Notice,
+    answers: &[(FutureId, Option<Answer>)],
+    ready: Option<FutureId>,
+) {
+    assert_eq!(rt; owner.collect(notice), Collected::Stray);
+    assert_stands(rt, owner, answers, ready);
+}
+
+#[test]
+fn forged_notices_change_nothing(rt: HostRuntime) -> Result<(), Fail> {
+    let c1 = CallerId::new(1).unwrap();
+    let a2 = ActorId::new(2).unwrap();
+    let k0 = FutureId::new(0);
+    let k1 = FutureId::new(1);
+    let k2 = FutureId::new(2);
+    let mut owner = opened(rt.alloc())?;
+    assert_told(&rt, rt.alloc(), &mut owner, &three_calls());
+    let answers = [(k0, Some(Ok(Value::Int(5)))), (k1, None), (k2, None)];
+    for notice in forged_notices() {
+        assert_stray(&rt, &mut owner, notice, &answers, Some(k2));
     }
     let genuine = notice_of(a2, c1, k1, Ok(7));
     assert_eq!(rt; owner.collect(genuine), Collected::First(k1));
     Ok(())
+}
+
+/// Submits so many calls of an actor. The last that was refused, by how many came before it.
+fn refused(
+    alloc: Global,
+    owner: &mut Owner,
+    a: ActorId,
+    count: u32,
+) -> Option<(u32, SubmitRefusal)> {
+    let mut refused = None;
+    for submitted in 0..count {
+        if let Err(refusal) = owner.submit(a, Method::Get, ListOf::new(alloc)) {
+            refused = Some((submitted, refusal));
+        }
+    }
+    refused
 }
 
 #[test]
@@ -250,15 +369,19 @@ fn the_most_calls(rt: HostRuntime) -> Result<(), Fail> {
     let c1 = CallerId::new(1).unwrap();
     let a1 = ActorId::new(1).unwrap();
     let mut owner = Owner::open(rt.alloc(), c1, &[a1])?;
-    let mut refused = None;
-    for submitted in 0..65_537 {
-        if let Err(refusal) = owner.submit(a1, Method::Get, ListOf::new(rt.alloc())) {
-            refused = Some((submitted, refusal));
-        }
-    }
-    assert_eq!(rt; refused, Some((65_536, SubmitRefusal::TooManyCalls)));
-    assert_eq!(rt; owner.count(), 65_536);
+    let refused = refused(rt.alloc(), &mut owner, a1, 65_537);
+    assert_eq!(rt;
+        (refused, owner.count()),
+        (Some((65_536, SubmitRefusal::TooManyCalls)), 65_536)
+    );
     Ok(())
+}
+
+/// Copies the caller's one handle of an actor until it has so many.
+fn assert_copies(rt: &impl Abort, owner: &mut Owner, a: ActorId, most: u32) {
+    for copies in 2..most {
+        assert_eq!(rt; owner.copy(a), Ok(copies));
+    }
 }
 
 #[test]
@@ -266,11 +389,11 @@ fn the_most_copies(rt: HostRuntime) -> Result<(), Fail> {
     let c1 = CallerId::new(1).unwrap();
     let a1 = ActorId::new(1).unwrap();
     let mut owner = Owner::open(rt.alloc(), c1, &[a1])?;
-    for copies in 2..65_536 {
-        assert_eq!(rt; owner.copy(a1), Ok(copies));
-    }
-    assert_eq!(rt; owner.copy(a1), Err(HandleRefusal::TooManyCopies));
-    assert_eq!(rt; owner.holds(a1), 65_535);
+    assert_copies(&rt, &mut owner, a1, 65_536);
+    assert_eq!(rt;
+        (owner.copy(a1), owner.holds(a1)),
+        (Err(HandleRefusal::TooManyCopies), 65_535)
+    );
     Ok(())
 }
 
@@ -326,20 +449,39 @@ fn asked_again(
     }
 }
 
-/// Memory is refused from outside, at most once.
-#[test]
-fn refused_memory_changes_nothing(rt: HostRuntime) -> Result<(), Fail> {
-    let c1 = CallerId::new(1).unwrap();
+/// The caller, which is opened once more where memory is refused.
+fn opened_again(rt: &impl Abort, alloc: Global) -> Result<Owner, NoMemory> {
+    let mut owner = opened(alloc);
+    if owner.is_err() {
+        owner = opened(alloc);
+        assert!(rt; owner.is_ok());
+    }
+    owner
+}
+
+/// Asks for what each row asks for, where memory may be refused once.
+fn assert_told_again(
+    rt: &impl Abort,
+    alloc: Global,
+    owner: &mut Owner,
+    rows: &[(Ask, Told)],
+) -> Result<(), NoMemory> {
+    for (ask, want) in rows {
+        let told = asked_again(rt, alloc, owner, *ask)?;
+        assert_eq!(rt; told, *want, "at {ask:?}");
+    }
+    Ok(())
+}
+
+fn calls_and_packets() -> [(Ask, Told); 10] {
     let a1 = ActorId::new(1).unwrap();
     let a2 = ActorId::new(2).unwrap();
-    let [k0, k1, k2, k3, k4] = [0, 1, 2, 3, 4].map(FutureId::new);
-    let mut opened = Owner::open(rt.alloc(), c1, &[a1, a2]);
-    if opened.is_err() {
-        opened = Owner::open(rt.alloc(), c1, &[a1, a2]);
-        assert!(rt; opened.is_ok());
-    }
-    let mut owner = opened?;
-    for (ask, want) in [
+    let k0 = FutureId::new(0);
+    let k1 = FutureId::new(1);
+    let k2 = FutureId::new(2);
+    let k3 = FutureId::new(3);
+    let k4 = FutureId::new(4);
+    [
         (Ask::Submit(a1, Method::Add, 1, 5), Told::Future(k0)),
         (Ask::SubmitFuture(a2, k0), Told::Future(k1)),
         (Ask::Submit(a2, Method::Add, 2, 7), Told::Future(k2)),
@@ -353,9 +495,14 @@ fn refused_memory_changes_nothing(rt: HostRuntime) -> Result<(), Fail> {
         (Ask::SubmitFuture(a1, k2), Told::Future(k4)),
         (Ask::Packet(k2), Told::Packet(1, Some(7))),
         (Ask::Ready, Told::Ready(Some(k3))),
-    ] {
-        let told = asked_again(&rt, rt.alloc(), &mut owner, ask)?;
-        assert_eq!(rt; told, want, "at {ask:?}");
-    }
+    ]
+}
+
+/// Memory is refused from outside, at most once.
+#[test]
+fn refused_memory_changes_nothing(rt: HostRuntime) -> Result<(), Fail> {
+    let alloc = rt.alloc();
+    let mut owner = opened_again(&rt, alloc)?;
+    assert_told_again(&rt, alloc, &mut owner, &calls_and_packets())?;
     Ok(())
 }

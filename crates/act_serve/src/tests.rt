@@ -10,9 +10,10 @@ use crate::{Ended, ExecLines, ExecPasses, Finished, Gate, NoGate, serve};
 use act_actor::Live;
 use act_kinds::{Actor, Counter};
 use act_mailbox::{Replies, ReplyCaller};
-use act_types::{ActorId, CallerId, KillNote, NoMemory, Notice};
-use station::{Station, actor, call, caller, opened};
+use act_types::{ActorId, NoMemory, Notice};
+use station::{Posted, Station, actor, caller, opened};
 use std::alloc::Global;
+use std::process::Abort;
 use std::sync::Wait;
 use std::test::Fail;
 
@@ -101,37 +102,49 @@ fn served<R: Wait>(
     Ok((end, given(rt, &replies[0], &mut collector)))
 }
 
+/// A counter serves these letters.
+fn served_letters<R: Wait + Abort>(
+    rt: &R,
+    alloc: Global,
+    letters: &[Posted],
+) -> Result<(End, Option<Counted>), NoMemory> {
+    let (mut station, passes) = opened(alloc)?;
+    assert!(rt; station.post_all(rt, alloc, letters)?);
+    served(rt, alloc, station, passes)
+}
+
+/// A counter serves these letters, and a kill that was asked before.
+fn served_and_killed<R: Wait + Abort>(
+    rt: &R,
+    alloc: Global,
+    letters: &[Posted],
+) -> Result<(End, Option<Counted>), NoMemory> {
+    let (mut station, passes) = opened(alloc)?;
+    assert!(rt; station.post_all(rt, alloc, letters)?);
+    assert!(rt; station.ask_kill(rt));
+    served(rt, alloc, station, passes)
+}
+
 #[test]
 fn retires_after_a_call(rt: HostRuntime) -> Result<(), Fail> {
-    let alloc = rt.alloc();
-    let (mut station, passes) = opened(alloc)?;
-    assert!(rt; station.post(&rt, call(alloc, caller(), actor(), 0)?));
-    assert!(rt; station.note(&rt, actor(), 1));
+    let letters = [Posted::Call(actor(), 0), Posted::Note(actor(), 1)];
     let wanted = Counted {
         replies: 1,
         deaths: 0,
     };
-    let told = served(&rt, alloc, station, passes)?;
+    let told = served_letters(&rt, rt.alloc(), &letters)?;
     assert_eq!(rt; told, (End::Retired(1), Some(wanted)));
     Ok(())
 }
 
 #[test]
 fn kill_first(rt: HostRuntime) -> Result<(), Fail> {
-    let alloc = rt.alloc();
-    let (mut station, passes) = opened(alloc)?;
-    assert!(rt; station.post(&rt, call(alloc, caller(), actor(), 0)?));
-    assert!(rt; station.note(&rt, actor(), 1));
-    let kill = KillNote {
-        caller: caller(),
-        actor: actor(),
-    };
-    assert!(rt; station.control.ask(&rt, &mut station.ask, kill).is_ok());
+    let letters = [Posted::Call(actor(), 0), Posted::Note(actor(), 1)];
     let wanted = Counted {
         replies: 0,
         deaths: 1,
     };
-    let told = served(&rt, alloc, station, passes)?;
+    let told = served_and_killed(&rt, rt.alloc(), &letters)?;
     assert_eq!(rt; told, (End::Killed(0), Some(wanted)));
     Ok(())
 }
@@ -140,22 +153,22 @@ fn kill_first(rt: HostRuntime) -> Result<(), Fail> {
 /// nothing, and nor do notes for another actor and second ones.
 #[test]
 fn forged_letters_change_nothing(rt: HostRuntime) -> Result<(), Fail> {
-    let alloc = rt.alloc();
-    let (mut station, passes) = opened(alloc)?;
     let other = ActorId::new(2).unwrap();
-    assert!(rt; station.post(&rt, call(alloc, caller(), other, 0)?));
-    assert!(rt; station.post(&rt, call(alloc, caller(), actor(), 65_536)?));
-    assert!(rt; station.post(&rt, call(alloc, caller(), actor(), 0)?));
-    assert!(rt; station.post(&rt, call(alloc, caller(), actor(), 0)?));
-    assert!(rt; station.note(&rt, other, 0));
-    assert!(rt; station.note(&rt, actor(), 2));
-    assert!(rt; station.note(&rt, actor(), 1));
-    assert!(rt; station.post(&rt, call(alloc, caller(), actor(), 1)?));
+    let letters = [
+        Posted::Call(other, 0),
+        Posted::Call(actor(), 65_536),
+        Posted::Call(actor(), 0),
+        Posted::Call(actor(), 0),
+        Posted::Note(other, 0),
+        Posted::Note(actor(), 2),
+        Posted::Note(actor(), 1),
+        Posted::Call(actor(), 1),
+    ];
     let wanted = Counted {
         replies: 2,
         deaths: 0,
     };
-    let told = served(&rt, alloc, station, passes)?;
+    let told = served_letters(&rt, rt.alloc(), &letters)?;
     assert_eq!(rt; told, (End::Retired(2), Some(wanted)));
     Ok(())
 }
@@ -172,17 +185,17 @@ fn is_starved(end: End, given: Option<Counted>) -> bool {
 /// Where a request for memory is refused, the actor is starved. With ample memory it retires.
 #[test]
 fn refused_memory_starves(rt: HostRuntime) -> Result<(), Fail> {
-    let alloc = rt.alloc();
-    let (mut station, passes) = opened(alloc)?;
-    assert!(rt; station.post(&rt, call(alloc, caller(), actor(), 1)?));
-    assert!(rt; station.post(&rt, call(alloc, caller(), actor(), 0)?));
-    assert!(rt; station.post(&rt, call(alloc, caller(), actor(), 2)?));
-    assert!(rt; station.note(&rt, actor(), 3));
+    let letters = [
+        Posted::Call(actor(), 1),
+        Posted::Call(actor(), 0),
+        Posted::Call(actor(), 2),
+        Posted::Note(actor(), 3),
+    ];
     let wanted = Counted {
         replies: 3,
         deaths: 0,
     };
-    let (end, given) = served(&rt, alloc, station, passes)?;
+    let (end, given) = served_letters(&rt, rt.alloc(), &letters)?;
     let is_whole = (end, given) == (End::Retired(3), Some(wanted));
     assert!(rt; is_whole || is_starved(end, given));
     Ok(())

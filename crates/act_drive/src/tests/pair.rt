@@ -23,7 +23,11 @@ pub(super) fn other() -> ActorId
     ActorId::new(2).unwrap()
 }
 
-fn opened_mail(alloc: Global, a: ActorId) -> Result<(Mail, MailCaller, MailExec), NoMemory>
+/// The mail line of an actor and caller 1, and the passes on it.
+pub(super) fn opened_mail(
+    alloc: Global,
+    a: ActorId,
+) -> Result<(Mail, MailCaller, MailExec), NoMemory>
     ensures caller { IfOk result (λ opened. opened.1 ≡ new_putter opened.0.line 1) }
     ensures exec { IfOk result (λ opened. opened.2.line ≡ opened.0.line) }
 {
@@ -32,7 +36,8 @@ fn opened_mail(alloc: Global, a: ActorId) -> Result<(Mail, MailCaller, MailExec)
     Ok((mail, post, letters))
 }
 
-fn opened_control(
+/// The control line of an actor and caller 1, and the passes on it.
+pub(super) fn opened_control(
     alloc: Global,
     a: ActorId,
 ) -> Result<(Control, ControlCaller, ControlExec), NoMemory>

@@ -2,10 +2,15 @@
 
 ghost use Rattle.std.specs.Prelude.{◌≡◌, [], ◌∷◌, IfOk};
 ghost use Rattle.act_mailbox.specs.Notices.{new_exec};
+ghost use Rattle.act_mailbox.specs.Passes.{new_taker};
 ghost use Rattle.act_drive.specs.Driven.{IsUnused};
 
+use super::pair::{opened_control, opened_mail};
 use crate::CallerPasses;
-use act_mailbox::{Control, ControlExec, Mail, MailExec, Replies, ReplyExec};
+use act_mailbox::{
+    Control, ControlCaller, ControlExec, Mail, MailCaller, MailExec, Replies, ReplyCaller,
+    ReplyExec,
+};
 use act_seats::Seat;
 use act_types::{ActorId, CallerId, NoMemory};
 use std::alloc::Global;
@@ -38,6 +43,43 @@ pub(super) fn caller() -> CallerId
     CallerId::new(1).unwrap()
 }
 
+fn opened_replies(alloc: Global) -> Result<(Replies, ReplyExec, ReplyCaller), NoMemory>
+    ensures exec { IfOk result (λ opened. opened.1 ≡ new_exec opened.0.line 1) }
+    ensures caller { IfOk result (λ opened. opened.2 ≡ new_taker opened.0.line (1 ∷ [])) }
+{
+    let (replies, mut gives, collects) = Replies::open(alloc, caller(), &[actor()])?;
+    let pass = gives.pop().unwrap();
+    Ok((replies, pass, collects))
+}
+
+/// The caller's passes, at the place of its one actor.
+fn seated(
+    alloc: Global,
+    post: MailCaller,
+    ask: ControlCaller,
+    collects: ReplyCaller,
+) -> Result<CallerPasses, NoMemory>
+    ensures letters { IfOk result (λ passes. passes.letters.items ≡ record { place = 0; pass = post } ∷ []) }
+    ensures kills { IfOk result (λ passes. passes.kills.items ≡ record { place = 0; pass = ask } ∷ []) }
+    ensures collects { IfOk result (λ passes. passes.collects ≡ collects) }
+{
+    let mut letters = Vec::new(alloc);
+    let mut kills = Vec::new(alloc);
+    letters.push(Seat {
+        place: 0,
+        pass: post,
+    })?;
+    kills.push(Seat {
+        place: 0,
+        pass: ask,
+    })?;
+    Ok(CallerPasses {
+        letters,
+        kills,
+        collects,
+    })
+}
+
 /// The lines, and the passes of the caller and of the executor.
 pub(super) fn opened(alloc: Global) -> Result<(Station, CallerPasses, ExecPasses), NoMemory>
     ensures caller { IfOk result (λ opened. IsUnused (opened.0.mail ∷ []) (opened.0.control ∷ []) opened.0.replies 1 opened.1) }
@@ -45,27 +87,17 @@ pub(super) fn opened(alloc: Global) -> Result<(Station, CallerPasses, ExecPasses
     ensures kills { IfOk result (λ opened. (opened.2.kills.line ≡ opened.0.control.line) × (opened.2.kills.actor ≡ 1)) }
     ensures gives { IfOk result (λ opened. opened.2.gives ≡ new_exec opened.0.replies.line 1) }
 {
-    let (mail, mut posts, letters) = Mail::open(alloc, actor(), &[caller()])?;
-    let (control, mut asks, _starter, kills) = Control::open(alloc, actor(), &[caller()])?;
-    let (replies, mut gives, collects) = Replies::open(alloc, caller(), &[actor()])?;
-    let mut letter_seats = Vec::new(alloc);
-    let mut kill_seats = Vec::new(alloc);
-    let pass = posts.pop().unwrap();
-    letter_seats.push(Seat { place: 0, pass })?;
-    let pass = asks.pop().unwrap();
-    kill_seats.push(Seat { place: 0, pass })?;
-    let gives = gives.pop().unwrap();
+    let (mail, post, letters) = opened_mail(alloc, actor())?;
+    let (control, ask, kills) = opened_control(alloc, actor())?;
+    let (replies, gives, collects) = opened_replies(alloc)?;
+    let passes = seated(alloc, post, ask, collects)?;
     Ok((
         Station {
             mail,
             control,
             replies,
         },
-        CallerPasses {
-            letters: letter_seats,
-            kills: kill_seats,
-            collects,
-        },
+        passes,
         ExecPasses {
             letters,
             kills,

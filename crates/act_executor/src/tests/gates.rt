@@ -4,7 +4,7 @@ use super::scene::{Given, Ids, Row, all_actors, counters, few_ids, plans_for_all
 use crate::{Gate, Joined, Plan, RunFault};
 use act_actor::Cast;
 use act_kinds::Counter;
-use act_types::{ActorId, CallerId, Method};
+use act_types::{ActorId, CallerId, Method, NoMemory};
 use std::alloc::Global;
 use std::sync::Wait;
 use std::sync::atomic::{AtomicU64, Ordering};
@@ -118,11 +118,8 @@ fn bad_plan_of<K: Drop>(
     }
 }
 
-/// Two of three plans are bad, both at their second step: the fault is of the lower caller, though
-/// its plan comes later. The good plan isn't run either.
-#[test]
-fn bad_plans_come_first(rt: HostRuntime) -> Result<(), Fail> {
-    let alloc = rt.alloc();
+/// Of three plans, by falling caller, those of callers 2 and 1 are bad at their second step.
+fn two_bad_plans(alloc: Global) -> Result<Vec<(CallerId, Plan)>, NoMemory> {
     let Ids { c1, c2, c3, a1, .. } = few_ids();
     let rows = [
         (c3, Row::Call(a1, Method::Add, Given::Int(1))),
@@ -131,13 +128,30 @@ fn bad_plans_come_first(rt: HostRuntime) -> Result<(), Fail> {
         (c1, Row::Release(a1)),
         (c1, Row::Kill(a1)),
     ];
+    plans_of(alloc, &[c3, c2, c1], &rows)
+}
+
+/// The bad plan of which a run of them tells, and how often the gate was passed.
+fn run_bad_plans<R: Threads + Wait + Sync>(
+    rt: &R,
+    alloc: Global,
+) -> Result<(Option<(CallerId, u32)>, u64), RunFault> {
+    let Ids { c1, c2, c3, a1, .. } = few_ids();
     let casts = counters(alloc, &[a1], &[c1, c2, c3])?;
-    let plans = plans_of(alloc, &[c3, c2, c1], &rows)?;
+    let plans = two_bad_plans(alloc)?;
     let gate = Counting {
         passes: AtomicU64::new(0),
     };
-    let bad = bad_plan_of(ran(&rt, alloc, casts, plans, &gate))?;
-    assert_eq!(rt; bad, Some((c1, 1)));
-    assert_eq!(rt; gate.passes.load(Ordering::SeqCst), 0);
+    let bad = bad_plan_of(ran(rt, alloc, casts, plans, &gate))?;
+    Ok((bad, gate.passes.load(Ordering::SeqCst)))
+}
+
+/// Two of three plans are bad, both at their second step: the fault is of the lower caller, though
+/// its plan comes later. The good plan isn't run either.
+#[test]
+fn bad_plans_come_first(rt: HostRuntime) -> Result<(), Fail> {
+    let Ids { c1, .. } = few_ids();
+    let told = run_bad_plans(&rt, rt.alloc())?;
+    assert_eq!(rt; told, (Some((c1, 1)), 0));
     Ok(())
 }

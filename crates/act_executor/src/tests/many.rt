@@ -3,13 +3,15 @@
 use super::scene::{
     Given, Ids, Row, all_actors, all_callers, counters, few_ids, plans_for_all, plans_of, ran,
 };
-use crate::{Ended, Finished, NoGate};
-use act_kinds::Actor;
+use crate::{Ended, Finished, Joined, NoGate, RunFault};
+use act_kinds::{Actor, Counter};
 use act_owner::Owner;
 use act_rules::RunItem;
 use act_types::{FutureId, MOST_ACTORS, MOST_CALLERS, Method, NoMemory, Value};
 use std::alloc::Global;
+use std::sync::Wait;
 use std::test::Fail;
+use std::thread::Threads;
 
 fn number_at(owner: &Owner, place: u32) -> Option<i64> {
     match owner.answer(FutureId::new(place)) {
@@ -88,16 +90,24 @@ fn all_have_counted<K: Actor>(alloc: Global, actors: &[Finished<K>]) -> Result<b
     Ok(actors.len() == MOST_ACTORS as usize)
 }
 
-/// Each of sixteen callers adds 1 to each of eight counters, whose casts come by falling number.
-#[test]
-fn all_sizes(rt: HostRuntime) -> Result<(), Fail> {
-    let alloc = rt.alloc();
+/// Runs what adds 1 to each of eight counters for each of sixteen callers.
+fn run_all_sizes<R: Threads + Wait + Sync>(
+    rt: &R,
+    alloc: Global,
+) -> Result<Joined<Counter>, RunFault> {
     let callers = all_callers(alloc)?;
     let actors = all_actors(alloc)?;
     let plans = plans_for_all(alloc, callers.as_slice(), actors.as_slice())?;
     let mut casts = counters(alloc, actors.as_slice(), callers.as_slice())?;
     casts.reverse();
-    let joined = ran(&rt, alloc, casts, plans, &NoGate)?;
+    ran(rt, alloc, casts, plans, &NoGate)
+}
+
+/// Each of sixteen callers adds 1 to each of eight counters, whose casts come by falling number.
+#[test]
+fn all_sizes(rt: HostRuntime) -> Result<(), Fail> {
+    let alloc = rt.alloc();
+    let joined = run_all_sizes(&rt, alloc)?;
     assert!(rt; all_have_numbers(joined.owners.as_slice()));
     assert!(rt; all_have_counted(alloc, joined.actors.as_slice())?);
     Ok(())

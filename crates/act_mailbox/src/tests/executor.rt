@@ -1,6 +1,6 @@
 //! An executor in a thread of its own, and the caller that asks the kill of its actor.
 
-ghost use Rattle.std.specs.Prelude.{◌≡◌};
+ghost use Rattle.std.specs.Prelude.{◌≡◌, IfOk};
 ghost use Rattle.std.specs.Thread.{IsSync};
 ghost use Rattle.act_actor.specs.Seen.{live_seen};
 ghost use Rattle.act_mailbox.specs.Notices.{new_exec};
@@ -9,7 +9,9 @@ use crate::{Control, ControlCaller, ControlExec, Replies, ReplyCaller, ReplyExec
 use act_actor::Live;
 use act_kinds::{Actor, Counter};
 use act_rules::RunItem;
-use act_types::{ActorId, CallerId, KillNote, Notice};
+use act_types::{ActorId, CallerId, KillNote, NoMemory, Notice};
+use std::alloc::Global;
+use std::process::Abort;
 use std::sync::Wait;
 use std::test::Fail;
 use std::thread;
@@ -174,41 +176,81 @@ fn serve_and_drive<R: Threads + Wait + Sync, K: Actor + Send>(
     )
 }
 
+/// The control line of actor 8 and caller 1, and the passes on it.
+fn opened_control(alloc: Global) -> Result<(Control, ControlExec, ControlCaller), NoMemory>
+    ensures executor { IfOk result (λ opened. (opened.1.line ≡ opened.0.line) × (opened.1.actor ≡ 8)) }
+    ensures caller { IfOk result (λ opened. opened.2.line ≡ opened.0.line) }
+{
+    let actor = ActorId::new(8).unwrap();
+    let caller = CallerId::new(1).unwrap();
+    let (control, mut askers, _starter, kills) = Control::open(alloc, actor, &[caller])?;
+    Ok((control, kills, askers.pop().unwrap()))
+}
+
+/// The reply line of caller 1 and actor 8, and the passes on it.
+fn opened_replies(alloc: Global) -> Result<(Replies, ReplyExec, ReplyCaller), NoMemory>
+    ensures executor { IfOk result (λ opened. opened.1 ≡ new_exec opened.0.line 8) }
+    ensures caller { IfOk result (λ opened. opened.2.line ≡ opened.0.line) }
+{
+    let actor = ActorId::new(8).unwrap();
+    let caller = CallerId::new(1).unwrap();
+    let (replies, mut executors, collector) = Replies::open(alloc, caller, &[actor])?;
+    Ok((replies, executors.pop().unwrap(), collector))
+}
+
+/// Both lines are empty, as the passes see them.
+fn assert_empty<R: Wait + Abort>(
+    rt: &R,
+    control: &Control,
+    replies: &Replies,
+    executor: &mut ExecPasses,
+    asker: &mut CallerPasses,
+)
+    requires kills { executor.old.kills.line ≡ control.now.line }
+    requires notices { executor.old.notices.line ≡ replies.now.line }
+    requires asker { asker.old.kills.line ≡ control.now.line }
+    requires collector { asker.old.notices.line ≡ replies.now.line }
+{
+    assert_eq!(rt; control.audit(rt, &mut asker.kills, &mut executor.kills), 0);
+    assert_eq!(rt;
+        replies.audit(rt, &mut executor.notices, &mut asker.notices),
+        0
+    );
+}
+
+/// What a run of both leaves: the kill that the executor took, and what the caller was told.
+fn run_both<R: Threads + Wait + Sync + Abort>(
+    rt: &R,
+    alloc: Global,
+    live: Live<Counter>,
+    note: KillNote,
+) -> Result<(KillNote, Notice), NoMemory>
+    requires sync { IsSync R.row }
+    requires actor { (live_seen ⟦<Counter as Actor>⟧.state live).id ≡ 8 }
+{
+    let (control, kills, ask) = opened_control(alloc)?;
+    let (replies, notices, collector) = opened_replies(alloc)?;
+    let executor = ExecPasses { kills, notices };
+    let asker = CallerPasses {
+        kills: ask,
+        notices: collector,
+    };
+    let (served, driven) = serve_and_drive(rt, &control, &replies, (executor, live), (asker, note));
+    let (mut executor, taken) = served;
+    let (mut asker, told) = driven;
+    assert_empty(rt, &control, &replies, &mut executor, &mut asker);
+    Ok((taken, told))
+}
+
 #[test]
 fn an_executor_in_a_thread(rt: HostRuntime) -> Result<(), Fail> {
     let actor = ActorId::new(8).unwrap();
     let caller = CallerId::new(1).unwrap();
     let alloc = rt.alloc();
     let live = Live::open(alloc, actor, &[caller], Counter::open())?;
-    let (control, mut askers, _starter, kills) = Control::open(alloc, actor, &[caller])?;
-    let (replies, mut executors, collector) = Replies::open(alloc, caller, &[actor])?;
     let note = KillNote { caller, actor };
-    let executor = ExecPasses {
-        kills,
-        notices: executors.pop().unwrap(),
-    };
-    let asker = CallerPasses {
-        kills: askers.pop().unwrap(),
-        notices: collector,
-    };
-    let (served, driven) = serve_and_drive(
-        &rt,
-        &control,
-        &replies,
-        (executor, live),
-        (asker, note),
-    );
-    let (mut executor, taken) = served;
-    let (mut asker, told) = driven;
+    let (taken, told) = run_both(&rt, alloc, live, note)?;
     assert_eq!(rt; taken, note);
     assert_eq!(rt; told, Notice::Death(actor));
-    assert_eq!(rt;
-        control.audit(&rt, &mut asker.kills, &mut executor.kills),
-        0
-    );
-    assert_eq!(rt;
-        replies.audit(&rt, &mut executor.notices, &mut asker.notices),
-        0
-    );
     Ok(())
 }

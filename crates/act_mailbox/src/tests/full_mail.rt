@@ -1,11 +1,12 @@
 //! A mail line that is filled and emptied.
 
-ghost use Rattle.std.specs.Prelude.{◌≡◌};
+ghost use Rattle.std.specs.Prelude.{◌≡◌, IfOk};
 ghost use Rattle.act_mailbox.specs.Mails.{caller_of};
 
 use crate::{Letter, Mail, MailCaller, MailExec};
-use act_types::{ActorId, CallerId, FutureId, ListOf, Method, Packet, ReleaseNote};
+use act_types::{ActorId, CallerId, FutureId, ListOf, Method, NoMemory, Packet, ReleaseNote};
 use std::alloc::Global;
+use std::process::Abort;
 use std::sync::Wait;
 use std::test::Fail;
 
@@ -82,26 +83,87 @@ fn are_next<R: Wait>(
     true
 }
 
+/// The mail line of actor 1 and callers 1 and 16, the pass of the last, and the executor's.
+fn opened(alloc: Global) -> Result<(Mail, MailCaller, MailExec), NoMemory>
+    ensures caller { IfOk result (λ opened. (opened.1.line ≡ opened.0.line) × (opened.1.number ≡ 16)) }
+    ensures executor { IfOk result (λ opened. opened.2.line ≡ opened.0.line) }
+{
+    let callers = [CallerId::new(1).unwrap(), CallerId::new(16).unwrap()];
+    let (mail, mut passes, executor) = Mail::open(alloc, ActorId::new(1).unwrap(), &callers)?;
+    Ok((mail, passes.pop().unwrap(), executor))
+}
+
+/// The line fills up with the caller's letters.
+fn assert_filled<R: Wait + Abort>(
+    rt: &R,
+    alloc: Global,
+    mail: &Mail,
+    pass: &mut MailCaller,
+    executor: &mut MailExec,
+    caller: CallerId,
+)
+    requires pass { (pass.old.line ≡ mail.now.line) × (pass.old.number ≡ caller) }
+    requires executor { executor.old.line ≡ mail.now.line }
+    ensures pass { (pass.new.line ≡ mail.now.line) × (pass.new.number ≡ caller) }
+    ensures executor { executor.new ≡ executor.old }
+{
+    assert_eq!(rt; accepted(rt, alloc, mail, pass, caller), Some(64));
+    assert_eq!(rt; mail.audit(rt, pass, executor), 64);
+}
+
+/// The letters of these numbers come in order, and leave so many in the line.
+fn assert_next<R: Wait + Abort>(
+    rt: &R,
+    alloc: Global,
+    mail: &Mail,
+    pass: &mut MailCaller,
+    executor: &mut MailExec,
+    caller: CallerId,
+    numbers: (u32, u32),
+    left: usize,
+)
+    requires pass { pass.old.line ≡ mail.now.line }
+    requires executor { executor.old.line ≡ mail.now.line }
+    ensures pass { pass.new ≡ pass.old }
+    ensures executor { executor.new.line ≡ mail.now.line }
+{
+    let (from, end) = numbers;
+    assert!(rt;
+        are_next(rt, alloc, mail, executor, caller, from, end),
+        "from {from}"
+    );
+    assert_eq!(rt; mail.audit(rt, pass, executor), left, "from {from}");
+}
+
+/// The line is filled, emptied by one, filled again, and emptied.
+fn assert_fills_and_empties<R: Wait + Abort>(
+    rt: &R,
+    alloc: Global,
+    mail: &Mail,
+    pass: &mut MailCaller,
+    executor: &mut MailExec,
+    caller: CallerId,
+)
+    requires pass { (pass.old.line ≡ mail.now.line) × (pass.old.number ≡ caller) }
+    requires executor { executor.old.line ≡ mail.now.line }
+{
+    assert!(rt; is_next(rt, mail, executor, None));
+    assert_filled(rt, alloc, mail, pass, executor, caller);
+    assert_next(rt, alloc, mail, pass, executor, caller, (0, 1), 63);
+    assert!(rt; mail.post(rt, pass, letter(alloc, caller, 64)).is_ok());
+    assert_next(rt, alloc, mail, pass, executor, caller, (1, 33), 32);
+    assert_next(rt, alloc, mail, pass, executor, caller, (33, 65), 0);
+    assert!(rt; is_next(rt, mail, executor, None));
+    assert_next(rt, alloc, mail, pass, executor, caller, (65, 65), 0);
+}
+
 #[test]
 fn full_and_empty(rt: HostRuntime) -> Result<(), Fail> {
-    let actor = ActorId::new(1).unwrap();
     let caller = CallerId::new(16).unwrap();
-    let callers = [CallerId::new(1).unwrap(), caller];
     let alloc = rt.alloc();
-    let (mail, mut passes, mut executor) = Mail::open(alloc, actor, &callers)?;
-    let mut pass = passes.pop().unwrap();
-    assert_eq!(rt; mail.actor(), actor);
+    let (mail, mut pass, mut executor) = opened(alloc)?;
+    assert_eq!(rt; mail.actor(), ActorId::new(1).unwrap());
     assert_eq!(rt; pass.number(), 16);
-    assert!(rt; is_next(&rt, &mail, &mut executor, None));
-    assert_eq!(rt; accepted(&rt, alloc, &mail, &mut pass, caller), Some(64));
-    assert_eq!(rt; mail.audit(&rt, &mut pass, &mut executor), 64);
-    assert!(rt; are_next(&rt, alloc, &mail, &mut executor, caller, 0, 1));
-    assert_eq!(rt; mail.audit(&rt, &mut pass, &mut executor), 63);
-    assert!(rt; mail.post(&rt, &mut pass, letter(alloc, caller, 64)).is_ok());
-    assert!(rt; are_next(&rt, alloc, &mail, &mut executor, caller, 1, 33));
-    assert_eq!(rt; mail.audit(&rt, &mut pass, &mut executor), 32);
-    assert!(rt; are_next(&rt, alloc, &mail, &mut executor, caller, 33, 65));
-    assert!(rt; is_next(&rt, &mail, &mut executor, None));
-    assert_eq!(rt; mail.audit(&rt, &mut pass, &mut executor), 0);
+    assert_fills_and_empties(&rt, alloc, &mail, &mut pass, &mut executor, caller);
     Ok(())
 }

@@ -8,6 +8,7 @@ use crate::{Replies, ReplyCaller, ReplyExec};
 use act_rules::RunItem;
 use act_types::{ActorId, CallerId, FutureId, ListOf, Method, NoMemory, Notice, Reply, Value};
 use std::alloc::Global;
+use std::process::Abort;
 use std::sync::Wait;
 use std::test::Fail;
 
@@ -88,6 +89,86 @@ fn opened(alloc: Global) -> Result<(Replies, ReplyExec, ReplyCaller), NoMemory>
     Ok((replies, passes.pop().unwrap(), collector))
 }
 
+/// The line fills up with the actor's replies.
+fn assert_filled<R: Wait + Abort>(
+    rt: &R,
+    replies: &Replies,
+    pass: &mut ReplyExec,
+    collector: &mut ReplyCaller,
+    log: &[RunItem],
+)
+    requires opened { pass.old ≡ new_exec replies.now.line 8 }
+    requires log { (item : RunItem) × (log.now ≡ item ∷ []) × (item.caller ≡ 1) × (item.future ≡ 0) }
+    requires collector { collector.old.line ≡ replies.now.line }
+    ensures pass { pass.new.line ≡ replies.now.line }
+    ensures actor { pass.new.actor ≡ 8 }
+    ensures alive { All IsReply pass.new.given }
+    ensures grown { IsFront pass.new.seen log.now }
+    ensures collector { collector.new ≡ collector.old }
+{
+    assert_eq!(rt; accepted(rt, replies, pass, log), Some(64));
+    assert_eq!(rt; replies.audit(rt, pass, collector), 64);
+}
+
+/// The replies of these numbers come in order, and leave so many notices in the line.
+fn assert_next<R: Wait + Abort>(
+    rt: &R,
+    replies: &Replies,
+    pass: &mut ReplyExec,
+    collector: &mut ReplyCaller,
+    numbers: (u32, u32),
+    left: usize,
+)
+    requires pass { pass.old.line ≡ replies.now.line }
+    requires collector { collector.old.line ≡ replies.now.line }
+    ensures pass { pass.new ≡ pass.old }
+    ensures collector { collector.new.line ≡ replies.now.line }
+{
+    let (from, end) = numbers;
+    assert!(rt; are_next(rt, replies, collector, from, end), "from {from}");
+    assert_eq!(rt; replies.audit(rt, pass, collector), left, "from {from}");
+}
+
+/// A full line gives its first reply.
+fn assert_fills<R: Wait + Abort>(
+    rt: &R,
+    replies: &Replies,
+    pass: &mut ReplyExec,
+    collector: &mut ReplyCaller,
+    log: &[RunItem],
+)
+    requires opened { pass.old ≡ new_exec replies.now.line 8 }
+    requires log { (item : RunItem) × (log.now ≡ item ∷ []) × (item.caller ≡ 1) × (item.future ≡ 0) }
+    requires collector { collector.old.line ≡ replies.now.line }
+    ensures pass { pass.new.line ≡ replies.now.line }
+    ensures actor { pass.new.actor ≡ 8 }
+    ensures alive { All IsReply pass.new.given }
+    ensures grown { IsFront pass.new.seen log.now }
+    ensures collector { collector.new.line ≡ replies.now.line }
+{
+    assert!(rt; is_next(rt, replies, collector, None));
+    assert_filled(rt, replies, pass, collector, log);
+    assert_next(rt, replies, pass, collector, (0, 1), 63);
+}
+
+/// The death of actor 8 comes last.
+fn assert_empties<R: Wait + Abort>(
+    rt: &R,
+    replies: &Replies,
+    pass: &mut ReplyExec,
+    collector: &mut ReplyCaller,
+)
+    requires pass { pass.old.line ≡ replies.now.line }
+    requires collector { collector.old.line ≡ replies.now.line }
+{
+    let death = Notice::Death(ActorId::new(8).unwrap());
+    assert_next(rt, replies, pass, collector, (1, 33), 32);
+    assert!(rt; are_next(rt, replies, collector, 33, 64));
+    assert!(rt; is_next(rt, replies, collector, Some(death)));
+    assert!(rt; is_next(rt, replies, collector, None));
+    assert_next(rt, replies, pass, collector, (64, 64), 0);
+}
+
 #[test]
 fn full_and_empty(rt: HostRuntime) -> Result<(), Fail> {
     let log = [RunItem {
@@ -101,22 +182,13 @@ fn full_and_empty(rt: HostRuntime) -> Result<(), Fail> {
     let (replies, mut pass, mut collector) = opened(rt.alloc())?;
     assert_eq!(rt; replies.caller().number(), 1);
     assert_eq!(rt; pass.actor(), death);
-    assert!(rt; is_next(&rt, &replies, &mut collector, None));
-    assert_eq!(rt; accepted(&rt, &replies, &mut pass, &log), Some(64));
-    assert_eq!(rt; replies.audit(&rt, &mut pass, &mut collector), 64);
-    assert!(rt; are_next(&rt, &replies, &mut collector, 0, 1));
-    assert_eq!(rt; replies.audit(&rt, &mut pass, &mut collector), 63);
+    assert_fills(&rt, &replies, &mut pass, &mut collector, &log);
     assert!(rt;
         replies
             .give(&rt, &mut pass, &log, Notice::Death(death))
             .is_ok()
     );
     pass.shows();
-    assert!(rt; are_next(&rt, &replies, &mut collector, 1, 33));
-    assert_eq!(rt; replies.audit(&rt, &mut pass, &mut collector), 32);
-    assert!(rt; are_next(&rt, &replies, &mut collector, 33, 64));
-    assert!(rt; is_next(&rt, &replies, &mut collector, Some(Notice::Death(death))));
-    assert!(rt; is_next(&rt, &replies, &mut collector, None));
-    assert_eq!(rt; replies.audit(&rt, &mut pass, &mut collector), 0);
+    assert_empties(&rt, &replies, &mut pass, &mut collector);
     Ok(())
 }

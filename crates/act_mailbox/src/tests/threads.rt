@@ -1,13 +1,14 @@
 //! Two callers and an executor, in a thread each.
 
-ghost use Rattle.std.specs.Prelude.{◌≡◌, ◌<◌, [], ◌∷◌};
+ghost use Rattle.std.specs.Prelude.{◌≡◌, ◌<◌, [], ◌∷◌, IfOk};
 ghost use Rattle.std.specs.Thread.{IsSync};
 ghost use Rattle.act_mailbox.specs.Mails.{caller_of};
 
 use super::full_mail::letter;
 use crate::{Letter, Mail, MailCaller, MailExec};
-use act_types::{ActorId, CallerId};
+use act_types::{ActorId, CallerId, NoMemory};
 use std::alloc::Global;
+use std::process::Abort;
 use std::sync::Wait;
 use std::test::Fail;
 use std::thread;
@@ -151,18 +152,43 @@ fn exchange<R: Threads + Wait + Sync>(
     )
 }
 
+/// The mail line of actor 1 and callers 1 and 2, the callers' passes, and the executor's.
+fn opened(alloc: Global) -> Result<(Mail, (MailCaller, MailCaller), MailExec), NoMemory>
+    ensures first { IfOk result (λ opened. (opened.1.0.line ≡ opened.0.line) × (opened.1.0.number ≡ 1)) }
+    ensures second { IfOk result (λ opened. (opened.1.1.line ≡ opened.0.line) × (opened.1.1.number ≡ 2)) }
+    ensures executor { IfOk result (λ opened. opened.2.line ≡ opened.0.line) }
+{
+    let callers = [CallerId::new(1).unwrap(), CallerId::new(2).unwrap()];
+    let (mail, mut passes, executor) = Mail::open(alloc, ActorId::new(1).unwrap(), &callers)?;
+    let second = passes.pop().unwrap();
+    let first = passes.pop().unwrap();
+    Ok((mail, (first, second), executor))
+}
+
+/// The line is empty, as this caller and the executor see it.
+fn assert_empty<R: Wait + Abort>(
+    rt: &R,
+    mail: &Mail,
+    caller: &mut MailCaller,
+    executor: &mut MailExec,
+)
+    requires caller { caller.old.line ≡ mail.now.line }
+    requires executor { executor.old.line ≡ mail.now.line }
+    ensures executor { executor.new ≡ executor.old }
+{
+    assert_eq!(rt; mail.audit(rt, caller, executor), 0);
+}
+
 #[test]
 fn mail_two_threads(rt: HostRuntime) -> Result<(), Fail> {
     let callers = [CallerId::new(1).unwrap(), CallerId::new(2).unwrap()];
     let alloc = rt.alloc();
-    let (mail, mut passes, executor) = Mail::open(alloc, ActorId::new(1).unwrap(), &callers)?;
-    let second = passes.pop().unwrap();
-    let first = passes.pop().unwrap();
-    let (posted, taken) = exchange(&rt, alloc, &mail, (first, second), executor, callers, 200);
+    let (mail, passes, executor) = opened(alloc)?;
+    let (posted, taken) = exchange(&rt, alloc, &mail, passes, executor, callers, 200);
     let (mut first, mut second) = posted;
     let (mut executor, in_order) = taken;
     assert_eq!(rt; in_order, [200, 200]);
-    assert_eq!(rt; mail.audit(&rt, &mut first, &mut executor), 0);
-    assert_eq!(rt; mail.audit(&rt, &mut second, &mut executor), 0);
+    assert_empty(&rt, &mail, &mut first, &mut executor);
+    assert_empty(&rt, &mail, &mut second, &mut executor);
     Ok(())
 }

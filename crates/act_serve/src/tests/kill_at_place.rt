@@ -10,6 +10,7 @@ use crate::{ExecLines, ExecPasses, Gate};
 use act_mailbox::{Control, ControlCaller};
 use act_types::{ActorId, KillNote, NoMemory};
 use std::alloc::Global;
+use std::process::Abort;
 use std::sync::Wait;
 use std::sync::atomic::{AtomicBool, Ordering};
 use std::test::Fail;
@@ -105,17 +106,27 @@ fn killed_at<R: Threads + Wait + Sync>(
     Ok((end?, given(rt, &replies[0], &mut collector), is_asked))
 }
 
+/// A counter that has 24 calls is killed at a place of its log.
+fn killed_after_calls<R: Threads + Wait + Sync + Abort>(
+    rt: &R,
+    alloc: Global,
+    place: u32,
+) -> Result<(End, Option<Counted>, bool), NoMemory>
+    requires sync { IsSync R.row }
+{
+    let (mut station, passes) = opened(alloc)?;
+    assert!(rt; station.post_calls(rt, alloc, 24)?);
+    killed_at(rt, alloc, place, station, passes)
+}
+
 #[test]
 fn kill_at_place(rt: HostRuntime) -> Result<(), Fail> {
-    let alloc = rt.alloc();
     for place in 0..20u32 {
-        let (mut station, passes) = opened(alloc)?;
-        assert!(rt; station.post_calls(&rt, alloc, 24)?);
         let wanted = Counted {
             replies: place + 1,
             deaths: 1,
         };
-        let told = killed_at(&rt, alloc, place, station, passes)?;
+        let told = killed_after_calls(&rt, rt.alloc(), place)?;
         assert_eq!(rt; told, (End::Killed(place as usize + 1), Some(wanted), true));
     }
     Ok(())
