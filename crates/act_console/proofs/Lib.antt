@@ -1,11 +1,10 @@
 pub mod Written
-pub mod Numbers
-pub mod Integers
-pub mod Marks
-pub mod Each
-pub mod Plain
-pub mod Lines
 pub mod Placed
 pub mod Roles
+pub mod ThreadsRun
+pub mod Told
 pub mod Stocked
 pub mod Shown
+pub mod Sorting
+pub mod PlansOf
+pub mod Joined

@@ -1,105 +1,14 @@
--- Roles of distinct actors.
-use Rattle.std.proofs.Common.{◌≡◌, ◌≢◌, ℕ, ◌<◌, ◌≤◌, ◌==◌, ◌||◌, true, false, List, [], ◌∷◌, ◌++◌, length, map, get_or, Bool, All, AllPairs, ap, sym, ◌∙◌, refl, subst, true≢false, eq-eqb, Some, None, not, inl, inr, arith}
-use Rattle.std.specs.Prelude.{if◌then◌else◌}
-use Rattle.std.specs.List.{list_any, IsDistinct}
-use Rattle.std.proofs.Math.Dec.{eqb}
-use Rattle.std.proofs.lemmas.Bool.{eqb-true}
-use Rattle.std.proofs.lemmas.Bool.Decides.{eqb_tells, Decides-eqb}
-use Rattle.std.proofs.lemmas.List.{get_or-map, length-map, map-append}
-use Rattle.std.proofs.lemmas.List.Elements.{All-cons, All-map, All-push, recursion_from_All}
-use Rattle.std.proofs.lemmas.List.Folds.{Any-from_list_any, list_any_at}
-use Rattle.std.proofs.lemmas.List.Kept.{AllPairs-cons}
-use Rattle.std.proofs.lemmas.List.Quantifiers.{all_pairs_push}
-use Rattle.std.proofs.lemmas.Map.Keys.{IsDistinct-cons}
-use Rattle.std.proofs.lemmas.Map.Made.{IsDistinct-from_AllPairs}
-use Rattle.std.proofs.lemmas.Map.Steps.{length-le_from_distinct_below}
+-- The casts of roles that fit can be opened.
+use Rattle.std.proofs.Common.{◌≡◌, ◌≢◌, ◌<◌, List, length, map, get_or, sym, subst, arith}
+use Rattle.std.proofs.lemmas.List.{get_or-map, length-map}
 use Rattle.act_types.specs.KindState.{KindState}
 use Rattle.act_rules.specs.declared.script.Role.{Role}
 use Rattle.act_rules.specs.History.{Casting}
-use Rattle.act_rules.specs.declared.script.Wrong.TheVariants.{LateActor, TwiceActor, TwiceCaller}
-use Rattle.act_rules.specs.Grammar.{Script, has_twice, role_fault}
 use Rattle.act_rules.specs.Scripts.{casting as role_casting}
 use Rattle.act_actor.specs.declared.cast.Cast.{Cast}
 use Rattle.act_actor.specs.Cast.{CallersDiffer, IsFitting}
 use Rattle.act_actor.specs.Casts.{casting}
-use Rattle.act_console.specs.Roles.{AreFitting, AreSound}
-
--- ---- no more actors than there are numbers for them
-
-pairs_mapped : {X Y : Type 0} (R : Y → Y → Type 0) (f : X → Y) (xs : List X) → AllPairs (λ x y. R (f x) (f y)) xs → AllPairs R (map f xs)
-pairs_mapped R f [] pairs i j d before within = absurd (omega arith)
-pairs_mapped R f (x ∷ xs) pairs i j d before within =
-    let all : List _ = x ∷ xs in
-    let inside : j < length all = subst (λ n. j < n) (length-map all f) within in
-    subst (λ y. R (get_or (map f all) i d) y) (sym (get_or-map f all j x d inside))
-    (subst (λ y. R y (f (get_or all j x))) (sym (get_or-map f all i x d (omega arith))) (pairs i j x before inside))
-
-pub few_actors : (casts : List Casting) → AreSound casts → length casts ≤ 8
-few_actors casts sound =
-    let numbers = map (λ (cast : Casting). cast.actor) casts in
-    let pairs : AllPairs (λ one other. one ≢ other) numbers = pairs_mapped (λ one other. one ≢ other) (λ (cast : Casting). cast.actor) casts sound.actors in
-    let valid : All (λ actor. (1 ≤ actor) × (actor ≤ 8)) numbers = All-map (λ actor. (1 ≤ actor) × (actor ≤ 8)) (λ (cast : Casting). cast.actor) casts sound.valid in
-    let apart : All (λ actor. eqb 0 actor ≡ false) numbers = λ k d within. let ok = valid k d within in elim (eqb_tells 0 (get_or numbers k d)) [ inl t ↦ absurd (omega arith) | inr f ↦ f.0 ] in
-    let distinct : IsDistinct eqb (0 ∷ numbers) = IsDistinct-cons eqb 0 numbers (recursion_from_All (λ actor. eqb 0 actor ≡ false) numbers apart) (IsDistinct-from_AllPairs Decides-eqb numbers pairs) in
-    let below : All (λ actor. actor < 9) (0 ∷ numbers) = All-cons (λ actor. actor < 9) 0 numbers (omega arith) (λ k d within. let ok = valid k d within in omega arith) in
-    let most : length (0 ∷ numbers) ≤ 9 = length-le_from_distinct_below (0 ∷ numbers) 9 distinct
-    (λ q is. let any = Any-from_list_any (eqb q) (0 ∷ numbers) is in
-    let same : q ≡ any.1 = eqb-true q any.1 any.4 in
-    let there : get_or (0 ∷ numbers) any.0 any.1 ≡ any.1 = any.3 in
-    let small : get_or (0 ∷ numbers) any.0 any.1 < 9 = below any.0 any.1 any.2 in omega arith) in
-    let counted : length numbers ≡ length casts = length-map casts (λ (cast : Casting). cast.actor) in
-    omega arith
-
-pub sound_fit : (casts : List Casting) → AreSound casts → AreFitting casts
-sound_fit casts sound = record { actors = sound.actors; callers = sound.callers; few = few_actors casts sound }
-
--- ---- one role more
-
-parts : (a b : Bool) → (a || b) ≡ false → (a ≡ false) × (b ≡ false)
-parts true b e = cc
-parts false b e = (refl, e)
-
--- what nothing refuses about a role
-pub unrefused : (script : Script) (role : Role) → role_fault script role ≡ None → (list_any (λ other. other.actor == role.actor) script.roles ≡ false) × (has_twice role.callers ≡ false)
-unfolding role_fault
-unrefused script role none = go (not (length script.events == 0) || not (length script.steps == 0)) (list_any (λ other. other.actor == role.actor) script.roles) (has_twice role.callers) none
-  where
-    go : (late twice caller : Bool) → (if late then Some LateActor else (if twice then Some TwiceActor else (if caller then Some TwiceCaller else None))) ≡ None → (twice ≡ false) × (caller ≡ false)
-    go true twice caller e = cc
-    go false true caller e = cc
-    go false false true e = cc
-    go false false false e = (refl, refl)
-
--- no roles
-pub none_sound : AreSound []
-none_sound = record { actors = λ i j d before within. absurd (omega arith); callers = λ k d within. absurd (omega arith); valid = λ k d within. absurd (omega arith) }
-
--- callers of whom none stands twice
-differ : (callers : List ℕ) → has_twice callers ≡ false → CallersDiffer callers
-differ [] none = λ i j d before within. absurd (omega arith)
-differ (c ∷ cs) none =
-    let p = parts (list_any (λ m. m == c) cs) (has_twice cs) none in
-    AllPairs-cons (λ one other. one ≢ other) c cs (λ k d within same. true≢false (sym (list_any_at (λ m. m == c) cs k d within (eq-eqb _ _ (sym same))) ∙ p.0)) (differ cs p.1)
-
-no_other : (roles : List Role) (a k : ℕ) (d : Casting) → list_any (λ other. other.actor == a) roles ≡ false → k < length (map role_casting roles) → (get_or (map role_casting roles) k d).actor ≢ a
-no_other [] a k d none within = absurd (omega arith)
-no_other (role ∷ roles) a k d none within = λ same.
-    let all : List Role = role ∷ roles in
-    let inside : k < length all = subst (λ n. k < n) (length-map all role_casting) within in
-    true≢false (sym (list_any_at (λ other. other.actor == a) all k role inside (eq-eqb _ _ (ap (λ (cast : Casting). cast.actor) (sym (get_or-map role_casting all k role d inside)) ∙ same))) ∙ none)
-
-pub one_role_more : (roles : List Role) (role : Role) → list_any (λ other. other.actor == role.actor) roles ≡ false → has_twice role.callers ≡ false → (1 ≤ role.actor) × (role.actor ≤ 8)
-    → AreSound (map role_casting roles) → AreSound (map role_casting (roles ++ role ∷ []))
-one_role_more roles role none once valid sound =
-    let castings = map role_casting roles in
-    subst AreSound (sym (map-append role_casting roles (role ∷ [])))
-    (record {
-      actors = all_pairs_push (λ one other. one.actor ≢ other.actor) castings (role_casting role) sound.actors (λ k d within. no_other roles role.actor k d none within);
-      callers = All-push (λ cast. CallersDiffer cast.callers) castings (role_casting role) sound.callers (differ role.callers once);
-      valid = All-push (λ cast. (1 ≤ cast.actor) × (cast.actor ≤ 8)) castings (role_casting role) sound.valid valid;
-    })
-
--- ---- the casts of roles that fit can be opened
+use Rattle.act_scripts.specs.Roles.{AreFitting}
 
 pub casts_fit : {K : Type 0} (state : K → KindState) (casts : List (Cast K)) (roles : List Role) → map (casting state) casts ≡ map role_casting roles → AreFitting (map role_casting roles) → IsFitting casts
 casts_fit state casts roles same fit =

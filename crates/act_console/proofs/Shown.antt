@@ -34,7 +34,7 @@ no_owner world c n is none =
     ap (caller_lines world) (sym is)
     ∙ ap (λ (owner : Option OwnerValue). placed (future_line c (option_map_or (λ o. o.kept) owner [])) 0 (option_map_or (λ o. o.calls) owner [])) none
 
-found_named : (c : ℕ) (owners : List OwnerValue) (owner : OwnerValue) → find (is_owner c) owners ≡ Some owner → owner.id ≡ c
+pub found_named : (c : ℕ) (owners : List OwnerValue) (owner : OwnerValue) → find (is_owner c) owners ≡ Some owner → owner.id ≡ c
 found_named c [] owner e = cc
 found_named c (one ∷ owners) owner e = go (is_owner c one) refl e (found_named c owners owner)
   where

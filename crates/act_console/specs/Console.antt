@@ -9,8 +9,8 @@ use Rattle.act_rules.specs.Grammar.{Script, spelled}
 use Rattle.act_rules.specs.Scripts.{opened, played}
 use Rattle.act_console.specs.declared.fault.ConsoleFault.{ConsoleFault}
 use Rattle.act_console.specs.declared.fault.ConsoleFault.TheVariants as faults
-use Rattle.act_console.specs.declared.console.Answer.{Answer}
-use Rattle.act_console.specs.declared.console.Answer.TheVariants as answers
+use Rattle.act_console.specs.declared.answer.Answer.{Answer}
+use Rattle.act_console.specs.declared.answer.Answer.TheVariants as answers
 use Rattle.act_console.specs.Input.{IsWholeInput}
 use Rattle.act_console.specs.Output.{AppendsFront}
 

@@ -1,5 +1,8 @@
 -- What a writer holds.
-use Rattle.std.specs.Prelude.{◌≡◌, ℕ, List, ◌++◌, Option, Some, None}
+use Rattle.std.specs.Prelude.{◌≡◌, ℕ, List, ◌++◌, Option, Some, None, Result, Ok, Err, string_bytes}
+use Rattle.std.specs.Io.KnownBytes.{Appends}
+use Rattle.act_console.specs.declared.answer.Answer.{Answer}
+use Rattle.act_console.specs.declared.answer.Answer.TheVariants.{Report, Refusal}
 use Rattle.act_console.specs.declared.fault.ConsoleFault.{ConsoleFault}
 use Rattle.act_console.specs.declared.fault.ConsoleFault.TheVariants as faults
 
@@ -16,3 +19,18 @@ IsBeforeWriting faults.Memory = Unit {0}
 IsBeforeWriting faults.Thread = ⊥
 IsBeforeWriting faults.Reading = Unit {0}
 IsBeforeWriting faults.Writing = ⊥
+
+-- what was written of an answer: a report whole, and a refusal whole, which is then told as the script's fault; or a front of either
+abbrev pub Wrote : Option (List ℕ) → Option (List ℕ) → Answer → Result (Unit {0}) ConsoleFault → Type 0
+Wrote old new (Report text) (Ok done) = Appends old new (string_bytes text)
+Wrote old new (Report text) (Err faults.Writing) = AppendsFront old new (string_bytes text)
+Wrote old new (Report text) (Err faults.Script) = ⊥
+Wrote old new (Report text) (Err faults.Memory) = ⊥
+Wrote old new (Report text) (Err faults.Thread) = ⊥
+Wrote old new (Report text) (Err faults.Reading) = ⊥
+Wrote old new (Refusal text) (Ok done) = ⊥
+Wrote old new (Refusal text) (Err faults.Script) = Appends old new (string_bytes text)
+Wrote old new (Refusal text) (Err faults.Writing) = AppendsFront old new (string_bytes text)
+Wrote old new (Refusal text) (Err faults.Memory) = ⊥
+Wrote old new (Refusal text) (Err faults.Thread) = ⊥
+Wrote old new (Refusal text) (Err faults.Reading) = ⊥

@@ -2,55 +2,61 @@
 
 ghost use Rattle.std.specs.Prelude.{◌≡◌, ◌<◌, ◌^◌, IfOk, length, map, string_bytes};
 ghost use Rattle.act_rules.specs.declared.script.Mode.TheVariants.{Play};
-ghost use Rattle.act_rules.specs.Report.{report, fault_line};
+ghost use Rattle.act_rules.specs.Report.{report};
 ghost use Rattle.act_rules.specs.Scripts.{opened, casting};
 ghost use Rattle.act_rules.specs.Grammar.{spelled};
 ghost use Rattle.act_console.specs.Console.{Answers, Played};
-ghost use Rattle.act_console.specs.Roles.{AreFitting};
+ghost use Rattle.act_scripts.specs.Roles.{AreFitting};
+ghost use Rattle.act_scripts.specs.Spelled.{mode_of, count_of, spelled_script};
 ghost use Rattle.act_console.specs.Stock.{IsReady};
 
+use crate::answer::{Answer, refusal_of};
 use crate::fault::ConsoleFault;
-use crate::line::ScriptFault;
 use crate::reading::read_whole;
 use crate::report::report_of;
-use crate::script::{Script, read_script};
 use crate::stock::{Stock, casts_of};
-use crate::writing::write_whole;
+use crate::writing::write_answer;
 use act_kinds::{Actor, Boxed};
-use act_rules::Wrong;
-use act_types::NoMemory;
+use act_rules::{Event, Mode, Role};
+use act_scripts::{Items, Script, ScriptFault, read_script};
+use act_types::{ListOf, NoMemory};
 use act_world::World;
-use std::alloc::{AllocError, Global};
+use std::alloc::Global;
 use std::io::{Read, Write};
 
-/// What there is to be written of a script.
-#[derive(Debug, Drop)]
-enum Answer {
-    Report(String),
-    Refusal(String),
-}
-
-/// The line of a script's fault.
-fn refusal_of(alloc: Global, line: u32, wrong: Wrong) -> Result<String, AllocError>
-    ensures { IfOk result (λ text. string_bytes text ≡ fault_line (line, wrong)) }
-{
-    format!(in alloc; "line {line}: {wrong}\n")
-}
-
-/// The report of a script, played with kinds of the stock.
-fn report_on(alloc: Global, stock: Stock, script: Script) -> Result<String, NoMemory>
+/// The report of roles and events, played with kinds of the stock.
+fn report_on(
+    alloc: Global,
+    stock: Stock,
+    roles: ListOf<Role>,
+    events: ListOf<Event>,
+) -> Result<String, NoMemory>
     requires ready { IsReady ⟦<Boxed as Actor>⟧.state stock }
-    requires roles { AreFitting (map casting script.casts) }
-    requires few { length script.items < 2 ^ 32 }
-    ensures { IfOk result (λ text. string_bytes text ≡ report (opened script.casts) script.items) }
+    requires roles { AreFitting (map casting roles) }
+    requires few { length events < 2 ^ 32 }
+    ensures { IfOk result (λ text. string_bytes text ≡ report (opened roles) events) }
 {
-    let Script {
-        casts: roles,
-        items: events,
-    } = script;
     let casts = casts_of(alloc, stock, roles)?;
     let mut world = World::open(alloc, casts)?;
     report_of(alloc, &mut world, events.as_slice())
+}
+
+/// The report of a script of events.
+fn report_of_script(alloc: Global, stock: Stock, script: Script) -> Result<String, NoMemory>
+    requires ready { IsReady ⟦<Boxed as Actor>⟧.state stock }
+    requires mode { mode_of script.items ≡ Play }
+    requires roles { AreFitting (map casting script.casts) }
+    requires few { count_of script.items < 2 ^ 32 }
+    ensures { IfOk result (λ text. string_bytes text ≡ report (opened script.casts) (spelled_script script).events) }
+{
+    let Script {
+        casts: roles,
+        items,
+    } = script;
+    let Items::Events(events) = items else {
+        unreachable!()
+    };
+    report_on(alloc, stock, roles, events)
 }
 
 /// What there is to be written of the script that bytes spell.
@@ -58,9 +64,9 @@ fn answer_of(alloc: Global, stock: Stock, bytes: &[u8]) -> Result<Answer, NoMemo
     requires ready { IsReady ⟦<Boxed as Actor>⟧.state stock }
     ensures { IfOk result (λ answer. Answers answer (spelled Play bytes.now)) }
 {
-    match read_script(alloc, bytes) {
+    match read_script(alloc, bytes, Mode::Play) {
         Ok(script) => {
-            let text = report_on(alloc, stock, script)?;
+            let text = report_of_script(alloc, stock, script)?;
             Ok(Answer::Report(text))
         }
         Err(ScriptFault::NoMemory) => Err(NoMemory),
@@ -88,11 +94,7 @@ pub fn play_script<R: Read, W: Write>(
 {
     let bytes = read_whole(alloc, reader)?;
     match answer_of(alloc, stock, &bytes) {
+        Ok(answer) => write_answer(writer, answer),
         Err(_) => Err(ConsoleFault::Memory),
-        Ok(Answer::Report(text)) => write_whole(writer, &text),
-        Ok(Answer::Refusal(text)) => {
-            write_whole(writer, &text)?;
-            Err(ConsoleFault::Script)
-        }
     }
 }

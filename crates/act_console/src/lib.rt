@@ -1,22 +1,25 @@
-//! Scripts and reports: what comes from a reader, and what goes to a writer.
+//! Scripts run from bytes to bytes: played as one list of events, or in threads, each caller with a
+//! plan of its own.
 #![tactic(auto)]
 
+mod answer;
 mod console;
 mod fault;
-mod forms;
-mod line;
+mod plans;
 mod reading;
 mod report;
-mod script;
 mod stock;
+mod summary;
 #[cfg(test)]
 mod tests;
-mod words;
+mod threads;
 mod writing;
 
+pub use act_executor::{Gate, NoGate};
+pub use act_scripts::{Items, Script, ScriptFault, read_script};
 pub use console::play_script;
 pub use fault::ConsoleFault;
-pub use line::ScriptFault;
 pub use report::play_report;
-pub use script::{Script, read_script};
 pub use stock::Stock;
+pub use summary::joined_report;
+pub use threads::threads_script;

@@ -74,7 +74,7 @@ fn push_future(text: &mut String, owner: &Owner, k: FutureId) -> Result<(), Allo
 }
 
 /// Adds a line for each future of a caller.
-fn push_futures(text: &mut String, owner: &Owner) -> Result<(), AllocError>
+pub(crate) fn push_futures(text: &mut String, owner: &Owner) -> Result<(), AllocError>
     ensures { OnOk result (string_bytes text.new ≡ string_bytes text.old ++ owner_lines owner.now) }
 {
     for number in 0..owner.count() {
@@ -130,7 +130,11 @@ fn push_item(
 }
 
 /// Adds a line for each call that an actor ran.
-fn push_items(text: &mut String, actor: ActorId, items: &[RunItem]) -> Result<(), AllocError>
+pub(crate) fn push_items(
+    text: &mut String,
+    actor: ActorId,
+    items: &[RunItem],
+) -> Result<(), AllocError>
     ensures { OnOk result (string_bytes text.new ≡ string_bytes text.old ++ placed (item_line actor) 0 items.now) }
 {
     for (place, item) in items.iter().enumerate() {

@@ -1,17 +1,24 @@
 //! Readers and writers that are slow, or fail, and some scripts from bytes to bytes.
 mod fakes;
 mod rows;
+mod thread_rows;
+mod threads;
 
 use crate::console::play_script;
 use crate::fault::ConsoleFault;
 use crate::reading::{MOST_READ, read_whole};
 use crate::stock::Stock;
+use crate::threads::threads_script;
+use act_executor::{Gate, NoGate};
 use act_kinds::{Account, Boxed, Counter, ListKind, Table};
+use act_rules::Mode;
 use act_types::MOST_ACTORS;
 use fakes::{FakeReader, FakeWriter};
 use rows::ROWS;
 use std::alloc::Global;
+use std::sync::Wait;
 use std::test::Fail;
+use std::thread::Threads;
 
 /// The rows of a shorter script are few, and some of them have a fault.
 const SHORT: usize = 100;
@@ -34,12 +41,15 @@ fn a_byte_a_read(rt: HostRuntime) -> Result<(), Fail> {
     Ok(())
 }
 
-/// Plays what a reader has, with kinds that are made here.
-fn played(
-    alloc: Global,
+/// Runs what a reader has in this mode, with kinds that are made here.
+fn ran<Rt: AllocGlobal + Threads + Wait + Sync, G: Gate>(
+    rt: &Rt,
+    mode: Mode,
+    gate: &G,
     reader: &mut FakeReader,
     writer: &mut FakeWriter,
 ) -> Result<(), ConsoleFault> {
+    let alloc = rt.alloc();
     let mut stock = Stock {
         counters: Vec::new(alloc),
         tables: Vec::new(alloc),
@@ -53,7 +63,10 @@ fn played(
         let list: Boxed = Box::new(alloc, ListKind::open(alloc))?;
         stock.add(counter, table, account, list)?;
     }
-    play_script(alloc, stock, reader, writer)
+    match mode {
+        Mode::Play => play_script(alloc, stock, reader, writer),
+        Mode::Threads => threads_script(rt, alloc, stock, reader, writer, gate),
+    }
 }
 
 #[test]
@@ -61,7 +74,7 @@ fn scripts_are_played(rt: HostRuntime) -> Result<(), Fail> {
     for row in &ROWS {
         let mut reader = FakeReader::new(row.script.as_bytes());
         let mut writer = FakeWriter::new(rt.alloc());
-        let answer = played(rt.alloc(), &mut reader, &mut writer);
+        let answer = ran(&rt, Mode::Play, &NoGate, &mut reader, &mut writer);
         assert_eq!(rt; answer, row.answer, "{}", row.script);
         assert_eq!(rt; writer.written(), row.output.as_bytes(), "{}", row.script);
     }
@@ -76,7 +89,7 @@ fn each_read_fails_in_turn(rt: HostRuntime) -> Result<(), Fail> {
             for read in 0..=row.script.len() {
                 let mut reader = FakeReader::failing(row.script.as_bytes(), read + 1);
                 let mut writer = FakeWriter::new(rt.alloc());
-                let answer = played(rt.alloc(), &mut reader, &mut writer);
+                let answer = ran(&rt, Mode::Play, &NoGate, &mut reader, &mut writer);
                 let seen = (answer, reader.reads(), writer.writes());
                 assert_eq!(rt; seen, (Err(ConsoleFault::Reading), read + 1, 0));
             }
@@ -95,7 +108,7 @@ fn each_write_fails_in_turn(rt: HostRuntime) -> Result<(), Fail> {
                 for answers_zero in [false, true] {
                     let mut reader = FakeReader::new(row.script.as_bytes());
                     let mut writer = FakeWriter::failing(rt.alloc(), written + 1, answers_zero);
-                    let answer = played(rt.alloc(), &mut reader, &mut writer);
+                    let answer = ran(&rt, Mode::Play, &NoGate, &mut reader, &mut writer);
                     let seen = (answer, writer.writes(), writer.written());
                     assert_eq!(rt; seen, (Err(ConsoleFault::Writing), written + 1, front));
                 }

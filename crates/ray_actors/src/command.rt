@@ -1,17 +1,12 @@
 //! The command line.
 use crate::status::Stop;
 use act_console::ConsoleFault;
+use act_rules::Mode;
 use clap::error::ErrorKind;
 use clap::{Command, Error};
 use std::alloc::Global;
 use std::rt::Env;
 use std::{env, io};
-
-#[derive(Clone, Copy, Debug, PartialEq, Eq)]
-pub(crate) enum Mode {
-    Play,
-    Threads,
-}
 
 /// The mode that the words of the command line name, after the program's name.
 fn mode_of(alloc: Global, words: &[String]) -> Result<Option<Mode>, Error> {

@@ -4,27 +4,35 @@
 mod command;
 mod status;
 
+ghost use Rattle.std.specs.Prelude.{◌≡◌};
+ghost use Rattle.act_rules.specs.declared.script.Mode.TheVariants.{Play, Threads};
 ghost use Rattle.act_console.specs.Console.{Played};
+ghost use Rattle.act_console.specs.Threads.{Threaded};
 
-use act_console::{ConsoleFault, Stock, play_script};
+use act_console::{ConsoleFault, NoGate, Stock, play_script, threads_script};
 use act_kinds::{Account, Boxed, Counter, ListKind, Table};
+use act_rules::Mode;
 use act_types::MOST_ACTORS;
-use command::{Mode, mode_given};
+use command::mode_given;
 use status::{Stop, exit_code};
-use std::alloc::Global;
 use std::io;
 use std::io::{Read, Write};
 use std::process::ExitCode;
 use std::rt::Env;
+use std::sync::Wait;
+use std::thread::Threads;
 
-/// Makes the kinds, as many of each as a script may have actors, and plays the script with them.
-fn play<R: Read, W: Write>(
-    alloc: Global,
+/// Makes the kinds, as many of each as a script may have actors, and runs the script with them.
+fn run_script<Rt: AllocGlobal + Threads + Wait + Sync, R: Read, W: Write>(
+    rt: &Rt,
+    mode: Mode,
     reader: &mut R,
     writer: &mut W,
 ) -> Result<(), ConsoleFault>
-    ensures { Played (R.remaining reader.old) (R.remaining reader.new) (W.contents writer.old) (W.contents writer.new) result }
+    ensures played { mode ≡ Play → Played (R.remaining reader.old) (R.remaining reader.new) (W.contents writer.old) (W.contents writer.new) result }
+    ensures threaded { mode ≡ Threads → Threaded (R.remaining reader.old) (R.remaining reader.new) (W.contents writer.old) (W.contents writer.new) result }
 {
+    let alloc = rt.alloc();
     let mut stock = Stock {
         counters: Vec::new(alloc),
         tables: Vec::new(alloc),
@@ -38,18 +46,17 @@ fn play<R: Read, W: Write>(
         let list: Boxed = Box::new(alloc, ListKind::open(alloc))?;
         stock.add(counter, table, account, list)?;
     }
-    play_script(alloc, stock, reader, writer)
+    match mode {
+        Mode::Play => play_script(alloc, stock, reader, writer),
+        Mode::Threads => threads_script(rt, alloc, stock, reader, writer, &NoGate),
+    }
 }
 
-fn run(rt: &(impl Env + AllocGlobal + Input + Print)) -> Result<(), Stop> {
+fn run<Rt: Env + AllocGlobal + Input + Print + Threads + Wait + Sync>(rt: &Rt) -> Result<(), Stop> {
     let mode = mode_given(rt)?;
     let mut reader = rt.reader();
     let mut writer = io::writer(rt);
-    match mode {
-        Mode::Play => play(rt.alloc(), &mut reader, &mut writer)?,
-        // Scripts for threads are not served yet.
-        Mode::Threads => return Err(Stop::Usage),
-    }
+    run_script(rt, mode, &mut reader, &mut writer)?;
     Ok(())
 }
 

@@ -11,7 +11,7 @@ use Rattle.act_console.proofs.console.report_on.Goals as goal
 pub open-requires : goal.open-requires
 open-requires g c = (
   omega arith,
-  casts_fit (λ b. (goal.Actor-dyn g (b.vtable, b.value)).state b.value) c.in_ok-casts.casts.items c.args.script.casts c.in_ok-casts.ensures c.requires.roles,
+  casts_fit (λ b. (goal.Actor-dyn g (b.vtable, b.value)).state b.value) c.in_ok-casts.casts.items c.args.roles c.in_ok-casts.ensures c.requires.roles,
 )
 
 pub returns : goal.returns
@@ -21,5 +21,5 @@ returns g c =
     (λ text written.
     written casts c.in_ok-world.ensures.stands
     ∙ ap (λ (casts : List Casting). report (opening casts) c.as_slice.result.now) c.in_ok-casts.ensures
-    ∙ ap (λ (events : List Event). report (opened c.args.script.casts) events) c.as_slice.ensures)
+    ∙ ap (λ (events : List Event). report (opened c.args.roles) events) c.as_slice.ensures)
     c.report_of.ensures

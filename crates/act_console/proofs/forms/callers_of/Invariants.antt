@@ -1,8 +1,0 @@
-use Rattle.std.proofs.Common.{◌≡◌, map, drop}
-use Rattle.act_rules.specs.Grammar.{callers_at}
-use Rattle.act_console.proofs.Each.{with_front}
-use Rattle.act_console.proofs.forms.callers_of.Given as goal
-
--- what was read so far, and what is still to be read
-abbrev pub invariant-loop-word : goal.invariant-loop-word
-invariant-loop-word l = with_front l.callers (callers_at (map (λ w. w.now) (drop l.word-index l.words))) ≡ callers_at (map (λ w. w.now) l.words)

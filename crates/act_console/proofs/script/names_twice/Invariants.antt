@@ -1,6 +1,0 @@
-use Rattle.std.proofs.Common.{◌≡◌, drop}
-use Rattle.act_rules.specs.Grammar.{has_twice}
-use Rattle.act_console.proofs.script.names_twice.Given as goal
-
-abbrev pub invariant-loop-at : goal.invariant-loop-at
-invariant-loop-at l = has_twice (drop l.at l.callers) ≡ has_twice l.callers

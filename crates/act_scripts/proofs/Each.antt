@@ -1,0 +1,41 @@
+-- Reading words one after the other, as a loop does.
+use Rattle.std.proofs.Common.{◌≡◌, ℕ, ◌+◌, ◌<◌, ◌≤◌, List, [], ◌∷◌, ◌++◌, length, map, drop, get_or, Result, Ok, Err, Bor, refl, sym, ap, ◌∙◌, append_assoc, add-one, drop-cons}
+use Rattle.std.proofs.lemmas.List.{append-nil}
+use Rattle.std.proofs.Math.ListN.{drop_of_length-le}
+use Rattle.act_rules.specs.declared.script.Wrong.{Wrong}
+use Rattle.act_scripts.specs.declared.line.LineFault.{LineFault}
+use Rattle.act_scripts.specs.declared.line.LineFault.TheVariants as faults
+use Rattle.act_rules.specs.Words.{◌>>=◌}
+use Rattle.act_scripts.specs.Gives.{Fails}
+use Rattle.act_rules.specs.Grammar.{each_at}
+
+-- the texts of borrowed words
+abbrev pub texts : List (Bor (List ℕ)) → List (List ℕ)
+texts ws = map (λ w. w.now) ws
+
+-- what was read before, and what is still read
+abbrev pub with_front : {A : Type 0} → List A → Result (List A) Wrong → Result (List A) Wrong
+with_front front read = read >>= λ xs. Ok (front ++ xs)
+
+regroup : {A : Type 0} (front : List A) (x : A) (read : Result (List A) Wrong) → with_front front (read >>= λ xs. Ok (x ∷ xs)) ≡ with_front (front ++ x ∷ []) read
+regroup front x (Ok xs) = ap Ok (simp append_assoc)
+regroup front x (Err w) = refl
+
+-- one word is read, and then the others
+turn : {A : Type 0} (f : List ℕ → Result A Wrong) (ws : List (Bor (List ℕ))) (i : ℕ) (d : Bor (List ℕ)) → i < length ws → each_at f (texts (drop i ws)) ≡ (f ((get_or ws i d).now) >>= λ x. each_at f (texts (drop (i + 1) ws)) >>= λ xs. Ok (x ∷ xs))
+turn f ws i d lt = rw (add-one, drop-cons ws i d) refl
+
+pub goes_on : {A : Type 0} (f : List ℕ → Result A Wrong) (front : List A) (ws : List (Bor (List ℕ))) (i : ℕ) (d : Bor (List ℕ)) (x : A) (total : Result (List A) Wrong) → i < length ws → f ((get_or ws i d).now) ≡ Ok x
+    → with_front front (each_at f (texts (drop i ws))) ≡ total → with_front (front ++ x ∷ []) (each_at f (texts (drop (i + 1) ws))) ≡ total
+goes_on f front ws i d x total lt h so_far =
+    sym (regroup front x (each_at f (texts (drop (i + 1) ws)))) ∙ sym (ap (with_front front) (turn f ws i d lt ∙ ap (λ (r : Result _ Wrong). r >>= λ y. each_at f (texts (drop (i + 1) ws)) >>= λ xs. Ok (y ∷ xs)) h)) ∙ so_far
+
+pub ends : {A : Type 0} (f : List ℕ → Result A Wrong) (e : LineFault) (front : List A) (ws : List (Bor (List ℕ))) (i : ℕ) (d : Bor (List ℕ)) (total : Result (List A) Wrong) → i < length ws → Fails e (f ((get_or ws i d).now))
+    → with_front front (each_at f (texts (drop i ws))) ≡ total → Fails e total
+ends f faults.Memory front ws i d total lt h so_far = tt
+ends f (faults.Wrong w) front ws i d total lt h so_far =
+    sym so_far ∙ ap (with_front front) (turn f ws i d lt ∙ ap (λ (r : Result _ Wrong). r >>= λ y. each_at f (texts (drop (i + 1) ws)) >>= λ xs. Ok (y ∷ xs)) h)
+
+pub is_done : {A : Type 0} (f : List ℕ → Result A Wrong) (front : List A) (ws : List (Bor (List ℕ))) (i : ℕ) (total : Result (List A) Wrong) → length ws ≤ i → with_front front (each_at f (texts (drop i ws))) ≡ total → total ≡ Ok front
+is_done f front ws i total le so_far =
+    sym so_far ∙ ap (λ (left : List (Bor (List ℕ))). with_front front (each_at f (texts left))) (drop_of_length-le ws le) ∙ ap Ok (append-nil front)

@@ -1,0 +1,8 @@
+use Rattle.std.proofs.Common.{◌≡◌, map, drop}
+use Rattle.act_rules.specs.Grammar.{args_at}
+use Rattle.act_scripts.proofs.Each.{with_front}
+use Rattle.act_scripts.proofs.forms.args_of.Given as goal
+
+-- what was read so far, and what is still to be read
+abbrev pub invariant-loop-word : goal.invariant-loop-word
+invariant-loop-word l = with_front l.args (args_at (map (λ w. w.now) (drop l.word-index l.words))) ≡ args_at (map (λ w. w.now) l.words)

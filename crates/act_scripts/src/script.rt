@@ -1,0 +1,284 @@
+//! Lines and scripts.
+
+ghost use Rattle.std.specs.Prelude.{◌≡◌, ◌==◌, ◌≤◌, ◌<◌, ◌^◌, ◌+◌, ℕ, map, IfOk, IfSome, length};
+ghost use Rattle.std.specs.List.{list_all, list_any};
+ghost use Rattle.act_scripts.specs.Gives.{Gives};
+ghost use Rattle.act_scripts.specs.Spelled.{IsLineOf, Leaves, GivesScript, mode_of, count_of, spelled_script, numbered};
+ghost use Rattle.act_rules.specs.Scripts.{casting};
+ghost use Rattle.act_scripts.specs.Roles.{AreFitting, AreSound};
+ghost use Rattle.act_rules.specs.declared.script.Mode.TheVariants.{Play, Threads};
+ghost use Rattle.act_rules.specs.Grammar.{is_plain_byte, plain_at, words_in, line_at, forms_of, no_lines, has_twice, role_fault, added, line_added, lines_in, spelled_from, spelled};
+
+use crate::forms::form_of;
+use crate::line::{BAD_LINE, LineFault, ScriptFault};
+use act_rules::{Event, Line, Mode, Role, Step, Wrong};
+use act_types::{ActorId, CallerId, ListOf, MOST_ACTORS, MOST_LINE_BYTES, MOST_SCRIPT_BYTES};
+use std::alloc::{AllocError, Global};
+
+/// What a script spells beside its roles.
+#[derive(Debug, Drop)]
+pub enum Items {
+    /// The events of a play, in the order of their lines.
+    Events(ListOf<Event>),
+    /// The steps of the callers' plans, in the order of their lines: each with its caller, and with
+    /// the number of its line, from 1.
+    Steps(ListOf<(CallerId, Step, u32)>),
+}
+
+/// What a script spells.
+#[derive(Debug, Drop)]
+pub struct Script {
+    /// Its actors, in the order of their lines.
+    pub casts: ListOf<Role>,
+    pub items: Items,
+}
+
+impl Items {
+    /// No items of a script of this mode.
+    fn none(alloc: Global, mode: Mode) -> Items
+        ensures mode { mode_of result ≡ mode }
+        ensures none { count_of result ≡ 0 }
+    {
+        match mode {
+            Mode::Play => Items::Events(ListOf::new(alloc)),
+            Mode::Threads => Items::Steps(ListOf::new(alloc)),
+        }
+    }
+
+    fn is_empty(&self) -> bool
+        ensures { result ≡ (count_of self.now == 0) }
+    {
+        match self {
+            Items::Events(events) => events.as_slice().is_empty(),
+            Items::Steps(steps) => steps.as_slice().is_empty(),
+        }
+    }
+}
+
+/// Whether each byte prints or is a space.
+fn are_plain(bytes: &[u8]) -> bool
+    ensures { result ≡ list_all is_plain_byte bytes.now }
+{
+    bytes.iter().all(|byte| 0x20 <= *byte && *byte <= 0x7e)
+}
+
+/// The text of a line that is short and plain.
+fn plain(line: &[u8]) -> Result<&str, LineFault>
+    ensures { Gives (λ x. x.now) result (plain_at line.now) }
+{
+    if line.len() > MOST_LINE_BYTES {
+        return Err(BAD_LINE);
+    }
+    if !are_plain(line) {
+        return Err(BAD_LINE);
+    }
+    match str::from_utf8(line) {
+        Ok(text) => Ok(text),
+        Err(_) => Err(BAD_LINE),
+    }
+}
+
+/// The words of a line, which single spaces part.
+fn words_of(alloc: Global, line: &str) -> Result<Vec<&str>, AllocError>
+    ensures { IfOk result (λ words. map (λ w. w.now) words.items ≡ words_in line.now) }
+{
+    line.split(' ').collect(alloc)
+}
+
+/// What a line says, and nothing for one that is skipped.
+#[tactic(auto, unfolding(act_rules::specs::Grammar::line_at))]
+fn line_of(alloc: Global, mode: Mode, line: &[u8]) -> Result<Option<Line>, LineFault>
+    ensures said { Gives (λ x. x) result (line_at (forms_of mode) line.now) }
+    ensures of_mode { IfOk result (λ said. IfSome said (IsLineOf mode)) }
+{
+    let text = plain(line)?;
+    match text.as_bytes() {
+        [] | [b'#', ..] => Ok(None),
+        _ => {
+            let words = words_of(alloc, text)?;
+            Ok(Some(form_of(alloc, mode, &words)?))
+        }
+    }
+}
+
+/// Whether a caller is one of these.
+fn is_among(caller: CallerId, callers: &[CallerId]) -> bool
+    ensures { result ≡ list_any (λ c. c == caller) callers.now }
+{
+    callers.iter().any(|other| *other == caller)
+}
+
+/// Whether a caller stands twice.
+fn names_twice(callers: &[CallerId]) -> bool
+    ensures { result ≡ has_twice callers.now }
+{
+    for (at, caller) in callers.iter().enumerate() {
+        if is_among(*caller, &callers[at + 1..]) {
+            return true;
+        }
+    }
+    false
+}
+
+/// Whether an actor has one of these roles.
+fn has_role(actor: ActorId, roles: &[Role]) -> bool
+    ensures { result ≡ list_any (λ role. role.actor == actor) roles.now }
+{
+    roles.iter().any(|role| role.actor == actor)
+}
+
+/// Why a role is refused.
+#[tactic(auto, unfolding(act_rules::specs::Grammar::role_fault))]
+fn fault_of(script: &Script, role: &Role) -> Option<Wrong>
+    ensures { result ≡ role_fault (spelled_script script.now) role.now }
+{
+    if !script.items.is_empty() {
+        return Some(Wrong::LateActor);
+    }
+    if has_role(role.actor, script.casts.as_slice()) {
+        return Some(Wrong::TwiceActor);
+    }
+    if names_twice(role.callers.as_slice()) {
+        return Some(Wrong::TwiceCaller);
+    }
+    None
+}
+
+/// The script of no lines.
+fn empty(alloc: Global, mode: Mode) -> Script
+    ensures spelled { spelled_script result ≡ no_lines }
+    ensures mode { mode_of result.items ≡ mode }
+    ensures none { count_of result.items ≡ 0 }
+{
+    Script {
+        casts: ListOf::new(alloc),
+        items: Items::none(alloc, mode),
+    }
+}
+
+/// Adds a role, unless something refuses it.
+fn add_role(script: &mut Script, role: Role) -> Result<(), LineFault>
+    ensures sound { AreSound (map casting script.old.casts) → AreSound (map casting script.new.casts) }
+    ensures read { (n : ℕ) → Leaves result script.new (added (spelled_script script.old) n (Line.Role role)) }
+    ensures items { script.new.items ≡ script.old.items }
+{
+    // A script has no more actors than there are numbers for them.
+    prove!(1 <= role.actor.number() && role.actor.number() <= MOST_ACTORS);
+    if let Some(wrong) = fault_of(script, &role) {
+        return Err(LineFault::Wrong(wrong));
+    }
+    script.casts.push(role)?;
+    Ok(())
+}
+
+/// Adds an event to a play.
+fn add_event(script: &mut Script, event: Event) -> Result<(), LineFault>
+    requires { mode_of script.old.items ≡ Play }
+    ensures casts { script.new.casts ≡ script.old.casts }
+    ensures mode { mode_of script.new.items ≡ Play }
+    ensures read { (n : ℕ) → Leaves result script.new (added (spelled_script script.old) n (Line.Event event)) }
+    ensures few { count_of script.new.items ≤ count_of script.old.items + 1 }
+{
+    let Items::Events(events) = &mut script.items else {
+        unreachable!()
+    };
+    events.push(event)?;
+    Ok(())
+}
+
+/// Adds a step of a caller's plan, which the line of this number says.
+fn add_step(script: &mut Script, caller: CallerId, step: Step, number: u32) -> Result<(), LineFault>
+    requires { mode_of script.old.items ≡ Threads }
+    ensures casts { script.new.casts ≡ script.old.casts }
+    ensures mode { mode_of script.new.items ≡ Threads }
+    ensures read { Leaves result script.new (added (spelled_script script.old) number (Line.Step caller step)) }
+    ensures few { count_of script.new.items ≤ count_of script.old.items + 1 }
+{
+    let Items::Steps(steps) = &mut script.items else {
+        unreachable!()
+    };
+    steps.push((caller, step, number))?;
+    Ok(())
+}
+
+/// Adds what the line of this number says.
+fn add(script: &mut Script, line: Line, number: u32) -> Result<(), LineFault>
+    requires { IsLineOf (mode_of script.old.items) line }
+    ensures sound { AreSound (map casting script.old.casts) → AreSound (map casting script.new.casts) }
+    ensures mode { mode_of script.new.items ≡ mode_of script.old.items }
+    ensures read { Leaves result script.new (added (spelled_script script.old) number line) }
+    ensures few { count_of script.new.items ≤ count_of script.old.items + 1 }
+{
+    match line {
+        Line::Role(role) => add_role(script, role),
+        Line::Event(event) => add_event(script, event),
+        Line::Step(caller, step) => add_step(script, caller, step, number),
+    }
+}
+
+/// Adds what the line of this number says, if it isn't skipped.
+fn add_line(
+    alloc: Global,
+    mode: Mode,
+    script: &mut Script,
+    line: &[u8],
+    number: u32,
+) -> Result<(), LineFault>
+    requires { mode_of script.old.items ≡ mode }
+    ensures sound { AreSound (map casting script.old.casts) → AreSound (map casting script.new.casts) }
+    ensures mode { mode_of script.new.items ≡ mode }
+    ensures read { Leaves result script.new (line_added (forms_of mode) (spelled_script script.old) number line.now) }
+    ensures few { count_of script.new.items ≤ count_of script.old.items + 1 }
+{
+    match line_of(alloc, mode, line)? {
+        None => Ok(()),
+        Some(line) => add(script, line, number),
+    }
+}
+
+/// A line's fault, as the script's.
+fn fault_in(line: u32, fault: LineFault) -> ScriptFault
+    ensures { result ≡ numbered line fault }
+{
+    match fault {
+        LineFault::Wrong(wrong) => ScriptFault::Line(line, wrong),
+        LineFault::Memory => ScriptFault::NoMemory,
+    }
+}
+
+/// What the lines of a script of this mode spell, or their first fault.
+fn read_lines(alloc: Global, bytes: &[u8], mode: Mode) -> Result<Script, ScriptFault>
+    requires { length bytes.now ≤ MOST_SCRIPT_BYTES }
+    ensures sound { IfOk result (λ script. AreSound (map casting script.casts)) }
+    ensures spelled { GivesScript spelled_script result (spelled_from (forms_of mode) 1 no_lines (lines_in bytes.now)) }
+    ensures mode { IfOk result (λ script. mode_of script.items ≡ mode) }
+    ensures few { IfOk result (λ script. count_of script.items < 2 ^ 32) }
+{
+    let mut script = empty(alloc, mode);
+    let mut number = 0;
+    for line in bytes.split(|byte| *byte == b'\n') {
+        number += 1;
+        match add_line(alloc, mode, &mut script, line, number) {
+            Ok(()) => {}
+            Err(fault) => return Err(fault_in(number, fault)),
+        }
+    }
+    Ok(script)
+}
+
+/// What a script of this mode spells, or its first fault. What only a run of threads refuses,
+/// `TooMany` and `BadPlan`, isn't looked for.
+#[tactic(auto, using(crate::proofs::Roles::sound_fit), unfolding(act_rules::specs::Grammar::spelled_by))]
+pub fn read_script(alloc: Global, bytes: &[u8], mode: Mode) -> Result<Script, ScriptFault>
+    ensures spelled { GivesScript spelled_script result (spelled mode bytes.now) }
+    // The items are those of the mode: events of a play, steps in threads.
+    ensures mode { IfOk result (λ script. mode_of script.items ≡ mode) }
+    // The roles can be opened: their actors are distinct, and the callers of each.
+    ensures roles { IfOk result (λ script. AreFitting (map casting script.casts)) }
+    ensures few { IfOk result (λ script. count_of script.items < 2 ^ 32) }
+{
+    if bytes.len() > MOST_SCRIPT_BYTES {
+        return Err(ScriptFault::Line(0, Wrong::TooLong));
+    }
+    read_lines(alloc, bytes, mode)
+}
