@@ -1,23 +1,31 @@
 #!/usr/bin/env python3
 """Measures the proved program: its time and memory on scripts of several shapes, by their number of events.
 
-    tools/measure.py [--quick] [--sizes N,N,..] [--program PATH]
+    tools/measure.py [--threads] [--quick] [--sizes N,N,..] [--program PATH]
 
 Prints a Markdown table, and fails where time grows faster than events, where a script of just under a
 megabyte takes too long, or where a script takes too much memory. A time is the least of five runs of
 the process, from its start to its end, with the script and the report in files; memory is the most
 that was resident in any of them. A run counts only where it ends with status 0, with one outcome for each
 event, none of which is a refusal or a gap. It needs some minutes, and a machine that does nothing else.
+
+With --threads it measures runs in threads, by their number of calls, and fails where time grows faster than
+calls. Such a run counts only where each future is answered with a number and every actor retired after
+all its calls. The largest crew is run on one core, too, and must come to its end there.
 """
 import argparse
 import bisect
+import functools
 import itertools
 import math
 import pathlib
+import re
+import shutil
 import subprocess
 import sys
 import tempfile
 from dataclasses import dataclass
+from typing import Callable
 
 TOP = pathlib.Path(__file__).resolve().parent.parent
 PROGRAM = TOP / "crates/ray_actors/out/ray_actors"
@@ -26,6 +34,9 @@ LONGEST_SCRIPT = 1_048_576
 SHORTEST_EVENT = len("deliver 0\n")
 SIZES = [5_000, 10_000, 20_000, 40_000]
 CALLERS = [1, 16]
+SIZES_IN_THREADS = [2_500, 5_000, 10_000, 20_000]
+CREWS = [(1, 1), (2, 2), (4, 4), (16, 8)]  # callers and actors
+CALLS_ON_ONE_CORE = 5_000
 RUNS = 5
 
 MOST_FOR_DOUBLING = 2.3
@@ -33,7 +44,7 @@ NOISE = 0.020  # seconds; less is taken for this much
 MOST_SECONDS = 2.0  # for a script of just under a megabyte
 MOST_MEMORY = 100  # bytes for each byte of a script
 LEAST_FOR_MEMORY = 100_000  # bytes of script; in a shorter one the program's start weighs too much
-SECONDS_OF_A_RUN = 60  # of the processor's time
+SECONDS_OF_A_RUN = {"play": 60, "threads": 240}  # of the processor's time, and of the clock
 
 
 # The shapes. Each takes a number of callers, who take turns, and a number of events, and gives the
@@ -150,27 +161,73 @@ SHAPES = {
 }
 
 
+# The shapes in threads. Each takes the numbers of callers and of actors, and the number of calls, which the callers
+# submit in turns, each of them to all actors in turns.
+
+
+def submit_in_threads(call, actors):
+    return call.submit(f"a{(call.future + call.place) % actors + 1} add 1")
+
+
+def all_at_once(callers, actors, count):
+    """Each caller submits all its calls, and waits for no answer."""
+    return roles(callers, *["counter"] * actors), [submit_in_threads(call, actors) for call in turns(callers, count)]
+
+
+def each_awaited(callers, actors, count):
+    """Each caller awaits the answer of each call before it submits the next one."""
+    lines = []
+    for call in turns(callers, count):
+        lines += [submit_in_threads(call, actors), f"await {call.caller} {call.future}"]
+    return roles(callers, *["counter"] * actors), lines
+
+
+SHAPES_IN_THREADS = {"all submitted at once": all_at_once, "each awaited": each_awaited}
+
+
+@dataclass(frozen=True)
+class Series:
+    """Scripts of one shape, by their number of events; in threads by that of their calls."""
+
+    mode: str
+    shape: str
+    crew: str
+    build: Callable
+
+    def script(self, events):
+        header, lines = self.build(events)
+        counted = [line for line in lines if self.mode == "play" or line.startswith("submit ")]
+        return Script(self, len(counted), "".join(f"{line}\n" for line in header + lines).encode())
+
+    def largest_script(self):
+        """The one with the most events that a script has room for."""
+        sizes = range(LONGEST_SCRIPT // SHORTEST_EVENT)
+        fitting = bisect.bisect_right(sizes, LONGEST_SCRIPT, lo=1_000, key=lambda events: len(self.script(events).text))
+        return self.script(fitting - 1)
+
+
 @dataclass
 class Script:
-    shape: str
-    callers: int
+    series: Series
     events: int
     text: bytes
 
     def __str__(self):
-        return f"{self.shape}, {self.callers} {'caller' if self.callers == 1 else 'callers'}, {self.events:,} events"
+        counted = "events" if self.series.mode == "play" else "calls"
+        return f"{self.series.shape} ({self.series.crew}), {self.events:,} {counted}"
+
+    def is_largest(self):
+        return len(self.text) > LONGEST_SCRIPT - 1_000
 
 
-def script(shape, callers, events):
-    header, lines = SHAPES[shape](callers, events)
-    return Script(shape, callers, len(lines), "".join(f"{line}\n" for line in header + lines).encode())
+def series_of_events():
+    for (shape, build), callers in itertools.product(SHAPES.items(), CALLERS):
+        yield Series("play", shape, str(callers), functools.partial(build, callers))
 
 
-def largest_script(shape, callers):
-    """The script of that shape with the most events that a script has room for."""
-    sizes = range(LONGEST_SCRIPT // SHORTEST_EVENT)
-    fitting = bisect.bisect_right(sizes, LONGEST_SCRIPT, lo=1_000, key=lambda events: len(script(shape, callers, events).text))
-    return script(shape, callers, fitting - 1)
+def series_of_threads():
+    for (shape, build), (callers, actors) in itertools.product(SHAPES_IN_THREADS.items(), CREWS):
+        yield Series("threads", shape, f"{callers} x {actors}", functools.partial(build, callers, actors))
 
 
 # The runs.
@@ -202,23 +259,24 @@ class Runner:
         self.program = program
         subprocess.run(["cc", "-O2", "-o", self.timed, TOP / "tools/timed.c"], check=True)
 
-    def run(self, events):
-        """Seconds and bytes of memory of one run."""
-        command = [self.timed, str(SECONDS_OF_A_RUN), self.given, self.report, self.program, "play"]
-        done = subprocess.run(command, stdout=subprocess.PIPE, check=True)
+    def run(self, chosen, through=()):
+        """Seconds and bytes of memory of one run, through another program if one is given."""
+        mode = chosen.series.mode
+        self.given.write_bytes(chosen.text)
+        timed = [self.timed, str(SECONDS_OF_A_RUN[mode]), self.given, self.report]
+        done = subprocess.run([*timed, *through, self.program, mode], stdout=subprocess.PIPE, check=True)
         status, nanoseconds, memory = map(int, done.stdout.split())
         if status:
             raise Failed(f"status {status} after {nanoseconds / 1e9:.1f} seconds")
-        check_report(self.report, events)
+        CHECK_OF_REPORT[mode](self.report, chosen.events)
         return nanoseconds / 1e9, memory
 
     def measure(self, chosen):
-        self.given.write_bytes(chosen.text)
-        runs = [self.run(chosen.events) for _ in range(RUNS)]
+        runs = [self.run(chosen) for _ in range(RUNS)]
         return Measured(chosen, min(seconds for seconds, _ in runs), max(memory for _, memory in runs))
 
 
-def check_report(path, events):
+def check_report_of_events(path, events):
     """Fails where the report has another number of outcomes, or one that no shape should come to."""
     told = 0
     with open(path, "rb") as report:
@@ -231,6 +289,28 @@ def check_report(path, events):
             told += 1
     if told != events:
         raise Failed(f"{told} outcomes for {events} events")
+
+
+LINE_OF_THREADS = re.compile(rb"(c\d+\.\d+ a\d = \d+|a\d retired counter (\d+)|a\d\.\d+ c\d+\.\d+ add 1)\n")
+
+
+def check_report_of_threads(path, calls):
+    """Fails where a future has no number, an actor hasn't retired, or the actors together ran or added another
+    number than that of the calls."""
+    futures = items = added = 0
+    with open(path, "rb") as report:
+        for line in report:
+            found = LINE_OF_THREADS.fullmatch(line)
+            if not found:
+                raise Failed(f"the line {line!r}")
+            futures += line.startswith(b"c")
+            added += int(found[2] or 0)
+            items += line.startswith(b"a") and line[2:3] == b"."
+    if not futures == items == added == calls:
+        raise Failed(f"{futures} answers, {items} calls that ran and {added} additions for {calls} calls")
+
+
+CHECK_OF_REPORT = {"play": check_report_of_events, "threads": check_report_of_threads}
 
 
 # The verdict.
@@ -247,19 +327,26 @@ def growth(before, row):
     return (max(row.seconds, NOISE) / max(before.seconds, NOISE)) ** (1 / doublings)
 
 
-def complaints(rows, is_largest):
-    """What is wrong with the last of the rows of a shape."""
+def complaints(rows):
+    """What is wrong with the last of the rows of a series."""
     row, before = rows[-1], half_as_long(rows)
+    in_threads = row.script.series.mode == "threads"
     if before and growth(before, row) > MOST_FOR_DOUBLING:
-        times = f"{before.seconds:.3f} s for {before.script.events:,} events, {row.seconds:.3f} s for {row.script.events:,}"
-        yield f"a doubling of events costs {growth(before, row):.2f} times ({times})"
-    if is_largest and row.seconds > MOST_SECONDS:
+        times = f"{before.seconds:.3f} s for {before.script.events:,}, {row.seconds:.3f} s for {row.script.events:,}"
+        yield f"a doubling costs {growth(before, row):.2f} times ({times})"
+    if in_threads:
+        return
+    if row.script.is_largest() and row.seconds > MOST_SECONDS:
         yield f"{len(row.script.text):,} bytes of script take {row.seconds:.2f} seconds"
     if (row.for_each_byte() or 0) > MOST_MEMORY:
         yield f"{row.for_each_byte():.0f} bytes of memory for each byte of the script"
 
 
-HEADINGS = ["Shape", "Callers", "Events", "Bytes of script", "Seconds", "For a doubling", "Memory, MB", "Memory for a byte"]
+HEADINGS = ["Bytes of script", "Seconds", "For a doubling", "Memory, MB", "Memory for a byte"]
+HEADINGS_OF = {
+    "play": ["Shape", "Callers", "Events", *HEADINGS],
+    "threads": ["Shape", "Callers x actors", "Calls", *HEADINGS],
+}
 
 
 def show_cells(cells):
@@ -273,27 +360,42 @@ def show(rows):
     doubling = f"{growth(before, row):.2f}" if compared else "-"
     memory = f"{row.for_each_byte():.0f}" if row.for_each_byte() else "-"
     sizes = [f"{row.script.events:,}", f"{len(row.script.text):,}", f"{row.seconds:.3f}"]
-    show_cells([row.script.shape, str(row.script.callers), *sizes, doubling, f"{row.memory / 1e6:.1f}", memory])
+    series = row.script.series
+    show_cells([series.shape, series.crew, *sizes, doubling, f"{row.memory / 1e6:.1f}", memory])
 
 
-def measure_shape(runner, shape, callers, sizes, with_largest):
-    """How many scripts of one shape were measured, and what is wrong; what is longer than a failed run isn't tried."""
+def measure_series(runner, series, sizes, with_largest):
+    """How many scripts of one series were measured, and what is wrong; what is longer than a failed run isn't tried."""
     wrong, rows = [], []
-    scripts = (script(shape, callers, events) for events in sizes)
-    largest = (largest_script(shape, callers) for _ in range(with_largest))
+    scripts = (series.script(events) for events in sizes)
+    largest = (series.largest_script() for _ in range(with_largest))
     for chosen in itertools.chain(scripts, largest):
         try:
             rows.append(runner.measure(chosen))
         except Failed as failed:
             return len(rows), [*wrong, f"{chosen}: {failed}; longer ones aren't tried"]
         show(rows)
-        is_largest = len(chosen.text) > LONGEST_SCRIPT - 1_000
-        wrong += [f"{chosen}: {complaint}" for complaint in complaints(rows, is_largest)]
+        wrong += [f"{chosen}: {complaint}" for complaint in complaints(rows)]
     return len(rows), wrong
 
 
+def run_on_one_core(runner):
+    """What is wrong with a run of the largest crew on one core, in each shape. Prints the times."""
+    through = [shutil.which("taskset"), "-c", "0"]
+    if not through[0]:
+        yield "the command taskset, which gives a run one core, is not there"
+        return
+    for series in series_of_threads():
+        chosen = series.script(CALLS_ON_ONE_CORE)
+        if series.crew == "{} x {}".format(*CREWS[-1]):
+            try:
+                print(f"- On one core: {chosen}: {runner.run(chosen, through)[0]:.3f} seconds.", flush=True)
+            except Failed as failed:
+                yield f"{chosen}, on one core: {failed}"
+
+
 NOTES = f"""
-A doubling is told from the longest script of the shape with at most half as many events, where one of the two takes
+A doubling is told from the longest script of the shape with at most half as many {{counted}}, where one of the two takes
 more than {NOISE * 1000:.0f} ms; a time below that is taken for {NOISE * 1000:.0f} ms. Memory for a byte is told of scripts of at least
 {LEAST_FOR_MEMORY:,} bytes."""
 NOTE_ON_LARGEST = f"""
@@ -302,20 +404,37 @@ a caller's most: the shortest submission has 16 bytes with its line end, so at m
 and fewer of sixteen callers, whose names are longer; where calls are sent too, there is room for fewer still."""
 
 
-def show_notes(with_largest):
+NOTE_ON_LARGEST_IN_THREADS = f"""
+The last script of each shape has as many calls as {LONGEST_SCRIPT:,} bytes have room for."""
+
+
+def show_shapes(shapes):
     print("\nShapes:")
-    print("".join(f"- {name}: {build.__doc__}\n" for name, build in SHAPES.items()), end="")
-    print(NOTES + (NOTE_ON_LARGEST if with_largest else ""))
+    print("".join(f"- {name}: {build.__doc__}\n" for name, build in shapes.items()), end="")
+
+
+def show_notes(with_largest):
+    show_shapes(SHAPES)
+    print(NOTES.format(counted="events") + (NOTE_ON_LARGEST if with_largest else ""))
+    print()
+
+
+def show_notes_on_threads(with_largest):
+    show_shapes(SHAPES_IN_THREADS)
+    print(NOTES.format(counted="calls") + (NOTE_ON_LARGEST_IN_THREADS if with_largest else ""))
     print()
 
 
 def chosen_options():
     options = argparse.ArgumentParser(description=__doc__.splitlines()[0])
+    options.add_argument("--threads", action="store_true", help="runs in threads, in place of plays")
     options.add_argument("--quick", action="store_true", help="the two smallest sizes only")
-    options.add_argument("--sizes", default=",".join(map(str, SIZES)), help="numbers of events, in place of the usual ones")
+    options.add_argument("--sizes", help="numbers of events or calls, in place of the usual ones, with commas between them")
     options.add_argument("--program", type=pathlib.Path, default=PROGRAM)
     chosen = options.parse_args()
-    chosen.sizes = sorted(int(size) for size in chosen.sizes.split(","))
+    usual = SIZES_IN_THREADS if chosen.threads else SIZES
+    chosen.sizes = sorted(int(size) for size in chosen.sizes.split(",")) if chosen.sizes else usual
+    chosen.with_largest = chosen.sizes == usual and not chosen.quick
     if chosen.sizes[0] < 100:
         options.error("a script of fewer than 100 events has no room for each shape")
     if not chosen.program.exists():
@@ -326,17 +445,22 @@ def chosen_options():
 def main():
     chosen = chosen_options()
     sizes = chosen.sizes[:2] if chosen.quick else chosen.sizes
-    with_largest = sizes == SIZES
     measured, wrong = 0, []
-    show_cells(HEADINGS)
-    show_cells(["---", *["---:"] * (len(HEADINGS) - 1)])
+    headings = HEADINGS_OF["threads" if chosen.threads else "play"]
+    show_cells(headings)
+    show_cells(["---", *["---:"] * (len(headings) - 1)])
     with tempfile.TemporaryDirectory(prefix="measure-") as folder:
         runner = Runner(folder, chosen.program.resolve())
-        for shape, callers in itertools.product(SHAPES, CALLERS):
-            more, complaints_of_shape = measure_shape(runner, shape, callers, sizes, with_largest)
+        for series in series_of_threads() if chosen.threads else series_of_events():
+            more, complaints_of_series = measure_series(runner, series, sizes, chosen.with_largest)
             measured += more
-            wrong += complaints_of_shape
-    show_notes(with_largest)
+            wrong += complaints_of_series
+        if chosen.threads:
+            show_notes_on_threads(chosen.with_largest)
+            wrong += run_on_one_core(runner)
+            print()
+        else:
+            show_notes(chosen.with_largest)
     print("".join(f"{each}\n" for each in wrong), end="")
     print(f"measure: {measured} scripts measured, {len(wrong)} failures")
     sys.exit(1 if wrong else 0)

@@ -3,6 +3,10 @@
 
 It was written from the rules and not from the program, and shares no code with it; tools/fuzz.py
 compares the two. Alone it plays a script:  python3 tools/reading_of_rules.py < examples/one_call.actors
+
+A script for threads has no single report. Of it this reading gives the fault, and judges a report: whether
+the rules allow it. tools/threads.py judges the program so. Alone it judges one report:
+python3 tools/reading_of_rules.py SCRIPT < REPORT
 """
 import re
 import sys
@@ -183,6 +187,12 @@ def ask(kind, method, values):
         return fault
 
 
+def answer_of(kind, method, arguments):
+    """What the kind answers; a call with a failed argument doesn't reach it, and names the first one's future."""
+    failed = [each.number for each in arguments if isinstance(each, Future)]
+    return Fault(f"Dependency({failed[0]})") if failed else ask(kind, method, arguments)
+
+
 # The words of a script.
 
 
@@ -232,12 +242,14 @@ read_caller = read_id("c", 16)
 read_actor = read_id("a", 8)
 
 # Each form of line: its first word, the words after it, and for two of them what may follow, at least so often.
-FORMS = {
+COMMON_FORMS = {
     "actor": [read_actor, read_name(KINDS)],
     "submit": [read_caller, read_actor, read_name(METHODS)],
     "copy": [read_caller, read_actor],
     "release": [read_caller, read_actor],
     "kill": [read_caller, read_actor],
+}
+PLAY_FORMS = COMMON_FORMS | {
     "send": [read_caller, read_number],
     "deliver": [read_number],
     "run": [read_actor, read_caller],
@@ -246,15 +258,16 @@ FORMS = {
     "tell": [read_actor, read_caller],
     "retire": [read_actor],
 }
+THREAD_FORMS = COMMON_FORMS | {"await": [read_caller, read_number]}
 FOLLOWED = {"actor": (read_caller, 1), "submit": (read_argument, 0)}
 
 
-def read_words(words):
+def read_words(words, forms=PLAY_FORMS):
     """The first word of a line, and what its other words spell."""
     verb, *rest = words
-    if verb not in FORMS:
+    if verb not in forms:
         raise BadWord
-    readers = FORMS[verb]
+    readers = forms[verb]
     fixed, more = rest[: len(readers)], rest[len(readers) :]
     if len(fixed) < len(readers):
         raise BadWord
@@ -269,7 +282,7 @@ def read_words(words):
     return verb, spelt
 
 
-# A script: its roles, and its events.
+# A script: its roles, and its events, or in threads its steps.
 
 
 class ScriptFault(Exception):
@@ -281,11 +294,13 @@ class ScriptFault(Exception):
 class Script:
     roles: list = field(default_factory=list)  # actor, kind, callers
     events: list = field(default_factory=list)  # first word of the line, and what its other words spell
+    lines: list = field(default_factory=list)  # for each event the number of its line
 
-    def enter(self, verb, spelt):
+    def enter(self, number, verb, spelt):
         """Takes a line of good form, or names what else is wrong with it."""
         if verb != "actor":
             self.events.append((verb, spelt))
+            self.lines.append(number)
             return None
         actor, _, callers = spelt
         if self.events:
@@ -307,14 +322,14 @@ def words_of(line):
     return line.decode("ascii").split(" ")  # an empty word, from a space too many, spells nothing
 
 
-def read_script(data):
+def read_script(data, forms=PLAY_FORMS):
     if len(data) > LONGEST_SCRIPT:
         raise ScriptFault(0, "TooLong")
     script = Script()
     for number, line in enumerate(data.split(b"\n"), 1):
         try:
             words = words_of(line)
-            wrong = script.enter(*read_words(words)) if words else None
+            wrong = script.enter(number, *read_words(words, forms)) if words else None
         except BadWord:
             wrong = "BadLine"
         if wrong:
@@ -532,9 +547,7 @@ class World:
         if call is None:
             return "gap"
         arguments = list(submitter.settled(call))
-        failed = [each.number for each in arguments if isinstance(each, Future)]
-        answer = Fault(f"Dependency({failed[0]})") if failed else ask(actor.kind, call.method, arguments)
-        item = Item(call, arguments, answer)
+        item = Item(call, arguments, answer_of(actor.kind, call.method, arguments))
         actor.ran.append(item)
         return f"place {len(actor.ran) - 1} {self.notify(item)}"
 
@@ -611,7 +624,221 @@ def play(data):
     return "".join(line + "\n" for line in lines).encode(), 0
 
 
-if __name__ == "__main__":
+# Scripts for threads. What a plan submits depends on no schedule, so a world without letters tells it.
+
+
+class Planned(World):
+    """A world that does nothing but the steps of plans."""
+
+    def __init__(self, roles):
+        super().__init__(roles)
+        self.to_be_killed = set()
+
+    def step(self, verb, spelt):
+        """Does a step, or raises Refused."""
+        return self.await_answer(*spelt) if verb == "await" else getattr(self, verb)(*spelt)
+
+    def kill(self, caller, actor):
+        super().kill(caller, actor)
+        self.to_be_killed.add(actor)
+
+    def await_answer(self, caller, future):
+        if future >= len(self.a_caller(caller).calls):
+            raise Refused("NoFuture")
+
+
+def do_plans(script, world):
+    """Does all plans, callers by rising number, or raises the fault of the first step that is refused."""
+    for line, (verb, spelt) in sorted(zip(script.lines, script.events), key=lambda step: step[1][1][0]):
+        try:
+            world.step(verb, spelt)
+        except Refused as refused:
+            raise ScriptFault(line, "BadPlan") from refused
+
+
+def read_plans(data):
+    """The world after all plans of a script for threads, with no call sent; or raises its fault."""
+    script = read_script(data, THREAD_FORMS)
+    world = Planned(script.roles)
+    for line, (_, spelt) in zip(script.lines, script.events):
+        if spelt[0] not in world.callers:
+            raise ScriptFault(line, "BadPlan")
+    do_plans(script, world)
+    return world
+
+
+# The judge of a report of threads. It takes from the report what a schedule may choose, which is the kept answers, the
+# ends and the run lists, and holds each line of it against the plans and the rules.
+
+
+class NotAllowed(Exception):
+    """The rules don't allow the report, and this is why."""
+
+
+FAULTS = "NoMethod BadArgs Overflow KindFull NoKey BadAmount Insufficient NoItems NoItem ActorDied".split()
+
+
+def read_answer(word):
+    """A value or a fault, in its one spelling."""
+    dependency = re.fullmatch(r"Dependency\((0|[1-9][0-9]*)\)", word)
+    if word in FAULTS or dependency and int(dependency[1]) <= LARGEST_NUMBER:
+        return Fault(word)
+    return read_value(word)
+
+
+def lines_of_report(report):
+    """The lines of a report, each of which ends with a line end, and has nothing but plain bytes and spaces."""
+    if report and not report.endswith(b"\n"):
+        raise NotAllowed("the last line has no end")
+    if any(not 0x20 <= byte <= 0x7E and byte != 0x0A for byte in report):
+        raise NotAllowed("a byte that no line has")
+    return report.decode("ascii").split("\n")[:-1]
+
+
+def fault_of(call):
+    """The name of the fault that is kept for the call, or nothing."""
+    return str(call.kept) if isinstance(call.kept, Fault) else None
+
+
+class Judge:
+    """Holds the report of a run in threads against the world of its plans, line by line."""
+
+    def __init__(self, world, report):
+        self.world = world
+        self.lines = lines_of_report(report)
+        self.place = 0
+        self.ran = set()  # the calls that stand in a run list, by caller and future
+        self.ends = {}  # of each actor the text of its end
+
+    def next_line(self, begins):
+        """What follows on the next line, which must begin so."""
+        if self.place == len(self.lines):
+            raise NotAllowed(f"the report ends where '{begins}' is due")
+        line = self.lines[self.place]
+        if not line.startswith(begins):
+            raise NotAllowed(f"'{line}' where '{begins}' is due")
+        self.place += 1
+        return line[len(begins) :]
+
+    def judge(self):
+        for _, caller in sorted(self.world.callers.items()):
+            for call in caller.calls:
+                self.read_future(call)
+        for name, actor in sorted(self.world.actors.items()):
+            self.read_actor(name, actor)
+        if self.place < len(self.lines):
+            raise NotAllowed(f"'{self.lines[self.place]}' after the end")
+        for name, actor in sorted(self.world.actors.items()):
+            self.replay(name, actor)
+        for caller in self.world.callers.values():
+            for call in caller.calls:
+                self.judge_call(call)
+
+    # What a schedule may choose, as the report tells it.
+
+    def read_future(self, call):
+        """The line of a future, which must have an answer."""
+        word = self.next_line(f"{call.spelled_future()} a{call.actor} = ")
+        try:
+            call.kept = read_answer(word)
+        except BadWord:
+            raise NotAllowed(f"{call.spelled_future()} has the answer '{word}', which is none") from None
+
+    def read_actor(self, name, actor):
+        """The lines of an actor: how it ended, and its run list."""
+        self.ends[name] = self.next_line(f"a{name} ")
+        actor.stage = self.ends[name].partition(" ")[0]
+        while self.place < len(self.lines) and self.lines[self.place].startswith(f"a{name}."):
+            words = self.next_line(f"a{name}.{len(actor.ran)} ")
+            actor.ran.append(self.read_item(name, actor, words))
+
+    def read_item(self, name, actor, words):
+        """The call of a line of a run list: the next one of its caller to this actor, as it was submitted."""
+        found = re.match(r"c([1-9][0-9]?)\.", words)
+        caller = self.world.callers.get(int(found[1])) if found else None
+        if caller is None:
+            raise NotAllowed(f"a{name} ran '{words}', of no caller")
+        before = sum(item.call.caller == int(found[1]) for item in actor.ran)
+        due = caller.calls_to(name)[before:]
+        if not due:
+            raise NotAllowed(f"a{name} ran '{words}', and c{found[1]} has no further call to it")
+        item = Item(due[0], list(caller.settled(due[0])), None)
+        if item.spelled() != words:
+            raise NotAllowed(f"a{name} ran '{words}' where '{item.spelled()}' is the next call of c{found[1]}")
+        self.ran.add((item.call.caller, item.call.future))
+        return item
+
+    # Whether all that is as the rules say.
+
+    def replay(self, name, actor):
+        """Each item is answered as it stands in the run list; then the end must be right."""
+        for item in actor.ran:
+            item.answer = answer_of(actor.kind, item.call.method, item.arguments)
+            if fault_of(item.call) != "ActorDied" and spelled(item.call.kept) != spelled(item.answer):
+                told = f"{item.call.spelled_future()} = {spelled(item.call.kept)}"
+                raise NotAllowed(f"{told}, but at its place a{name} answers {spelled(item.answer)}")
+        if actor.stage == "dead":
+            self.judge_dead(name)
+        elif self.ends[name] != f"retired {actor.kind.text()}":
+            raise NotAllowed(f"'a{name} {self.ends[name]}' after a run list that leaves '{actor.kind.text()}'")
+        elif len(actor.ran) != sum(len(caller.calls_to(name)) for caller in self.world.callers.values()):
+            raise NotAllowed(f"a{name} retired before it ran all calls")
+
+    def judge_dead(self, name):
+        if self.ends[name] != "dead":
+            raise NotAllowed(f"'a{name} {self.ends[name]}' says more than a death")
+        if name not in self.world.to_be_killed:
+            raise NotAllowed(f"a{name} is dead, and no plan has a kill of it")
+
+    def judge_call(self, call):
+        """An answer comes of a run, and a death of a dead actor."""
+        if fault_of(call) == "ActorDied":
+            if self.world.actors[call.actor].stage != "dead":
+                raise NotAllowed(f"{call.spelled_future()} = ActorDied, and a{call.actor} is not dead")
+        elif (call.caller, call.future) not in self.ran:
+            raise NotAllowed(f"{call.spelled_future()} = {spelled(call.kept)}, and it never ran")
+
+
+def judged(data, report, status):
+    """The world that the report of a script for threads tells, or none of a script with a fault; raises NotAllowed."""
+    try:
+        world = read_plans(data)
+    except ScriptFault as fault:
+        if (report, status) == (str(fault).encode(), 1):
+            return None
+        raise NotAllowed(f"'{str(fault)[:-1]}' and status 1 are due") from None
+    if status != 0:
+        raise NotAllowed(f"the plans are good, and the status is {status}")
+    Judge(world, report).judge()
+    return world
+
+
+def judge(data, report, status):
+    """Why the rules don't allow the report of a script for threads with this status; nothing where they do."""
+    try:
+        judged(data, report, status)
+    except NotAllowed as why:
+        return str(why)
+    return None
+
+
+def judge_alone(path):
+    """Judges the report on the standard input, which must be a whole one."""
+    with open(path, "rb") as script:
+        data = script.read()
+    report = sys.stdin.buffer.read()
+    why = judge(data, report, 1 if report.startswith(b"line ") else 0)
+    print(f"not allowed: {why}" if why else "allowed")
+    return 1 if why else 0
+
+
+def main():
+    if len(sys.argv) > 1:
+        sys.exit(judge_alone(sys.argv[1]))
     report, status = play(sys.stdin.buffer.read())
     sys.stdout.buffer.write(report)
     sys.exit(status)
+
+
+if __name__ == "__main__":
+    main()

@@ -1,14 +1,16 @@
 #!/usr/bin/env python3
-"""Writes the worked scripts beside the program into the table that act_console's test plays.
+"""Writes the worked scripts beside the program into the tables that act_console's tests run.
 
-`--check` writes nothing, and ends with status 1 where the table is not that of the scripts.
+The scripts of events make one table, and those for threads another, but for those whose report depends
+on the schedule. `--check` writes nothing, and ends with status 1 where a table is not that of the scripts.
 """
 import pathlib
 import sys
 
 TOP = pathlib.Path(__file__).resolve().parent.parent
 ROWS = TOP / "crates/ray_actors/rows"
-TABLE = TOP / "crates/act_console/src/tests/rows.rt"
+THREAD_ROWS = TOP / "crates/ray_actors/thread_rows"
+TESTS = TOP / "crates/act_console/src/tests"
 HEAD = """//! The worked scripts that lie beside the program, as tools/rows_in_test.py writes them.
 
 use crate::fault::ConsoleFault;
@@ -21,6 +23,13 @@ pub struct Row {
 }
 
 """
+THREAD_HEAD = """//! The worked scripts for threads that lie beside the program, as tools/rows_in_test.py writes them.
+
+use super::rows::Row;
+use crate::fault::ConsoleFault;
+
+"""
+TABLES = {TESTS / "rows.rt": (HEAD, ROWS), TESTS / "thread_rows.rt": (THREAD_HEAD, THREAD_ROWS)}
 
 
 def literal(data):
@@ -38,18 +47,25 @@ def row(path):
     return f"    // {path.stem}\n    Row {{\n        script: {script},\n        output: {output},\n        answer: {answer},\n    }},\n"
 
 
-def table():
-    """The whole file."""
-    paths = sorted(ROWS.glob("*.actors"))
-    return HEAD + f"pub const ROWS: [Row; {len(paths)}] = [\n" + "".join(map(row, paths)) + "];\n"
+def table(head, folder):
+    """The whole file of the scripts in a folder; in threads of those with a fixed report."""
+    paths = sorted(path for path in folder.glob("*.actors") if folder == ROWS or path.with_suffix(".report").exists())
+    return head + f"pub const ROWS: [Row; {len(paths)}] = [\n" + "".join(map(row, paths)) + "];\n"
+
+
+def is_told(path, text):
+    return path.exists() and path.read_text() == text
 
 
 def main():
+    texts = {path: table(*source) for path, source in TABLES.items()}
     if "--check" in sys.argv[1:]:
-        if TABLE.read_text() != table():
-            sys.exit("rows_in_test: the table of act_console's test is not that of the scripts")
+        stale = [path.name for path, text in texts.items() if not is_told(path, text)]
+        if stale:
+            sys.exit(f"rows_in_test: not the table of the scripts in act_console's tests: {', '.join(stale)}")
         return
-    TABLE.write_text(table())
+    for path, text in texts.items():
+        path.write_text(text)
 
 
 if __name__ == "__main__":

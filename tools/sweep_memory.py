@@ -1,42 +1,120 @@
 #!/usr/bin/env python3
-"""Refuses each request for memory of the proved program in turn, on some worked scripts.
+"""Refuses each request for memory of the proved program in turn, on some worked scripts, and each thread.
 
-Each run must write nothing, say `no memory` and end with status 3, or write the whole report. The
-requests are refused from outside, by tools/refuse.c.
+    tools/sweep_memory.py [--program PATH]
+
+Each play must write nothing, say `no memory` and end with status 3, or write the whole report. So must
+each run in threads, which may also say `no thread`, since the start of a thread asks for memory, and
+always says so where a thread is refused; where it writes a report, the rules must allow it, and it must be
+the whole one where that is fixed. The number of requests may vary in threads, so the sweep goes on until
+no run that it saw made so many. All is refused from outside, by tools/refuse.c.
 """
+import argparse
+import pathlib
 import sys
 import tempfile
 
-from refusing import TOP, Refusing
+import reading_of_rules as reading
+from refusing import HANGS, TOP, Refusing
 
 PROGRAM = TOP / "crates/ray_actors/out/ray_actors"
 ROWS = TOP / "crates/ray_actors/rows"
+THREAD_ROWS = TOP / "crates/ray_actors/thread_rows"
 SCRIPTS = ["one_call", "another_caller_passes", "one_packet_for_good", "release_and_retire", "table_script", "fault_late_actor"]
+SCRIPTS_FOR_THREADS = ["a_table_and_an_account", "kill", "bad_step_of_a_lower_caller"]
 NO_MEMORY = (3, b"", b"no memory\n")
+NO_THREAD = (3, b"", b"no thread\n")
+
+
+class Sweep:
+    """Refuses what a run of one script asks for."""
+
+    def __init__(self, refusing, program, mode, script):
+        self.refusing = refusing
+        self.command = [program, mode]
+        self.script = script
+        self.data = script.read_bytes()
+        self.is_threaded = mode == "threads"
+        report, status = script.with_suffix(".report"), script.with_suffix(".status")
+        self.report = report.read_bytes() if report.exists() else None
+        self.status = int(status.read_text()) if status.exists() else 0
+        self.refusals = 0
+
+    def run(self, nth, thread=0):
+        return self.refusing.run(self.command, nth, self.script, thread)
+
+    def is_whole(self, got):
+        """Whether a run ended as if nothing were refused."""
+        status, report, told = got
+        if self.report is not None:
+            return got == (self.status, self.report, b"")
+        return not told and reading.judge(self.data, report, status) is None
+
+    def refuse_requests(self):
+        """Which request was refused, what came of it, and whether that is well."""
+        most = self.refusing.requests()
+        nth = 0
+        while nth < most:
+            nth += 1
+            got = self.run(nth)
+            most = max(most, self.refusing.requests()) if self.is_threaded else most
+            is_refused = got == NO_MEMORY or self.is_threaded and got == NO_THREAD
+            self.refusals += is_refused
+            yield f"request {nth} of {most}", got, is_refused or self.is_whole(got)
+
+    def refuse_threads(self, threads):
+        """The same of threads."""
+        for nth in range(1, threads + 1):
+            got = self.run(0, thread=nth)
+            yield f"thread {nth} of {threads}", got, got == NO_THREAD
+
+    def refuse_all(self, threads):
+        yield from self.refuse_requests()
+        yield from self.refuse_threads(threads)
+
+    def sweep(self):
+        """How many refused requests and threads the run ends well after, and what is wrong. Where a run does not
+        end, no more are made."""
+        whole = self.run(0)
+        if not self.is_whole(whole):
+            sys.exit(f"sweep_memory: {self.script.name} goes wrong with ample memory: {whole!r:.600}")
+        threads = self.refusing.threads()
+        passed, wrong = 0, []
+        for refused, got, is_well in self.refuse_all(threads):
+            passed += is_well
+            if not is_well:
+                wrong.append(f"{refused} refused: got {got!r:.600}")
+            if got == HANGS:
+                break
+        if not self.refusals:
+            wrong.append("no request was refused")
+        if (threads > 0) != (self.is_threaded and not self.status):
+            wrong.append(f"{threads} threads were to start")
+        return passed, wrong
+
+
+def chosen_program():
+    options = argparse.ArgumentParser(description=__doc__.splitlines()[0])
+    options.add_argument("--program", type=pathlib.Path, default=PROGRAM)
+    program = options.parse_args().program.resolve()
+    if not program.exists():
+        sys.exit(f"sweep_memory: {program} is not built: run `rt ci` first")
+    return program
 
 
 def main():
+    program = chosen_program()
+    runs = [("play", ROWS / f"{name}.actors") for name in SCRIPTS]
+    runs += [("threads", THREAD_ROWS / f"{name}.actors") for name in SCRIPTS_FOR_THREADS]
     passed = failed = 0
     with tempfile.TemporaryDirectory() as folder:
         refusing = Refusing(folder)
-        for name in SCRIPTS:
-            script = ROWS / f"{name}.actors"
-            whole = refusing.run([PROGRAM, "play"], 0, script)
-            if whole[1] != script.with_suffix(".report").read_bytes():
-                sys.exit(f"sweep_memory: {name} goes wrong with ample memory: {whole!r:.600}")
-            requests = refusing.requests()
-            refusals = 0
-            for nth in range(1, requests + 1):
-                got = refusing.run([PROGRAM, "play"], nth, script)
-                refusals += got == NO_MEMORY
-                if got in (NO_MEMORY, whole):
-                    passed += 1
-                else:
-                    failed += 1
-                    print(f"{name}: request {nth} of {requests} refused: got {got!r:.600}")
-            if not refusals:
-                failed += 1
-                print(f"{name}: none of {requests} requests was refused")
+        for mode, script in runs:
+            right, wrong = Sweep(refusing, program, mode, script).sweep()
+            for line in wrong:
+                print(f"{mode}: {script.stem}: {line}")
+            passed += right
+            failed += len(wrong)
     print(f"sweep_memory: {passed} passed, {failed} failed")
     sys.exit(1 if failed else 0)
 

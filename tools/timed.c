@@ -1,7 +1,8 @@
 /* Runs a program once:  timed SECONDS INPUT OUTPUT PROGRAM WORD ..
  *
  * Prints its status (or, for a signal, 128 and the signal), the nanoseconds from its start to its end, and
- * the most bytes that it held in memory at a time. SECONDS of the processor's time are what it may take.
+ * the most bytes that it held in memory at a time. SECONDS are what it may take, of the processor's time and
+ * of the clock's: a program whose threads all wait takes none of the former.
  *
  * It is small because Linux counts what the parent holds at the start as the program's own.
  */
@@ -25,6 +26,7 @@ static void start(char **words) {
     struct rlimit seconds = {atoi(words[1]), atoi(words[1])};
     stand_for(STDIN_FILENO, words[2], O_RDONLY);
     stand_for(STDOUT_FILENO, words[3], O_WRONLY | O_CREAT | O_TRUNC);
+    alarm(atoi(words[1]));
     if (setrlimit(RLIMIT_CPU, &seconds) == 0) execv(words[4], words + 4);
     _exit(127);
 }
