@@ -14,8 +14,8 @@ use act_kinds::{Account, Boxed, Counter, ListKind, Table};
 use act_rules::Mode;
 use act_types::MOST_ACTORS;
 use fakes::{FakeReader, FakeWriter};
-use rows::ROWS;
-use std::alloc::Global;
+use rows::{ROWS, Row};
+use std::process::Abort;
 use std::sync::Wait;
 use std::test::Fail;
 use std::thread::Threads;
@@ -69,52 +69,82 @@ fn ran<Rt: AllocGlobal + Threads + Wait + Sync, G: Gate>(
     }
 }
 
-#[test]
-fn scripts_are_played(rt: HostRuntime) -> Result<(), Fail> {
-    for row in &ROWS {
+/// Each script gives its output and its answer.
+fn assert_told<Rt: AllocGlobal + Threads + Wait + Sync + Abort>(rt: &Rt, mode: Mode, rows: &[Row]) {
+    for row in rows {
         let mut reader = FakeReader::new(row.script.as_bytes());
         let mut writer = FakeWriter::new(rt.alloc());
-        let answer = ran(&rt, Mode::Play, &NoGate, &mut reader, &mut writer);
+        let answer = ran(rt, mode, &NoGate, &mut reader, &mut writer);
         assert_eq!(rt; answer, row.answer, "{}", row.script);
         assert_eq!(rt; writer.written(), row.output.as_bytes(), "{}", row.script);
     }
+}
+
+#[test]
+fn scripts_are_played(rt: HostRuntime) -> Result<(), Fail> {
+    assert_told(&rt, Mode::Play, &ROWS);
     Ok(())
 }
 
-/// A failed read ends the run at once, and nothing is written.
 #[test]
-fn each_read_fails_in_turn(rt: HostRuntime) -> Result<(), Fail> {
-    for row in &ROWS {
+fn plans_are_run(rt: HostRuntime) -> Result<(), Fail> {
+    assert_told(&rt, Mode::Threads, &thread_rows::ROWS);
+    Ok(())
+}
+
+/// A failed read ends each run of a short script at once, and nothing is written.
+fn assert_reads_fail<Rt: AllocGlobal + Threads + Wait + Sync + Abort>(
+    rt: &Rt,
+    mode: Mode,
+    rows: &[Row],
+) {
+    for row in rows {
         if row.script.len() < SHORT {
             for read in 0..=row.script.len() {
                 let mut reader = FakeReader::failing(row.script.as_bytes(), read + 1);
                 let mut writer = FakeWriter::new(rt.alloc());
-                let answer = ran(&rt, Mode::Play, &NoGate, &mut reader, &mut writer);
+                let answer = ran(rt, mode, &NoGate, &mut reader, &mut writer);
                 let seen = (answer, reader.reads(), writer.writes());
                 assert_eq!(rt; seen, (Err(ConsoleFault::Reading), read + 1, 0));
             }
         }
     }
+}
+
+#[test]
+fn each_read_fails_in_turn(rt: HostRuntime) -> Result<(), Fail> {
+    assert_reads_fail(&rt, Mode::Play, &ROWS);
+    assert_reads_fail(&rt, Mode::Threads, &thread_rows::ROWS);
     Ok(())
 }
 
-/// A failed write, or one of 0 bytes, ends the run at once, and a front is written by then.
-#[test]
-fn each_write_fails_in_turn(rt: HostRuntime) -> Result<(), Fail> {
-    for row in &ROWS {
+/// A failed write, or one of 0 bytes, ends each run of a short script at once, and a front is
+/// written by then.
+fn assert_writes_fail<Rt: AllocGlobal + Threads + Wait + Sync + Abort>(
+    rt: &Rt,
+    mode: Mode,
+    rows: &[Row],
+) {
+    for row in rows {
         if row.script.len() < SHORT {
             for written in 0..row.output.len() {
                 let front = &row.output.as_bytes()[..written];
                 for answers_zero in [false, true] {
                     let mut reader = FakeReader::new(row.script.as_bytes());
                     let mut writer = FakeWriter::failing(rt.alloc(), written + 1, answers_zero);
-                    let answer = ran(&rt, Mode::Play, &NoGate, &mut reader, &mut writer);
+                    let answer = ran(rt, mode, &NoGate, &mut reader, &mut writer);
                     let seen = (answer, writer.writes(), writer.written());
                     assert_eq!(rt; seen, (Err(ConsoleFault::Writing), written + 1, front));
                 }
             }
         }
     }
+}
+
+#[test]
+fn each_write_fails_in_turn(rt: HostRuntime) -> Result<(), Fail> {
+    assert_writes_fail(&rt, Mode::Play, &ROWS);
+    assert_writes_fail(&rt, Mode::Threads, &thread_rows::ROWS);
     Ok(())
 }
 

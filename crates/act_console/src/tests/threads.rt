@@ -1,65 +1,13 @@
-//! Scripts whose plans are run in threads, and readers and writers that fail beside them.
+//! Two actors of a script that run at the same time.
 
 use super::fakes::{FakeReader, FakeWriter};
-use super::rows::Row;
-use super::thread_rows::ROWS;
-use super::{SHORT, ran};
-use crate::fault::ConsoleFault;
-use act_executor::{Gate, NoGate};
+use super::ran;
+use act_executor::Gate;
 use act_rules::Mode;
 use act_types::ActorId;
 use std::sync::atomic::{AtomicU64, Ordering};
 use std::test::Fail;
 use std::thread;
-
-#[test]
-fn plans_are_run(rt: HostRuntime) -> Result<(), Fail> {
-    for row in &ROWS {
-        let mut reader = FakeReader::new(row.script.as_bytes());
-        let mut writer = FakeWriter::new(rt.alloc());
-        let answer = ran(&rt, Mode::Threads, &NoGate, &mut reader, &mut writer);
-        assert_eq!(rt; answer, row.answer, "{}", row.script);
-        assert_eq!(rt; writer.written(), row.output.as_bytes(), "{}", row.script);
-    }
-    Ok(())
-}
-
-/// A failed read ends the run at once, and nothing is written.
-#[test]
-fn each_read_fails_in_turn(rt: HostRuntime) -> Result<(), Fail> {
-    for row in &ROWS {
-        if row.script.len() < SHORT {
-            for read in 0..=row.script.len() {
-                let mut reader = FakeReader::failing(row.script.as_bytes(), read + 1);
-                let mut writer = FakeWriter::new(rt.alloc());
-                let answer = ran(&rt, Mode::Threads, &NoGate, &mut reader, &mut writer);
-                let seen = (answer, reader.reads(), writer.writes());
-                assert_eq!(rt; seen, (Err(ConsoleFault::Reading), read + 1, 0));
-            }
-        }
-    }
-    Ok(())
-}
-
-/// A failed write, or one of 0 bytes, ends the run at once, and a front is written by then.
-#[test]
-fn each_write_fails_in_turn(rt: HostRuntime) -> Result<(), Fail> {
-    for row in &ROWS {
-        if row.script.len() < SHORT {
-            for written in 0..row.output.len() {
-                let front = &row.output.as_bytes()[..written];
-                for answers_zero in [false, true] {
-                    let mut reader = FakeReader::new(row.script.as_bytes());
-                    let mut writer = FakeWriter::failing(rt.alloc(), written + 1, answers_zero);
-                    let answer = ran(&rt, Mode::Threads, &NoGate, &mut reader, &mut writer);
-                    let seen = (answer, writer.writes(), writer.written());
-                    assert_eq!(rt; seen, (Err(ConsoleFault::Writing), written + 1, front));
-                }
-            }
-        }
-    }
-    Ok(())
-}
 
 /// So many times a run looks whether the other one came.
 const LOOKS: u32 = 2_000_000;
