@@ -1,8 +1,8 @@
 -- Answers: what a first answer and a death leave in the futures.
-use Rattle.std.proofs.Common.{◌≡◌, ℕ, zero, suc, ◌+◌, ◌==◌, ◌&&◌, ◌||◌, Bool, true, false, not, cond, if◌then◌else◌, List, [], ◌∷◌, ◌++◌, length, map, drop, get_or, count_by, Option, Some, None, is_some, IfSome, IfNone, Err, refl, sym, ◌∙◌, ap, arith}
+use Rattle.std.proofs.Common.{◌≡◌, ℕ, zero, suc, ◌+◌, ◌==◌, ◌&&◌, ◌||◌, Bool, true, false, not, cond, if◌then◌else◌, List, [], ◌∷◌, ◌++◌, length, map, drop, get_or, count_by, nat_lt, Option, Some, None, is_some, Err, refl, sym, ◌∙◌, ap, arith}
 use Rattle.std.specs.Prelude.{slice_get, slice_set, zip, nat_eq}
 use Rattle.std.specs.List.{list_all, list_any}
-use Rattle.std.proofs.lemmas.Bool.{ne_eqb}
+use Rattle.std.proofs.lemmas.Bool.{ne_eqb, lt-ltb}
 use Rattle.std.proofs.lemmas.List.{map-set}
 use Rattle.std.proofs.lemmas.List.Sums.{sum_by-cons}
 use Rattle.act_types.specs.declared.fault.Fault.TheVariants.{ActorDied}
@@ -11,7 +11,7 @@ use Rattle.act_rules.specs.RunList.{Answer}
 use Rattle.act_rules.specs.Submissions.{kept_at}
 use Rattle.act_handles.specs.declared.handles.Handle.{Handle}
 use Rattle.act_replies.specs.declared.table.Row.{Row}
-use Rattle.act_replies.specs.Table.{is_open, waits_for as row_waits_for, waits_at, unanswered_row, with_answer, after_keep, after_keep_in, row_after_death, after_death as rows_after_death}
+use Rattle.act_replies.specs.Table.{is_open, waits_for as row_waits_for, unanswered_row, with_answer, after_keep, after_keep_in, row_after_death, after_death as rows_after_death}
 use Rattle.act_owner.specs.declared.owner.Call.{Call}
 use Rattle.act_types.specs.declared.message.Reply.{Reply}
 use Rattle.act_handles.specs.Handles.{copies_in}
@@ -125,19 +125,19 @@ died_answers a (row ∷ rows) (call ∷ calls) same =
     ap (λ answer. answer ∷ answers_of (rows_after_death a rows)) (row_answer a row ∙ ap (λ b. if b then Some (Err ActorDied) else row.answer) (waits_same a row call (ap (λ (l : List ℕ). get_or l 0 0) same)))
     ∙ ap (λ rest. answer_after_death a (submission_of call, row.answer) ∷ rest) (died_answers a rows calls (ap (drop 1) same))
 
--- how many futures a death answers
-pub died_count : (a : ℕ) (rows : List Row) (calls : List Call) → map (λ row. row.actor) rows ≡ map (λ call. call.actor) calls → count_by (row_waits_for a) rows ≡ count_by (waits_for a) (zip (map submission_of calls) (answers_of rows))
-died_count a [] [] same = refl
-died_count a [] (call ∷ calls) same = refl
-died_count a (row ∷ rows) [] same = let none : length (map (λ (r : Row). r.actor) (row ∷ rows)) ≡ 0 = ap length same in absurd (omega (arith, none))
-died_count a (row ∷ rows) (call ∷ calls) same =
+-- how many calls of an actor wait, by the rows and by the calls
+pub pending_count : (a : ℕ) (rows : List Row) (calls : List Call) → map (λ row. row.actor) rows ≡ map (λ call. call.actor) calls → count_by (row_waits_for a) rows ≡ count_by (waits_for a) (zip (map submission_of calls) (answers_of rows))
+pending_count a [] [] same = refl
+pending_count a [] (call ∷ calls) same = refl
+pending_count a (row ∷ rows) [] same = let none : length (map (λ (r : Row). r.actor) (row ∷ rows)) ≡ 0 = ap length same in absurd (omega (arith, none))
+pending_count a (row ∷ rows) (call ∷ calls) same =
     let pairs = zip (map submission_of calls) (answers_of rows) in
     omega (
       arith,
       sum_by-cons (λ (r : Row). cond (row_waits_for a r) 1 0) row rows,
       sum_by-cons (λ (pair : Submission × Option Answer). cond (waits_for a pair) 1 0) (submission_of call, row.answer) pairs,
       ap {B = ℕ} (λ b. cond b 1 0) (waits_same a row call (ap (λ (l : List ℕ). get_or l 0 0) same)),
-      died_count a rows calls (ap (drop 1) same),
+      pending_count a rows calls (ap (drop 1) same),
     )
 
 reply_cases : (mine known : Bool) (owner : OwnerValue) (reply : Reply) → mine ≡ true → known ≡ false → owner_with_answer owner reply.future reply.answer ≡ after_reply_that (if mine then (if known then Late reply.future else First reply.future) else Stray) owner reply
@@ -163,7 +163,7 @@ sent_marked id handles calls rows entered entered2 dead now k same is =
 -- what the death of a caller's actor tells
 pub death_told : (id : ℕ) (handles : List Handle) (calls : List Call) (rows : List Row) (entered : List Entered) (dead : List Bool) (now : OwnerValue) (a n : ℕ) → seen id handles calls rows entered dead ≡ now → map (λ row. row.actor) rows ≡ map (λ call. call.actor) calls → is_some (copies_in a now.handles) ≡ true → n ≡ count_by (row_waits_for a) rows → Died n ≡ collected_death now a
 death_told id handles calls rows entered dead now a n same actors listed count =
-    ap Died (count ∙ died_count a rows calls actors)
+    ap Died (count ∙ pending_count a rows calls actors)
     ∙ ap (λ (owner : OwnerValue). Died (count_by (waits_for a) (zip owner.calls owner.kept))) same
     ∙ sym (ap (λ b. if b then Died (count_by (waits_for a) (zip now.calls now.kept)) else Stray) listed)
 
@@ -178,29 +178,12 @@ death_kept id handles calls rows new entered entered2 dead now a number same act
     ∙ ap (λ (owner : OwnerValue). with_death owner a) same
     ∙ sym (ap (λ b. if b then with_death now a else now) listed)
 
-any_waits : (a k : ℕ) (rows : List Row) → waits_at a rows k ≡ true → list_any (row_waits_for a) rows ≡ true
-any_waits a k [] is = absurd (cc is)
-any_waits a zero (row ∷ rows) is = rw is refl
-any_waits a (suc k) (row ∷ rows) is = elim (row_waits_for a row) as (λ b. (b || list_any (row_waits_for a) rows) ≡ true) [ true ↦ refl | false ↦ any_waits a k rows is ]
-
-none_waits : (a : ℕ) (rows : List Row) → count_by (row_waits_for a) rows ≡ 0 → list_any (row_waits_for a) rows ≡ false
-none_waits a [] none = refl
-none_waits a (row ∷ rows) none =
-    by_first (row_waits_for a row) (count_by (row_waits_for a) rows) (list_any (row_waits_for a) rows) (sym (sum_by-cons (λ (r : Row). cond (row_waits_for a r) 1 0) row rows) ∙ none) (λ e. none_waits a rows e)
+-- something passes where more than none are counted
+pub any_counted : {X : Type 0} (p : X → Bool) (xs : List X) → nat_lt 0 (count_by p xs) ≡ list_any p xs
+any_counted p [] = refl
+any_counted p (x ∷ xs) =
+    by_first (p x) (count_by p xs) (count_by p (x ∷ xs)) (list_any p xs) (sum_by-cons (λ y. cond (p y) 1 0) x xs) (any_counted p xs)
   where
-    by_first : (b : Bool) (n : ℕ) (rest : Bool) → cond b 1 0 + n ≡ 0 → (n ≡ 0 → rest ≡ false) → (b || rest) ≡ false
-    by_first true n rest e left = absurd (omega (arith, e))
-    by_first false n rest e left = left (omega (arith, e))
-
-pairs_wait : (a : ℕ) (rows : List Row) (calls : List Call) → map (λ row. row.actor) rows ≡ map (λ call. call.actor) calls → list_any (row_waits_for a) rows ≡ list_any (waits_for a) (zip (map submission_of calls) (answers_of rows))
-pairs_wait a [] [] same = refl
-pairs_wait a [] (call ∷ calls) same = refl
-pairs_wait a (row ∷ rows) [] same = let none : length (map (λ (r : Row). r.actor) (row ∷ rows)) ≡ 0 = ap length same in absurd (omega (arith, none))
-pairs_wait a (row ∷ rows) (call ∷ calls) same =
-    ap (λ b. b || list_any (row_waits_for a) rows) (waits_same a row call (ap (λ (l : List ℕ). get_or l 0 0) same))
-    ∙ ap (λ b. waits_for a (submission_of call, row.answer) || b) (pairs_wait a rows calls (ap (drop 1) same))
-
--- a call of the actor waits where the table finds one
-pub awaits_is : (a : ℕ) (found : Option ℕ) (rows : List Row) (calls : List Call) → IfSome found (λ k. waits_at a rows k ≡ true) → IfNone found (count_by (row_waits_for a) rows ≡ 0) → map (λ row. row.actor) rows ≡ map (λ call. call.actor) calls → is_some found ≡ list_any (waits_for a) (zip (map submission_of calls) (answers_of rows))
-awaits_is a None rows calls waits none same = sym (none_waits a rows none) ∙ pairs_wait a rows calls same
-awaits_is a (Some k) rows calls waits none same = sym (any_waits a k rows waits) ∙ pairs_wait a rows calls same
+    by_first : (b : Bool) (n all : ℕ) (rest : Bool) → all ≡ cond b 1 0 + n → nat_lt 0 n ≡ rest → nat_lt 0 all ≡ (b || rest)
+    by_first true n all rest sum tail = lt-ltb 0 all (omega arith)
+    by_first false n all rest sum tail = let same : all ≡ n = omega arith in rw same tail

@@ -64,10 +64,10 @@ pub(crate) fn answer_death(table: &mut ReplyTable, resolver: &mut Resolver, a: A
     ensures futures { map (λ call. call.futures) resolver.new.calls ≡ map (λ call. call.futures) resolver.old.calls }
     ensures sent { map (λ call. call.sent) resolver.new.calls ≡ map (λ call. call.sent) resolver.old.calls }
 {
-    let before = table.unanswered();
+    let count = table.pending(a);
     while let Some(future) = table.waiting_of(a) {
         table.keep(future, Err(Fault::ActorDied));
         resolver.told(future);
     }
-    before - table.unanswered()
+    count
 }

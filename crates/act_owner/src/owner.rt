@@ -1,6 +1,6 @@
 //! One caller and its calls.
 
-ghost use Rattle.std.specs.Prelude.{◌≡◌, ◌≢◌, ℕ, ◌≤◌, map, length, AllPairs, Option, None, Some, Err, IfOk, OnOk, IfErr, OnErr, option_copied, unwrap_or, is_some, slice_get, zip};
+ghost use Rattle.std.specs.Prelude.{◌≡◌, ◌≢◌, ℕ, ◌≤◌, map, length, count_by, AllPairs, Option, None, Some, Err, IfOk, OnOk, IfErr, OnErr, option_copied, unwrap_or, is_some, slice_get, zip};
 ghost use Rattle.std.specs.List.{list_all, list_any};
 ghost use Rattle.act_rules.specs.declared.outcome.SubmitRefusal.TheVariants.{NoMemory as NoRoom};
 ghost use Rattle.act_rules.specs.declared.outcome.SendRefusal.TheVariants.{NoMemory as NoRoomToSend};
@@ -188,11 +188,21 @@ impl Owner {
         self.table.unanswered() == 0
     }
 
+    /// How many calls of the actor have no answer yet. A call that ran counts until its answer is
+    /// kept, and none counts once the actor's death was collected. The number is kept: asking for it
+    /// takes constant time, and no memory.
+    pub fn pending(&self, a: ActorId) -> u32
+        ensures { result ≡ count_by (waits_for a) (zip self.now.calls self.now.kept) }
+    {
+        self.table.pending(a)
+    }
+
     /// Whether a call of the actor has no answer yet. It is known without a search.
+    #[tactic(auto, using(crate::proofs::Answers::any_counted))]
     pub fn awaits(&self, a: ActorId) -> bool
         ensures { result ≡ list_any (waits_for a) (zip self.now.calls self.now.kept) }
     {
-        self.table.waiting_of(a).is_some()
+        self.pending(a) > 0
     }
 
     /// Whether the actor is one of this caller's.

@@ -182,28 +182,33 @@ fn a_death() -> [(Ask, Told); 7] {
     ]
 }
 
-/// Of these actors the caller knows which are dead, and of which it awaits an answer.
-fn assert_awaits(rt: &impl Abort, owner: &Owner, rows: [(ActorId, bool, bool); 3]) {
-    for (a, is_dead, awaits) in rows {
+/// Of these actors the caller knows which are dead, and how many of their calls have no answer yet.
+fn assert_known(rt: &impl Abort, owner: &Owner, rows: [(ActorId, bool, u32); 3]) {
+    for (a, is_dead, pending) in rows {
         assert_eq!(rt;
-            (owner.is_dead(a), owner.awaits(a)),
-            (is_dead, awaits),
+            (owner.is_dead(a), owner.pending(a), owner.awaits(a)),
+            (is_dead, pending, pending > 0),
             "of {a}"
         );
     }
 }
 
+/// The last call goes to an actor that is known to be dead, and doesn't count.
 #[test]
 fn from_the_first_call_to_a_death(rt: HostRuntime) -> Result<(), Fail> {
-    let mut owner = opened(rt.alloc())?;
-    assert_told(&rt, rt.alloc(), &mut owner, &first_calls());
-    assert_told(&rt, rt.alloc(), &mut owner, &first_answers());
-    assert_told(&rt, rt.alloc(), &mut owner, &a_death());
     let a1 = ActorId::new(1).unwrap();
     let a2 = ActorId::new(2).unwrap();
     let a3 = ActorId::new(3).unwrap();
-    let rows = [(a1, true, false), (a2, false, true), (a3, false, false)];
-    assert_awaits(&rt, &owner, rows);
+    let mut owner = opened(rt.alloc())?;
+    assert_told(&rt, rt.alloc(), &mut owner, &first_calls());
+    let rows = [(a1, false, 2), (a2, false, 1), (a3, false, 0)];
+    assert_known(&rt, &owner, rows);
+    assert_told(&rt, rt.alloc(), &mut owner, &first_answers());
+    let rows = [(a1, false, 1), (a2, false, 1), (a3, false, 0)];
+    assert_known(&rt, &owner, rows);
+    assert_told(&rt, rt.alloc(), &mut owner, &a_death());
+    let rows = [(a1, true, 0), (a2, false, 1), (a3, false, 0)];
+    assert_known(&rt, &owner, rows);
     Ok(())
 }
 

@@ -120,18 +120,12 @@ death-after_keep a k rows waits =
     ap (after_death a) row.4
     ∙ map-set_same (row_after_death a) rows k new row.0 (stays ∙ sym marked ∙ ap (row_after_death a) (sym row.2))
 
--- and one less waits for the actor, and in all
+-- and one less waits for the actor
 pub count-after_keep : (a k : ℕ) (answer : Result Value Fault) (rows : List Row) → waits_at a rows k ≡ true → count_by (waits_for a) (after_keep k answer rows) + 1 ≡ count_by (waits_for a) rows
 count-after_keep a k answer rows waits =
     let row = waiting_row a k answer rows waits in
     ap (λ l. count_by (waits_for a) l + 1) row.4
     ∙ one_less (waits_for a) k rows row.0 (with_answer answer row.0) row.1 row.2 row.3 (answered_waits a answer row.0)
-
-pub count_open-after_keep : (a k : ℕ) (answer : Result Value Fault) (rows : List Row) → waits_at a rows k ≡ true → count_by is_open (after_keep k answer rows) + 1 ≡ count_by is_open rows
-count_open-after_keep a k answer rows waits =
-    let row = waiting_row a k answer rows waits in
-    ap (λ l. count_by is_open l + 1) row.4
-    ∙ one_less is_open k rows row.0 (with_answer answer row.0) row.1 row.2 (last_of_two (row.0.actor == a) (is_open row.0) row.3) refl
 
 -- a death answers none where none waits
 pub death-none : (a : ℕ) (rows : List Row) → count_by (waits_for a) rows ≡ 0 → after_death a rows ≡ rows

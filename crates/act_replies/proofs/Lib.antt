@@ -1,4 +1,5 @@
 pub mod Chains
+pub mod Counts
 pub mod Deaths
 pub mod Links
 pub mod Lookups

@@ -13,7 +13,7 @@ whole n xs ys all same =
     rw (drop_all (length ys) xs (omega arith), append-nil) (take_all n ys (omega arith))
 
 -- what is read of a link
-read_link : (read : Link → Option ℕ) (items : List Link) (place : ℕ) (link : Link) → place < length items → link ≡ get_or items place link → found_at (map read items) place ≡ read link
+pub read_link : (read : Link → Option ℕ) (items : List Link) (place : ℕ) (link : Link) → place < length items → link ≡ get_or items place link → found_at (map read items) place ≡ read link
 read_link read items place link below is = get_or-map read items place link None below ∙ ap read (sym is)
 
 -- the link of a future that waits no more
@@ -86,16 +86,26 @@ stays_out items actors place k link same at below is none =
     let found : found_at actors k ≡ None = ap (λ (l : List (Option ℕ)). found_at l k) (sym same) ∙ ap (found_at (actors_of items)) (sym at) ∙ read_link (λ l. l.actor) items place link many is ∙ none in
     sym (set-get_or actors k None) ∙ ap (slice_set actors k) found
 
+-- a new future's link is the last one, and its actor the last actor
+entered_last : (items middle new all : List Link) (n : ℕ) (link : Link) → n ≡ length items → middle ≡ items → actors_of new ≡ actors_of middle → all ≡ take n (new ++ drop (length new) items) ++ link ∷ [] → all ≡ new ++ link ∷ []
+entered_last items middle new all n link n_is middle_is actors_new all_is =
+    let as_many : length new ≡ length items = sym (length-map new (λ (l : Link). l.actor)) ∙ ap length actors_new ∙ length-map middle (λ (l : Link). l.actor) ∙ ap length middle_is in
+    all_is ∙ ap (λ (l : List Link). l ++ link ∷ []) (whole n items new n_is as_many)
+
+pub entered_actors : (items middle new all : List Link) (n : ℕ) (link : Link) → n ≡ length items → middle ≡ items → actors_of new ≡ actors_of middle → all ≡ take n (new ++ drop (length new) items) ++ link ∷ [] → actors_of all ≡ actors_of items ++ link.actor ∷ []
+entered_actors items middle new all n link n_is middle_is actors_new all_is =
+    ap actors_of (entered_last items middle new all n link n_is middle_is actors_new all_is)
+    ∙ map-append (λ (l : Link). l.actor) new (link ∷ [])
+    ∙ ap (λ (l : List (Option ℕ)). l ++ link.actor ∷ []) (actors_new ∙ ap actors_of middle_is)
+
 -- the links after a new future was linked to the last one of its actor
 pub entered : (items middle new all : List Link) (last : List (Option ℕ)) (n a at at2 future : ℕ) (found : Option ℕ) → IsLinked items last → n ≡ length items → middle ≡ items → a ≤ 8 → a < length last → at ≡ a → at2 ≡ a → future ≡ n → actors_of new ≡ actors_of middle → before_of new ≡ before_of middle → after_of new ≡ with_found (after_of middle) (get_or last at found) (Some future) → all ≡ take n (new ++ drop (length new) items) ++ record { actor = Some a; before = get_or last at found; after = None } ∷ [] → IsLinked all (slice_set last at2 (Some future))
 entered items middle new all last n a at at2 future found fine n_is middle_is valid listed at_is at2_is future_is actors_new before_new after_new all_is =
     let o : Option ℕ = get_or last at found in
     let link : Link = record { actor = Some a; before = o; after = None } in
     let number : future ≡ length (actors_of items) = future_is ∙ n_is ∙ sym (length-map items (λ (l : Link). l.actor)) in
-    let as_many : length new ≡ length items = sym (length-map new (λ (l : Link). l.actor)) ∙ ap length actors_new ∙ length-map middle (λ (l : Link). l.actor) ∙ ap length middle_is in
-    let is : all ≡ new ++ link ∷ [] = all_is ∙ ap (λ (l : List Link). l ++ link ∷ []) (whole n items new n_is as_many) in
-    let actors : actors_of all ≡ actors_of items ++ Some a ∷ [] =
-    ap actors_of is ∙ map-append (λ (l : Link). l.actor) new (link ∷ []) ∙ ap (λ (l : List (Option ℕ)). l ++ Some a ∷ []) (actors_new ∙ ap actors_of middle_is) in
+    let is : all ≡ new ++ link ∷ [] = entered_last items middle new all n link n_is middle_is actors_new all_is in
+    let actors : actors_of all ≡ actors_of items ++ Some a ∷ [] = entered_actors items middle new all n link n_is middle_is actors_new all_is in
     let before : before_of all ≡ before_of items ++ o ∷ [] =
     ap before_of is ∙ map-append (λ (l : Link). l.before) new (link ∷ []) ∙ ap (λ (l : List (Option ℕ)). l ++ o ∷ []) (before_new ∙ ap before_of middle_is) in
     let after : after_of all ≡ with_found (after_of items) o (Some (length (actors_of items))) ++ None ∷ [] =

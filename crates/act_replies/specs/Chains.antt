@@ -1,5 +1,5 @@
 -- How the futures that wait for an answer are linked, those of each actor in their order.
-use Rattle.std.specs.Prelude.{◌≡◌, ◌≢◌, ℕ, ◌<◌, ◌≤◌, List, map, length, get_or, slice_set, Option, Some, None}
+use Rattle.std.specs.Prelude.{◌≡◌, ◌≢◌, ℕ, ◌<◌, ◌≤◌, ◌==◌, Bool, false, List, map, length, get_or, slice_set, count_by, Option, Some, None}
 use Rattle.act_types.specs.declared.limits.TheConstants.{MOST_ACTORS}
 use Rattle.act_replies.specs.declared.waiting.Link.{Link}
 
@@ -46,3 +46,12 @@ after_of links = map (λ link. link.after) links
 -- the same of the links themselves
 abbrev pub IsLinked : List Link → List (Option ℕ) → Type 0
 IsLinked links last = IsChained (actors_of links) (before_of links) (after_of links) last
+
+-- whether what a future waits for is this actor
+abbrev pub is_for : ℕ → Option ℕ → Bool
+is_for a None = false
+is_for a (Some n) = n == a
+
+-- of each actor it is counted how many futures wait for it
+abbrev pub IsCounted : List (Option ℕ) → List ℕ → Type 0
+IsCounted actors counts = (a : ℕ) → a ≤ MOST_ACTORS → get_or counts a 0 ≡ count_by (is_for a) actors

@@ -118,11 +118,11 @@ impl ReplyTable {
         ensures rows { self.new.rows ≡ after_death actor self.old.rows }
         ensures spare { self.new.spare ≡ self.old.spare }
     {
-        let before = self.unanswered();
+        let count = self.pending(actor);
         while let Some(future) = self.waiting_of(actor) {
             self.keep(future, Err(Fault::ActorDied));
         }
-        before - self.unanswered()
+        count
     }
 
     /// The last future of the actor that has no answer yet. It is known without a search.
@@ -139,6 +139,15 @@ impl ReplyTable {
         ensures { option_copied result ≡ answer_of future self.now.rows }
     {
         self.rows.get(future.number() as usize)?.answer.as_ref()
+    }
+
+    /// How many futures of the actor have no answer yet. A call that ran counts until its answer is
+    /// kept, and a death leaves none. The number is kept: asking for it takes constant time, and no
+    /// memory.
+    pub fn pending(&self, a: ActorId) -> u32
+        ensures { result ≡ count_by (waits_for a) self.now.rows }
+    {
+        self.waiting.count_of(a)
     }
 
     /// How many futures have no answer yet.

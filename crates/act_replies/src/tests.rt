@@ -1,5 +1,5 @@
-//! Three futures of two actors, with an answer, a death, and replies that come too late; a table
-//! that grows where memory is refused; and random steps that compare a table with a plain list.
+//! Three futures of two actors, with an answer, a death, and replies that come too late; how many
+//! futures of each wait, step by step; a table that grows where memory is refused; and random steps that compare a table with a plain list.
 
 use crate::{Kept, ReplyTable};
 use act_types::{ActorId, Answer, Fault, FutureId, MOST_CALLS, NoMemory, Value};
@@ -36,6 +36,58 @@ fn the_first_answer_stays(rt: HostRuntime) -> Result<(), Fail> {
         assert_eq!(rt; table.answer(FutureId::new(k)), want.as_ref(), "at {k}");
     }
     assert_eq!(rt; (table.unanswered(), table.count()), (1, 3));
+    Ok(())
+}
+
+/// What is done to a table.
+#[derive(Clone, Copy, Debug)]
+enum Step {
+    Enter(ActorId),
+    Keep(FutureId),
+    Died(ActorId),
+}
+
+fn play(rt: &impl Abort, table: &mut ReplyTable, step: Step) -> Result<(), NoMemory> {
+    match step {
+        Step::Enter(a) => {
+            assert!(rt; table.count() < MOST_CALLS);
+            table.enter(a)?;
+        }
+        Step::Keep(k) => {
+            table.keep(k, Ok(Value::Int(5)));
+        }
+        Step::Died(a) => {
+            table.died(a);
+        }
+    }
+    Ok(())
+}
+
+/// Late and stray answers leave the counts.
+#[test]
+fn counts_of_two_actors(rt: HostRuntime) -> Result<(), Fail> {
+    let a1 = ActorId::new(1).unwrap();
+    let a2 = ActorId::new(2).unwrap();
+    let mut table = ReplyTable::new(rt.alloc());
+    for (step, want) in [
+        (Step::Enter(a1), (1, 0)),
+        (Step::Enter(a2), (1, 1)),
+        (Step::Enter(a1), (2, 1)),
+        (Step::Keep(FutureId::new(0)), (1, 1)),
+        (Step::Keep(FutureId::new(0)), (1, 1)),
+        (Step::Keep(FutureId::new(9)), (1, 1)),
+        (Step::Died(a1), (0, 1)),
+        (Step::Keep(FutureId::new(2)), (0, 1)),
+        (Step::Enter(a1), (1, 1)),
+        (Step::Keep(FutureId::new(1)), (1, 0)),
+    ] {
+        play(&rt, &mut table, step)?;
+        assert_eq!(rt;
+            (table.pending(a1), table.pending(a2)),
+            want,
+            "after {step:?}"
+        );
+    }
     Ok(())
 }
 
@@ -144,7 +196,7 @@ fn take_step(
     Ok(())
 }
 
-/// Compares which futures wait.
+/// Compares which futures wait, and how many of each actor.
 fn assert_waiting(rt: &impl Abort, table: &ReplyTable, futures: &[Plain]) {
     let open = futures
         .iter()
@@ -158,6 +210,8 @@ fn assert_waiting(rt: &impl Abort, table: &ReplyTable, futures: &[Plain]) {
             .waiting_of(actor)
             .map(|future| future.number() as usize);
         assert_eq!(rt; told, last, "of {actor}");
+        let count = futures.iter().filter(|future| waits(future, actor)).count();
+        assert_eq!(rt; table.pending(actor) as usize, count, "of {actor}");
     }
 }
 

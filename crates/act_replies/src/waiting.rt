@@ -1,7 +1,7 @@
-//! Which futures have no answer yet, those of each actor linked to one another.
+//! Which futures have no answer yet, those of each actor linked to one another and counted.
 
-ghost use Rattle.std.specs.Prelude.{◌≡◌, ◌+◌, ◌<◌, ◌≤◌, [], ◌∷◌, ◌++◌, length, slice_set, None, Some, IfSome, OnOk, IsOk};
-ghost use Rattle.act_replies.specs.Chains.{with_found, actors_of, before_of, after_of, IsLastBelow};
+ghost use Rattle.std.specs.Prelude.{◌≡◌, ◌+◌, ◌<◌, ◌≤◌, [], ◌∷◌, ◌++◌, length, slice_set, count_by, None, Some, IfSome, OnOk, IsOk};
+ghost use Rattle.act_replies.specs.Chains.{with_found, is_for, actors_of, before_of, after_of, IsLastBelow};
 
 use act_types::{ActorId, FutureId, MOST_CALLS, NoMemory};
 use std::alloc::Global;
@@ -22,11 +22,13 @@ pub(crate) struct Waiting {
     links: Vec<Link>,
     /// The last future that waits for each actor, by the actor's number.
     last: [Option<FutureId>; 9],
+    /// How many futures wait for each actor, by the actor's number.
+    counts: [u32; 9],
 }
 
 impl Model for Waiting {
     ghost use Rattle.std.specs.Prelude.{◌-◌, vec_len, vec_capacity};
-    ghost use Rattle.act_replies.specs.Chains.{WaitingValue, actors_of, IsLinked};
+    ghost use Rattle.act_replies.specs.Chains.{WaitingValue, actors_of, IsLinked, IsCounted};
 
     ghost Value = { WaitingValue };
 
@@ -35,7 +37,7 @@ impl Model for Waiting {
       spare = vec_capacity waiting.links - vec_len waiting.links;
     } };
 
-    ghost invariant = { λ waiting. IsLinked waiting.links.items waiting.last };
+    ghost invariant = { λ waiting. IsLinked waiting.links.items waiting.last × IsCounted (actors_of waiting.links.items) waiting.counts };
 }
 
 /// Writes what stands before a future, where there is one.
@@ -82,6 +84,7 @@ impl Waiting {
         Waiting {
             links: Vec::new(alloc),
             last: [None; 9],
+            counts: [0; 9],
         }
     }
 
@@ -112,6 +115,7 @@ impl Waiting {
         set_after(&mut self.links, link.before, Some(future));
         self.links.push_reserved(link);
         self.last[actor.number() as usize] = Some(future);
+        self.counts[actor.number() as usize] += 1;
     }
 
     /// The future waits no more.
@@ -125,6 +129,7 @@ impl Waiting {
         let Some(actor) = link.actor else {
             return;
         };
+        self.counts[actor.number() as usize] -= 1;
         self.links[place].actor = None;
         bypass(&mut self.links, &link);
         if link.after.is_none() {
@@ -137,5 +142,12 @@ impl Waiting {
         ensures { IsLastBelow self.now.actors actor (length self.now.actors) result }
     {
         self.last[actor.number() as usize]
+    }
+
+    /// How many futures wait for the actor.
+    pub(crate) fn count_of(&self, actor: ActorId) -> u32
+        ensures { result ≡ count_by (is_for actor) self.now.actors }
+    {
+        self.counts[actor.number() as usize]
     }
 }

@@ -1,7 +1,7 @@
 use Rattle.std.proofs.Common.{◌≡◌, ◌∙◌, Err, count_by, sym, ap, subst, arith}
 use Rattle.act_types.specs.declared.fault.Fault.TheVariants.{ActorDied}
-use Rattle.act_replies.specs.Table.{is_open, waits_for, after_death}
-use Rattle.act_replies.proofs.Deaths.{death-after_keep, count-after_keep, count_open-after_keep, death-none}
+use Rattle.act_replies.specs.Table.{waits_for, after_death}
+use Rattle.act_replies.proofs.Deaths.{death-after_keep, count-after_keep, death-none}
 use Rattle.act_owner.specs.Owner.{IsTold}
 use Rattle.act_owner.proofs.Deaths.{waits_within, told_step, futures_step, sent_step}
 use Rattle.act_owner.proofs.futures.answer_death.Goals as goal
@@ -20,14 +20,6 @@ loop-future-preserved c =
     let k = c.in-Some.future in
     record {
       rows = ap (after_death c.args.a) c.keep.ensures.rows ∙ death-after_keep c.args.a k rows c.in-Some.ensures.waits ∙ c.loop-future.invariant.rows;
-      counted = omega (
-        arith,
-        c.loop-future.invariant.counted,
-        count-after_keep c.args.a k (Err ActorDied) rows c.in-Some.ensures.waits,
-        ap (count_by (waits_for c.args.a)) c.keep.ensures.rows,
-        count_open-after_keep c.args.a k (Err ActorDied) rows c.in-Some.ensures.waits,
-        ap (count_by is_open) c.keep.ensures.rows,
-      );
       told = told_step c.args.a k (Err ActorDied) rows c.keep.new.self.rows c.loop-future.resolver.calls c.told.new.self.calls c.in-Some.ensures.waits c.loop-future.invariant.told c.keep.ensures.rows c.told.ensures.calls;
       futures = futures_step k c.loop-future.resolver.calls c.told.new.self.calls c.told.ensures.calls ∙ c.loop-future.invariant.futures;
       sent = sent_step k c.loop-future.resolver.calls c.told.new.self.calls c.told.ensures.calls ∙ c.loop-future.invariant.sent;

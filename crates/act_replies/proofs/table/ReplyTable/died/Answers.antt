@@ -1,7 +1,7 @@
 use Rattle.std.proofs.Common.{◌∙◌, Err, count_by, sym, ap, arith}
 use Rattle.act_types.specs.declared.fault.Fault.TheVariants.{ActorDied}
-use Rattle.act_replies.specs.Table.{is_open, waits_for, after_death}
-use Rattle.act_replies.proofs.Deaths.{death-after_keep, count-after_keep, count_open-after_keep, death-none}
+use Rattle.act_replies.specs.Table.{waits_for, after_death}
+use Rattle.act_replies.proofs.Deaths.{death-after_keep, count-after_keep, death-none}
 use Rattle.act_replies.proofs.table.ReplyTable.died.Goals as goal
 
 pub loop-future-smaller : goal.loop-future-smaller
@@ -11,14 +11,6 @@ loop-future-smaller c =
 pub loop-future-preserved : goal.loop-future-preserved
 loop-future-preserved c = record {
   rows = ap (after_death c.args.actor) c.keep.ensures.rows ∙ death-after_keep c.args.actor c.in-Some.future c.loop-future.self.rows c.in-Some.ensures.waits ∙ c.loop-future.invariant.rows;
-  counted = omega (
-    arith,
-    c.loop-future.invariant.counted,
-    count-after_keep c.args.actor c.in-Some.future (Err ActorDied) c.loop-future.self.rows c.in-Some.ensures.waits,
-    ap (count_by (waits_for c.args.actor)) c.keep.ensures.rows,
-    count_open-after_keep c.args.actor c.in-Some.future (Err ActorDied) c.loop-future.self.rows c.in-Some.ensures.waits,
-    ap (count_by is_open) c.keep.ensures.rows,
-  );
   spare = c.keep.ensures.spare ∙ c.loop-future.invariant.spare;
 }
 

@@ -1,12 +1,11 @@
-use Rattle.std.proofs.Common.{◌≡◌, ◌+◌, count_by}
-use Rattle.act_replies.specs.Table.{is_open, waits_for, after_death}
+use Rattle.std.proofs.Common.{◌≡◌, count_by}
+use Rattle.act_replies.specs.Table.{waits_for, after_death}
 use Rattle.act_replies.proofs.table.ReplyTable.died.Given as goal
 
--- the death still leaves the same, and as many were answered as wait no more
+-- the death still leaves the same
 abbrev pub invariant-loop-future : goal.invariant-loop-future
 invariant-loop-future l = record {
   rows : after_death l.actor l.self.rows ≡ after_death l.actor l.initial.self.rows;
-  counted : count_by is_open l.self.rows + count_by (waits_for l.actor) l.initial.self.rows ≡ count_by is_open l.initial.self.rows + count_by (waits_for l.actor) l.self.rows;
   spare : l.self.spare ≡ l.initial.self.spare;
 }
 
