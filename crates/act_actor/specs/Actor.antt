@@ -1,14 +1,14 @@
 -- What the calls of an actor do.
-use Rattle.std.specs.Prelude.{◌≡◌, ℕ, ◌==◌, [], ◌∷◌, ◌++◌, length, if◌then◌else◌}
+use Rattle.std.specs.Prelude.{◌≡◌, ℕ, ◌==◌, false, List, [], ◌∷◌, ◌++◌, length, Option, None, if◌then◌else◌}
 use Rattle.act_types.specs.KindState.{KindState}
 use Rattle.act_types.specs.declared.message.Packet.{Packet}
 use Rattle.act_types.specs.declared.message.ReleaseNote.{ReleaseNote}
 use Rattle.act_types.specs.declared.message.Reply.{Reply}
-use Rattle.act_rules.specs.RunList.{after_item, state_after}
+use Rattle.act_rules.specs.RunList.{after_item, state_after, has_terminated}
 use Rattle.act_rules.specs.declared.history.RunItem.{RunItem}
 use Rattle.act_rules.specs.declared.outcome.Arrival.{Arrival}
 use Rattle.act_rules.specs.declared.outcome.Arrival.TheVariants.{Stranger}
-use Rattle.act_inbox.specs.Inbox.{InboxValue, arrival_of, note_arrival, IsNextTaken}
+use Rattle.act_inbox.specs.Inbox.{InboxValue, arrival_of, note_arrival, next_of, IsNextTaken, IsDrained}
 use Rattle.act_actor.specs.Value.{BookValue, ActorSeen}
 
 -- an actor with this beside its kind, and its kind in this state
@@ -22,6 +22,15 @@ arrival_at id inbox packet = if packet.actor == id then arrival_of inbox packet 
 -- what a release note is to an actor
 abbrev pub note_arrival_at : ℕ → InboxValue → ReleaseNote → Arrival
 note_arrival_at id inbox note = if note.actor == id then note_arrival inbox note else Stranger
+
+-- the caller's next call, if it came: an actor that terminated runs none
+abbrev pub next_call : List RunItem → InboxValue → ℕ → Option Packet
+next_call log inbox caller = if has_terminated log then None else next_of inbox caller
+
+-- the actor did not terminate, each caller's note came, and all calls of which it tells were run
+pub record MayRetire (log : List RunItem) (inbox : InboxValue) : Type 0 where
+  pub lives : has_terminated log ≡ false
+  pub drained : IsDrained inbox
 
 -- the item that a packet becomes in the log
 abbrev pub item_of : Packet → RunItem

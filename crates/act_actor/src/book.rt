@@ -3,19 +3,20 @@
 ghost use Rattle.std.specs.Prelude.{◌≡◌, ◌≢◌, ◌≤◌, ◌*◌, ℕ, [], length, IfOk, OnOk, IfErr, OnErr, IfSome, IfNone, IsSome, is_some, option_copied};
 ghost use Rattle.std.specs.Bool.{Decides};
 ghost use Rattle.std.specs.Option.{option_map};
-ghost use Rattle.act_inbox.specs.Inbox.{IsOpened, IsDrained, next_of, note_of, waiting, note_after, waiting_after};
-ghost use Rattle.act_rules.specs.RunList.{after_item};
+ghost use Rattle.act_inbox.specs.Inbox.{IsOpened, note_of, waiting, note_after, waiting_after};
+ghost use Rattle.act_rules.specs.RunList.{after_item, has_terminated};
 ghost use Rattle.act_rules.specs.declared.outcome.Arrival.TheVariants.{New};
 ghost use Rattle.act_actor.specs.Cast.{CallersDiffer};
-ghost use Rattle.act_actor.specs.Actor.{seen, item_of, reply_to, arrival_at, note_arrival_at, HasRun};
+ghost use Rattle.act_actor.specs.Actor.{seen, item_of, reply_to, arrival_at, note_arrival_at, next_call, MayRetire, HasRun};
 
 use crate::arguments::values_of;
+use crate::terminate::{is_end, terminated};
 use act_inbox::Inbox;
 use act_kinds::Actor;
 use act_rules::{Arrival, RunItem};
 use act_types::{
-    ActorId, Answer, CallerId, Fault, MOST_CALLERS, MOST_CALLS, NoMemory, Packet, ReleaseNote,
-    Reply,
+    ActorId, Answer, CallerId, Fault, MOST_CALLERS, MOST_CALLS, Method, NoMemory, Packet,
+    ReleaseNote, Reply,
 };
 use std::alloc::Global;
 use std::marker::Model;
@@ -55,14 +56,18 @@ fn item_of(packet: Packet) -> RunItem
     }
 }
 
-/// Asks the kind, or answers that an argument failed. The copies of the values come first.
+/// Asks the kind, or answers without it: that an argument failed, or to a `terminate`. The copies
+/// of the values come first.
 fn answer_of<K: Actor>(alloc: Global, kind: &mut K, packet: &Packet) -> Result<Answer, NoMemory>
     ensures answer { IfOk result (λ answer. answer ≡ (after_item (K.state kind.old) (item_of packet.now)).1) }
     ensures moved { OnOk result (K.state kind.new ≡ (after_item (K.state kind.old) (item_of packet.now)).0) }
     ensures err { OnErr result (K.state kind.new ≡ K.state kind.old) }
 {
     match values_of(alloc, packet.args.as_slice())? {
-        Ok(values) => kind.ask(&packet.method, values.as_slice()),
+        Ok(values) => match packet.method {
+            Method::Terminate => Ok(terminated(values.as_slice())),
+            _ => kind.ask(&packet.method, values.as_slice()),
+        },
         Err(future) => Ok(Err(Fault::Dependency(future))),
     }
 }
@@ -134,33 +139,44 @@ impl Book {
         self.inbox.released(note)
     }
 
-    /// Whether each caller's note came, and all calls of which it tells were run.
+    /// Whether the last call that ran was a `terminate` that ended the actor.
+    pub(crate) fn terminated(&self) -> bool
+        ensures { result ≡ has_terminated self.now.log }
+    {
+        self.log.last().is_some_and(is_end)
+    }
+
+    /// Whether it did not terminate, each caller's note came, and all calls of which it tells were
+    /// run.
     pub(crate) fn drained(&self) -> bool
-        ensures { Decides result (IsDrained self.now.inbox) }
+        ensures { Decides result (MayRetire self.now.log self.now.inbox) }
     {
-        self.inbox.drained()
+        !self.terminated() && self.inbox.drained()
     }
 
-    /// Whether the caller's next call came.
+    /// Whether the caller's next call came, and the actor did not terminate.
     pub(crate) fn has_next(&self, caller: CallerId) -> bool
-        ensures { result ≡ is_some (next_of self.now.inbox caller) }
+        ensures { result ≡ is_some (next_call self.now.log self.now.inbox caller) }
     {
-        self.inbox.has_next(caller)
+        !self.terminated() && self.inbox.has_next(caller)
     }
 
-    /// Runs the caller's next call on the kind, if it came. Each growth comes before the kind is
-    /// asked, and the call leaves the inbox after it.
+    /// Runs the caller's next call on the kind, if it came and the actor did not terminate. Each
+    /// growth comes before the kind is asked, and the call leaves the inbox after it.
     pub(crate) fn run<K: Actor>(
         &mut self,
         kind: &mut K,
         caller: CallerId,
     ) -> Result<Option<Reply>, NoMemory>
-        ensures reply { let before = seen self.old (K.state kind.old) in IfOk result (λ reply. reply ≡ option_map (reply_to before) (next_of before.inbox caller)) }
+        ensures reply { let before = seen self.old (K.state kind.old) in IfOk result (λ reply. reply ≡ option_map (reply_to before) (next_call before.log before.inbox caller)) }
         ensures gap { IfOk result (λ reply. IfNone reply (seen self.new (K.state kind.new) ≡ seen self.old (K.state kind.old))) }
-        ensures ran { let before = seen self.old (K.state kind.old) in OnOk result (IfSome (next_of before.inbox caller) (λ packet. HasRun caller packet before (seen self.new (K.state kind.new)))) }
-        ensures last { OnErr result (IsSome (next_of self.old.inbox caller)) }
+        ensures ran { let before = seen self.old (K.state kind.old) in OnOk result (IfSome (next_call before.log before.inbox caller) (λ packet. HasRun caller packet before (seen self.new (K.state kind.new)))) }
+        ensures last { OnErr result (IsSome (next_call self.old.log self.old.inbox caller)) }
         ensures err { OnErr result (seen self.new (K.state kind.new) ≡ seen self.old (K.state kind.old)) }
     {
+        if self.terminated() {
+            return Ok(None);
+        }
         let Some(packet) = self.inbox.peek(caller) else {
             return Ok(None);
         };

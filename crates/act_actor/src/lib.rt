@@ -7,6 +7,7 @@ mod cast;
 mod dead;
 mod live;
 mod retired;
+mod terminate;
 #[cfg(test)]
 mod tests;
 

@@ -9,11 +9,11 @@ ghost use Rattle.std.specs.Option.{option_map};
 ghost use Rattle.std.specs.String.{string_bytes};
 ghost use Rattle.act_types.specs.KindState.{KindState};
 ghost use Rattle.act_types.specs.Texts.{state_text};
-ghost use Rattle.act_rules.specs.RunList.{answer_at};
+ghost use Rattle.act_rules.specs.RunList.{answer_at, has_terminated};
 ghost use Rattle.act_rules.specs.declared.outcome.Arrival.TheVariants.{New};
-ghost use Rattle.act_inbox.specs.Inbox.{IsOpened, IsDrained, next_of, note_of, waiting, note_after, waiting_after};
+ghost use Rattle.act_inbox.specs.Inbox.{IsOpened, note_of, waiting, note_after, waiting_after};
 ghost use Rattle.act_actor.specs.Cast.{CallersDiffer};
-ghost use Rattle.act_actor.specs.Actor.{reply_to, arrival_at, note_arrival_at, HasRun, HasRunFrom};
+ghost use Rattle.act_actor.specs.Actor.{reply_to, arrival_at, note_arrival_at, next_call, MayRetire, HasRun, HasRunFrom};
 ghost use Rattle.act_actor.specs.Seen.{live_seen, retired_seen};
 
 use crate::book::Book;
@@ -109,30 +109,39 @@ impl<K: Actor> Live<K> {
         self.book.released(note)
     }
 
-    /// Whether each caller's note came, and all calls of which it tells were run.
+    /// Whether the last call that ran was a `terminate` that ended the actor: one without
+    /// arguments. It runs no call any more, and is to be killed by whoever holds it.
+    pub fn terminated(&self) -> bool
+        ensures { result ≡ has_terminated (live_seen K.state self.now).log }
+    {
+        self.book.terminated()
+    }
+
+    /// Whether it did not terminate, each caller's note came, and all calls of which it tells were
+    /// run.
     pub fn drained(&self) -> bool
-        ensures { Decides result (IsDrained (live_seen K.state self.now).inbox) }
+        ensures { let now = live_seen K.state self.now in Decides result (MayRetire now.log now.inbox) }
     {
         self.book.drained()
     }
 
-    /// Whether the caller's next call came.
+    /// Whether the caller's next call came, and the actor did not terminate.
     pub fn has_next(&self, caller: CallerId) -> bool
-        ensures { result ≡ is_some (next_of (live_seen K.state self.now).inbox caller) }
+        ensures { let now = live_seen K.state self.now in result ≡ is_some (next_call now.log now.inbox caller) }
     {
         self.book.has_next(caller)
     }
 
-    /// Runs the caller's next call, if it came.
+    /// Runs the caller's next call, if it came and the actor did not terminate.
     pub fn run(&mut self, caller: CallerId) -> Result<Option<Reply>, NoMemory>
-        ensures reply { let before = live_seen K.state self.old in IfOk result (λ reply. reply ≡ option_map (reply_to before) (next_of before.inbox caller)) }
+        ensures reply { let before = live_seen K.state self.old in IfOk result (λ reply. reply ≡ option_map (reply_to before) (next_call before.log before.inbox caller)) }
         ensures gap { IfOk result (λ reply. IfNone reply (live_seen K.state self.new ≡ live_seen K.state self.old)) }
-        ensures ran { let before = live_seen K.state self.old in OnOk result (IfSome (next_of before.inbox caller) (λ packet. HasRun caller packet before (live_seen K.state self.new))) }
+        ensures ran { let before = live_seen K.state self.old in OnOk result (IfSome (next_call before.log before.inbox caller) (λ packet. HasRun caller packet before (live_seen K.state self.new))) }
 
         // The state is what the log leaves, whatever the kind was when it was opened.
         ensures follows { OnOk result ((opening : KindState) → HasRunFrom opening (live_seen K.state self.old) → HasRunFrom opening (live_seen K.state self.new)) }
         ensures answers { IfOk result (λ reply. IfSome reply (λ reply. (opening : KindState) → HasRunFrom opening (live_seen K.state self.old) → answer_at opening (live_seen K.state self.new).log reply.place ≡ Some reply.answer)) }
-        ensures last { OnErr result (IsSome (next_of (live_seen K.state self.old).inbox caller)) }
+        ensures last { let before = live_seen K.state self.old in OnErr result (IsSome (next_call before.log before.inbox caller)) }
         ensures err { OnErr result (live_seen K.state self.new ≡ live_seen K.state self.old) }
     {
         self.book.run(&mut self.kind, caller)
@@ -149,7 +158,7 @@ impl<K: Actor> Live<K> {
 
     /// Ends the actor once it is drained; else an `Err` hands it back.
     pub fn retire(self) -> Result<Retired<K>, Live<K>>
-        ensures when { IsOk result ↔ IsDrained (live_seen K.state self).inbox }
+        ensures when { let live = live_seen K.state self in IsOk result ↔ MayRetire live.log live.inbox }
         ensures ok { let live = live_seen K.state self in IfOk result (λ retired. retired_seen K.state retired ≡ record { id = live.id; log = live.log; state = live.state }) }
         ensures err { IfErr result (λ live. live_seen K.state live ≡ live_seen K.state self) }
     {

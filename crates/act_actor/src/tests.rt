@@ -179,6 +179,49 @@ fn retired_once_drained(rt: HostRuntime) -> Result<(), Fail> {
 }
 
 #[test]
+fn ended_in_its_turn(rt: HostRuntime) -> Result<(), Fail> {
+    let alloc = rt.alloc();
+    let a1 = ActorId::new(1).unwrap();
+    let c1 = CallerId::new(1).unwrap();
+    let mut live = Live::open(alloc, a1, &[c1], Counter::open())?;
+    let failed = Err(Fault::Dependency(FutureId::new(0)));
+    let refused: [Row; 2] = [
+        (0, Method::Terminate, &[Given::Int(1)], Err(Fault::BadArgs)),
+        (
+            1,
+            Method::Terminate,
+            &[Given::Int(1), Given::Bad(0)],
+            failed,
+        ),
+    ];
+    play(&rt, alloc, &mut live, &refused)?;
+    note(&rt, &mut live, &[(c1, a1, 3, Arrival::New)]);
+    let none: [Given; 0] = [];
+    let held: [Row; 2] = [
+        (2, Method::Terminate, &none, Ok(0)),
+        (3, Method::Get, &none, Ok(0)),
+    ];
+    for row in &held {
+        assert_eq!(rt; live.arrive(packet_of(alloc, row)?), Ok(Arrival::New));
+    }
+    assert!(rt; !live.terminated());
+    let Some(reply) = live.run(c1)? else {
+        panic!(rt; "held back after its turn came");
+    };
+    assert_eq!(rt; (reply.place, reply.answer), (2, Ok(Value::Unit)));
+    assert_eq!(rt;
+        (live.terminated(), live.has_next(c1), live.drained()),
+        (true, false, false)
+    );
+    assert_eq!(rt; live.run(c1)?, None);
+    let Err(live) = live.retire() else {
+        panic!(rt; "retired after its end");
+    };
+    assert_eq!(rt; live.kill().log().len(), 3);
+    Ok(())
+}
+
+#[test]
 fn killed_with_calls_held(rt: HostRuntime) -> Result<(), Fail> {
     let alloc = rt.alloc();
     let callers = [CallerId::new(1).unwrap()];

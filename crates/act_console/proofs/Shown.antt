@@ -117,6 +117,11 @@ all_parts world told empty first second whole none one two three =
     ∙ ap (λ (text : List ℕ). text ++ flat_map (stage_lines world) (one_to 8)) (two ∙ ap (λ (text : List ℕ). text ++ flat_map (caller_lines world) (one_to 16)) (one ∙ ap (λ (text : List ℕ). text ++ outcome_lines told) none))
     ∙ append_assoc (outcome_lines told) (flat_map (caller_lines world) (one_to 16)) (flat_map (stage_lines world) (one_to 8))
 
+-- what is told of casts and events is told of others that are the same
+pub told_of_same : (told : List Casting → List Event → List ℕ) (text : List ℕ) (casts same_casts : List Casting) (events same_events : List Event) → casts ≡ same_casts → events ≡ same_events
+    → text ≡ told casts events → text ≡ told same_casts same_events
+told_of_same told text casts same_casts events same_events one other is = is ∙ ap (λ cs. told cs events) one ∙ ap (told same_casts) other
+
 -- a standing world shows what the history tells
 pub summary_is : (casts : List Casting) (events : List Event) (world : WorldSeen) → Stands casts events world → world_summary world ≡ summary (history casts events)
 unfolding world_summary

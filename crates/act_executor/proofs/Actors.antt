@@ -2,6 +2,7 @@
 use Rattle.std.proofs.Common.{◌≡◌, ℕ, ◌<◌, false, List, [], ◌∷◌, ◌++◌, length, map, get_or, slice_get, Some, sym, ap, ◌∙◌, subst, refl, All, Contains}
 use Rattle.std.proofs.lemmas.Option.{get_or_from_slice_get}
 use Rattle.act_types.specs.KindState.{KindState}
+use Rattle.act_rules.specs.RunList.{NothingFollowsAnEnd}
 use Rattle.act_rules.specs.Consistent.{IsFront}
 use Rattle.act_rules.specs.History.{Casting, contains}
 use Rattle.act_rules.proofs.Unique.{map-slice_get}
@@ -39,6 +40,7 @@ pub record IsLeft {K : Type 0} (state : K → KindState) (replies : List Replies
   pub callers : List ℕ
   pub same_callers : (c : ℕ) → contains c callers ≡ contains c cast.callers
   pub log : IsLogOf cast.actor callers l.letters.taken (log_of (end_seen state l.ended))
+  pub last : NothingFollowsAnEnd (log_of (end_seen state l.ended))
   pub given : All (λ (seat : Seat ReplyExecValue). seat.pass.given ≡ replies_to cast.opening cast.actor (log_of (end_seen state l.ended)) (caller_at replies seat.place) ++ deaths cast.actor (end_seen state l.ended)) l.notices
   pub kills_are : KillsTaken l.kills (end_seen state l.ended)
   pub askers : l.kills.askers ≡ starter ∷ cast.callers
@@ -51,6 +53,7 @@ module _ {K : Type 0} (state : K → KindState) (lines : Lines) (cast : Cast K) 
     callers = callers_of lines.replies.items exec.pass.notices.items;
     same_callers = is.callers;
     log = served.log;
+    last = served.last;
     given = served.given;
     kills_are = served.kills;
     askers = ap (λ (k : ControlExecValue). k.askers) served.stay.kills ∙ is.askers;
@@ -61,7 +64,7 @@ module _ {K : Type 0} (state : K → KindState) (lines : Lines) (cast : Cast K) 
   pub is_served : (last : Finished K) → left_of last ≡ left_of actor → IsServed lines.replies.items (casting state cast) (served_seen state last)
   is_served last same =
       let l = subst (IsLeft state lines.replies.items (casting state cast)) (sym same) left_is in
-      record { callers = l.callers; same_callers = l.same_callers; log = l.log; given = l.given; kills = l.kills_are; askers = l.askers; drained = l.drained }
+      record { callers = l.callers; same_callers = l.same_callers; log = l.log; last = l.last; given = l.given; kills = l.kills_are; askers = l.askers; drained = l.drained }
 
   -- the seat that was there before, at the same place, of the same line
   old_seat : (k : ℕ) (seat : Seat ReplyExecValue) → slice_get actor.passes.notices.items k ≡ Some seat → (old : Seat ReplyExecValue) × (slice_get exec.pass.notices.items k ≡ Some old) × (bare old ≡ bare seat)

@@ -4,6 +4,7 @@ mod gates;
 mod kills;
 mod many;
 mod scene;
+mod terminates;
 mod told;
 
 use crate::Plan;

@@ -1,5 +1,5 @@
 -- How the threads of a joined run ended: what was submitted, who was killed, and that a retired actor ran all.
-use Rattle.std.proofs.Common.{◌≡◌, ℕ, suc, ◌<◌, ◌≤◌, Bool, true, false, cond, List, [], ◌∷◌, length, Some, None, inl, inr, refl, ap, sym, ◌∙◌, subst, arith}
+use Rattle.std.proofs.Common.{◌≡◌, ℕ, suc, ◌<◌, ◌≤◌, Bool, true, false, true≢false, cond, List, [], ◌∷◌, length, Some, None, inl, inr, refl, ap, sym, ◌∙◌, subst, arith}
 use Rattle.std.specs.Prelude.{Option, ◌==◌, ◌&&◌, map, slice_get, is_some, All, Contains}
 use Rattle.std.specs.Option.{option_or}
 use Rattle.std.proofs.lemmas.Bool.{eq-eqb, eqb-true, and_parts}
@@ -11,7 +11,7 @@ use Rattle.act_types.specs.declared.message.ReleaseNote.{ReleaseNote}
 use Rattle.act_rules.specs.declared.history.RunItem.{RunItem}
 use Rattle.act_rules.specs.declared.history.Submission.{Submission}
 use Rattle.act_rules.specs.declared.script.Step.{Step}
-use Rattle.act_rules.specs.RunList.{items_of}
+use Rattle.act_rules.specs.RunList.{items_of, has_terminated, NothingFollowsAnEnd}
 use Rattle.act_rules.specs.Submissions.{calls_to, kept_at}
 use Rattle.act_rules.specs.Plans.{planned, kills_to}
 use Rattle.act_rules.specs.History.{Casting, contains, actors_naming}
@@ -27,11 +27,11 @@ use Rattle.act_mailbox.specs.declared.control.Asked.{Asked}
 use Rattle.act_mailbox.specs.declared.mail.Letter.{Letter}
 use Rattle.act_mailbox.specs.declared.mail.Letter.TheVariants.{Call, Note}
 use Rattle.act_serve.specs.declared.seat.ExecPasses.{ExecPasses}
-use Rattle.act_serve.specs.Served.{EndSeen, Killed, Retired, Starved, id_of, log_of, IfRetired, note_in, first_note, KillsTaken}
+use Rattle.act_serve.specs.Served.{EndSeen, Killed, Retired, Starved, id_of, log_of, IfRetired, note_in, first_note, IsTakenAt, KillsOfDead, KillsTaken}
 use Rattle.act_drive.specs.declared.caller.Driven.{Driven}
 use Rattle.act_drive.specs.Driven.{IsSent, AreAsked, HasAsked}
 use Rattle.act_plans.specs.Runs.{plan_of}
-use Rattle.act_joint.specs.Joined.{is_killed, is_starved, owner_of, calls_of_owner, kept_of_owner, is_killed_end, calls_in, kept_in, log_in, killed_in, RanAll, IsJoined}
+use Rattle.act_joint.specs.Joined.{is_killed, is_starved, owner_of, calls_of_owner, kept_of_owner, log_of_end, is_killed_end, calls_in, kept_in, log_in, killed_in, RanAll, IsJoined}
 use Rattle.act_joint.specs.Left.{ServedSeen, AreJoined}
 use Rattle.act_joint.proofs.Elements.{IsIn, in_from_contains, all_in, in_filter, in_front, all_by_places, is_contained, empty_by_places, whole_by_length, enumerated, in_none, in_first, some_long}
 use Rattle.act_joint.proofs.Found.{naming, same_cast, planned_known, planned_none, driven_named}
@@ -74,11 +74,17 @@ first_is a c n (letter ∷ letters) e = go (note_in a c letter) refl (first_is a
     go None is rest e = later (rest e)
     go (Some m) is rest e = record { letter = letter; inside = record { place = 0; at = refl }; says = is ∙ e }
 
--- a killed actor took a kill of an asker
-kill_taken : (control : ControlExecValue) (end : EndSeen) → is_killed end ≡ true → KillsTaken control end → (kill : Asked) × (control.taken ≡ kill ∷ []) × Contains control.askers kill.asker
-kill_taken control (Killed dead) e k = (k.0, k.1, k.2)
-kill_taken control (Retired retired) e k = cc
-kill_taken control (Starved dead) e k = cc
+-- a killed actor that did not terminate took a kill of an asker
+kill_taken : (control : ControlExecValue) (end : EndSeen) → is_killed end ≡ true → has_terminated (log_of end) ≡ false → KillsTaken control end → (kill : Asked) × (control.taken ≡ kill ∷ []) × Contains control.askers kill.asker
+kill_taken control (Killed dead) e on k = let at : IsTakenAt dead.log control = subst (λ (b : Bool). KillsOfDead b dead.log control) on k in (at.0, at.1, at.2)
+kill_taken control (Retired retired) e on k = cc
+kill_taken control (Starved dead) e on k = cc
+
+-- an actor that terminated is killed
+end_killed : (control : ControlExecValue) (end : EndSeen) → KillsTaken control end → has_terminated (log_of end) ≡ true → is_killed end ≡ true
+end_killed control (Killed dead) k e = refl
+end_killed control (Retired retired) k e = absurd (true≢false (sym e ∙ k.1))
+end_killed control (Starved dead) k e = absurd (true≢false (sym e ∙ k.1))
 
 -- no more kills were asked than wanted
 no_more : (collected : List Notice) (a wanted asked : ℕ) → AreAsked collected a wanted asked → asked ≤ wanted
@@ -125,10 +131,10 @@ module _ {mails : List MailValue} {controls : List ControlValue} {replies : List
 
   -- ---- kills
 
-  kill_planned : (a : ℕ) (s : ServedSeen) → Thread j a s → is_killed s.end ≡ true → (c : ℕ) × (0 < kills_to a (plan_of c plans))
-  kill_planned a s t e =
+  kill_planned : (a : ℕ) (s : ServedSeen) → Thread j a s → is_killed s.end ≡ true → has_terminated (log_of s.end) ≡ false → (c : ℕ) × (0 < kills_to a (plan_of c plans))
+  kill_planned a s t e on =
       let taken = s.passes.kills.taken in
-      let k = kill_taken s.passes.kills s.end e t.serving.kills in
+      let k = kill_taken s.passes.kills s.end e on t.serving.kills in
       let kill = k.0 in
       let there : IsIn taken kill = subst (λ (l : List Asked). IsIn l kill) (sym k.1) (record { place = 0; at = refl }) in
       let asker = in_from_contains (starter ∷ t.cast.cast.callers) kill.asker (subst (λ (l : List ℕ). Contains l kill.asker) t.serving.askers k.2) in
@@ -154,12 +160,32 @@ module _ {mails : List MailValue} {controls : List ControlValue} {replies : List
             (c, asks)
       ]
 
-  killed : (a : ℕ) → killed_in ends a ≡ true → (c : ℕ) × (0 < kills_to a (plan_of c plans))
-  killed a e = go (served_of a served) refl
+  killed : (a : ℕ) → killed_in ends a ≡ true → has_terminated (log_in ends a) ≡ false → (c : ℕ) × (0 < kills_to a (plan_of c plans))
+  killed a e on = go (served_of a served) refl
     where
       go : (o : Option ServedSeen) → served_of a served ≡ o → (c : ℕ) × (0 < kills_to a (plan_of c plans))
       go None f = let bad : false ≡ true = subst (λ (x : Option EndSeen). is_killed_end x ≡ true) (end_is j a None f) e in cc
-      go (Some s) f = kill_planned a s (thread j a s f) (subst (λ (x : Option EndSeen). is_killed_end x ≡ true) (end_is j a (Some s) f) e)
+      go (Some s) f =
+          kill_planned a s (thread j a s f) (subst (λ (x : Option EndSeen). is_killed_end x ≡ true) (end_is j a (Some s) f) e)
+          (subst (λ (x : Option EndSeen). has_terminated (log_of_end x) ≡ false) (end_is j a (Some s) f) on)
+
+  -- ---- a terminate
+
+  terminated : (a : ℕ) → has_terminated (log_in ends a) ≡ true → killed_in ends a ≡ true
+  terminated a e = go (served_of a served) refl
+    where
+      go : (o : Option ServedSeen) → served_of a served ≡ o → killed_in ends a ≡ true
+      go None f = let bad : false ≡ true = subst (λ (x : Option EndSeen). has_terminated (log_of_end x) ≡ true) (end_is j a None f) e in cc
+      go (Some s) f =
+          ap is_killed_end (end_is j a (Some s) f)
+          ∙ end_killed s.passes.kills s.end (thread j a s f).serving.kills (subst (λ (x : Option EndSeen). has_terminated (log_of_end x) ≡ true) (end_is j a (Some s) f) e)
+
+  last : (a : ℕ) → NothingFollowsAnEnd (log_in ends a)
+  last a = go (served_of a served) refl
+    where
+      go : (o : Option ServedSeen) → served_of a served ≡ o → NothingFollowsAnEnd (log_in ends a)
+      go None f = subst (λ (x : Option EndSeen). NothingFollowsAnEnd (log_of_end x)) (sym (end_is j a None f)) (λ place ends. cc)
+      go (Some s) f = subst (λ (x : Option EndSeen). NothingFollowsAnEnd (log_of_end x)) (sym (end_is j a (Some s) f)) (thread j a s f).serving.last
 
   -- ---- a retired actor
 
@@ -237,6 +263,8 @@ module _ {mails : List MailValue} {controls : List ControlValue} {replies : List
     answered = answered;
     consistent = fits _ _ _ _ _ (all_fit j);
     killed = killed;
+    terminated = terminated;
+    last = last;
     retired = retired;
     fed = fed;
   }

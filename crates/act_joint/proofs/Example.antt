@@ -15,7 +15,7 @@ use Rattle.act_rules.specs.declared.history.RunItem.{RunItem}
 use Rattle.act_rules.specs.declared.history.Submission.{Submission}
 use Rattle.act_rules.specs.declared.script.Step.{Step}
 use Rattle.act_rules.specs.declared.script.Step.TheVariants as step
-use Rattle.act_rules.specs.RunList.{Answer, items_of}
+use Rattle.act_rules.specs.RunList.{Answer, items_of, NothingFollowsAnEnd}
 use Rattle.act_rules.specs.Submissions.{kept_at}
 use Rattle.act_rules.specs.Report.{one_to}
 use Rattle.act_rules.specs.History.{Casting, contains, actors_naming}
@@ -159,8 +159,9 @@ module _ (mail control reply : TableId) (ptr : Ptr) (alloc : Global) where
       listed = all_one (λ (i : RunItem). contains i.caller (1 ∷ []) ≡ true) item refl;
       numbered = λ c. turn (1 == c);
     };
+    last = last;
     given = all_one (λ (seat : Seat ReplyExecValue). seat.pass.given ≡ replies_to (CounterAt (pos 0)) 1 log (caller_at (replies reply) seat.place) ++ deaths 1 s.end) _ refl;
-    kills = (refl, refl);
+    kills = ((refl, refl), refl);
     askers = refl;
     drained = record { state = refl; notes = notes };
   })
@@ -168,6 +169,10 @@ module _ (mail control reply : TableId) (ptr : Ptr) (alloc : Global) where
       turn : (b : Bool) → map (λ (i : RunItem). i.number) (cond b log []) ≡ range_with_len 0 (length (cond b log []))
       turn true = refl
       turn false = refl
+
+      last : NothingFollowsAnEnd log
+      last zero ends = cc
+      last (suc place) ends = cc
 
       notes : (c : ℕ) → contains c (1 ∷ []) ≡ true → first_note 1 c letters ≡ Some (length (items_of c log))
       notes c names = subst (λ (n : ℕ). first_note 1 n letters ≡ Some (length (items_of n log))) (is_one c names) refl

@@ -81,6 +81,7 @@ module _ (mail control reply : TableId) (ptr : Ptr) (alloc : Global) where
       listed = all_none (λ (i : RunItem). contains i.caller (1 ∷ []) ≡ true);
       numbered = λ c. refl;
     };
+    last = λ place ends. cc;
     given = all_one (λ (seat : Seat ReplyExecValue). seat.pass.given ≡ replies_to (CounterAt (pos 0)) 1 [] (caller_at (replies reply) seat.place) ++ deaths 1 s.end) _ refl;
     kills = (_, refl, (1, omega arith, refl), refl);
     askers = refl;

@@ -3,7 +3,7 @@ use Rattle.std.specs.Prelude.{◌≡◌, ℕ, ◌<◌, ◌==◌, Bool, true, fal
 use Rattle.act_rules.specs.declared.history.RunItem.{RunItem}
 use Rattle.act_rules.specs.declared.history.Submission.{Submission}
 use Rattle.act_rules.specs.declared.script.Step.{Step}
-use Rattle.act_rules.specs.RunList.{Answer, items_of, state_after}
+use Rattle.act_rules.specs.RunList.{Answer, items_of, state_after, has_terminated, NothingFollowsAnEnd}
 use Rattle.act_rules.specs.Submissions.{calls_to, kept_at}
 use Rattle.act_rules.specs.Consistent.{Consistent}
 use Rattle.act_rules.specs.History.{Casting, opening, opening_of, actors_naming}
@@ -70,13 +70,15 @@ pub record RanAll (casts : List Casting) (owners : List OwnerValue) (retired : R
   pub at : cast_at retired.id casts ≡ Some cast
   pub state : retired.state ≡ state_after cast.opening retired.log
 
--- the plans were run with these casts: each caller is left, and each actor, by rising number; each caller submitted what was planned and all is answered; calls, logs and answers fit one another as in any run of the rules; an actor is killed only where some plan asks for it, and one that retired ran all; nobody was refused memory
+-- the plans were run with these casts: each caller is left, and each actor, by rising number; each caller submitted what was planned and all is answered; calls, logs and answers fit one another as in any run of the rules; an actor is dead that ran a `terminate`, after which it ran nothing, and any other only where some plan asks for its kill; one that retired ran all; nobody was refused memory
 pub record IsJoined (casts : List Casting) (plans : List (ℕ × List Step)) (owners : List OwnerValue) (ends : List EndSeen) : Type 0 where
   pub callers : map (λ owner. owner.id) owners ≡ callers_of casts
   pub actors : map id_of ends ≡ actors_of casts
   pub submitted : (c : ℕ) → calls_in owners c ≡ planned (actors_naming c casts) (plan_of c plans)
   pub answered : (c k : ℕ) → k < length (calls_in owners c) → is_some (kept_at (kept_in owners c) k) ≡ true
   pub consistent : Consistent (λ a. opening_of a (opening casts)) (calls_in owners) (log_in ends) (kept_in owners) (killed_in ends)
-  pub killed : (a : ℕ) → killed_in ends a ≡ true → (c : ℕ) × (0 < kills_to a (plan_of c plans))
+  pub killed : (a : ℕ) → killed_in ends a ≡ true → has_terminated (log_in ends a) ≡ false → (c : ℕ) × (0 < kills_to a (plan_of c plans))
+  pub terminated : (a : ℕ) → has_terminated (log_in ends a) ≡ true → killed_in ends a ≡ true
+  pub last : (a : ℕ) → NothingFollowsAnEnd (log_in ends a)
   pub retired : All (λ end. IfRetired end (RanAll casts owners)) ends
   pub fed : All (λ end. is_starved end ≡ false) ends

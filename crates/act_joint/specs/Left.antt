@@ -2,6 +2,7 @@
 use Rattle.std.specs.Prelude.{◌≡◌, ◌≢◌, ℕ, ◌<◌, true, false, List, [], ◌∷◌, ◌++◌, length, map, slice_get, slice_index_or, Some, is_some, All, AllPairs, Contains}
 use Rattle.act_types.specs.declared.limits.TheConstants.{MOST_ACTORS, MOST_CALLERS}
 use Rattle.act_rules.specs.declared.script.Step.{Step}
+use Rattle.act_rules.specs.RunList.{NothingFollowsAnEnd}
 use Rattle.act_rules.specs.Submissions.{kept_at}
 use Rattle.act_rules.specs.Consistent.{IsFront}
 use Rattle.act_rules.specs.History.{Casting, contains, actors_naming}
@@ -33,6 +34,7 @@ pub record IsServed (replies : List RepliesValue) (cast : Casting) (s : ServedSe
   pub callers : List ℕ
   pub same_callers : (c : ℕ) → contains c callers ≡ contains c cast.callers
   pub log : IsLogOf cast.actor callers s.passes.letters.taken (log_of s.end)
+  pub last : NothingFollowsAnEnd (log_of s.end)
   pub given : All (λ seat. seat.pass.given ≡ replies_to cast.opening cast.actor (log_of s.end) (caller_at replies seat.place) ++ deaths cast.actor s.end) s.passes.notices.items
   pub kills : KillsTaken s.passes.kills s.end
   pub askers : s.passes.kills.askers ≡ starter ∷ cast.callers

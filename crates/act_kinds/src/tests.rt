@@ -56,7 +56,7 @@ fn play<A: Actor>(
 #[test]
 fn counter_rows(rt: HostRuntime) -> Result<(), Fail> {
     let mut counter = Counter::open();
-    let rows: [Row; 9] = [
+    let rows: [Row; 10] = [
         (Method::Get, &[], Ok(Word::Int(0)), "counter 0"),
         (
             Method::Add,
@@ -96,6 +96,7 @@ fn counter_rows(rt: HostRuntime) -> Result<(), Fail> {
             "counter 4",
         ),
         (Method::Add, &[Word::Unit], Err(Fault::BadArgs), "counter 4"),
+        (Method::Terminate, &[], Err(Fault::NoMethod), "counter 4"),
     ];
     play(&rt, rt.alloc(), &mut counter, &rows)?;
     Ok(())

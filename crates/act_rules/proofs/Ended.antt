@@ -1,17 +1,21 @@
 -- Nothing runs at an actor that has ended.
-use Rattle.std.proofs.Common.{◌≡◌, ℕ, Bool, true, false, cond, List, [], ◌∷◌, ◌++◌, Some, None, refl, sym, ◌∙◌}
+use Rattle.std.proofs.Common.{◌≡◌, ℕ, Bool, true, false, cond, List, [], ◌∷◌, ◌++◌, Some, None, refl, sym, ◌∙◌, subst}
 use Rattle.std.specs.Prelude.{Option, ◌==◌, ◌||◌, not, map}
 use Rattle.std.proofs.lemmas.List.{map-append, append-nil}
 use Rattle.std.proofs.lemmas.List.Elements.{filter-append}
 use Rattle.std.proofs.lemmas.List.Folds.{list_any-append}
 use Rattle.std.proofs.lemmas.Bool.{eqb-true}
 use Rattle.act_rules.specs.declared.history.RunItem.{RunItem}
+use Rattle.act_rules.specs.declared.event.Event.{Event}
 use Rattle.act_rules.specs.declared.event.Event.TheVariants.{Submit, Copy, Release, Send, Deliver, Run, Collect, AskKill, TakeKill, Tell, Retire}
 use Rattle.act_rules.specs.declared.outcome.WorldRefusal.TheVariants.{NoCaller, Handle, ActorEnded}
 use Rattle.act_rules.specs.declared.outcome.HandleRefusal.TheVariants.{NoActor}
+use Rattle.act_rules.specs.RunList.{has_terminated, NothingFollowsAnEnd}
 use Rattle.act_rules.specs.Submissions.{needs}
-use Rattle.act_rules.specs.History.{History, contains, under, runs_of, is_ended, is_caller, names, cast_of, next_item}
-use Rattle.act_rules.specs.Rules.{refusal_of, after_run}
+use Rattle.act_rules.specs.History.{History, contains, under, runs_of, is_dead, is_retired, is_ended, is_caller, names, cast_of, next_item}
+use Rattle.act_rules.specs.Rules.{refusal_of, added, after_run}
+use Rattle.act_rules.proofs.Growth.{added_grows}
+use Rattle.act_rules.proofs.Terminated.{nothing_follows-push}
 use Rattle.act_rules.proofs.Steps.{IsKept}
 
 pub contains_more : (a : ℕ) (xs ys : List ℕ) → contains a xs ≡ true → contains a (xs ++ ys) ≡ true
@@ -46,11 +50,11 @@ pub record HasEnded (a : ℕ) (items : List RunItem) (h : History) : Type 0 wher
   pub ended : is_ended a h ≡ true
   pub same : runs_of a h ≡ items
 
-dead_or : (a b c : Bool) → (a || b) ≡ true → (a ≡ true → c ≡ true) → (c || b) ≡ true
-dead_or true b c e f = rw (f refl)
-dead_or false true true e f = refl
-dead_or false true false e f = refl
-dead_or false false c e f = cc
+more_or : (a b c : Bool) → (a || b) ≡ true → (a ≡ true → c ≡ true) → (c || b) ≡ true
+more_or true b c e f = rw (f refl)
+more_or false true true e f = refl
+more_or false true false e f = refl
+more_or false false c e f = cc
 
 or_retired : (a b c : Bool) → (a || b) ≡ true → (b ≡ true → c ≡ true) → (a || c) ≡ true
 or_retired true b c e f = refl
@@ -64,6 +68,10 @@ other_run a b h item ended live = under-push a b h.ran item ∙ go (b == a) refl
     go true e = let eq : b ≡ a = eqb-true b a e in let bad : true ≡ false = sym ended ∙ rw (← eq) live in cc
     go false e = append-nil (under a h.ran)
 
+-- whether the actor has ended, where this is its run list
+abbrev pub ended_by : ℕ → History → List RunItem → Bool
+ended_by a h items = (contains a h.killed || has_terminated items) || contains a h.retired
+
 pub ended_stays : (a : ℕ) (items : List RunItem) → IsKept (HasEnded a items)
 ended_stays a items h (Submit c b method args) held accepted = record { ended = held.ended; same = held.same }
 ended_stays a items h (Copy c b) held accepted = record { ended = held.ended; same = held.same }
@@ -74,9 +82,63 @@ ended_stays a items h (Run b c) held accepted = go (next_item b c h)
   where
     go : (o : Option RunItem) → HasEnded a items (after_run b c h o)
     go None = held
-    go (Some item) = record { ended = held.ended; same = other_run a b h item held.ended (run_needs h b c accepted).2 ∙ held.same }
+    go (Some item) =
+        let stays = other_run a b h item held.ended (run_needs h b c accepted).2 in
+        record { ended = subst (λ (items : List RunItem). ended_by a h items ≡ true) (sym stays) held.ended; same = stays ∙ held.same }
 ended_stays a items h (Collect j) held accepted = record { ended = held.ended; same = held.same }
 ended_stays a items h (AskKill c b) held accepted = record { ended = held.ended; same = held.same }
-ended_stays a items h (TakeKill b) held accepted = record { ended = dead_or _ _ _ held.ended (contains_more a h.dead (b ∷ [])); same = held.same }
+ended_stays a items h (TakeKill b) held accepted = record { ended = more_or (is_dead a h) (is_retired a h) (contains a (h.killed ++ b ∷ []) || has_terminated (runs_of a h)) held.ended (λ dead. more_or (contains a h.killed) (has_terminated (runs_of a h)) (contains a (h.killed ++ b ∷ [])) dead (contains_more a h.killed (b ∷ []))); same = held.same }
 ended_stays a items h (Tell b c) held accepted = record { ended = held.ended; same = held.same }
 ended_stays a items h (Retire b) held accepted = record { ended = or_retired _ _ _ held.ended (contains_more a h.retired (b ∷ [])); same = held.same }
+
+-- ---- a dead actor stays dead
+
+dead_ended : (a b : Bool) → a ≡ true → (a || b) ≡ true
+dead_ended true b e = refl
+dead_ended false b e = cc
+
+pub dead_stays : (a : ℕ) (h : History) (event : Event) → refusal_of h event ≡ None → is_dead a h ≡ true → is_dead a (added h event) ≡ true
+dead_stays a h event accepted dead =
+    let grows = added_grows h event in
+    let same = (ended_stays a (runs_of a h) h event (record { ended = dead_ended (is_dead a h) (is_retired a h) dead; same = refl }) accepted).same in
+    subst (λ (items : List RunItem). (contains a (added h event).killed || has_terminated items) ≡ true) (sym same)
+    (more_or (contains a h.killed) (has_terminated (runs_of a h)) (contains a (added h event).killed) dead
+    (λ killed. subst (λ (xs : List ℕ). contains a xs ≡ true) grows.killed.1 (contains_more a h.killed grows.killed.0 killed)))
+
+-- ---- nothing follows a `terminate`
+
+abbrev pub NothingFollows : History → Type 0
+NothingFollows h = (a : ℕ) → NothingFollowsAnEnd (runs_of a h)
+
+-- an actor that has not ended was not asked to
+pub not_terminated : (a : ℕ) (h : History) → is_ended a h ≡ false → has_terminated (runs_of a h) ≡ false
+not_terminated a h on = go (contains a h.killed) (has_terminated (runs_of a h)) (is_retired a h) on
+  where
+    go : (killed ended retired : Bool) → ((killed || ended) || retired) ≡ false → ended ≡ false
+    go true ended retired e = cc
+    go false true retired e = cc
+    go false false retired e = refl
+
+follows_run : (h : History) (b c : ℕ) (item : RunItem) → NothingFollows h → is_ended b h ≡ false → NothingFollows (after_run b c h (Some item))
+follows_run h b c item last live a = rw (under-push a b h.ran item) (go (b == a) refl)
+  where
+    go : (same : Bool) → (b == a) ≡ same → NothingFollowsAnEnd (runs_of a h ++ cond same (item ∷ []) [])
+    go true e = nothing_follows-push (runs_of a h) item (last a) (not_terminated a h (subst (λ (x : ℕ). is_ended x h ≡ false) (eqb-true b a e) live))
+    go false e = rw (append-nil (runs_of a h)) (last a)
+
+pub nothing_follows_step : IsKept NothingFollows
+nothing_follows_step h (Submit c b method args) last accepted = last
+nothing_follows_step h (Copy c b) last accepted = last
+nothing_follows_step h (Release c b) last accepted = last
+nothing_follows_step h (Send c k) last accepted = last
+nothing_follows_step h (Deliver i) last accepted = last
+nothing_follows_step h (Run b c) last accepted = go (next_item b c h)
+  where
+    go : (o : Option RunItem) → NothingFollows (after_run b c h o)
+    go None = last
+    go (Some item) = follows_run h b c item last (run_needs h b c accepted).2
+nothing_follows_step h (Collect j) last accepted = last
+nothing_follows_step h (AskKill c b) last accepted = last
+nothing_follows_step h (TakeKill b) last accepted = last
+nothing_follows_step h (Tell b c) last accepted = last
+nothing_follows_step h (Retire b) last accepted = last

@@ -20,28 +20,28 @@ pub record Grows (h g : History) : Type 0 where
   pub ran : IsFront h.ran g.ran
   pub posts : IsFront h.posts g.posts
   pub collected : IsFront h.collected g.collected
-  pub dead : IsFront h.dead g.dead
+  pub killed : IsFront h.killed g.killed
 
 and_also_front : {A : Type 0} (xs : List A) (x : Option A) → IsFront xs (and_also xs x)
 and_also_front xs None = whole_front xs
 and_also_front xs (Some x) = more_front xs (x ∷ [])
 
 pub after_run_grows : (a c : ℕ) (h : History) (o : Option RunItem) → Grows h (after_run a c h o)
-after_run_grows a c h None = record { casts = refl; submitted = whole_front h.submitted; released = whole_front h.released; mail = whole_front h.mail; arrived = whole_front h.arrived; ran = whole_front h.ran; posts = whole_front h.posts; collected = whole_front h.collected; dead = whole_front h.dead }
-after_run_grows a c h (Some item) = record { casts = refl; submitted = whole_front h.submitted; released = whole_front h.released; mail = whole_front h.mail; arrived = whole_front h.arrived; ran = more_front h.ran _; posts = more_front h.posts _; collected = whole_front h.collected; dead = whole_front h.dead }
+after_run_grows a c h None = record { casts = refl; submitted = whole_front h.submitted; released = whole_front h.released; mail = whole_front h.mail; arrived = whole_front h.arrived; ran = whole_front h.ran; posts = whole_front h.posts; collected = whole_front h.collected; killed = whole_front h.killed }
+after_run_grows a c h (Some item) = record { casts = refl; submitted = whole_front h.submitted; released = whole_front h.released; mail = whole_front h.mail; arrived = whole_front h.arrived; ran = more_front h.ran _; posts = more_front h.posts _; collected = whole_front h.collected; killed = whole_front h.killed }
 
 pub added_grows : (h : History) (event : Event) → Grows h (added h event)
-added_grows h (Submit c a method args) = record { casts = refl; submitted = more_front h.submitted _; released = whole_front h.released; mail = whole_front h.mail; arrived = whole_front h.arrived; ran = whole_front h.ran; posts = whole_front h.posts; collected = whole_front h.collected; dead = whole_front h.dead }
-added_grows h (Copy c a) = record { casts = refl; submitted = whole_front h.submitted; released = whole_front h.released; mail = whole_front h.mail; arrived = whole_front h.arrived; ran = whole_front h.ran; posts = whole_front h.posts; collected = whole_front h.collected; dead = whole_front h.dead }
-added_grows h (Release c a) = record { casts = refl; submitted = whole_front h.submitted; released = more_front h.released _; mail = and_also_front h.mail _; arrived = whole_front h.arrived; ran = whole_front h.ran; posts = whole_front h.posts; collected = whole_front h.collected; dead = whole_front h.dead }
-added_grows h (Send c k) = record { casts = refl; submitted = whole_front h.submitted; released = whole_front h.released; mail = and_also_front h.mail _; arrived = whole_front h.arrived; ran = whole_front h.ran; posts = whole_front h.posts; collected = whole_front h.collected; dead = whole_front h.dead }
-added_grows h (Deliver i) = record { casts = refl; submitted = whole_front h.submitted; released = whole_front h.released; mail = whole_front h.mail; arrived = and_also_front h.arrived _; ran = whole_front h.ran; posts = whole_front h.posts; collected = whole_front h.collected; dead = whole_front h.dead }
+added_grows h (Submit c a method args) = record { casts = refl; submitted = more_front h.submitted _; released = whole_front h.released; mail = whole_front h.mail; arrived = whole_front h.arrived; ran = whole_front h.ran; posts = whole_front h.posts; collected = whole_front h.collected; killed = whole_front h.killed }
+added_grows h (Copy c a) = record { casts = refl; submitted = whole_front h.submitted; released = whole_front h.released; mail = whole_front h.mail; arrived = whole_front h.arrived; ran = whole_front h.ran; posts = whole_front h.posts; collected = whole_front h.collected; killed = whole_front h.killed }
+added_grows h (Release c a) = record { casts = refl; submitted = whole_front h.submitted; released = more_front h.released _; mail = and_also_front h.mail _; arrived = whole_front h.arrived; ran = whole_front h.ran; posts = whole_front h.posts; collected = whole_front h.collected; killed = whole_front h.killed }
+added_grows h (Send c k) = record { casts = refl; submitted = whole_front h.submitted; released = whole_front h.released; mail = and_also_front h.mail _; arrived = whole_front h.arrived; ran = whole_front h.ran; posts = whole_front h.posts; collected = whole_front h.collected; killed = whole_front h.killed }
+added_grows h (Deliver i) = record { casts = refl; submitted = whole_front h.submitted; released = whole_front h.released; mail = whole_front h.mail; arrived = and_also_front h.arrived _; ran = whole_front h.ran; posts = whole_front h.posts; collected = whole_front h.collected; killed = whole_front h.killed }
 added_grows h (Run a c) = after_run_grows a c h (next_item a c h)
-added_grows h (Collect j) = record { casts = refl; submitted = whole_front h.submitted; released = whole_front h.released; mail = whole_front h.mail; arrived = whole_front h.arrived; ran = whole_front h.ran; posts = whole_front h.posts; collected = and_also_front h.collected _; dead = whole_front h.dead }
-added_grows h (AskKill c a) = record { casts = refl; submitted = whole_front h.submitted; released = whole_front h.released; mail = whole_front h.mail; arrived = whole_front h.arrived; ran = whole_front h.ran; posts = whole_front h.posts; collected = whole_front h.collected; dead = whole_front h.dead }
-added_grows h (TakeKill a) = record { casts = refl; submitted = whole_front h.submitted; released = whole_front h.released; mail = whole_front h.mail; arrived = whole_front h.arrived; ran = whole_front h.ran; posts = whole_front h.posts; collected = whole_front h.collected; dead = more_front h.dead _ }
-added_grows h (Tell a c) = record { casts = refl; submitted = whole_front h.submitted; released = whole_front h.released; mail = whole_front h.mail; arrived = whole_front h.arrived; ran = whole_front h.ran; posts = more_front h.posts _; collected = whole_front h.collected; dead = whole_front h.dead }
-added_grows h (Retire a) = record { casts = refl; submitted = whole_front h.submitted; released = whole_front h.released; mail = whole_front h.mail; arrived = whole_front h.arrived; ran = whole_front h.ran; posts = whole_front h.posts; collected = whole_front h.collected; dead = whole_front h.dead }
+added_grows h (Collect j) = record { casts = refl; submitted = whole_front h.submitted; released = whole_front h.released; mail = whole_front h.mail; arrived = whole_front h.arrived; ran = whole_front h.ran; posts = whole_front h.posts; collected = and_also_front h.collected _; killed = whole_front h.killed }
+added_grows h (AskKill c a) = record { casts = refl; submitted = whole_front h.submitted; released = whole_front h.released; mail = whole_front h.mail; arrived = whole_front h.arrived; ran = whole_front h.ran; posts = whole_front h.posts; collected = whole_front h.collected; killed = whole_front h.killed }
+added_grows h (TakeKill a) = record { casts = refl; submitted = whole_front h.submitted; released = whole_front h.released; mail = whole_front h.mail; arrived = whole_front h.arrived; ran = whole_front h.ran; posts = whole_front h.posts; collected = whole_front h.collected; killed = more_front h.killed _ }
+added_grows h (Tell a c) = record { casts = refl; submitted = whole_front h.submitted; released = whole_front h.released; mail = whole_front h.mail; arrived = whole_front h.arrived; ran = whole_front h.ran; posts = more_front h.posts _; collected = whole_front h.collected; killed = whole_front h.killed }
+added_grows h (Retire a) = record { casts = refl; submitted = whole_front h.submitted; released = whole_front h.released; mail = whole_front h.mail; arrived = whole_front h.arrived; ran = whole_front h.ran; posts = whole_front h.posts; collected = whole_front h.collected; killed = whole_front h.killed }
 
 pub under_grow : {A : Type 0} (n : ℕ) (xs ys : List (ℕ × A)) → IsFront xs ys → IsFront (under n xs) (under n ys)
 under_grow {A = A} n xs ys f = IsFront-map (λ (pair : ℕ × A). pair.1) _ _ (IsFront-filter (λ (pair : ℕ × A). pair.0 == n) xs ys f)

@@ -6,11 +6,11 @@ use Rattle.act_types.specs.declared.value.Value.TheVariants.{Int, Text}
 use Rattle.act_types.specs.declared.fault.Fault.{Fault}
 use Rattle.act_types.specs.declared.fault.Fault.TheVariants.{Dependency, ActorDied}
 use Rattle.act_types.specs.declared.call.Method.{Method}
-use Rattle.act_types.specs.declared.call.Method.TheVariants.{Add, Get, Put, Del, Size, Deposit, Withdraw, Balance, Push, Pop, At, Len}
+use Rattle.act_types.specs.declared.call.Method.TheVariants.{Add, Get, Put, Del, Size, Deposit, Withdraw, Balance, Push, Pop, At, Len, Terminate}
 use Rattle.act_rules.specs.declared.history.RunItem.{RunItem}
 use Rattle.act_types.specs.KindState.{KindState, CounterAt, TableOf, AccountAt, ItemsOf}
 use Rattle.act_rules.specs.Kinds.{Reply, need, look_up, counter_reply, table_reply, account_reply, list_reply, reply_of}
-use Rattle.act_rules.specs.RunList.{Answer, values_of, replied, asked, after_item, answer_at}
+use Rattle.act_rules.specs.RunList.{Answer, values_of, replied, call_reply, asked, after_item, answer_at}
 
 -- a kind's fault
 abbrev pub is_own : Fault → Bool
@@ -80,6 +80,12 @@ reply_own (TableOf pairs) = table_own pairs
 reply_own (AccountAt n) = account_own n
 reply_own (ItemsOf items) = list_own items
 
+-- so is a fault with which the actor itself answers
+call_own : (state : KindState) (method : Method) (args : List Value) → OwnFault (call_reply state method args)
+call_own state Terminate [] = kept_own _
+call_own state Terminate (value ∷ values) = fault_own _ refl
+call_own state method values = reply_own state method values
+
 -- an answer that isn't a death
 abbrev pub IsAlive : Answer → Type 0
 IsAlive answer = answer ≢ Err ActorDied
@@ -89,7 +95,7 @@ replied_alive state (Ok next) own e = cc
 replied_alive state (Err fault) own e = let same : fault ≡ ActorDied = cc in let bad : false ≡ true = sym (ap is_own same) ∙ own.own fault refl in cc
 
 asked_alive : (state : KindState) (item : RunItem) (values : Result (List Value) ℕ) → IsAlive (asked state item values).1
-asked_alive state item (Ok values) e = replied_alive state (reply_of state item.method values) (reply_own state item.method values) e
+asked_alive state item (Ok values) e = replied_alive state (call_reply state item.method values) (call_own state item.method values) e
 asked_alive state item (Err k) e = cc
 
 -- no place of a run list answers that the actor died

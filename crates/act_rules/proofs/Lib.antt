@@ -1,4 +1,5 @@
 pub mod Steps
+pub mod Terminated
 pub mod Ended
 pub mod Lists
 pub mod Growth

@@ -1,9 +1,10 @@
 -- Each post names a place of the run list that stands, or an actor that is dead.
-use Rattle.std.proofs.Common.{◌≡◌, ℕ, Bool, true, false, cond, List, [], ◌∷◌, ◌++◌, length, Some, None, refl, ap, sym, subst}
+use Rattle.std.proofs.Common.{◌≡◌, ℕ, Bool, true, false, cond, List, [], ◌∷◌, ◌++◌, length, Some, None, refl, ap, sym}
 use Rattle.std.specs.Prelude.{Option, slice_get, option_map}
 use Rattle.std.specs.List.{AllByRecursion}
 use Rattle.std.proofs.lemmas.Bool.{eq-eqb}
 use Rattle.act_rules.specs.declared.history.RunItem.{RunItem}
+use Rattle.act_rules.specs.declared.event.Event.{Event}
 use Rattle.act_rules.specs.declared.event.Event.TheVariants.{Submit, Copy, Release, Send, Deliver, Run, Collect, AskKill, TakeKill, Tell, Retire}
 use Rattle.act_rules.specs.declared.outcome.WorldRefusal.TheVariants.{NoCaller, Handle, NotDead}
 use Rattle.act_rules.specs.declared.outcome.HandleRefusal.TheVariants.{NoActor}
@@ -12,12 +13,12 @@ use Rattle.act_rules.specs.Submissions.{calls_to, needs}
 use Rattle.act_rules.specs.declared.history.Letter.TheVariants.{Call as CallLetter}
 use Rattle.act_rules.specs.declared.history.Post.{Post}
 use Rattle.act_rules.specs.declared.history.Post.TheVariants.{Reply as ReplyPost, Death as DeathPost}
-use Rattle.act_rules.specs.History.{History, contains, under, runs_of, calls_of, kept_of, cast_of, names, is_caller, is_dead, has_letter, ran_count, run_item, next_item}
-use Rattle.act_rules.specs.Rules.{refusal_of, and_also, after_run}
+use Rattle.act_rules.specs.History.{History, under, runs_of, calls_of, kept_of, cast_of, names, is_caller, is_dead, has_letter, ran_count, run_item, next_item}
+use Rattle.act_rules.specs.Rules.{refusal_of, added, and_also, after_run}
 use Rattle.act_rules.proofs.Lists.{slice_get_front, slice_get_last, All_more, All_weaker, All_at}
-use Rattle.act_rules.proofs.Growth.{Grows, added_grows, after_run_grows, runs_grow}
+use Rattle.act_rules.proofs.Growth.{added_grows, runs_grow}
 use Rattle.act_rules.proofs.Steps.{IsKept}
-use Rattle.act_rules.proofs.Ended.{contains_more, needs-none, under-push}
+use Rattle.act_rules.proofs.Ended.{needs-none, under-push, dead_stays}
 
 -- the caller's call stands at the place of the run list; the actor is dead
 abbrev pub IsSoundPost : History → Post → Type 0
@@ -28,12 +29,9 @@ pub record PostsAreSound (h : History) : Type 0 where
   pub posts : AllByRecursion (IsSoundPost h) h.posts
   pub collected : AllByRecursion (IsSoundPost h) h.collected
 
-pub dead_grows : (a : ℕ) (h g : History) → Grows h g → is_dead a h ≡ true → is_dead a g ≡ true
-dead_grows a h g grows e = subst (λ (xs : List ℕ). contains a xs ≡ true) grows.dead.1 (contains_more a h.dead grows.dead.0 e)
-
-pub sound_grows : (h g : History) → Grows h g → (post : Post) → IsSoundPost h post → IsSoundPost g post
-sound_grows h g grows (ReplyPost c a place) s = (s.0, slice_get_front (runs_of a h) (runs_of a g) place s.0 (runs_grow a h g grows) s.1, s.2)
-sound_grows h g grows (DeathPost c a) s = dead_grows a h g grows s
+pub sound_stays : (h : History) (event : Event) → refusal_of h event ≡ None → (post : Post) → IsSoundPost h post → IsSoundPost (added h event) post
+sound_stays h event accepted (ReplyPost c a place) s = (s.0, slice_get_front (runs_of a h) (runs_of a (added h event)) place s.0 (runs_grow a h (added h event) (added_grows h event)) s.1, s.2)
+sound_stays h event accepted (DeathPost c a) s = dead_stays a h event accepted s
 
 -- the next item is the caller's
 pub next_item_caller : (a c : ℕ) (h : History) (item : RunItem) → next_item a c h ≡ Some item → item.caller ≡ c
@@ -54,31 +52,31 @@ tell_needs h a c e =
     let second = needs-none (names c (cast_of a h)) (Handle NoActor) (needs (is_dead a h) NotDead None) first.1 in
     (needs-none (is_dead a h) NotDead None second.1).0
 
--- posts that stay
-pub posts_stay : (h g : History) → Grows h g → PostsAreSound h → g.posts ≡ h.posts → g.collected ≡ h.collected → PostsAreSound g
-posts_stay h g grows s posts collected = record {
-  posts = rw posts (All_weaker (IsSoundPost h) (IsSoundPost g) h.posts (sound_grows h g grows) s.posts);
-  collected = rw collected (All_weaker (IsSoundPost h) (IsSoundPost g) h.collected (sound_grows h g grows) s.collected);
+-- the posts that there are stay sound
+all_stay : (h : History) (event : Event) (posts : List Post) → refusal_of h event ≡ None → AllByRecursion (IsSoundPost h) posts → AllByRecursion (IsSoundPost (added h event)) posts
+all_stay h event posts accepted s = All_weaker (IsSoundPost h) (IsSoundPost (added h event)) posts (sound_stays h event accepted) s
+
+-- an event that adds none
+posts_stay : (h : History) (event : Event) → refusal_of h event ≡ None → PostsAreSound h → (added h event).posts ≡ h.posts → (added h event).collected ≡ h.collected → PostsAreSound (added h event)
+posts_stay h event accepted s posts collected = record {
+  posts = rw posts (all_stay h event h.posts accepted s.posts);
+  collected = rw collected (all_stay h event h.collected accepted s.collected);
 }
 
 pub posts_step : IsKept PostsAreSound
-posts_step h (Submit c a method args) s accepted = posts_stay h _ (added_grows h (Submit c a method args)) s refl refl
-posts_step h (Copy c a) s accepted = posts_stay h _ (added_grows h (Copy c a)) s refl refl
-posts_step h (Release c a) s accepted = posts_stay h _ (added_grows h (Release c a)) s refl refl
-posts_step h (Send c k) s accepted = posts_stay h _ (added_grows h (Send c k)) s refl refl
-posts_step h (Deliver i) s accepted = posts_stay h _ (added_grows h (Deliver i)) s refl refl
-posts_step h (Run a c) s accepted = go (next_item a c h) refl
+posts_step h (Submit c a method args) s accepted = posts_stay h (Submit c a method args) accepted s refl refl
+posts_step h (Copy c a) s accepted = posts_stay h (Copy c a) accepted s refl refl
+posts_step h (Release c a) s accepted = posts_stay h (Release c a) accepted s refl refl
+posts_step h (Send c k) s accepted = posts_stay h (Send c k) accepted s refl refl
+posts_step h (Deliver i) s accepted = posts_stay h (Deliver i) accepted s refl refl
+posts_step h (Run a c) s accepted = go (next_item a c h) refl (all_stay h (Run a c) h.posts accepted s.posts) (all_stay h (Run a c) h.collected accepted s.collected)
   where
-    go : (o : Option RunItem) → next_item a c h ≡ o → PostsAreSound (after_run a c h o)
-    go None e = s
-    go (Some item) e =
-        let grows = after_run_grows a c h (Some item) in
-        let kept = All_weaker (IsSoundPost h) (IsSoundPost (after_run a c h (Some item))) h.posts (sound_grows h (after_run a c h (Some item)) grows) s.posts in
-        let heard = All_weaker (IsSoundPost h) (IsSoundPost (after_run a c h (Some item))) h.collected (sound_grows h (after_run a c h (Some item)) grows) s.collected in
-        record {
-          posts = All_more (IsSoundPost (after_run a c h (Some item))) h.posts (ReplyPost c a (length (runs_of a h))) kept (item, run_stands a h.ran item, next_item_caller a c h item e);
-          collected = heard;
-        }
+    go : (o : Option RunItem) → next_item a c h ≡ o → AllByRecursion (IsSoundPost (after_run a c h o)) h.posts → AllByRecursion (IsSoundPost (after_run a c h o)) h.collected → PostsAreSound (after_run a c h o)
+    go None e posts collected = s
+    go (Some item) e posts collected = record {
+      posts = All_more (IsSoundPost (after_run a c h (Some item))) h.posts (ReplyPost c a (length (runs_of a h))) posts (item, run_stands a h.ran item, next_item_caller a c h item e);
+      collected = collected;
+    }
 posts_step h (Collect j) s accepted = go (slice_get h.posts j) refl
   where
     go : (o : Option Post) → slice_get h.posts j ≡ o → PostsAreSound (record h { collected = and_also h.collected o })
@@ -87,10 +85,10 @@ posts_step h (Collect j) s accepted = go (slice_get h.posts j) refl
       posts = s.posts;
       collected = All_more (IsSoundPost h) h.collected post s.collected (All_at (IsSoundPost h) h.posts j post s.posts e);
     }
-posts_step h (AskKill c a) s accepted = posts_stay h _ (added_grows h (AskKill c a)) s refl refl
-posts_step h (TakeKill a) s accepted = posts_stay h _ (added_grows h (TakeKill a)) s refl refl
+posts_step h (AskKill c a) s accepted = posts_stay h (AskKill c a) accepted s refl refl
+posts_step h (TakeKill a) s accepted = posts_stay h (TakeKill a) accepted s refl refl
 posts_step h (Tell a c) s accepted = record {
   posts = All_more (IsSoundPost h) h.posts (DeathPost c a) s.posts (tell_needs h a c accepted);
   collected = s.collected;
 }
-posts_step h (Retire a) s accepted = posts_stay h _ (added_grows h (Retire a)) s refl refl
+posts_step h (Retire a) s accepted = posts_stay h (Retire a) accepted s refl refl

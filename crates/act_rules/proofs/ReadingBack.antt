@@ -43,6 +43,7 @@ method_reads_back method.Push h = refl
 method_reads_back method.Pop h = refl
 method_reads_back method.At h = refl
 method_reads_back method.Len h = refl
+method_reads_back method.Terminate h = refl
 
 -- ---- numbers
 

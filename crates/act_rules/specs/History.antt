@@ -8,7 +8,7 @@ use Rattle.act_rules.specs.declared.history.Letter.TheVariants.{Call as CallLett
 use Rattle.act_rules.specs.declared.history.Post.{Post}
 use Rattle.act_rules.specs.declared.history.Post.TheVariants.{Reply as ReplyPost, Death as DeathPost}
 use Rattle.act_types.specs.KindState.{KindState}
-use Rattle.act_rules.specs.RunList.{Answer, answer_at, items_of}
+use Rattle.act_rules.specs.RunList.{Answer, answer_at, items_of, has_terminated}
 use Rattle.act_rules.specs.declared.history.Submission.{Submission}
 use Rattle.act_rules.specs.Submissions.{calls_to, settled}
 
@@ -35,9 +35,9 @@ pub record History : Type 0 where
   -- everything told, and what callers collected
   pub posts : List Post
   pub collected : List Post
-  -- the actors whose kill was asked, that died, and that retired
+  -- the actors whose kill was asked, that took one, and that retired
   pub asked : List ℕ
-  pub dead : List ℕ
+  pub killed : List ℕ
   pub retired : List ℕ
 
 -- a world as it is opened
@@ -53,7 +53,7 @@ opening casts = record {
   posts = [];
   collected = [];
   asked = [];
-  dead = [];
+  killed = [];
   retired = [];
 }
 
@@ -131,8 +131,9 @@ first_answer h c call = slice_get (filter_map (answer_in h c call.0 call.1.actor
 abbrev pub kept_of : ℕ → History → List (Option Answer)
 kept_of c h = map (first_answer h c) (enumerate_from 0 (calls_of c h))
 
+-- an actor is dead once it took a kill, or ran a `terminate`
 abbrev pub is_dead : ℕ → History → Bool
-is_dead a h = contains a h.dead
+is_dead a h = contains a h.killed || has_terminated (runs_of a h)
 
 abbrev pub is_retired : ℕ → History → Bool
 is_retired a h = contains a h.retired

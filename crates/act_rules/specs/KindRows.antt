@@ -5,7 +5,7 @@ use Rattle.act_types.specs.declared.value.Value.TheVariants.{Unit as Nothing, In
 use Rattle.act_types.specs.declared.fault.Fault.{Fault}
 use Rattle.act_types.specs.declared.fault.Fault.TheVariants.{NoMethod, BadArgs, Overflow, BadAmount, Insufficient, NoItems, NoItem, KindFull}
 use Rattle.act_types.specs.declared.call.Method.{Method}
-use Rattle.act_types.specs.declared.call.Method.TheVariants.{Add, Get, Put, Del, Deposit, Withdraw, Push, Pop, At}
+use Rattle.act_types.specs.declared.call.Method.TheVariants.{Add, Get, Put, Del, Deposit, Withdraw, Push, Pop, At, Terminate}
 use Rattle.act_types.specs.KindState.{KindState, CounterAt, TableOf, AccountAt, ItemsOf}
 use Rattle.act_rules.specs.Kinds.{reply_of}
 use Rattle.act_rules.specs.Report.{one_to}
@@ -61,3 +61,8 @@ pub record KindRows : Type 0 where
   pub list_at_past_the_end : Refuses (ItemsOf (int 7 ∷ [])) At (int 1 ∷ []) NoItem
   pub list_pushes_last : Answers (ItemsOf (int 7 ∷ [])) Push (Text (codes "a") ∷ []) (int 2) (ItemsOf (int 7 ∷ Text (codes "a") ∷ []))
   pub list_pops_last : Answers (ItemsOf (int 7 ∷ Text (codes "a") ∷ [])) Pop [] (Text (codes "a")) (ItemsOf (int 7 ∷ []))
+  -- no kind ends an actor
+  pub counter_has_no_terminate : Refuses (CounterAt (pos 4)) Terminate [] NoMethod
+  pub table_has_no_terminate : Refuses (TableOf []) Terminate [] NoMethod
+  pub account_has_no_terminate : Refuses (AccountAt (pos 4)) Terminate (int 1 ∷ []) NoMethod
+  pub list_has_no_terminate : Refuses (ItemsOf []) Terminate [] NoMethod

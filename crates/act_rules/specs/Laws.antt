@@ -13,7 +13,7 @@ use Rattle.act_rules.specs.declared.script.Step.{Step}
 use Rattle.act_rules.specs.declared.script.Wrong.{Wrong}
 use Rattle.act_rules.specs.Words.{Word}
 use Rattle.act_rules.specs.Kinds.{is_in_range}
-use Rattle.act_rules.specs.RunList.{Answer, items_of}
+use Rattle.act_rules.specs.RunList.{Answer, items_of, NothingFollowsAnEnd}
 use Rattle.act_rules.specs.Submissions.{calls_to, kept_at}
 use Rattle.act_rules.specs.Consistent.{Consistent}
 use Rattle.act_rules.specs.Plans.{planned, events_of, is_planned_by}
@@ -29,6 +29,10 @@ world casts events = after_all (opening casts) events
 abbrev pub NothingRunsAfterTheEnd : Type 0
 NothingRunsAfterTheEnd = (casts : List Casting) (events later : List Event) (a : ℕ) →
     IsTrue (is_ended a (world casts events)) → runs_of a (world casts (events ++ later)) ≡ runs_of a (world casts events)
+
+-- no item follows a `terminate` that ended its actor
+abbrev pub NothingFollowsATerminate : Type 0
+NothingFollowsATerminate = (casts : List Casting) (events : List Event) (a : ℕ) → NothingFollowsAnEnd (runs_of a (world casts events))
 
 -- an answer that is kept stays
 abbrev pub KeptAnswersStay : Type 0

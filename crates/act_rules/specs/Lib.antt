@@ -14,4 +14,5 @@ pub mod Rows
 pub mod ScriptRows
 pub mod KindRows
 pub mod FurtherRows
+pub mod EndRows
 pub mod LineRows

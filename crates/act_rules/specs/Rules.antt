@@ -131,7 +131,7 @@ added h (Deliver i) = record h { arrived = and_also h.arrived (slice_get h.mail 
 added h (Run a c) = after_run a c h (next_item a c h)
 added h (Collect j) = record h { collected = and_also h.collected (slice_get h.posts j) }
 added h (AskKill c a) = record h { asked = h.asked ++ a ∷ [] }
-added h (TakeKill a) = record h { dead = h.dead ++ a ∷ [] }
+added h (TakeKill a) = record h { killed = h.killed ++ a ∷ [] }
 added h (Tell a c) = record h { posts = h.posts ++ DeathPost c a ∷ [] }
 added h (Retire a) = record h { retired = h.retired ++ a ∷ [] }
 

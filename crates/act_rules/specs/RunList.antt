@@ -1,8 +1,11 @@
 -- What the calls of a run list answer, in the order in which they ran.
-use Rattle.std.specs.Prelude.{ℕ, ◌==◌, List, [], ◌∷◌, filter, slice_get, Option, Result, Ok, Err}
+use Rattle.std.specs.Prelude.{◌≡◌, ℕ, ◌+◌, ◌-◌, ◌==◌, Bool, true, false, List, [], ◌∷◌, filter, length, slice_get, Option, Some, None, Result, Ok, Err, IsTrue}
 use Rattle.act_types.specs.declared.value.Value.{Value}
+use Rattle.act_types.specs.declared.value.Value.TheVariants.{Unit as Nothing}
 use Rattle.act_types.specs.declared.fault.Fault.{Fault}
-use Rattle.act_types.specs.declared.fault.Fault.TheVariants.{Dependency}
+use Rattle.act_types.specs.declared.fault.Fault.TheVariants.{BadArgs, Dependency}
+use Rattle.act_types.specs.declared.call.Method.{Method}
+use Rattle.act_types.specs.declared.call.Method.TheVariants.{Terminate}
 use Rattle.act_types.specs.declared.call.Settled.{Settled}
 use Rattle.act_types.specs.declared.call.Settled.TheVariants.{Good, Bad}
 use Rattle.act_rules.specs.declared.history.RunItem.{RunItem}
@@ -27,9 +30,15 @@ abbrev pub replied : KindState → Reply → KindState × Answer
 replied state (Ok next) = (next.0, Ok next.1)
 replied state (Err fault) = (state, Err fault)
 
--- a call whose argument failed isn't asked of the kind
+-- what a call answers: the actor itself answers a `terminate`, and its kind any other method
+abbrev pub call_reply : KindState → Method → List Value → Reply
+call_reply state Terminate [] = Ok (state, Nothing)
+call_reply state Terminate (value ∷ values) = Err BadArgs
+call_reply state method values = reply_of state method values
+
+-- a call whose argument failed isn't asked
 abbrev pub asked : KindState → RunItem → Result (List Value) ℕ → KindState × Answer
-asked state item (Ok values) = replied state (reply_of state item.method values)
+asked state item (Ok values) = replied state (call_reply state item.method values)
 asked state item (Err k) = (state, Err (Dependency k))
 
 -- the state and the answer after one item
@@ -53,3 +62,22 @@ items_of c items = filter (λ item. item.caller == c) items
 -- the answer of the item at a place
 abbrev pub answer_at : KindState → List RunItem → ℕ → Option Answer
 answer_at state items place = slice_get (answers_from state items) place
+
+-- ---- the end that waits its turn
+
+-- whether a call ends its actor: a `terminate` without arguments does
+abbrev pub is_end : Method → List Settled → Bool
+is_end Terminate [] = true
+is_end method args = false
+
+abbrev pub ends_actor : Option RunItem → Bool
+ends_actor None = false
+ends_actor (Some item) = is_end item.method item.args
+
+-- whether the last item of a run list ended the actor
+abbrev pub has_terminated : List RunItem → Bool
+has_terminated items = ends_actor (slice_get items (length items - 1))
+
+-- an item that ends the actor is the last one
+abbrev pub NothingFollowsAnEnd : List RunItem → Type 0
+NothingFollowsAnEnd items = (place : ℕ) → IsTrue (ends_actor (slice_get items place)) → length items ≡ place + 1

@@ -47,7 +47,7 @@ all_kinds = Counter ∷ Table ∷ Account ∷ ListKind ∷ []
 abbrev pub all_methods : List Method
 all_methods =
     method.Add ∷ method.Get ∷ method.Put ∷ method.Del ∷ method.Size ∷ method.Deposit ∷ method.Withdraw ∷ method.Balance ∷
-    method.Push ∷ method.Pop ∷ method.At ∷ method.Len ∷ []
+    method.Push ∷ method.Pop ∷ method.At ∷ method.Len ∷ method.Terminate ∷ []
 
 unfoldable pub method_at : Word → Result Method Wrong
 method_at word = named_by method_text all_methods word

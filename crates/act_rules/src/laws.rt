@@ -1,11 +1,17 @@
 // The laws of every run, over the definitions alone.
 
-ghost use Rattle.act_rules.specs.Laws.{NothingRunsAfterTheEnd, KeptAnswersStay, RetiredRanAll, EachWorldIsConsistent};
+ghost use Rattle.act_rules.specs.Laws.{NothingRunsAfterTheEnd, NothingFollowsATerminate, KeptAnswersStay, RetiredRanAll, EachWorldIsConsistent};
 
 /// Nothing runs at an actor that is dead or retired.
 #[tactic(none)]
 pub fn nothing_runs_after_the_end()
     ensures { NothingRunsAfterTheEnd }
+{}
+
+/// No call follows a `terminate` that ended its actor.
+#[tactic(none)]
+pub fn nothing_follows_a_terminate()
+    ensures { NothingFollowsATerminate }
 {}
 
 /// An answer that is kept stays.

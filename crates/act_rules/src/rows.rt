@@ -75,6 +75,15 @@ pub fn further_rows()
     ensures { FurtherRows }
 {}
 
+ghost use Rattle.act_rules.specs.EndRows.{EndRows, EndingPlan};
+
+/// What further examples of an end that waits its turn write, and what a plan with one submits.
+#[tactic(none)]
+pub fn end_rows()
+    ensures scripts { EndRows }
+    ensures plan { EndingPlan }
+{}
+
 ghost use Rattle.act_rules.specs.LineRows.{FaultyLines, FineLines, FaultyPlans};
 
 /// Lines at the edge of the grammar, and plans that are refused.

@@ -44,6 +44,7 @@ pub(crate) fn method_of(word: &str) -> Result<Method, LineFault>
         "pop" => Ok(Method::Pop),
         "at" => Ok(Method::At),
         "len" => Ok(Method::Len),
+        "terminate" => Ok(Method::Terminate),
         _ => Err(BAD_LINE),
     }
 }

@@ -4,3 +4,4 @@ pub mod Serving
 pub mod Answered
 pub mod Alone
 pub mod Nexts
+pub mod Pair

@@ -10,9 +10,9 @@ use Rattle.act_types.specs.declared.message.Reply.{Reply}
 use Rattle.act_types.specs.declared.message.Notice.TheVariants.{Answered}
 use Rattle.act_rules.specs.declared.history.RunItem.{RunItem}
 use Rattle.act_rules.proofs.Lists.{slice_get_last}
-use Rattle.act_inbox.specs.Inbox.{next_of}
 use Rattle.act_inbox.proofs.Finding.{find-None}
 use Rattle.act_actor.specs.Value.{ActorSeen}
+use Rattle.act_actor.specs.Actor.{next_call}
 use Rattle.act_mailbox.specs.declared.mail.Letter.{Letter}
 use Rattle.act_mailbox.specs.Passes.{TakerValue}
 use Rattle.act_mailbox.specs.Notices.{RepliesValue, ReplyExecValue, NamesPlace}
@@ -46,11 +46,11 @@ position_nowhere p (x ∷ xs) n le none =
 
 -- whether the call of a seat's caller came, where the caller is known
 pub next_is : (lines : List RepliesValue) (actor : ActorSeen) (seats : List (Seat ReplyExecValue)) (k : ℕ) (d seat : Seat ReplyExecValue) (line : RepliesValue) (caller : ℕ) (told b : Bool)
-    → k < length seats → seat ≡ get_or seats k seat → seat.place < length lines → line ≡ get_or lines seat.place line → caller ≡ line.caller → told ≡ is_some (next_of actor.inbox caller) → told ≡ b
+    → k < length seats → seat ≡ get_or seats k seat → seat.place < length lines → line ≡ get_or lines seat.place line → caller ≡ line.caller → told ≡ is_some (next_call actor.log actor.inbox caller) → told ≡ b
     → has_next lines actor (get_or seats k d) ≡ b
 next_is lines actor seats k d seat line caller told b lt here below is named came so =
     ap (has_next lines actor) (get_or_default seats k d seat lt ∙ sym here)
-    ∙ ap (λ c. is_some (next_of actor.inbox c)) (sym (named ∙ caller_here lines seat.place line below is))
+    ∙ ap (λ c. is_some (next_call actor.log actor.inbox c)) (sym (named ∙ caller_here lines seat.place line below is))
     ∙ sym came
     ∙ so
 

@@ -1,6 +1,6 @@
 -- What an executor keeps from turn to turn.
 use Rattle.std.proofs.Common.{◌≡◌, ◌≢◌, ℕ, ◌+◌, ◌<◌, ◌≤◌, Bool, true, false, cond, List, [], ◌∷◌, ◌++◌, Option, Some, None, Result, Ok, Err, IfOk, OnOk, OnErr, IfSome, IfNone, inl, inr, ◌⊎◌, length, get_or, map, refl, ap, sym, ◌∙◌, subst, arith, append-nil, All}
-use Rattle.std.specs.Prelude.{◌==◌, AllPairs, Contains, set, take, drop, is_some}
+use Rattle.std.specs.Prelude.{◌==◌, AllPairs, set, take, drop, is_some}
 use Rattle.std.specs.Option.{option_map}
 use Rattle.std.proofs.lemmas.Bool.{eq-eqb, ne_eqb, cases_lt}
 use Rattle.std.proofs.lemmas.List.{get_or-map, get_or-set_other, length-map, length-set}
@@ -12,44 +12,48 @@ use Rattle.act_types.specs.declared.message.Packet.{Packet}
 use Rattle.act_types.specs.declared.message.Reply.{Reply}
 use Rattle.act_types.specs.declared.message.Notice.{Notice}
 use Rattle.act_types.specs.declared.message.Notice.TheVariants.{Answered, Death}
-use Rattle.act_types.specs.declared.message.KillNote.{KillNote}
 use Rattle.act_rules.specs.declared.history.RunItem.{RunItem}
-use Rattle.act_rules.specs.RunList.{after_item, state_after, items_of}
-use Rattle.act_inbox.specs.Inbox.{next_of, IsDrained}
+use Rattle.act_rules.specs.RunList.{after_item, state_after, items_of, has_terminated, NothingFollowsAnEnd}
+use Rattle.act_inbox.specs.Inbox.{next_of}
 use Rattle.act_actor.specs.Value.{ActorSeen, DeadValue, RetiredSeen}
-use Rattle.act_actor.specs.Actor.{item_of, reply_to, HasRun, HasRunFrom}
+use Rattle.act_actor.specs.Actor.{item_of, reply_to, next_call, MayRetire, HasRun, HasRunFrom}
 use Rattle.act_mailbox.specs.declared.mail.Letter.{Letter}
-use Rattle.act_mailbox.specs.declared.control.Asked.{Asked}
-use Rattle.act_mailbox.specs.Controls.{ControlExecValue, asked, looked_after, HasTaken}
+use Rattle.act_mailbox.specs.Controls.{ControlExecValue, looked_after}
 use Rattle.act_mailbox.specs.Passes.{TakerValue}
 use Rattle.act_mailbox.specs.Notices.{RepliesValue, ReplyExecValue}
 use Rattle.act_serve.specs.declared.seat.ExecPasses.{ExecPasses}
 use Rattle.act_seats.specs.declared.seat.Seat.{Seat}
-use Rattle.act_serve.specs.Served.{Killed, Retired, Starved, IsLogOf, first_note, replies_to, caller_at, callers_of, bare, PassesStay, HasServed}
+use Rattle.act_serve.specs.Served.{Killed, Retired, Starved, IsLogOf, first_note, replies_to, caller_at, callers_of, bare, IsUntaken, KillsOfDead, PassesStay, HasServed}
 use Rattle.act_serve.specs.Turns.{SeatsDiffer, IsFresh, IsFed, IsServing, HasReplies, HasReplied, IsSeated, PassesFit, told}
 use Rattle.act_serve.proofs.Logs.{Tells, same, other, tells, last_reply, replies_more, fed_run}
 
 -- ---- one call
 
-replied_next : (caller : ℕ) (before after : ActorSeen) (next : Option Packet) (reply : Option Reply) → next_of before.inbox caller ≡ next
+-- a call that is to run is the next of its caller's, at an actor that did not terminate
+lives : (b : Bool) (next : Option Packet) (packet : Packet) → cond b None next ≡ Some packet → (b ≡ false) × (next ≡ Some packet)
+lives true next packet e = cc
+lives false next packet e = (refl, e)
+
+replied_next : (caller : ℕ) (before after : ActorSeen) (next : Option Packet) (reply : Option Reply) → next_call before.log before.inbox caller ≡ next
     → reply ≡ option_map (reply_to before) next → IfSome next (λ packet. HasRun caller packet before after)
     → IfSome reply (λ r. HasReplied caller r before after)
 replied_next caller before after None reply e is ran = rw is tt
-replied_next caller before after (Some packet) reply e is ran = rw is (record {
+replied_next caller before after (Some packet) reply e is ran = let on = lives (has_terminated before.log) (next_of before.inbox caller) packet e in rw is (record {
+  lived = on.0;
   item = item_of packet;
   log = ran.log;
   id = ran.id;
   of_caller = ran.taken.of_caller;
   reply_is = refl;
   state = ran.state;
-  fed = fed_run caller packet before after e ran;
+  fed = fed_run caller packet before after on.1 ran;
 })
 
 pub replied : {E : Type 0} (caller : ℕ) (before after : ActorSeen) (result : Result (Option Reply) E)
-    → IfOk result (λ reply. reply ≡ option_map (reply_to before) (next_of before.inbox caller))
-    → OnOk result (IfSome (next_of before.inbox caller) (λ packet. HasRun caller packet before after))
+    → IfOk result (λ reply. reply ≡ option_map (reply_to before) (next_call before.log before.inbox caller))
+    → OnOk result (IfSome (next_call before.log before.inbox caller) (λ packet. HasRun caller packet before after))
     → IfOk result (λ reply. IfSome reply (λ r. HasReplied caller r before after))
-replied caller before after (Ok reply) is ran = replied_next caller before after (next_of before.inbox caller) reply refl is ran
+replied caller before after (Ok reply) is ran = replied_next caller before after (next_call before.log before.inbox caller) reply refl is ran
 replied caller before after (Err error) is ran = tt
 
 pub on_err : {T E : Type 0} (A B : Type 0) (result : Result T E) → (A → B) → OnErr result A → OnErr result B
@@ -196,23 +200,24 @@ looked_on looked now long more is below within = go (tells looked long)
 module _ (opening : KindState) (lines : List RepliesValue) (before : ExecPasses) (actor : ActorSeen) (seats : List (Seat ReplyExecValue)) (passes : ExecPasses)
     (h : IsServing opening (callers_of lines before.notices.items) lines passes.letters.taken actor seats)
     (letters : passes.letters ≡ record before.letters { taken = passes.letters.taken }) (kept : passes.kills ≡ record before.kills { taken = passes.kills.taken; lengths = passes.kills.lengths; looked = passes.kills.looked })
-    (stay : map bare seats ≡ map bare before.notices.items) (looked : length actor.log ≤ passes.kills.looked) where
+    (stay : map bare seats ≡ map bare before.notices.items) (looked : length actor.log ≤ passes.kills.looked) (last : NothingFollowsAnEnd actor.log) where
   abbrev pub dead_of : DeadValue
   dead_of = record { id = actor.id; log = actor.log }
 
   given_all : All (λ (seat : Seat ReplyExecValue). seat.pass.given ≡ replies_to opening actor.id actor.log (caller_at lines seat.place) ++ Death actor.id ∷ []) (map (told actor.id actor.log) seats)
   given_all = told_at actor.id actor.log seats (λ (seat : Seat ReplyExecValue). seat.pass.given ≡ replies_to opening actor.id actor.log (caller_at lines seat.place) ++ Death actor.id ∷ []) (λ k d lt. ap (λ (l : List Notice). l ++ Death actor.id ∷ []) (h.given k d lt))
 
-  pub killed_served : (a : ℕ) (dead : DeadValue) (note : KillNote) (old : ControlExecValue) → actor.id ≡ a → dead ≡ dead_of → passes.notices.items ≡ map (told dead.id dead.log) seats
-      → old.taken ≡ [] → old.lengths ≡ [] → HasTaken note (length actor.log) old passes.kills → HasServed opening a lines before (Killed dead) passes
-  killed_served a dead note old named is told_is none short took =
+  pub killed_served : (a : ℕ) (dead : DeadValue) → actor.id ≡ a → dead ≡ dead_of → passes.notices.items ≡ map (told dead.id dead.log) seats
+      → KillsOfDead (has_terminated actor.log) actor.log passes.kills → HasServed opening a lines before (Killed dead) passes
+  killed_served a dead named is told_is kills =
       subst (λ (x : ℕ). HasServed opening x lines before (Killed dead) passes) named (subst (λ (d : DeadValue). HasServed opening actor.id lines before (Killed d) passes) (sym is) (record {
         id = refl;
         log = h.fed.log;
+        last = last;
         stay = record { letters = letters; kills = kept; seats = ap (map bare) all_told ∙ told_bare actor.id actor.log seats ∙ stay };
         given = subst (λ (l : List (Seat ReplyExecValue)). All (λ (seat : Seat ReplyExecValue). seat.pass.given ≡ replies_to opening actor.id actor.log (caller_at lines seat.place) ++ Death actor.id ∷ []) l) (sym all_told) given_all;
         shown = subst (λ (l : List (Seat ReplyExecValue)). All (λ (seat : Seat ReplyExecValue). seat.pass.seen ≡ actor.log) l) (sym all_told) (told_at actor.id actor.log seats (λ (seat : Seat ReplyExecValue). seat.pass.seen ≡ actor.log) (λ k d lt. refl));
-        kills = (asked took.asker note, ap (λ (p : ControlExecValue). p.taken) took.taken ∙ ap (λ (l : List Asked). l ++ asked took.asker note ∷ []) none, subst (λ (l : List ℕ). Contains l took.asker) (sym (ap (λ (p : ControlExecValue). p.askers) took.taken)) took.known, ap (λ (p : ControlExecValue). p.lengths) took.taken ∙ ap (λ (l : List ℕ). l ++ length actor.log ∷ []) short);
+        kills = kills;
         looked = looked;
         drained = tt;
       }))
@@ -221,15 +226,16 @@ module _ (opening : KindState) (lines : List RepliesValue) (before : ExecPasses)
       all_told = told_is ∙ (λ i. map (told (is i).id (is i).log) seats)
 
   pub starved_served : (a : ℕ) (dead : DeadValue) → actor.id ≡ a → dead ≡ dead_of → passes.notices.items ≡ map (told dead.id dead.log) seats
-      → passes.kills.taken ≡ [] → passes.kills.lengths ≡ [] → HasServed opening a lines before (Starved dead) passes
-  starved_served a dead named is told_is none short =
+      → IsUntaken passes.kills → has_terminated actor.log ≡ false → HasServed opening a lines before (Starved dead) passes
+  starved_served a dead named is told_is none lived =
       subst (λ (x : ℕ). HasServed opening x lines before (Starved dead) passes) named (subst (λ (d : DeadValue). HasServed opening actor.id lines before (Starved d) passes) (sym is) (record {
         id = refl;
         log = h.fed.log;
+        last = last;
         stay = record { letters = letters; kills = kept; seats = ap (map bare) all_told ∙ told_bare actor.id actor.log seats ∙ stay };
         given = subst (λ (l : List (Seat ReplyExecValue)). All (λ (seat : Seat ReplyExecValue). seat.pass.given ≡ replies_to opening actor.id actor.log (caller_at lines seat.place) ++ Death actor.id ∷ []) l) (sym all_told) given_all;
         shown = subst (λ (l : List (Seat ReplyExecValue)). All (λ (seat : Seat ReplyExecValue). seat.pass.seen ≡ actor.log) l) (sym all_told) (told_at actor.id actor.log seats (λ (seat : Seat ReplyExecValue). seat.pass.seen ≡ actor.log) (λ k d lt. refl));
-        kills = (none, short);
+        kills = (none, lived);
         looked = looked;
         drained = tt;
       }))
@@ -237,20 +243,21 @@ module _ (opening : KindState) (lines : List RepliesValue) (before : ExecPasses)
       all_told : passes.notices.items ≡ map (told actor.id actor.log) seats
       all_told = told_is ∙ (λ i. map (told (is i).id (is i).log) seats)
 
-  pub retired_served : (a : ℕ) (retired : RetiredSeen) → actor.id ≡ a → retired ≡ record { id = actor.id; log = actor.log; state = actor.state } → IsDrained actor.inbox → passes.notices.items ≡ seats
-      → passes.kills.taken ≡ [] → passes.kills.lengths ≡ [] → HasServed opening a lines before (Retired retired) passes
-  retired_served a retired named is drained same_seats none short =
+  pub retired_served : (a : ℕ) (retired : RetiredSeen) → actor.id ≡ a → retired ≡ record { id = actor.id; log = actor.log; state = actor.state } → MayRetire actor.log actor.inbox → passes.notices.items ≡ seats
+      → IsUntaken passes.kills → HasServed opening a lines before (Retired retired) passes
+  retired_served a retired named is may same_seats none =
       subst (λ (x : ℕ). HasServed opening x lines before (Retired retired) passes) named (subst (λ (r : RetiredSeen). HasServed opening actor.id lines before (Retired r) passes) (sym is) (record {
         id = refl;
         log = h.fed.log;
+        last = last;
         stay = record { letters = letters; kills = kept; seats = ap (map bare) same_seats ∙ stay };
         given = subst (λ (l : List (Seat ReplyExecValue)). All (λ (seat : Seat ReplyExecValue). seat.pass.given ≡ replies_to opening actor.id actor.log (caller_at lines seat.place) ++ []) l) (sym same_seats) (λ k d lt. h.given k d lt ∙ sym (append-nil _));
         shown = λ k d lt. tt;
-        kills = (none, short);
+        kills = (none, may.lives);
         looked = looked;
         drained = record {
           state = h.follows;
-          notes = λ c l. sym (h.fed.notes c l) ∙ drained c (h.fed.listed c ∙ l) ∙ ap (λ (n : ℕ). Some n) (h.fed.handed c);
+          notes = λ c l. sym (h.fed.notes c l) ∙ may.drained c (h.fed.listed c ∙ l) ∙ ap (λ (n : ℕ). Some n) (h.fed.handed c);
         };
       }))
 
@@ -266,6 +273,13 @@ step_fit mail control replies a b log more old new fit letters kills looked name
   seats = seats;
   differ = subst (λ (l : List ℕ). AllPairs (λ (x : ℕ) (y : ℕ). x ≢ y) l) (sym (callers_stay replies old.notices.items new.notices.items stay)) fit.differ;
 }
+
+-- a look alone
+pub look_on : (old new : ControlExecValue) (looked : ℕ) → new ≡ record old { looked = looked } → (new ≡ record old { looked = new.looked }) × (new.looked ≡ looked)
+look_on old new looked e = let is : new.looked ≡ looked = ap (λ (p : ControlExecValue). p.looked) e in (e ∙ ap (λ (n : ℕ). record old { looked = n }) (sym is), is)
+
+pub still_untaken : (old new : ControlExecValue) → new ≡ record old { looked = new.looked } → IsUntaken old → IsUntaken new
+still_untaken old new e none = (ap (λ (p : ControlExecValue). p.taken) e ∙ none.0, ap (λ (p : ControlExecValue). p.lengths) e ∙ none.1)
 
 pub kept_kills : (old new : ControlExecValue) → new ≡ record old { looked = new.looked } → new ≡ record old { taken = new.taken; lengths = new.lengths; looked = new.looked }
 kept_kills old new e = ap (λ (p : ControlExecValue). record p { taken = new.taken; lengths = new.lengths; looked = new.looked }) e

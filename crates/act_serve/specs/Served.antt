@@ -1,5 +1,5 @@
 -- What an executor's thread leaves.
-use Rattle.std.specs.Prelude.{◌≡◌, ℕ, ◌≤◌, ◌==◌, ◌&&◌, true, List, [], ◌∷◌, ◌++◌, length, map, zip, filter, filter_map, slice_get, slice_index_or, Option, Some, None, if◌then◌else◌, All, Contains}
+use Rattle.std.specs.Prelude.{◌≡◌, ℕ, ◌≤◌, ◌==◌, ◌&&◌, Bool, true, false, List, [], ◌∷◌, ◌++◌, length, map, zip, filter, filter_map, slice_get, slice_index_or, Option, Some, None, if◌then◌else◌, All, Contains}
 use Rattle.std.specs.Option.{option_or}
 use Rattle.std.specs.List.{enumerate_from, range_with_len}
 use Rattle.act_types.specs.KindState.{KindState}
@@ -8,7 +8,7 @@ use Rattle.act_types.specs.declared.message.Notice.{Notice}
 use Rattle.act_types.specs.declared.message.Reply.{Reply}
 use Rattle.act_types.specs.declared.message.Notice.TheVariants.{Answered, Death}
 use Rattle.act_rules.specs.declared.history.RunItem.{RunItem}
-use Rattle.act_rules.specs.RunList.{Answer, state_after, answer_at, answers_from, items_of}
+use Rattle.act_rules.specs.RunList.{Answer, state_after, answer_at, answers_from, items_of, has_terminated, NothingFollowsAnEnd}
 use Rattle.act_rules.specs.History.{contains}
 use Rattle.act_actor.specs.Value.{DeadValue, RetiredSeen}
 use Rattle.act_actor.specs.Seen.{retired_seen}
@@ -113,11 +113,24 @@ caller_at lines place = slice_index_or (map (λ line. line.caller) lines) place 
 abbrev pub callers_of : List RepliesValue → List (Seat ReplyExecValue) → List ℕ
 callers_of lines seats = map (λ seat. caller_at lines seat.place) seats
 
--- one kill was taken where it ended so, of an asker that has a pass, when the log was as it was in the end; and else none
+-- no kill was taken
+abbrev pub IsUntaken : ControlExecValue → Type 0
+IsUntaken kills = (kills.taken ≡ []) × (kills.lengths ≡ [])
+
+-- one kill was taken, of an asker that has a pass, when the log was as it was in the end
+abbrev pub IsTakenAt : List RunItem → ControlExecValue → Type 0
+IsTakenAt log kills = (kill : Asked) × (kills.taken ≡ kill ∷ []) × Contains kills.askers kill.asker × (kills.lengths ≡ length log ∷ [])
+
+-- why an actor died: it took a kill, or it ran a `terminate` and took none
+abbrev pub KillsOfDead : Bool → List RunItem → ControlExecValue → Type 0
+KillsOfDead true log kills = IsUntaken kills
+KillsOfDead false log kills = IsTakenAt log kills
+
+-- it was killed exactly where it took a kill or ran a `terminate`
 abbrev pub KillsTaken : ControlExecValue → EndSeen → Type 0
-KillsTaken kills (Killed dead) = (kill : Asked) × (kills.taken ≡ kill ∷ []) × Contains kills.askers kill.asker × (kills.lengths ≡ length dead.log ∷ [])
-KillsTaken kills (Retired retired) = (kills.taken ≡ []) × (kills.lengths ≡ [])
-KillsTaken kills (Starved dead) = (kills.taken ≡ []) × (kills.lengths ≡ [])
+KillsTaken kills (Killed dead) = KillsOfDead (has_terminated dead.log) dead.log kills
+KillsTaken kills (Retired retired) = IsUntaken kills × (has_terminated retired.log ≡ false)
+KillsTaken kills (Starved dead) = IsUntaken kills × (has_terminated dead.log ≡ false)
 
 -- where deaths were given, the log that was shown with them is the last
 abbrev pub IsShown : EndSeen → List RunItem → Type 0
@@ -150,6 +163,7 @@ pub record HasServed (opening : KindState) (a : ℕ) (lines : List RepliesValue)
   pub id : id_of end ≡ a
   pub stay : PassesStay before passes
   pub log : IsLogOf a (callers_of lines before.notices.items) passes.letters.taken (log_of end)
+  pub last : NothingFollowsAnEnd (log_of end)
   pub given : All (λ seat. seat.pass.given ≡ replies_to opening a (log_of end) (caller_at lines seat.place) ++ deaths a end) passes.notices.items
   pub shown : All (λ seat. IsShown end seat.pass.seen) passes.notices.items
   pub kills : KillsTaken passes.kills end

@@ -6,19 +6,20 @@ use Rattle.act_types.specs.declared.message.Packet.{Packet}
 use Rattle.act_types.specs.declared.message.Reply.{Reply}
 use Rattle.act_types.specs.declared.message.Notice.TheVariants.{Death}
 use Rattle.act_rules.specs.declared.history.RunItem.{RunItem}
-use Rattle.act_rules.specs.RunList.{after_item, items_of}
+use Rattle.act_rules.specs.RunList.{after_item, items_of, has_terminated, NothingFollowsAnEnd}
 use Rattle.act_rules.specs.History.{contains}
-use Rattle.act_inbox.specs.Inbox.{is_listed, handed_of, waiting, waiting_after, next_of, note_of, note_after, IsOpened}
+use Rattle.act_inbox.specs.Inbox.{is_listed, handed_of, waiting, waiting_after, note_of, note_after, IsOpened}
 use Rattle.act_actor.specs.Value.{ActorSeen}
-use Rattle.act_actor.specs.Actor.{HasRunFrom, arrival_at, note_arrival_at}
+use Rattle.act_actor.specs.Actor.{HasRunFrom, arrival_at, note_arrival_at, next_call}
 use Rattle.act_mailbox.specs.declared.mail.Letter.{Letter}
 use Rattle.act_mailbox.specs.declared.mail.Letter.TheVariants.{Call, Note}
 use Rattle.act_rules.specs.Consistent.{IsFront}
+use Rattle.act_mailbox.specs.Controls.{ControlExecValue, looked_after}
 use Rattle.act_mailbox.specs.Notices.{RepliesValue, ReplyExecValue, IsReply}
 use Rattle.act_seats.specs.declared.seat.Seat.{Seat}
 use Rattle.act_serve.specs.declared.seat.ExecLines.{ExecLines}
 use Rattle.act_serve.specs.declared.seat.ExecPasses.{ExecPasses}
-use Rattle.act_serve.specs.Served.{IsLogOf, first_note, replies_to, caller_at, callers_of}
+use Rattle.act_serve.specs.Served.{IsLogOf, first_note, replies_to, caller_at, callers_of, KillsOfDead}
 
 -- a pass is of the line at its place, and gave only what this actor's log shows
 pub record IsSeated (lines : List RepliesValue) (actor : ℕ) (log : List RunItem) (seat : Seat ReplyExecValue) : Type 0 where
@@ -75,9 +76,9 @@ abbrev pub HasCome : Bool → List Letter → List Letter → ActorSeen → Acto
 HasCome true before after old new = (letter : Letter) × (after ≡ before ++ letter ∷ []) × IsIn letter old new
 HasCome false before after old new = (after ≡ before) × (new ≡ old)
 
--- whether the next call of the seat's caller came
+-- whether the next call of the seat's caller came, at an actor that did not terminate
 abbrev pub has_next : List RepliesValue → ActorSeen → Seat ReplyExecValue → Bool
-has_next lines actor seat = is_some (next_of actor.inbox (caller_at lines seat.place))
+has_next lines actor seat = is_some (next_call actor.log actor.inbox (caller_at lines seat.place))
 
 -- the seat's caller was given its replies
 abbrev pub HasReplies : KindState → List RepliesValue → ℕ → List RunItem → Seat ReplyExecValue → Type 0
@@ -89,8 +90,9 @@ pub record IsServing (opening : KindState) (callers : List ℕ) (lines : List Re
   pub follows : HasRunFrom opening actor
   pub given : All (HasReplies opening lines actor.id actor.log) seats
 
--- the actor ran a call of the caller, and this is its reply
+-- the actor, which did not terminate, ran a call of the caller, and this is its reply
 pub record HasReplied (caller : ℕ) (reply : Reply) (old new : ActorSeen) : Type 0 where
+  pub lived : has_terminated old.log ≡ false
   pub item : RunItem
   pub log : new.log ≡ old.log ++ item ∷ []
   pub id : new.id ≡ old.id
@@ -104,11 +106,17 @@ pub record GoesOn (old new : ActorSeen) : Type 0 where
   pub id : new.id ≡ old.id
   pub front : IsFront old.log new.log
   pub long : length new.log ≤ length old.log + 1
+  pub last : NothingFollowsAnEnd old.log → NothingFollowsAnEnd new.log
 
 -- one more call ran, or no seat's caller had one and nothing changed
 abbrev pub HasGone : Bool → List RepliesValue → List (Seat ReplyExecValue) → ActorSeen → ActorSeen → Type 0
 HasGone true lines seats old new = length new.log ≡ length old.log + 1
 HasGone false lines seats old new = (new ≡ old) × All (λ seat. has_next lines old seat ≡ false) seats
+
+-- why the actor died, or that it did not terminate and no kill was taken after a look
+abbrev pub HasLooked : Bool → List RunItem → ControlExecValue → ControlExecValue → Type 0
+HasLooked true log old new = KillsOfDead (has_terminated log) log new
+HasLooked false log old new = (has_terminated log ≡ false) × (new ≡ record old { looked = looked_after old.looked (length log) })
 
 -- the seat after a death was given
 abbrev pub told : ℕ → List RunItem → Seat ReplyExecValue → Seat ReplyExecValue

@@ -5,6 +5,7 @@ ghost use Rattle.act_serve.specs.Turns.{PassesFit, PassesOf, IsUnused};
 
 mod kill_at_place;
 mod station;
+mod two_callers;
 
 use crate::{Ended, ExecLines, ExecPasses, Finished, Gate, NoGate, serve};
 use act_actor::Live;
@@ -146,6 +147,24 @@ fn kill_first(rt: HostRuntime) -> Result<(), Fail> {
     };
     let told = served_and_killed(&rt, rt.alloc(), &letters)?;
     assert_eq!(rt; told, (End::Killed(0), Some(wanted)));
+    Ok(())
+}
+
+/// The call that follows a `terminate` doesn't run, though it and the note came.
+#[test]
+fn terminates(rt: HostRuntime) -> Result<(), Fail> {
+    let letters = [
+        Posted::Call(actor(), 0),
+        Posted::Terminate(actor(), 1),
+        Posted::Call(actor(), 2),
+        Posted::Note(actor(), 3),
+    ];
+    let wanted = Counted {
+        replies: 2,
+        deaths: 1,
+    };
+    let told = served_letters(&rt, rt.alloc(), &letters)?;
+    assert_eq!(rt; told, (End::Killed(2), Some(wanted)));
     Ok(())
 }
 

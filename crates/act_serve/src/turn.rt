@@ -1,21 +1,21 @@
 //! One turn of an actor.
 
-ghost use Rattle.std.specs.Prelude.{◌≡◌, ℕ, ◌+◌, ◌<◌, false, List, [], ◌∷◌, ◌++◌, length, map, position, is_some, All, IfOk, OnOk, OnErr, IfSome, IsSome, IfNone};
+ghost use Rattle.std.specs.Prelude.{◌≡◌, ℕ, ◌+◌, ◌<◌, ◌≤◌, false, List, [], ◌∷◌, ◌++◌, length, map, position, is_some, All, IfOk, OnOk, OnErr, IfSome, IsSome, IfNone};
 ghost use Rattle.act_types.specs.KindState.{KindState};
 ghost use Rattle.act_mailbox.specs.declared.mail.Letter.{Letter};
-ghost use Rattle.act_inbox.specs.Inbox.{next_of};
+ghost use Rattle.act_actor.specs.Actor.{next_call};
 ghost use Rattle.act_actor.specs.Seen.{live_seen};
 ghost use Rattle.act_rules.specs.Consistent.{IsFront};
 ghost use Rattle.act_mailbox.specs.Notices.{actor_of, IsReply, NamesPlace};
-ghost use Rattle.act_serve.specs.Turns.{IsSeated, SeatsDiffer, PassesOf, HasReplied, GoesOn, IsFed, IsServing, IsFresh, HasCome, has_next, HasGone, told};
-ghost use Rattle.act_serve.specs.declared.turn.Turn.TheVariants.{Moved, Idle};
-ghost use Rattle.act_serve.specs.Served.{bare, end_seen, HasServed};
+ghost use Rattle.act_serve.specs.Turns.{IsSeated, SeatsDiffer, PassesOf, HasReplied, GoesOn, IsFed, IsServing, IsFresh, HasCome, has_next, HasGone, HasLooked, told};
+ghost use Rattle.act_serve.specs.declared.turn.Turn.TheVariants.{Moved, Idle, Starved};
+ghost use Rattle.act_serve.specs.Served.{bare, end_seen, IsUntaken, HasServed};
 
 use crate::gate::Gate;
 use crate::seat::{Ended, ExecLines, ExecPasses, Finished};
 use act_actor::{Dead, Live, RunItem};
 use act_kinds::Actor;
-use act_mailbox::{Letter, Mail, MailExec, Replies, ReplyExec};
+use act_mailbox::{Control, ControlExec, Letter, Mail, MailExec, Replies, ReplyExec};
 use act_seats::{Patience, Seat};
 use act_types::{ActorId, CallerId, NoMemory, Notice, Reply};
 use std::sync::Wait;
@@ -83,12 +83,12 @@ fn next_seat<K: Actor>(
     None
 }
 
-/// Runs the caller's next call, if it came.
+/// Runs the caller's next call, if it came and the actor did not terminate.
 fn run_next<K: Actor>(live: &mut Live<K>, caller: CallerId) -> Result<Option<Reply>, NoMemory>
     ensures ran { IfOk result (λ reply. IfSome reply (λ reply. HasReplied caller reply (live_seen K.state live.old) (live_seen K.state live.new))) }
     ensures none { IfOk result (λ reply. IfNone reply (live_seen K.state live.new ≡ live_seen K.state live.old)) }
-    ensures next { IfOk result (λ reply. is_some reply ≡ is_some (next_of (live_seen K.state live.old).inbox caller)) }
-    ensures last { OnErr result (IsSome (next_of (live_seen K.state live.old).inbox caller)) }
+    ensures next { let before = live_seen K.state live.old in IfOk result (λ reply. is_some reply ≡ is_some (next_call before.log before.inbox caller)) }
+    ensures last { let before = live_seen K.state live.old in OnErr result (IsSome (next_call before.log before.inbox caller)) }
     ensures err { OnErr result (live_seen K.state live.new ≡ live_seen K.state live.old) }
 {
     live.run(caller)
@@ -160,6 +160,7 @@ fn take_turn<R: Wait, K: Actor, F: Fn(ActorId, u32)>(
     ensures stay { map bare notices.new.items ≡ map bare notices.old.items }
     ensures on { GoesOn (live_seen K.state live.old) (live_seen K.state live.new) }
     ensures moved { result ≡ Moved → length letters.old.taken + length (live_seen K.state live.old).log < length letters.new.taken + length (live_seen K.state live.new).log }
+    ensures starved { result ≡ Starved → (live_seen K.state live.new).log ≡ (live_seen K.state live.old).log }
     ensures idle { result ≡ Idle → (letters.new ≡ letters.old) × HasGone false lines.now.replies.now notices.old.items (live_seen K.state live.old) (live_seen K.state live.new) }
     ensures serving { (opening : KindState) (callers : List ℕ) → IsServing opening callers lines.now.replies.now letters.old.taken (live_seen K.state live.old) notices.old.items → IsServing opening callers lines.now.replies.now letters.new.taken (live_seen K.state live.new) notices.new.items }
 {
@@ -170,6 +171,24 @@ fn take_turn<R: Wait, K: Actor, F: Fn(ActorId, u32)>(
         Err(_) => Turn::Starved,
         Ok(ran) => { if came || ran { Turn::Moved } else { Turn::Idle } }
     }
+}
+
+/// Whether the actor's end came: it terminated, and then no kill is looked for, or a kill is taken.
+fn is_over<R: Wait, K: Actor>(
+    rt: &R,
+    live: &Live<K>,
+    control: &Control,
+    kills: &mut ControlExec,
+) -> bool
+    requires line { kills.old.line ≡ control.now.line }
+    requires actor { (live_seen K.state live.now).id ≡ kills.old.actor }
+    requires untaken { IsUntaken kills.old }
+    requires looked { length (live_seen K.state live.now).log ≤ kills.old.looked }
+    ensures pass { kills.new ≡ record kills.old { taken = kills.new.taken; lengths = kills.new.lengths; looked = kills.new.looked } }
+    ensures looked { length (live_seen K.state live.now).log ≤ kills.new.looked }
+    ensures told { HasLooked result (live_seen K.state live.now).log kills.old kills.new }
+{
+    live.terminated() || control.take(rt, kills, live).is_some()
 }
 
 /// Gives the actor's death to each caller.
@@ -193,7 +212,7 @@ fn tell_deaths<R: Wait>(
     }
 }
 
-/// Serves until a kill is taken, all is drained, or memory is refused.
+/// Serves until the actor terminated, a kill is taken, all is drained, or memory is refused.
 pub fn serve_by<R: Wait, K: Actor, F: Fn(ActorId, u32)>(
     rt: &R,
     mut live: Live<K>,
@@ -208,7 +227,7 @@ pub fn serve_by<R: Wait, K: Actor, F: Fn(ActorId, u32)>(
 {
     let mut patience = Patience::new();
     for _ in rt.forever() {
-        if lines.control.take(rt, &mut passes.kills, &live).is_some() {
+        if is_over(rt, &live, lines.control, &mut passes.kills) {
             let dead = live.kill();
             tell_deaths(rt, lines.replies, &mut passes.notices, &dead);
             return Finished {

@@ -39,6 +39,7 @@ method_text method.Push = codes "push"
 method_text method.Pop = codes "pop"
 method_text method.At = codes "at"
 method_text method.Len = codes "len"
+method_text method.Terminate = codes "terminate"
 
 -- a value: `unit`, a number, or a text between quotes
 abbrev pub value_text : Value → List ℕ

@@ -22,6 +22,8 @@ pub enum Method {
     Pop,
     At,
     Len,
+    /// The actor ends in its turn. No kind has this method: the actor answers it.
+    Terminate,
 }
 
 impl fmt::Display for Method {
@@ -41,6 +43,7 @@ impl fmt::Display for Method {
             Method::Pop => write!(f, "pop"),
             Method::At => write!(f, "at"),
             Method::Len => write!(f, "len"),
+            Method::Terminate => write!(f, "terminate"),
         }
     }
 }

@@ -48,7 +48,7 @@ ask_follows h old slots c a place note owner lawful ties at owner_is told within
     let accepted = or_else-Ok (handle_refusal (copies_in a owner.handles)) (record { caller = owner.id; actor = a }) note told in
     let grows = added_grows h (AskKill c a) in
     accepted_follows h (AskKill c a) Asked _ (handle_refused h c a owner None here accepted.0) refl
-    (callers_tie h (added h (AskKill c a)) old _ slots lawful ties (record { grows = grows; arrived = refl; ran = refl; posts = refl; dead = refl; retired = refl })
+    (callers_tie h (added h (AskKill c a)) old _ slots lawful ties (record { grows = grows; arrived = refl; ran = refl; posts = refl; killed = refl; retired = refl })
     (owners_stay h (added h (AskKill c a)) old.owners refl (λ d. same_caller d h (added h (AskKill c a)) lawful grows refl refl refl refl refl) ties.owners)
     (mail_stays h (added h (AskKill c a)) old.mail lawful grows ties.mail) ties.mail_count refl
     (asked_after old.asked h.asked a within ties.asked))

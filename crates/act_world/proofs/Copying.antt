@@ -84,7 +84,7 @@ copy_follows h old slots c a place copies owner new lawful ties at owner_is told
     let held = copy_held (copies_in a owner.handles) accepted.0 in
     let now : IsOwnerOf (added h (Copy c a)) c new = subst (IsOwnerOf (added h (Copy c a)) c) (sym new_is) (copied_owner h c a owner lawful here.is held) in
     accepted_follows h (Copy c a) (Copies copies) _ (copy_refused h c a owner None here accepted.0) (ap Copies (accepted.1 ∙ ap (λ (o : Option ℕ). copies_held o + 1) (here.is.copies a)))
-    (callers_tie h (added h (Copy c a)) old _ slots lawful ties (record { grows = added_grows h (Copy c a); arrived = refl; ran = refl; posts = refl; dead = refl; retired = refl })
+    (callers_tie h (added h (Copy c a)) old _ slots lawful ties (record { grows = added_grows h (Copy c a); arrived = refl; ran = refl; posts = refl; killed = refl; retired = refl })
     (owners_change h (added h (Copy c a)) old.owners c place new refl ties.owners at now (λ d apart. others_stay h c a d lawful apart))
     (mail_stays h (added h (Copy c a)) old.mail lawful (added_grows h (Copy c a)) ties.mail) ties.mail_count refl ties.asked)
 

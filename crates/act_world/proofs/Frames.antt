@@ -1,6 +1,6 @@
 -- What stays of a world where its history goes on, part by part.
 use Rattle.std.proofs.Common.{◌≡◌, ◌≢◌, ℕ, zero, suc, ◌<◌, Bool, true, false, cond, List, [], ◌∷◌, ◌++◌, length, Some, None, inl, inr, refl, ap, sym, ◌∙◌, subst, arith, get_or}
-use Rattle.std.specs.Prelude.{Option, ◌==◌, find, position, slice_get, slice_set, option_map, option_and_then, nat_lt}
+use Rattle.std.specs.Prelude.{Option, ◌==◌, ◌||◌, find, position, slice_get, slice_set, option_map, option_and_then, nat_lt}
 use Rattle.std.specs.List.{list_any}
 use Rattle.std.proofs.lemmas.Bool.{eq-eqb, ne_eqb}
 use Rattle.std.proofs.lemmas.Bool.Decides.{eqb_tells}
@@ -15,12 +15,13 @@ use Rattle.act_rules.specs.declared.history.Letter.{Letter}
 use Rattle.act_rules.specs.declared.history.Letter.TheVariants.{Call as CallLetter, Note as NoteLetter}
 use Rattle.act_rules.specs.declared.history.Post.{Post}
 use Rattle.act_rules.specs.declared.history.Post.TheVariants.{Reply as ReplyPost, Death as DeathPost}
-use Rattle.act_rules.specs.RunList.{items_of, state_after}
+use Rattle.act_rules.specs.RunList.{items_of, state_after, has_terminated}
 use Rattle.act_rules.specs.Submissions.{calls_to}
 use Rattle.act_rules.specs.History.{Casting, History, contains, under, cast_of, names, is_caller, calls_of, copies_of, runs_of, ran_count, kept_of, is_ended, is_dead, is_retired, has_letter}
 use Rattle.act_rules.specs.Rules.{was_sent}
 use Rattle.act_rules.proofs.Lists.{slice_get_front, All_at}
 use Rattle.act_rules.proofs.Growth.{Grows, calls_grow, runs_grow, calls_to_grow}
+use Rattle.act_rules.proofs.Ended.{not_terminated}
 use Rattle.act_rules.proofs.Posts.{IsSoundPost}
 use Rattle.act_rules.proofs.Kept.{answer_of_stays}
 use Rattle.act_rules.proofs.Letters.{IsSoundLetter, kept_extends, has_letter-sound}
@@ -178,6 +179,10 @@ held_stays h g a c n lawful grows arrived ran =
     by_arrival true e = packet_stays h g c a n lawful grows (has_letter-sound (IsSoundLetter h) (CallLetter c a n) h.arrived lawful.sound.letters.arrived e)
     by_arrival false e = refl
 
+-- an actor that runs did not terminate
+pub still_lives : (h : History) (a : ℕ) (live : ActorSeen) → IsLive h a live → has_terminated live.log ≡ false
+still_lives h a live is = ap has_terminated is.log ∙ not_terminated a h is.runs
+
 -- an actor at which nothing arrives, runs or ends stays
 pub live_stays : (h g : History) (a : ℕ) (live : ActorSeen) → IsLawful h → Grows h g → g.arrived ≡ h.arrived → runs_of a g ≡ runs_of a h → is_ended a g ≡ is_ended a h → IsLive h a live → IsLive g a live
 live_stays h g a live lawful grows arrived ran ended is = record {
@@ -215,8 +220,12 @@ stage_stays h g a (Some (Ended ended)) lawful grows arrived ran dead retired is 
   state = is.state ∙ ap (state_after is.cast.opening) (sym ran);
 }
 
+-- an actor that took no kill and ran nothing is as dead as before
+pub dead_same : (h g : History) (a : ℕ) → contains a g.killed ≡ contains a h.killed → runs_of a g ≡ runs_of a h → is_dead a g ≡ is_dead a h
+dead_same h g a killed ran = ap (λ (b : Bool). b || has_terminated (runs_of a g)) killed ∙ ap (λ (items : List RunItem). contains a h.killed || has_terminated items) ran
+
 -- actors stay where nothing arrives, runs or ends
-pub stages_stay : (h g : History) (slots : List SlotSeen) → IsLawful h → Grows h g → g.arrived ≡ h.arrived → g.ran ≡ h.ran → g.dead ≡ h.dead → g.retired ≡ h.retired
+pub stages_stay : (h g : History) (slots : List SlotSeen) → IsLawful h → Grows h g → g.arrived ≡ h.arrived → g.ran ≡ h.ran → g.killed ≡ h.killed → g.retired ≡ h.retired
     → ((a : ℕ) → IsStage h a (slice_get slots a)) → (a : ℕ) → IsStage g a (slice_get slots a)
-stages_stay h g slots lawful grows arrived ran dead retired all a =
-    stage_stays h g a (slice_get slots a) lawful grows arrived (ap (under a) ran) (ap (contains a) dead) (ap (contains a) retired) (all a)
+stages_stay h g slots lawful grows arrived ran killed retired all a =
+    stage_stays h g a (slice_get slots a) lawful grows arrived (ap (under a) ran) (dead_same h g a (ap (contains a) killed) (ap (under a) ran)) (ap (contains a) retired) (all a)

@@ -12,7 +12,7 @@ use Rattle.act_rules.specs.declared.history.Submission.{Submission}
 use Rattle.act_rules.specs.declared.history.Letter.TheVariants.{Call as CallLetter}
 use Rattle.act_rules.specs.declared.outcome.HandleRefusal.TheVariants.{NoActor}
 use Rattle.act_rules.specs.declared.outcome.WorldRefusal.TheVariants.{Handle, ActorEnded, NoKill}
-use Rattle.act_rules.specs.RunList.{Answer, items_of}
+use Rattle.act_rules.specs.RunList.{Answer, items_of, has_terminated}
 use Rattle.act_rules.specs.Submissions.{needs}
 use Rattle.act_rules.specs.Consistent.{Consistent}
 use Rattle.act_rules.specs.Laws.{world as history}
@@ -31,7 +31,7 @@ use Rattle.act_world.specs.Slots.{is_dead_seen}
 use Rattle.act_world.specs.Headline.{calls_in, kept_in, log_of, log_in, died_in, IsConsistent}
 use Rattle.act_world.proofs.Lawful.{IsLawful, IsNamedLetter, world_lawful, named_caller, sent_call_named}
 
--- ---- the casts stay, and the dead have casts
+-- ---- the casts stay, and the killed have casts
 
 abbrev HasCasts : List Casting → History → Type 0
 HasCasts casts h = h.casts ≡ casts
@@ -39,8 +39,8 @@ HasCasts casts h = h.casts ≡ casts
 casts_step : (casts : List Casting) → IsKept (HasCasts casts)
 casts_step casts h event same accepted = (added_grows h event).casts ∙ same
 
-abbrev DeadHaveCasts : History → Type 0
-DeadHaveCasts h = (a : ℕ) → is_dead a h ≡ true → is_some (cast_of a h) ≡ true
+abbrev KilledHaveCasts : History → Type 0
+KilledHaveCasts h = (a : ℕ) → contains a h.killed ≡ true → is_some (cast_of a h) ≡ true
 
 kill_needs : (h : History) (a : ℕ) → refusal_of h (TakeKill a) ≡ None → is_some (cast_of a h) ≡ true
 kill_needs h a e = (needs-none (is_some (cast_of a h)) (Handle NoActor) (needs (not (is_ended a h)) ActorEnded (needs (contains a h.asked) NoKill None)) e).0
@@ -57,26 +57,26 @@ one_more (x ∷ xs) a b e none = go (x == a) e none (one_more xs a b)
     go true e none rest = cc
     go false e none rest = rest e none
 
-dead_step : IsKept DeadHaveCasts
-dead_step h (Submit c a method args) all accepted b dead = all b dead
-dead_step h (Copy c a) all accepted b dead = all b dead
-dead_step h (Release c a) all accepted b dead = all b dead
-dead_step h (Send c k) all accepted b dead = all b dead
-dead_step h (Deliver i) all accepted b dead = all b dead
-dead_step h (Run a c) all accepted b dead = go (next_item a c h) dead
+killed_step : IsKept KilledHaveCasts
+killed_step h (Submit c a method args) all accepted b killed = all b killed
+killed_step h (Copy c a) all accepted b killed = all b killed
+killed_step h (Release c a) all accepted b killed = all b killed
+killed_step h (Send c k) all accepted b killed = all b killed
+killed_step h (Deliver i) all accepted b killed = all b killed
+killed_step h (Run a c) all accepted b killed = go (next_item a c h) killed
   where
-    go : (o : Option RunItem) → is_dead b (after_run a c h o) ≡ true → is_some (cast_of b (after_run a c h o)) ≡ true
-    go None dead = all b dead
-    go (Some item) dead = all b dead
-dead_step h (Collect j) all accepted b dead = all b dead
-dead_step h (AskKill c a) all accepted b dead = all b dead
-dead_step h (TakeKill a) all accepted b dead = go (is_dead b h) refl
+    go : (o : Option RunItem) → contains b (after_run a c h o).killed ≡ true → is_some (cast_of b (after_run a c h o)) ≡ true
+    go None killed = all b killed
+    go (Some item) killed = all b killed
+killed_step h (Collect j) all accepted b killed = all b killed
+killed_step h (AskKill c a) all accepted b killed = all b killed
+killed_step h (TakeKill a) all accepted b killed = go (contains b h.killed) refl
   where
-    go : (before : Bool) → is_dead b h ≡ before → is_some (cast_of b h) ≡ true
+    go : (before : Bool) → contains b h.killed ≡ before → is_some (cast_of b h) ≡ true
     go true is = all b is
-    go false is = subst (λ (x : ℕ). is_some (cast_of x h) ≡ true) (one_more h.dead b a dead is) (kill_needs h a accepted)
-dead_step h (Tell a c) all accepted b dead = all b dead
-dead_step h (Retire a) all accepted b dead = all b dead
+    go false is = subst (λ (x : ℕ). is_some (cast_of x h) ≡ true) (one_more h.killed b a killed is) (kill_needs h a accepted)
+killed_step h (Tell a c) all accepted b killed = all b killed
+killed_step h (Retire a) all accepted b killed = all b killed
 
 -- ---- who is no caller submitted nothing, and what has no cast ran nothing
 
@@ -117,23 +117,28 @@ logs_are h a (Some (Runs live)) lawful is = sym is.log
 logs_are h a (Some (Died dead)) lawful is = sym is.log
 logs_are h a (Some (Ended retired)) lawful is = sym is.log
 
-not_dead : (h : History) (a : ℕ) → DeadHaveCasts h → cast_of a h ≡ None → is_dead a h ≡ false
-not_dead h a all uncast = go (is_dead a h) refl
+not_killed : (h : History) (a : ℕ) → KilledHaveCasts h → cast_of a h ≡ None → contains a h.killed ≡ false
+not_killed h a all uncast = go (contains a h.killed) refl
   where
-    go : (b : Bool) → is_dead a h ≡ b → b ≡ false
+    go : (b : Bool) → contains a h.killed ≡ b → b ≡ false
     go true e = let bad : false ≡ true = ap (λ (o : Option Casting). is_some o) (sym uncast) ∙ all a e in absurd (cc)
     go false e = refl
+
+not_dead : (h : History) (a : ℕ) → IsLawful h → KilledHaveCasts h → cast_of a h ≡ None → is_dead a h ≡ false
+not_dead h a lawful all uncast =
+    ap (λ (b : Bool). b || has_terminated (runs_of a h)) (not_killed h a all uncast)
+    ∙ ap has_terminated (no_runs h a (runs_of a h) refl lawful uncast)
 
 left_false : (x y : Bool) → (x || y) ≡ false → x ≡ false
 left_false true y e = cc
 left_false false y e = refl
 
-deaths_are : (h : History) (a : ℕ) (slot : Option SlotSeen) → DeadHaveCasts h → IsStage h a slot → is_dead a h ≡ option_map_or is_dead_seen slot false
-deaths_are h a None all is = not_dead h a all is
-deaths_are h a (Some Vacant) all is = not_dead h a all is
-deaths_are h a (Some (Runs live)) all is = left_false (is_dead a h) (is_retired a h) is.runs
-deaths_are h a (Some (Died dead)) all is = is.died
-deaths_are h a (Some (Ended retired)) all is = is.lived
+deaths_are : (h : History) (a : ℕ) (slot : Option SlotSeen) → IsLawful h → KilledHaveCasts h → IsStage h a slot → is_dead a h ≡ option_map_or is_dead_seen slot false
+deaths_are h a None lawful all is = not_dead h a lawful all is
+deaths_are h a (Some Vacant) lawful all is = not_dead h a lawful all is
+deaths_are h a (Some (Runs live)) lawful all is = left_false (is_dead a h) (is_retired a h) is.runs
+deaths_are h a (Some (Died dead)) lawful all is = is.died
+deaths_are h a (Some (Ended retired)) lawful all is = is.lived
 
 opened : (casts : List Casting) (h : History) (a : ℕ) → h.casts ≡ casts → opening_of a h ≡ opening_of a (opening casts)
 opened casts h a same = ap (λ (l : List Casting). opening_of a (opening l)) same
@@ -144,10 +149,10 @@ stands_consistent casts events world ties =
     let h = history casts events in
     let lawful = world_lawful casts events in
     let same : h.casts ≡ casts = after_all_keeps (HasCasts casts) (casts_step casts) (opening casts) events refl in
-    let dead : DeadHaveCasts h = after_all_keeps DeadHaveCasts dead_step (opening casts) events (λ a e. cc) in
+    let killed : KilledHaveCasts h = after_all_keeps KilledHaveCasts killed_step (opening casts) events (λ a e. cc) in
     subst (λ (f : ℕ → Option KindState). Consistent f (calls_in world) (log_in world) (kept_in world) (died_in world)) (λ i a. opened casts h a same i)
     (subst (λ (f : ℕ → List Submission). Consistent (λ a. opening_of a h) f (log_in world) (kept_in world) (died_in world)) (λ i c. calls_are h c (find (is_owner c) world.exchange.owners) lawful (ties.owners c) i)
     (subst (λ (f : ℕ → List RunItem). Consistent (λ a. opening_of a h) (λ c. calls_of c h) f (kept_in world) (died_in world)) (λ i a. logs_are h a (slice_get world.slots a) lawful (ties.actors a) i)
     (subst (λ (f : ℕ → List (Option Answer)). Consistent (λ a. opening_of a h) (λ c. calls_of c h) (λ a. runs_of a h) f (died_in world)) (λ i c. kept_are h c (find (is_owner c) world.exchange.owners) lawful (ties.owners c) i)
-    (subst (λ (f : ℕ → Bool). Consistent (λ a. opening_of a h) (λ c. calls_of c h) (λ a. runs_of a h) (λ c. kept_of c h) f) (λ i a. deaths_are h a (slice_get world.slots a) dead (ties.actors a) i)
+    (subst (λ (f : ℕ → Bool). Consistent (λ a. opening_of a h) (λ c. calls_of c h) (λ a. runs_of a h) (λ c. kept_of c h) f) (λ i a. deaths_are h a (slice_get world.slots a) lawful killed (ties.actors a) i)
     (consistent h lawful.sound)))))

@@ -9,7 +9,8 @@ use Rattle.act_rules.specs.declared.event.Event.TheVariants.{TakeKill}
 use Rattle.act_rules.specs.declared.outcome.HandleRefusal.TheVariants.{NoActor}
 use Rattle.act_rules.specs.declared.outcome.WorldRefusal.{WorldRefusal}
 use Rattle.act_rules.specs.declared.outcome.WorldRefusal.TheVariants.{Handle, ActorEnded, NoKill}
-use Rattle.act_rules.specs.History.{History, contains, cast_of, is_dead, is_retired, is_ended}
+use Rattle.act_rules.specs.RunList.{has_terminated}
+use Rattle.act_rules.specs.History.{History, contains, cast_of, runs_of, is_dead, is_retired, is_ended}
 use Rattle.act_rules.specs.Rules.{Outcome, refusal_of, outcome_of, did, added, after}
 use Rattle.act_rules.proofs.Growth.{added_grows}
 use Rattle.act_actor.specs.Value.{ActorSeen}
@@ -19,7 +20,7 @@ use Rattle.act_world.specs.Slots.{killed}
 use Rattle.act_world.specs.Ties.{IsLive, IsDead, IsStage, Ties}
 use Rattle.act_world.proofs.Changes.{refused_follows, accepted_follows, get_set-same, get_set-other, set-same}
 use Rattle.act_world.proofs.Lawful.{IsLawful}
-use Rattle.act_world.proofs.Frames.{same_caller, owners_stay, mail_stays, replies_stay, stage_stays}
+use Rattle.act_world.proofs.Frames.{same_caller, owners_stay, mail_stays, replies_stay, stage_stays, dead_same}
 
 -- ---- one number more in a list
 
@@ -42,7 +43,7 @@ dead_now : (h : History) (a : ℕ) (live : ActorSeen) → IsLive h a live → Is
 dead_now h a live is = record {
   cast = is.cast;
   cast_is = is.cast_is;
-  died = contains-last a h.dead;
+  died = or_left (contains a (h.killed ++ a ∷ [])) (has_terminated (runs_of a h)) (contains-last a h.killed);
   id = is.id;
   log = is.log;
 }
@@ -68,7 +69,7 @@ dead_ties h exchange slots a live lawful ties at is =
     actors : (b : ℕ) → IsStage (added h (TakeKill a)) b (slice_get (slice_set slots a dead) b)
     actors b = elim (eqb_tells a b) [
       | inl t ↦ subst (λ (x : ℕ). IsStage (added h (TakeKill a)) x (slice_get (slice_set slots a dead) x)) t.1 (subst (IsStage (added h (TakeKill a)) a) (sym (get_set-same slots a (Runs live) dead at)) (dead_now h a live is))
-      | inr f ↦ subst (IsStage (added h (TakeKill a)) b) (sym (get_set-other slots a b dead f.1)) (stage_stays h (added h (TakeKill a)) b (slice_get slots b) lawful (added_grows h (TakeKill a)) refl refl (contains-other a b h.dead f.0) refl (ties.actors b))
+      | inr f ↦ subst (IsStage (added h (TakeKill a)) b) (sym (get_set-other slots a b dead f.1)) (stage_stays h (added h (TakeKill a)) b (slice_get slots b) lawful (added_grows h (TakeKill a)) refl refl (dead_same h (added h (TakeKill a)) b (contains-other a b h.killed f.0) refl) refl (ties.actors b))
     ]
 
 -- ---- the cases

@@ -85,7 +85,7 @@ pub record IsOfCallers (h g : History) : Type 0 where
   pub arrived : g.arrived ≡ h.arrived
   pub ran : g.ran ≡ h.ran
   pub posts : g.posts ≡ h.posts
-  pub dead : g.dead ≡ h.dead
+  pub killed : g.killed ≡ h.killed
   pub retired : g.retired ≡ h.retired
 
 -- the world ties to the history after such an event where its callers, its mail and what was asked do
@@ -96,7 +96,7 @@ pub callers_tie : (h g : History) (old new : ExchangeValue) (slots : List SlotSe
     → Ties g (record { exchange = new; slots = slots })
 callers_tie h g old new slots lawful ties same owners mail count replies asked = record {
   owners = owners;
-  actors = stages_stay h g slots lawful same.grows same.arrived same.ran same.dead same.retired ties.actors;
+  actors = stages_stay h g slots lawful same.grows same.arrived same.ran same.killed same.retired ties.actors;
   mail = mail;
   mail_count = count;
   replies = rw (replies, same.posts) (replies_stay h g old.replies lawful same.grows ties.replies);

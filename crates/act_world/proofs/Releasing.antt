@@ -119,7 +119,7 @@ release_ties : (h : History) (old : ExchangeValue) (mail : List Mailed) (slots :
     → Ties (added h (Release c a)) (record { exchange = record old { owners = slice_set old.owners place new; mail = mail }; slots = slots })
 release_ties h old mail slots c a place owner new last lawful ties at is new_is last_is letters count =
     let now : IsOwnerOf (added h (Release c a)) c new = subst (IsOwnerOf (added h (Release c a)) c) (sym new_is) (released_owner h c a owner lawful is) in
-    callers_tie h (added h (Release c a)) old _ slots lawful ties (record { grows = added_grows h (Release c a); arrived = refl; ran = refl; posts = refl; dead = refl; retired = refl })
+    callers_tie h (added h (Release c a)) old _ slots lawful ties (record { grows = added_grows h (Release c a); arrived = refl; ran = refl; posts = refl; killed = refl; retired = refl })
     (owners_change h (added h (Release c a)) old.owners c place new refl ties.owners at now (λ d apart. others_stay h c a d lawful apart))
     (subst (λ (b : Bool). (i : ℕ) → slice_get mail i ≡ option_and_then (mailed (added h (Release c a))) (slice_get (and_also h.mail (note_if h c a b)) i)) (sym last_is) letters)
     (subst (λ (b : Bool). length mail ≡ length (and_also h.mail (note_if h c a b))) (sym last_is) count)

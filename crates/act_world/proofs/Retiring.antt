@@ -18,13 +18,14 @@ use Rattle.act_rules.specs.Rules.{Outcome, refusal_of, outcome_of, after}
 use Rattle.act_rules.proofs.Growth.{Grows, added_grows}
 use Rattle.act_inbox.specs.Inbox.{handed_of, note_of, IsDrained}
 use Rattle.act_actor.specs.Value.{ActorSeen, RetiredSeen}
+use Rattle.act_actor.specs.Actor.{MayRetire}
 use Rattle.act_world.specs.Exchange.{ExchangeValue}
 use Rattle.act_world.specs.Value.{SlotSeen, Runs, Died, Ended, Vacant, WorldSeen}
 use Rattle.act_world.specs.Slots.{IsRetiredIn}
 use Rattle.act_world.specs.Ties.{is_note, IsLive, IsRetired, IsStage, Ties}
 use Rattle.act_world.specs.Stands.{Follows}
 use Rattle.act_world.proofs.Lawful.{IsLawful, world_lawful}
-use Rattle.act_world.proofs.Frames.{same_caller, owners_stay, stage_stays}
+use Rattle.act_world.proofs.Frames.{same_caller, owners_stay, still_lives, stage_stays}
 use Rattle.act_world.proofs.Changes.{refused_follows, accepted_follows, set-same, stages_change, slot_within}
 
 -- ---- drained, as the actor and as the history tells
@@ -135,17 +136,17 @@ retire_follows h old a slot new told lawful ties at went = go slot new told at (
     undrained true e never = absurd (never e)
     undrained false e never = refl
 
-    by_drained : (live : ActorSeen) (retired : RetiredSeen) → slice_get old.slots a ≡ Some (Runs live) → IsLive h a live → IsDrained live.inbox → retired ≡ record { id = live.id; log = live.log; state = live.state }
+    by_drained : (live : ActorSeen) (retired : RetiredSeen) → slice_get old.slots a ≡ Some (Runs live) → IsLive h a live → MayRetire live.log live.inbox → retired ≡ record { id = live.id; log = live.log; state = live.state }
         → (Ok Retired ≡ outcome_of h (Retire a)) × Ties (after h (Retire a)) (record { exchange = old.exchange; slots = slice_set old.slots a (Ended retired) })
-    by_drained live retired at is drained same =
+    by_drained live retired at is may same =
         accepted_follows h (Retire a) Retired (record { exchange = old.exchange; slots = slice_set old.slots a (Ended retired) })
-        (retire_refusal h a true false true (ap is_some is.cast_is) is.runs (drained_there h a live is drained)) refl
+        (retire_refusal h a true false true (ap is_some is.cast_is) is.runs (drained_there h a live is may.drained)) refl
         (retired_ties h a old (Runs live) (Ended retired) lawful ties at (live_retired h a live retired is same))
 
-    by_undrained : (live : ActorSeen) (new : SlotSeen) (told : Outcome) → slice_get old.slots a ≡ Some (Runs live) → IsLive h a live → (IsDrained live.inbox → ⊥) → new ≡ Runs live → told ≡ Err NotDrained
+    by_undrained : (live : ActorSeen) (new : SlotSeen) (told : Outcome) → slice_get old.slots a ≡ Some (Runs live) → IsLive h a live → (MayRetire live.log live.inbox → ⊥) → new ≡ Runs live → told ≡ Err NotDrained
         → (told ≡ outcome_of h (Retire a)) × Ties (after h (Retire a)) (record { exchange = old.exchange; slots = slice_set old.slots a new })
     by_undrained live new told at is never same told_is =
-        let left : is_drained a h ≡ false = undrained (is_drained a h) refl (λ e. never (drained_here h a live is e)) in
+        let left : is_drained a h ≡ false = undrained (is_drained a h) refl (λ e. never (record { lives = still_lives h a live is; drained = drained_here h a live is e })) in
         stays (Runs live) new told NotDrained at same told_is (retire_refusal h a true false false (ap is_some is.cast_is) is.runs left)
 
     go : (slot new : SlotSeen) (told : Outcome) → slice_get old.slots a ≡ Some slot → IsStage h a (Some slot) → IsRetiredIn slot new told

@@ -1,6 +1,6 @@
 -- A call that is run.
 use Rattle.std.proofs.Common.{◌≡◌, ◌≢◌, ℕ, ◌+◌, ◌<◌, Bool, true, false, cond, List, [], ◌∷◌, ◌++◌, length, map, get_or, Some, None, inl, inr, refl, ap, sym, ◌∙◌, subst, arith, length-append}
-use Rattle.std.specs.Prelude.{Option, Result, Ok, Err, IfSome, ◌==◌, position, not, slice_get, slice_set, option_map, option_and_then, is_some, nat_lt}
+use Rattle.std.specs.Prelude.{Option, Result, Ok, Err, IfSome, ◌==◌, ◌||◌, position, not, slice_get, slice_set, option_map, option_and_then, is_some, nat_lt}
 use Rattle.std.proofs.lemmas.Bool.{eq-eqb, ne_eqb, ltb-true, lt-ltb, le-ltb}
 use Rattle.std.proofs.lemmas.Bool.Decides.{eqb_tells}
 use Rattle.std.proofs.lemmas.Option.{get_or_from_slice_get}
@@ -20,28 +20,28 @@ use Rattle.act_rules.specs.declared.outcome.HandleRefusal.TheVariants.{NoActor}
 use Rattle.act_rules.specs.declared.outcome.WorldRefusal.{WorldRefusal}
 use Rattle.act_rules.specs.declared.outcome.WorldRefusal.TheVariants.{NoCaller, Handle, ActorEnded}
 use Rattle.act_rules.specs.Laws.{world as history}
-use Rattle.act_rules.specs.RunList.{Answer, after_item, answers_from, answer_at, state_after, items_of}
+use Rattle.act_rules.specs.RunList.{Answer, after_item, answers_from, answer_at, state_after, items_of, has_terminated}
 use Rattle.act_rules.specs.Submissions.{calls_to, needs}
-use Rattle.act_rules.specs.History.{Casting, History, cast_of, names, is_caller, calls_of, runs_of, ran_count, kept_of, answer_of, is_ended, has_letter, run_item, next_item}
+use Rattle.act_rules.specs.History.{Casting, History, contains, cast_of, names, is_caller, calls_of, runs_of, ran_count, kept_of, answer_of, is_ended, is_retired, has_letter, run_item, next_item}
 use Rattle.act_rules.specs.Rules.{refusal_of, did, did_run, added, after_run, outcome_of, after}
 use Rattle.act_rules.proofs.Lists.{slice_get_last}
 use Rattle.act_rules.proofs.Growth.{Grows, after_run_grows}
-use Rattle.act_rules.proofs.Ended.{under-push}
+use Rattle.act_rules.proofs.Ended.{under-push, ended_by}
 use Rattle.act_rules.proofs.Kept.{answers_from-append, length-answers_from}
 use Rattle.act_rules.proofs.Letters.{IsSoundLetter, has_letter-sound}
 use Rattle.act_inbox.specs.Inbox.{handed_of, waiting, next_of}
 use Rattle.act_actor.specs.Value.{ActorSeen}
-use Rattle.act_actor.specs.Actor.{item_of, reply_to, HasRun}
+use Rattle.act_actor.specs.Actor.{item_of, reply_to, next_call, HasRun}
 use Rattle.act_handles.specs.Handles.{copies_in}
 use Rattle.act_owner.specs.Owner.{OwnerValue}
 use Rattle.act_world.specs.declared.exchange.Posted.{Posted}
 use Rattle.act_world.specs.Exchange.{ExchangeValue, is_owner}
 use Rattle.act_world.specs.Value.{SlotSeen, Runs, Vacant, WorldSeen}
-use Rattle.act_world.specs.Slots.{is_live_seen, HasRunNext, IsRun, IsRunAt}
-use Rattle.act_world.specs.Ties.{packet_as, packet_of, held_packet, is_note, reply_as, reply_at, posted, IsLive, IsStage, Ties}
+use Rattle.act_world.specs.Slots.{is_live_seen, died, buried, HasRunNext, IsRun, IsRunAt}
+use Rattle.act_world.specs.Ties.{packet_as, packet_of, held_packet, is_note, reply_as, reply_at, posted, IsLive, IsDead, IsStage, Ties}
 use Rattle.act_world.specs.Stands.{Follows, IsUnrefused}
 use Rattle.act_world.proofs.Lawful.{IsLawful, world_lawful}
-use Rattle.act_world.proofs.Frames.{same_caller, owners_stay, owner_absent, packet_stays, mail_stays, replies_stay, go_together, stage_stays}
+use Rattle.act_world.proofs.Frames.{same_caller, owners_stay, owner_absent, packet_stays, mail_stays, replies_stay, go_together, still_lives, stage_stays, dead_same}
 use Rattle.act_world.proofs.Seeing.{WorldSees, known}
 use Rattle.act_world.proofs.Changes.{refused_follows, accepted_follows, get_set-same, set-same, stages_change, has_ended, not_ended, named_cast, slot_within}
 
@@ -51,9 +51,10 @@ use Rattle.act_world.proofs.Changes.{refused_follows, accepted_follows, get_set-
 abbrev next_packet : History → ℕ → ℕ → Option Packet
 next_packet h a c = cond (has_letter (CallLetter c a (ran_count c a h)) h.arrived) (packet_of h c a (ran_count c a h)) None
 
-next_is : (h : History) (a c : ℕ) (live : ActorSeen) → IsLive h a live → names c (cast_of a h) ≡ true → next_of live.inbox c ≡ next_packet h a c
+next_is : (h : History) (a c : ℕ) (live : ActorSeen) → IsLive h a live → names c (cast_of a h) ≡ true → next_call live.log live.inbox c ≡ next_packet h a c
 next_is h a c live is named =
-    ap (λ (b : Bool). cond b (waiting live.inbox c (handed_of live.inbox c)) None) (is.listed c ∙ named)
+    ap (λ (b : Bool). cond b None (next_of live.inbox c)) (still_lives h a live is)
+    ∙ ap (λ (b : Bool). cond b (waiting live.inbox c (handed_of live.inbox c)) None) (is.listed c ∙ named)
     ∙ ap (waiting live.inbox c) (is.handed c named)
     ∙ is.waits c (ran_count c a h) named
     ∙ ap (λ (b : Bool). cond b None (next_packet h a c)) (le-ltb (ran_count c a h) (ran_count c a h) (omega arith))
@@ -135,14 +136,29 @@ held_then h a c d n item lawful mine =
     by true e = sym (packet_stays h (ran_on h a c item) d a n lawful (after_run_grows a c h (Some item)) (has_letter-sound (IsSoundLetter h) (CallLetter d a n) h.arrived lawful.sound.letters.arrived e))
     by false e = refl
 
--- the actor after its run
-live_ran : (h : History) (a c : ℕ) (packet : Packet) (live new : ActorSeen) → IsLawful h → IsLive h a live → HasRun c packet live new → IsLive (ran_on h a c (item_of packet)) a new
-live_ran h a c packet live new lawful is ran = record {
+-- what the actor ran, then
+log_ran : (h : History) (a c : ℕ) (packet : Packet) (live new : ActorSeen) → IsLive h a live → HasRun c packet live new → new.log ≡ runs_of a (ran_on h a c (item_of packet))
+log_ran h a c packet live new is ran = ran.log ∙ ap (λ (items : List RunItem). items ++ item_of packet ∷ []) is.log ∙ sym (runs_here h a c (item_of packet))
+
+-- an actor that hadn't ended has ended where the last of these items ended it
+ended_by_last : (h : History) (a : ℕ) (items : List RunItem) → is_ended a h ≡ false → ended_by a h items ≡ has_terminated items
+ended_by_last h a items on = go (contains a h.killed) (has_terminated (runs_of a h)) (is_retired a h) (has_terminated items) on
+  where
+    go : (killed was retired last : Bool) → ((killed || was) || retired) ≡ false → ((killed || last) || retired) ≡ last
+    go true was retired last e = cc
+    go false true retired last e = cc
+    go false false true last e = cc
+    go false false false true e = refl
+    go false false false false e = refl
+
+-- the actor after its run, where it goes on
+live_ran : (h : History) (a c : ℕ) (packet : Packet) (live new : ActorSeen) → IsLawful h → IsLive h a live → HasRun c packet live new → has_terminated new.log ≡ false → IsLive (ran_on h a c (item_of packet)) a new
+live_ran h a c packet live new lawful is ran on = record {
   cast = is.cast;
   cast_is = is.cast_is;
-  runs = is.runs;
+  runs = ended_by_last h a (runs_of a (ran_on h a c (item_of packet))) is.runs ∙ ap has_terminated (sym (log_ran h a c packet live new is ran)) ∙ on;
   id = ran.id ∙ is.id;
-  log = ran.log ∙ ap (λ (items : List RunItem). items ++ item_of packet ∷ []) is.log ∙ sym (runs_here h a c (item_of packet));
+  log = log_ran h a c packet live new is ran;
   state = ran.state ∙ ap (λ (state : KindState). (after_item state (item_of packet)).0) is.state ∙ sym (state_push is.cast.opening (runs_of a h) (item_of packet))
       ∙ ap (state_after is.cast.opening) (sym (runs_here h a c (item_of packet)));
   listed = λ d. ran.taken.listed d ∙ is.listed d;
@@ -156,6 +172,28 @@ live_ran h a c packet live new lawful is ran = record {
   where
     handed : (d : ℕ) → names d (cast_of a h) ≡ true → handed_of new.inbox d ≡ ran_count d a (ran_on h a c (item_of packet))
     handed d named = ran.taken.handed d ∙ ap (λ (m : ℕ). cond (d == c) (m + 1) m) (is.handed d named) ∙ count_then h a c d (item_of packet) ran.taken.of_caller
+
+-- the actor after its last run
+dead_ran : (h : History) (a c : ℕ) (packet : Packet) (live new : ActorSeen) → IsLive h a live → HasRun c packet live new → has_terminated new.log ≡ true → IsDead (ran_on h a c (item_of packet)) a (record { id = new.id; log = new.log })
+dead_ran h a c packet live new is ran ends = record {
+  cast = is.cast;
+  cast_is = is.cast_is;
+  died = or_last (contains a h.killed) (has_terminated (runs_of a (ran_on h a c (item_of packet)))) (ap has_terminated (sym (log_ran h a c packet live new is ran)) ∙ ends);
+  id = ran.id ∙ is.id;
+  log = log_ran h a c packet live new is ran;
+}
+  where
+    or_last : (x y : Bool) → y ≡ true → (x || y) ≡ true
+    or_last true y e = refl
+    or_last false y e = e
+
+-- its slot
+slot_ran : (h : History) (a c : ℕ) (packet : Packet) (live new : ActorSeen) → IsLawful h → IsLive h a live → HasRun c packet live new → IsStage (ran_on h a c (item_of packet)) a (Some (buried (Runs new)))
+slot_ran h a c packet live new lawful is ran = go (has_terminated new.log) refl
+  where
+    go : (ends : Bool) → has_terminated new.log ≡ ends → IsStage (ran_on h a c (item_of packet)) a (Some (cond ends (died new) (Runs new)))
+    go true e = dead_ran h a c packet live new is ran e
+    go false e = live_ran h a c packet live new lawful is ran e
 
 -- ---- the reply
 
@@ -207,12 +245,12 @@ reply_posted h a c packet live is mine =
 ran_ties : (h : History) (old : WorldSeen) (a c : ℕ) (packet : Packet) (live new : ActorSeen) → IsLawful h → Ties h old → slice_get old.slots a ≡ Some (Runs live) → IsLive h a live → HasRun c packet live new
     → Ties (ran_on h a c (item_of packet)) (record {
       exchange = record old.exchange { replies = old.exchange.replies ++ (record { caller = c; notice = Answered (reply_to live packet) }) ∷ [] };
-      slots = slice_set old.slots a (Runs new);
+      slots = slice_set old.slots a (buried (Runs new));
     })
 ran_ties h old a c packet live new lawful ties at is ran = record {
   owners = owners_stay h g old.exchange.owners refl (λ d. same_caller d h g lawful grows refl refl refl refl refl) ties.owners;
-  actors = stages_change h g old.slots a (Runs live) (Runs new) ties.actors at (live_ran h a c packet live new lawful is ran)
-      (λ b stage apart was. stage_stays h g b stage lawful grows refl (runs_other h a b c (item_of packet) apart) refl refl was);
+  actors = stages_change h g old.slots a (Runs live) (buried (Runs new)) ties.actors at (slot_ran h a c packet live new lawful is ran)
+      (λ b stage apart was. let ran_else = runs_other h a b c (item_of packet) apart in stage_stays h g b stage lawful grows refl ran_else (dead_same h g b refl ran_else) refl was);
   mail = mail_stays h g old.exchange.mail lawful grows ties.mail;
   mail_count = ties.mail_count;
   replies = go_together (posted g) old.exchange.replies h.posts (record { caller = c; notice = Answered (reply_to live packet) }) (ReplyPost c a (length (runs_of a h)))
@@ -232,9 +270,9 @@ pub run_follows : (h : History) (old : WorldSeen) (a c : ℕ) (live new : ActorS
     → HasRunNext c (Some reply) live new
     → (Ok (Ran reply.place (length old.exchange.replies)) ≡ outcome_of h (Run a c)) × Ties (after h (Run a c)) (record {
       exchange = record old.exchange { replies = old.exchange.replies ++ (record { caller = c; notice = Answered reply }) ∷ [] };
-      slots = slice_set old.slots a (Runs new);
+      slots = slice_set old.slots a (buried (Runs new));
     })
-run_follows h old a c live new reply lawful ties caller named at next = go (next_of live.inbox c) refl next.reply_is next.ran
+run_follows h old a c live new reply lawful ties caller named at next = go (next_call live.log live.inbox c) refl next.reply_is next.ran
   where
     is : IsLive h a live
     is = subst (IsStage h a) at (ties.actors a)
@@ -242,10 +280,10 @@ run_follows h old a c live new reply lawful ties caller named at next = go (next
     world : Reply → WorldSeen
     world told = record {
       exchange = record old.exchange { replies = old.exchange.replies ++ (record { caller = c; notice = Answered told }) ∷ [] };
-      slots = slice_set old.slots a (Runs new);
+      slots = slice_set old.slots a (buried (Runs new));
     }
 
-    go : (found : Option Packet) → next_of live.inbox c ≡ found → Some reply ≡ option_map (reply_to live) found → IfSome found (λ packet. HasRun c packet live new)
+    go : (found : Option Packet) → next_call live.log live.inbox c ≡ found → Some reply ≡ option_map (reply_to live) found → IfSome found (λ packet. HasRun c packet live new)
         → (Ok (Ran reply.place (length old.exchange.replies)) ≡ outcome_of h (Run a c)) × Ties (after h (Run a c)) (world reply)
     go None e told ran = cc
     go (Some packet) e told ran =
@@ -260,17 +298,20 @@ run_follows h old a c live new reply lawful ties caller named at next = go (next
 
 -- its next call had not come
 pub gap_follows : (h : History) (old : WorldSeen) (a c : ℕ) (live new : ActorSeen) → IsLawful h → Ties h old → is_caller c h ≡ true → names c (cast_of a h) ≡ true → slice_get old.slots a ≡ Some (Runs live)
-    → HasRunNext c None live new → (Ok Gap ≡ outcome_of h (Run a c)) × Ties (after h (Run a c)) (record { exchange = old.exchange; slots = slice_set old.slots a (Runs new) })
-gap_follows h old a c live new lawful ties caller named at next = go (next_of live.inbox c) refl next.reply_is
+    → HasRunNext c None live new → (Ok Gap ≡ outcome_of h (Run a c)) × Ties (after h (Run a c)) (record { exchange = old.exchange; slots = slice_set old.slots a (buried (Runs new)) })
+gap_follows h old a c live new lawful ties caller named at next = go (next_call live.log live.inbox c) refl next.reply_is
   where
     is : IsLive h a live
     is = subst (IsStage h a) at (ties.actors a)
 
-    as_it_was : slice_set old.slots a (Runs new) ≡ old.slots
-    as_it_was = ap (λ (actor : ActorSeen). slice_set old.slots a (Runs actor)) next.gap ∙ set-same old.slots a (Runs live) at
+    as_it_was : slice_set old.slots a (buried (Runs new)) ≡ old.slots
+    as_it_was =
+        ap (λ (actor : ActorSeen). slice_set old.slots a (buried (Runs actor))) next.gap
+        ∙ ap (λ (ends : Bool). slice_set old.slots a (cond ends (died live) (Runs live))) (still_lives h a live is)
+        ∙ set-same old.slots a (Runs live) at
 
-    go : (found : Option Packet) → next_of live.inbox c ≡ found → ◌≡◌ {A = Option Reply} None (option_map (reply_to live) found)
-        → (Ok Gap ≡ outcome_of h (Run a c)) × Ties (after h (Run a c)) (record { exchange = old.exchange; slots = slice_set old.slots a (Runs new) })
+    go : (found : Option Packet) → next_call live.log live.inbox c ≡ found → ◌≡◌ {A = Option Reply} None (option_map (reply_to live) found)
+        → (Ok Gap ≡ outcome_of h (Run a c)) × Ties (after h (Run a c)) (record { exchange = old.exchange; slots = slice_set old.slots a (buried (Runs new)) })
     go None e told =
         let item : next_item a c h ≡ None = item_is h a c ∙ ap (option_map item_of) (sym (next_is h a c live is named) ∙ e) in
         let follows = accepted_follows h (Run a c) Gap old (run_refusal h a c true true false caller named is.runs) (ap (did_run a h) (sym item))
@@ -335,7 +376,6 @@ module _ (exchange : ExchangeValue) (slots : List SlotSeen) (a c place : ℕ) (o
   run_not_refused new refusal on ran = go slot (get_or new a Vacant) on (ran_in new (Err refusal) ran)
     where
       go : (slot next : SlotSeen) → is_live_seen slot ≡ true → IsRun c slot next (Err refusal) → ⊥
-      go (Runs live) (Runs next) on ran = ran
       go (Runs live) next on ran = ran
       go other next on ran = cc
 
@@ -348,11 +388,10 @@ module _ (exchange : ExchangeValue) (slots : List SlotSeen) (a c place : ℕ) (o
 
       go : (slot next : SlotSeen) → is_live_seen slot ≡ true → slice_get slots a ≡ Some slot → IsRun c slot next (Ok None) → new ≡ slice_set slots a next
           → (Ok Gap ≡ outcome_of (history casts before) (Run a c)) × Ties (after (history casts before) (Run a c)) (record { exchange = exchange; slots = new })
-      go (Runs live) (Runs next) on at went others =
+      go (Runs live) next on at went others =
           let here = known h exchange slots a c place owner slot sees ties in
-          let follows = gap_follows h (record { exchange = exchange; slots = slots }) a c live next (world_lawful casts before) ties here.0 (sym here.1 ∙ some) at went in
-          (follows.0, subst (λ (seen : List SlotSeen). Ties (after h (Run a c)) (record { exchange = exchange; slots = seen })) (sym others) follows.1)
-      go (Runs live) next on at went others = absurd went
+          let follows = gap_follows h (record { exchange = exchange; slots = slots }) a c live went.new (world_lawful casts before) ties here.0 (sym here.1 ∙ some) at went.next in
+          (follows.0, subst (λ (seen : List SlotSeen). Ties (after h (Run a c)) (record { exchange = exchange; slots = seen })) (sym (others ∙ ap (slice_set slots a) went.slot_is)) follows.1)
       go other next on at went others = cc
 
   pub run_ran : (new : List SlotSeen) (replies : List Posted) (j : ℕ) (reply : Reply) → is_some (copies_in a owner.handles) ≡ true → is_live_seen slot ≡ true → IsRunAt c a slots new (Ok (Some reply))
@@ -368,9 +407,8 @@ module _ (exchange : ExchangeValue) (slots : List SlotSeen) (a c place : ℕ) (o
 
       go : (slot next : SlotSeen) → is_live_seen slot ≡ true → slice_get slots a ≡ Some slot → IsRun c slot next (Ok (Some reply)) → new ≡ slice_set slots a next
           → (Ok (Ran reply.place (length exchange.replies)) ≡ outcome_of (history casts before) (Run a c)) × Ties (after (history casts before) (Run a c)) (world new)
-      go (Runs live) (Runs next) on at went others =
+      go (Runs live) next on at went others =
           let here = known h exchange slots a c place owner slot sees ties in
-          let follows = run_follows h (record { exchange = exchange; slots = slots }) a c live next reply (world_lawful casts before) ties here.0 (sym here.1 ∙ some) at went in
-          (follows.0, subst (λ (seen : List SlotSeen). Ties (after h (Run a c)) (world seen)) (sym others) follows.1)
-      go (Runs live) next on at went others = absurd went
+          let follows = run_follows h (record { exchange = exchange; slots = slots }) a c live went.new reply (world_lawful casts before) ties here.0 (sym here.1 ∙ some) at went.next in
+          (follows.0, subst (λ (seen : List SlotSeen). Ties (after h (Run a c)) (world seen)) (sym (others ∙ ap (slice_set slots a) went.slot_is)) follows.1)
       go other next on at went others = cc

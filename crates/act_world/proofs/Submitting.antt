@@ -188,7 +188,7 @@ submit_follows h old slots c a place k method args owner new lawful ties at owne
     let listed = accepted_listed (copies_in a owner.handles) (length owner.calls) args accepted in
     let now : IsOwnerOf (added h (Submit c a method args)) c new = subst (IsOwnerOf (added h (Submit c a method args)) c) (sym new_is) (submitted_owner h c a method args owner lawful here.is listed) in
     accepted_follows h (Submit c a method args) (Future c k) _ (submission_refused h c a method args owner None here accepted) (ap (Future c) (future ∙ ap (λ (calls : List Submission). length calls) here.is.calls))
-    (callers_tie h (added h (Submit c a method args)) old _ slots lawful ties (record { grows = grows; arrived = refl; ran = refl; posts = refl; dead = refl; retired = refl })
+    (callers_tie h (added h (Submit c a method args)) old _ slots lawful ties (record { grows = grows; arrived = refl; ran = refl; posts = refl; killed = refl; retired = refl })
     (owners_change h (added h (Submit c a method args)) old.owners c place new refl ties.owners at now (λ d apart. others_stay h c a d method args apart))
     (mail_stays h (added h (Submit c a method args)) old.mail lawful grows ties.mail) ties.mail_count refl ties.asked)
 

@@ -1,5 +1,5 @@
 -- What happens to an actor in its slot.
-use Rattle.std.specs.Prelude.{◌≡◌, ℕ, List, slice_index_or, slice_set, Bool, true, false, Option, option_map, IfNone, IfSome, Result, Ok, Err}
+use Rattle.std.specs.Prelude.{◌≡◌, ℕ, List, slice_index_or, slice_set, Bool, true, false, if◌then◌else◌, Option, option_map, IfNone, IfSome, Result, Ok, Err}
 use Rattle.act_types.specs.declared.message.Packet.{Packet}
 use Rattle.act_types.specs.declared.message.ReleaseNote.{ReleaseNote}
 use Rattle.act_world.specs.declared.exchange.Mailed.{Mailed}
@@ -11,10 +11,11 @@ use Rattle.act_rules.specs.declared.outcome.Did.TheVariants.{Arrived, Dead, Reti
 use Rattle.act_rules.specs.declared.outcome.HandleRefusal.TheVariants.{NoActor}
 use Rattle.act_rules.specs.declared.outcome.WorldRefusal.{WorldRefusal}
 use Rattle.act_rules.specs.declared.outcome.WorldRefusal.TheVariants.{Handle, ActorEnded, NoKill, NotDrained}
+use Rattle.act_rules.specs.RunList.{has_terminated}
 use Rattle.act_rules.specs.Rules.{Outcome}
-use Rattle.act_inbox.specs.Inbox.{waiting, waiting_after, next_of, note_of, note_after, IsDrained}
+use Rattle.act_inbox.specs.Inbox.{waiting, waiting_after, note_of, note_after}
 use Rattle.act_actor.specs.Value.{ActorSeen}
-use Rattle.act_actor.specs.Actor.{arrival_at, note_arrival_at, reply_to, HasRun}
+use Rattle.act_actor.specs.Actor.{arrival_at, note_arrival_at, reply_to, next_call, MayRetire, HasRun}
 use Rattle.act_world.specs.Value.{SlotSeen, Runs, Died, Ended, Vacant}
 
 abbrev pub IsLiveSeen : SlotSeen → Type 0
@@ -63,12 +64,27 @@ IsBrought letter old new told = (new ≡ old) × (told ≡ Err ActorEnded)
 
 -- the running actor ran the caller's next call, or it has not arrived
 pub record HasRunNext (c : ℕ) (reply : Option Reply) (old new : ActorSeen) : Type 0 where
-  pub reply_is : reply ≡ option_map (reply_to old) (next_of old.inbox c)
+  pub reply_is : reply ≡ option_map (reply_to old) (next_call old.log old.inbox c)
   pub gap : IfNone reply (new ≡ old)
-  pub ran : IfSome (next_of old.inbox c) (λ packet. HasRun c packet old new)
+  pub ran : IfSome (next_call old.log old.inbox c) (λ packet. HasRun c packet old new)
+
+-- a dead actor keeps its name and what it ran
+abbrev pub died : ActorSeen → SlotSeen
+died live = Died (record { id = live.id; log = live.log })
+
+-- an actor whose last call ended it is dead
+abbrev pub buried : SlotSeen → SlotSeen
+buried (Runs live) = if has_terminated live.log then died live else Runs live
+buried slot = slot
+
+-- the running actor ran the caller's next call, or it has not arrived, and this is its slot then
+pub record HasRunIn (c : ℕ) (reply : Option Reply) (old : ActorSeen) (slot : SlotSeen) : Type 0 where
+  pub new : ActorSeen
+  pub next : HasRunNext c reply old new
+  pub slot_is : slot ≡ buried (Runs new)
 
 abbrev pub IsRun : ℕ → SlotSeen → SlotSeen → Result (Option Reply) WorldRefusal → Type 0
-IsRun c (Runs old) (Runs new) (Ok reply) = HasRunNext c reply old new
+IsRun c (Runs old) new (Ok reply) = HasRunIn c reply old new
 IsRun c (Runs old) new told = ⊥
 IsRun c old new told = (new ≡ old) × (told ≡ Err ActorEnded)
 
@@ -79,15 +95,15 @@ pub record IsRunAt (c a : ℕ) (old new : List SlotSeen) (told : Result (Option 
 
 -- the actor's slot after it took a kill, if one was asked, and what is told
 abbrev pub killed : Bool → SlotSeen → SlotSeen × Outcome
-killed true (Runs live) = (Died (record { id = live.id; log = live.log }), Ok Dead)
+killed true (Runs live) = (died live, Ok Dead)
 killed false (Runs live) = (Runs live, Err NoKill)
 killed asked Vacant = (Vacant, Err (Handle NoActor))
 killed asked (Died dead) = (Died dead, Err ActorEnded)
 killed asked (Ended retired) = (Ended retired, Err ActorEnded)
 
--- the actor retired where it was drained, and else it is as it was
+-- the actor retired where it may, and else it is as it was
 abbrev pub IsRetiredIn : SlotSeen → SlotSeen → Outcome → Type 0
-IsRetiredIn (Runs live) (Ended retired) (Ok Retired) = IsDrained live.inbox × (retired ≡ record { id = live.id; log = live.log; state = live.state })
-IsRetiredIn (Runs live) new told = (IsDrained live.inbox → ⊥) × (new ≡ Runs live) × (told ≡ Err NotDrained)
+IsRetiredIn (Runs live) (Ended retired) (Ok Retired) = MayRetire live.log live.inbox × (retired ≡ record { id = live.id; log = live.log; state = live.state })
+IsRetiredIn (Runs live) new told = (MayRetire live.log live.inbox → ⊥) × (new ≡ Runs live) × (told ≡ Err NotDrained)
 IsRetiredIn Vacant new told = (new ≡ Vacant) × (told ≡ Err (Handle NoActor))
 IsRetiredIn old new told = (new ≡ old) × (told ≡ Err ActorEnded)

@@ -103,7 +103,7 @@ pub record IsLive (h : History) (a : ℕ) (live : ActorSeen) : Type 0 where
   pub waits : (c n : ℕ) → names c (cast_of a h) ≡ true → waiting live.inbox c n ≡ held_packet h a c n
   pub notes : (c n : ℕ) → names c (cast_of a h) ≡ true → is_note n (note_of live.inbox c) ≡ has_letter (NoteLetter c a n) h.arrived
 
--- the killed actor keeps its run list
+-- the dead actor keeps its run list
 pub record IsDead (h : History) (a : ℕ) (dead : DeadValue) : Type 0 where
   pub cast : Casting
   pub cast_is : cast_of a h ≡ Some cast

@@ -1,9 +1,10 @@
 //! The laws of every run, over the definitions alone.
 
-ghost use Rattle.act_rules.specs.Laws.{NothingRunsAfterTheEnd, KeptAnswersStay, RetiredRanAll, EachWorldIsConsistent};
+ghost use Rattle.act_rules.specs.Laws.{NothingRunsAfterTheEnd, KeptAnswersStay, RetiredRanAll, EachWorldIsConsistent, NothingFollowsATerminate};
 
 use act_rules::{
-    each_world_is_consistent, kept_answers_stay, nothing_runs_after_the_end, retired_ran_all,
+    each_world_is_consistent, kept_answers_stay, nothing_follows_a_terminate,
+    nothing_runs_after_the_end, retired_ran_all,
 };
 
 /// Nothing runs at an actor that is dead or retired.
@@ -32,4 +33,11 @@ pub fn l4()
     ensures { EachWorldIsConsistent }
 {
     each_world_is_consistent()
+}
+
+/// No call follows a `terminate` that ended its actor.
+pub fn l5()
+    ensures { NothingFollowsATerminate }
+{
+    nothing_follows_a_terminate()
 }

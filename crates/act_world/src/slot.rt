@@ -6,7 +6,7 @@ ghost use Rattle.act_actor.specs.Actor.{arrival_at};
 ghost use Rattle.act_actor.specs.Seen.{live_seen};
 ghost use Rattle.act_world.specs.Value.{Runs, slot_seen};
 ghost use Rattle.act_world.specs.Stands.{is_memory};
-ghost use Rattle.act_world.specs.Slots.{IsLiveSeen, is_live_seen, is_dead_seen, HasTaken, HasArrived, IsNewCall, IsBrought, IsRun, IsRunAt, IsRetiredIn, killed};
+ghost use Rattle.act_world.specs.Slots.{IsLiveSeen, is_live_seen, is_dead_seen, HasTaken, HasArrived, IsNewCall, IsBrought, IsRun, IsRunAt, IsRetiredIn, buried, killed};
 
 use crate::exchange::Mailed;
 use act_actor::{Dead, Live, Retired};
@@ -95,7 +95,23 @@ fn take_in<K: Actor>(
     Ok(arrival)
 }
 
-/// The actor runs the caller's next call, if it has arrived.
+/// Where the actor's last call was a `terminate` that ended it, it is dead. This takes no memory.
+fn bury<K: Actor>(slot: &mut Slot<K>)
+    ensures { slot_seen K.state slot.new ≡ buried (slot_seen K.state slot.old) }
+{
+    match mem::replace(slot, Slot::Vacant) {
+        Slot::Live(live) => {
+            *slot = if live.terminated() {
+                Slot::Dead(live.kill())
+            } else {
+                Slot::Live(live)
+            };
+        }
+        ended => *slot = ended,
+    }
+}
+
+/// The actor runs the caller's next call, if it has arrived, and is dead then if that call ended it.
 fn run_in<K: Actor>(
     slot: &mut Slot<K>,
     c: CallerId,
@@ -108,7 +124,12 @@ fn run_in<K: Actor>(
     let Slot::Live(live) = slot else {
         return Ok(Err(WorldRefusal::ActorEnded));
     };
-    Ok(Ok(live.run(c)?))
+    let reply = live.run(c)?;
+    // An actor is moved only at its end, since each run would pay for it.
+    if live.terminated() {
+        bury(slot);
+    }
+    Ok(Ok(reply))
 }
 
 /// The actor with this number runs the caller's next call, if it has arrived.

@@ -406,3 +406,68 @@ fn ran_and_yet_died(rt: HostRuntime) -> Result<(), Fail> {
     world.consistent();
     Ok(())
 }
+
+/// A `terminate` waits its turn and ends its actor, which never runs the call after it; one with an
+/// argument is a bad call, and the actor goes on. Memory is refused from outside, at most once.
+#[test]
+fn terminate_in_turn(rt: HostRuntime) -> Result<(), Fail> {
+    let alloc = rt.alloc();
+    let c1 = CallerId::new(1).unwrap();
+    let [a1, a2] = [ActorId::new(1).unwrap(), ActorId::new(2).unwrap()];
+    let [k0, k1, k2] = [FutureId::new(0), FutureId::new(1), FutureId::new(2)];
+    let [k3, k4] = [FutureId::new(3), FutureId::new(4)];
+    let mut casts = Vec::new(alloc);
+    casts.push(cast_of(alloc, a1, &[c1], Counter::open())?)?;
+    casts.push(cast_of(alloc, a2, &[c1], Counter::open())?)?;
+    let rows = [
+        (
+            Step::Submit(c1, a1, Method::Add, Given::Int(5)),
+            Ok(Did::Future(c1, k0)),
+        ),
+        (
+            Step::Submit(c1, a1, Method::Terminate, Given::Nothing),
+            Ok(Did::Future(c1, k1)),
+        ),
+        (
+            Step::Submit(c1, a1, Method::Add, Given::Int(1)),
+            Ok(Did::Future(c1, k2)),
+        ),
+        (Step::Send(c1, k0), Ok(Did::Mail(0))),
+        (Step::Send(c1, k1), Ok(Did::Mail(1))),
+        (Step::Send(c1, k2), Ok(Did::Mail(2))),
+        (Step::Deliver(2), Ok(Did::Arrived(Arrival::New))),
+        (Step::Deliver(1), Ok(Did::Arrived(Arrival::New))),
+        (Step::Deliver(0), Ok(Did::Arrived(Arrival::New))),
+        (Step::Run(a1, c1), Ok(Did::Ran(0, 0))),
+        (Step::Run(a1, c1), Ok(Did::Ran(1, 1))),
+        (Step::Run(a1, c1), Err(WorldRefusal::ActorEnded)),
+        (Step::Collect(0), Ok(Did::Kept(c1, k0))),
+        (Step::Collect(1), Ok(Did::Kept(c1, k1))),
+        (Step::Tell(a1, c1), Ok(Did::Told(2))),
+        (Step::Collect(2), Ok(Did::Died(1))),
+        (
+            Step::Submit(c1, a2, Method::Terminate, Given::Int(1)),
+            Ok(Did::Future(c1, k3)),
+        ),
+        (
+            Step::Submit(c1, a2, Method::Add, Given::Int(2)),
+            Ok(Did::Future(c1, k4)),
+        ),
+        (Step::Send(c1, k3), Ok(Did::Mail(3))),
+        (Step::Send(c1, k4), Ok(Did::Mail(4))),
+        (Step::Deliver(3), Ok(Did::Arrived(Arrival::New))),
+        (Step::Deliver(4), Ok(Did::Arrived(Arrival::New))),
+        (Step::Run(a2, c1), Ok(Did::Ran(0, 3))),
+        (Step::Run(a2, c1), Ok(Did::Ran(1, 4))),
+        (Step::Collect(3), Ok(Did::Kept(c1, k3))),
+        (Step::Collect(4), Ok(Did::Kept(c1, k4))),
+    ];
+    let world = played(&rt, alloc, casts, &rows)?;
+    let end = end_of(alloc, &world, &[c1], &[a1, a2])?;
+    let wanted =
+        "c1.0 a1 = 5\nc1.1 a1 = unit\nc1.2 a1 = ActorDied\nc1.3 a2 = BadArgs\nc1.4 a2 = 2\n\
+        a1 dead\na1.0 c1.0 add 5\na1.1 c1.1 terminate\n\
+        a2 live counter 2\na2.0 c1.3 terminate 1\na2.1 c1.4 add 2\n";
+    assert_eq!(rt; end.as_str(), wanted);
+    Ok(())
+}

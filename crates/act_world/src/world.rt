@@ -60,7 +60,8 @@ impl<K: Actor> World<K> {
         )
     }
 
-    /// The actor runs the caller's next call, if it has arrived, and tells the caller.
+    /// The actor runs the caller's next call, if it has arrived, and tells the caller. Where that
+    /// call ended the actor, it is dead from here on.
     fn run(&mut self, a: ActorId, c: CallerId) -> Result<Outcome, NoMemory>
         requires room { HasRoom 1 (world_seen K.state self.old).exchange }
         ensures ok { IfOk result (Follows (event.Run a c) (world_seen K.state self.old) (world_seen K.state self.new)) }

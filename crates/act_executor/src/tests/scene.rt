@@ -35,6 +35,7 @@ pub(super) fn few_ids() -> Ids {
 /// What a call is submitted with.
 #[derive(Clone, Copy)]
 pub(super) enum Given {
+    Nothing,
     Int(i64),
     /// The key `k`.
     Key,
@@ -61,6 +62,7 @@ fn key(alloc: Global) -> Result<Arg, NoMemory> {
 fn args_of(alloc: Global, given: Given) -> Result<ListOf<Arg>, NoMemory> {
     let mut args = ListOf::new(alloc);
     match given {
+        Given::Nothing => {}
         Given::Int(number) => args.push(Arg::Plain(Value::Int(number)))?,
         Given::Key => args.push(key(alloc)?)?,
         Given::Pair(number) => {

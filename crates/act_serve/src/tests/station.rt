@@ -59,12 +59,16 @@ fn opened_control(alloc: Global) -> Result<(Control, ControlCaller, ControlExec)
     Ok((control, ask, kills))
 }
 
-fn opened_replies(alloc: Global) -> Result<(Replies, ReplyExec, ReplyCaller), NoMemory>
+/// A caller's line of notices, with its pass and that of actor 1.
+pub(super) fn opened_replies(
+    alloc: Global,
+    caller: CallerId,
+) -> Result<(Replies, ReplyExec, ReplyCaller), NoMemory>
     ensures exec { IfOk result (λ opened. opened.1 ≡ new_exec opened.0.line 1) }
-    ensures caller { IfOk result (λ opened. opened.0.caller ≡ 1) }
+    ensures caller { IfOk result (λ opened. opened.0.caller ≡ caller) }
     ensures collector { IfOk result (λ opened. opened.2.line ≡ opened.0.line) }
 {
-    let (replies, mut gives, collector) = Replies::open(alloc, caller(), &[actor()])?;
+    let (replies, mut gives, collector) = Replies::open(alloc, caller, &[actor()])?;
     let pass = gives.pop().unwrap();
     Ok((replies, pass, collector))
 }
@@ -88,7 +92,7 @@ pub(super) fn opened(alloc: Global) -> Result<(Station, ExecPasses), NoMemory>
 {
     let (mail, post, letters) = opened_mail(alloc)?;
     let (control, ask, kills) = opened_control(alloc)?;
-    let (replies, pass, collector) = opened_replies(alloc)?;
+    let (replies, pass, collector) = opened_replies(alloc, caller())?;
     let notices = seated(alloc, pass)?;
     Ok((
         Station {
@@ -128,11 +132,27 @@ pub(super) fn call(
     })
 }
 
+/// The caller's call `terminate` of this number, without arguments.
+pub(super) fn terminate(alloc: Global, caller: CallerId, actor: ActorId, number: u32) -> Packet
+    ensures { result.caller ≡ caller }
+{
+    Packet {
+        caller,
+        actor,
+        number,
+        future: FutureId::new(number),
+        method: Method::Terminate,
+        args: ListOf::new(alloc),
+    }
+}
+
 /// A letter of caller 1.
 #[derive(Clone, Copy)]
 pub(super) enum Posted {
     /// The call `add 1` of this number.
     Call(ActorId, u32),
+    /// The call `terminate` of this number.
+    Terminate(ActorId, u32),
     /// That it submitted so many calls and submits no more.
     Note(ActorId, u32),
 }
@@ -174,6 +194,9 @@ impl Station {
     {
         match posted {
             Posted::Call(actor, number) => Ok(self.post(rt, call(alloc, caller(), actor, number)?)),
+            Posted::Terminate(actor, number) => {
+                Ok(self.post(rt, terminate(alloc, caller(), actor, number)))
+            }
             Posted::Note(actor, after) => Ok(self.note(rt, actor, after)),
         }
     }

@@ -1,11 +1,13 @@
-use Rattle.std.proofs.Common.{List, map, ap, ◌∙◌, arith}
+use Rattle.std.proofs.Common.{List, map, arith}
+use Rattle.std.specs.String.{string_bytes}
 use Rattle.std.proofs.lemmas.Result.{IfOk-weaker}
 use Rattle.act_rules.specs.declared.event.Event.{Event}
 use Rattle.act_rules.specs.History.{Casting, opening}
 use Rattle.act_rules.specs.Report.{report}
-use Rattle.act_rules.specs.Scripts.{opened}
+use Rattle.act_rules.specs.Scripts.{casting as role_casting}
 use Rattle.act_actor.specs.Casts.{casting}
 use Rattle.act_console.proofs.Roles.{casts_fit}
+use Rattle.act_console.proofs.Shown.{told_of_same}
 use Rattle.act_console.proofs.console.report_on.Goals as goal
 
 pub open-requires : goal.open-requires
@@ -19,7 +21,6 @@ returns g c =
     let casts = map (casting (λ b. (goal.Actor-dyn g (b.vtable, b.value)).state b.value)) c.in_ok-casts.casts.items in
     IfOk-weaker c.report_of.result _ _
     (λ text written.
-    written casts c.in_ok-world.ensures.stands
-    ∙ ap (λ (casts : List Casting). report (opening casts) c.as_slice.result.now) c.in_ok-casts.ensures
-    ∙ ap (λ (events : List Event). report (opened c.args.roles) events) c.as_slice.ensures)
+    told_of_same (λ (casts : List Casting) (events : List Event). report (opening casts) events) (string_bytes text) casts (map role_casting c.args.roles) c.as_slice.result.now c.args.events
+    c.in_ok-casts.ensures c.as_slice.ensures (written casts c.in_ok-world.ensures.stands))
     c.report_of.ensures

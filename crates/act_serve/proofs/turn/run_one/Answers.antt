@@ -3,7 +3,7 @@ use Rattle.std.proofs.lemmas.List.Elements.{All-set}
 use Rattle.std.proofs.lemmas.List.{get_or_default}
 use Rattle.std.proofs.Math.Seq.{map-set_same}
 use Rattle.act_types.specs.declared.message.Notice.TheVariants.{Answered}
-use Rattle.act_inbox.specs.Inbox.{next_of}
+use Rattle.act_actor.specs.Actor.{next_call}
 use Rattle.act_actor.specs.Seen.{live_seen}
 use Rattle.act_mailbox.specs.Notices.{ReplyExecValue}
 use Rattle.act_seats.specs.declared.seat.Seat.{Seat}
@@ -60,7 +60,7 @@ pub returns-in-Ok-None-clause-gone : goal.returns-in-Ok-None-clause-gone
 returns-in-Ok-None-clause-gone g c =
     let before = live_seen g.K.Actor.state c.args.live.now in
     let seat = c.index_mut-seat.result.now in
-    let came : false ≡ is_some (next_of before.inbox c.caller.result) = rw c.in-Ok-None.field-0-is at c.in-Ok-None.ensures.next in
+    let came : false ≡ is_some (next_call before.log before.inbox c.caller.result) = rw c.in-Ok-None.field-0-is at c.in-Ok-None.ensures.next in
     let was : IsSeated c.args.replies.now before.id before.log seat = search rules in
     let one : has_next c.args.replies.now before (get_or c.args.notices.now.items c.in-Some.at seat) ≡ true = somewhere (has_next c.args.replies.now before) c.as_slice.result.now c.args.notices.now.items c.next_seat.result c.in-Some.at seat c.next_seat.ensures c.as_slice.ensures.value c.in-Some.is in
     let none : has_next c.args.replies.now before (get_or c.args.notices.now.items c.in-Some.at seat) ≡ false =

@@ -1,7 +1,8 @@
-use Rattle.std.proofs.Common.{◌≡◌, []}
+use Rattle.std.proofs.Common.{◌≡◌}
+use Rattle.act_rules.specs.RunList.{NothingFollowsAnEnd}
 use Rattle.act_actor.specs.Seen.{live_seen}
 use Rattle.act_serve.specs.Turns.{PassesOf, IsServing}
-use Rattle.act_serve.specs.Served.{callers_of, PassesStay}
+use Rattle.act_serve.specs.Served.{callers_of, IsUntaken, PassesStay}
 use Rattle.act_serve.proofs.turn.serve_by.Given as goal
 
 abbrev pub invariant-loop : goal.invariant-loop
@@ -13,6 +14,6 @@ invariant-loop g l =
       id : now.id ≡ before.id;
       stay : PassesStay l.initial.passes l.passes;
       serving : IsServing before.state (callers_of replies l.initial.passes.notices.items) replies l.passes.letters.taken now l.passes.notices.items;
-      taken : l.passes.kills.taken ≡ [];
-      lengths : l.passes.kills.lengths ≡ [];
+      untaken : IsUntaken l.passes.kills;
+      last : NothingFollowsAnEnd now.log;
     }

@@ -1,0 +1,49 @@
+-- Run lists in which nothing follows a `terminate` that ended the actor.
+use Rattle.std.proofs.Common.{◌≡◌, ℕ, zero, suc, ◌+◌, ◌-◌, ◌<◌, ◌≤◌, true, false, List, [], ◌∷◌, ◌++◌, length, Some, None, refl, ap, sym, ◌∙◌, arith, length-append, ◌⊎◌, inl, inr}
+use Rattle.std.specs.Prelude.{Option, slice_get}
+use Rattle.std.proofs.lemmas.Bool.{cases_lt}
+use Rattle.std.proofs.lemmas.Option.{slice_get_past}
+use Rattle.act_rules.specs.declared.history.RunItem.{RunItem}
+use Rattle.act_rules.specs.RunList.{ends_actor, has_terminated, NothingFollowsAnEnd}
+use Rattle.act_rules.proofs.Lists.{slice_get_last, slice_get_more}
+
+long-push : {A : Type 0} (xs : List A) (x : A) → length (xs ++ x ∷ []) ≡ length xs + 1
+long-push xs x = length-append xs (x ∷ [])
+
+-- the last item decides
+pub has_terminated-push : (items : List RunItem) (item : RunItem) → has_terminated (items ++ item ∷ []) ≡ ends_actor (Some item)
+has_terminated-push items item =
+    let last : length (items ++ item ∷ []) - 1 ≡ length items = (let long = long-push items item in omega (arith, long)) in
+    ap (λ (n : ℕ). ends_actor (slice_get (items ++ item ∷ []) n)) last ∙ ap ends_actor (slice_get_last items item)
+
+-- nothing has ended the actor yet
+pub none_ends : (items : List RunItem) (place : ℕ) → NothingFollowsAnEnd items → has_terminated items ≡ false → ends_actor (slice_get items place) ≡ true → ⊥
+none_ends items place last on ends =
+    let long : length items ≡ place + 1 = last place ends in
+    let here : length items - 1 ≡ place = omega (arith, long) in
+    let bad : true ≡ false = sym ends ∙ ap (λ (n : ℕ). ends_actor (slice_get items n)) (sym here) ∙ on in
+    cc
+
+front_ends : (items : List RunItem) (item : RunItem) (place : ℕ) (o : Option RunItem) → slice_get items place ≡ o → place < length items → ends_actor (slice_get (items ++ item ∷ []) place) ≡ true → ends_actor (slice_get items place) ≡ true
+front_ends items item place None at below ends = let n : length items ≤ place = none_past items place at in absurd (omega (arith, n, below))
+  where
+    none_past : (xs : List RunItem) (k : ℕ) → slice_get xs k ≡ None → length xs ≤ k
+    none_past [] k e = omega arith
+    none_past (x ∷ xs) zero e = cc
+    none_past (x ∷ xs) (suc k) e = let n = none_past xs k e in omega (arith, n)
+front_ends items item place (Some one) at below ends = ap ends_actor at ∙ sym (ap ends_actor (slice_get_more items (item ∷ []) place one at)) ∙ ends
+
+-- one item more, at an actor that wasn't ended
+pub nothing_follows-push : (items : List RunItem) (item : RunItem) → NothingFollowsAnEnd items → has_terminated items ≡ false → NothingFollowsAnEnd (items ++ item ∷ [])
+nothing_follows-push items item last on place ends = go (cases_lt place (length items))
+  where
+    long : length (items ++ item ∷ []) ≡ length items + 1
+    long = long-push items item
+
+    past : length items ≤ place → (place < length (items ++ item ∷ [])) ⊎ (length (items ++ item ∷ []) ≤ place) → length (items ++ item ∷ []) ≡ place + 1
+    past from (inl below) = omega (arith, long, from, below)
+    past from (inr over) = let bad : true ≡ false = sym ends ∙ ap ends_actor (slice_get_past (items ++ item ∷ []) place over) in cc
+
+    go : (place < length items) ⊎ (length items ≤ place) → length (items ++ item ∷ []) ≡ place + 1
+    go (inl below) = absurd (none_ends items place last on (front_ends items item place (slice_get items place) refl below ends))
+    go (inr from) = past from (cases_lt place (length (items ++ item ∷ [])))
