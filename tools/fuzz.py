@@ -37,10 +37,10 @@ NEARLY = {
     "@": ["@", "@00", "@01", "@-1", "@+1", "@4294967295", "@4294967296", "@@0", "@c1.0", "@ 0"],
     "0": ["05", "00", "-0", "+1", "-", "1.0", "0x1", "1_0", "4294967295", "4294967296", "-1", "-01"],
     "9": ["9223372036854775807", "9223372036854775808", "-9223372036854775808", "-9223372036854775809", "unit", "Unit", "9" * 400],
-    "w": ["await", "terminate", "unit", "counters", "Get", "ge", "list", "#", "actor", "take"],
+    "w": ["await", "terminate", "terminat", "unit", "counters", "Get", "ge", "list", "#", "actor", "take"],
 }
 COMMENT_BYTES = "\0\x08\t\r\x1f ~\x7f\x80\xff#"
-FOREIGN = ["await c1 0", "submit c1 a1 terminate", "actor a1 counter", "actor", "run", "retire a1 ", " take a1", "take a1 a2"]
+FOREIGN = ["await c1 0", "submit c1 a1 Terminate", "actor a1 counter", "actor", "run", "retire a1 ", " take a1", "take a1 a2"]
 ODD_BYTES = b" \n\t\r\0\x1f\x7e\x7f\x80\xff#\"@-+.019ac"
 
 # Each event: how often it is tried, and what follows its word: a caller, an actor or a number.
@@ -63,6 +63,7 @@ class Author:
         self.collected = set()
         self.eager = chance.choice([0, 0.2, 0.5, 0.8])
         self.futures = chance.choice([0, 0.1, 0.4])
+        self.ends = chance.choice([0, 0.03, 0.1])
 
     def role(self, actor):
         kind = self.chance.choice(sorted(reading.KINDS))
@@ -150,7 +151,15 @@ class Author:
             return self.chance.choice(KEYS[:2] if self.chance.random() < 0.7 else KEYS)
         return str(self.number())
 
+    def end(self, caller, actor):
+        """A call that ends the actor; or doesn't, since it has an argument."""
+        calls = self.world.callers[caller].calls if caller in self.world.callers else []
+        arguments = [self.argument("n", calls) for _ in range(self.chance.choice([0, 0, 0, 1, 2]))]
+        return self.write(" ".join(["submit", f"c{caller}", f"a{actor}", reading.END, *arguments]))
+
     def submit(self, caller, actor):
+        if self.chance.random() < self.ends:
+            return self.end(caller, actor)
         methods = self.world.actors[actor].kind.methods if actor in self.world.actors else {}
         known = methods and self.chance.random() < 0.93
         growing = [each for each in ("add", "put", "deposit", "push") if each in methods]
@@ -356,6 +365,7 @@ EVERY_FORM = """actor a1 counter c1
 actor a2 table c1 c2
 submit c1 a1 add 5
 submit c1 a2 put "k" @0
+submit c1 a1 terminate
 copy c1 a1
 release c1 a1
 send c1 0
@@ -399,6 +409,7 @@ FLOORS = {
     "refused NoReply": 80, "refused NoKill": 20, "refused NotDead": 40, "refused NotDrained": 30,
     "answer NoMethod": 20, "answer BadArgs": 50, "answer Overflow": 3, "answer NoKey": 20, "answer BadAmount": 15,
     "answer Insufficient": 8, "answer NoItems": 10, "answer NoItem": 12, "answer Dependency": 10, "answer ActorDied": 30, "answer unit": 30,
+    "an end": 30, "an end with an argument": 15,
 }  # fmt: skip
 
 
@@ -411,6 +422,8 @@ def reached(report):
             yield rest if words[0] == "refused" else words[0]
         elif " = " in line:
             yield "answer " + line.split(" = ")[1].partition("(")[0]
+        elif line.split(" ")[2:3] == [reading.END]:
+            yield "an end" if line.endswith(reading.END) else "an end with an argument"
 
 
 def too_seldom(reports):

@@ -171,7 +171,8 @@ class ItemList:
 
 
 KINDS = {"counter": Counter, "table": Table, "account": Account, "list": ItemList}
-METHODS = {method for kind in KINDS.values() for method in kind.methods}
+END = "terminate"  # no kind has it: the actor itself answers
+METHODS = {method for kind in KINDS.values() for method in kind.methods} | {END}
 
 
 def ask(kind, method, values):
@@ -188,9 +189,13 @@ def ask(kind, method, values):
 
 
 def answer_of(kind, method, arguments):
-    """What the kind answers; a call with a failed argument doesn't reach it, and names the first one's future."""
+    """What a call answers; one with a failed argument isn't asked, and names the first one's future."""
     failed = [each.number for each in arguments if isinstance(each, Future)]
-    return Fault(f"Dependency({failed[0]})") if failed else ask(kind, method, arguments)
+    if failed:
+        return Fault(f"Dependency({failed[0]})")
+    if method == END:
+        return Fault("BadArgs") if arguments else UNIT
+    return ask(kind, method, arguments)
 
 
 # The words of a script.
@@ -388,6 +393,9 @@ class Item:
         words += [f"!{each.number}" if isinstance(each, Future) else spelled(each) for each in self.arguments]
         return " ".join(words)
 
+    def ends_actor(self):
+        return self.call.method == END and not self.arguments
+
 
 @dataclass
 class Actor:
@@ -549,6 +557,8 @@ class World:
         arguments = list(submitter.settled(call))
         item = Item(call, arguments, answer_of(actor.kind, call.method, arguments))
         actor.ran.append(item)
+        if item.ends_actor():
+            actor.stage = "dead"
         return f"place {len(actor.ran) - 1} {self.notify(item)}"
 
     def notify(self, notice):
@@ -772,23 +782,27 @@ class Judge:
 
     def replay(self, name, actor):
         """Each item is answered as it stands in the run list; then the end must be right."""
+        if any(item.ends_actor() for item in actor.ran[:-1]):
+            raise NotAllowed(f"a{name} ran a call after a terminate")
         for item in actor.ran:
             item.answer = answer_of(actor.kind, item.call.method, item.arguments)
             if fault_of(item.call) != "ActorDied" and spelled(item.call.kept) != spelled(item.answer):
                 told = f"{item.call.spelled_future()} = {spelled(item.call.kept)}"
                 raise NotAllowed(f"{told}, but at its place a{name} answers {spelled(item.answer)}")
         if actor.stage == "dead":
-            self.judge_dead(name)
+            self.judge_dead(name, actor)
         elif self.ends[name] != f"retired {actor.kind.text()}":
             raise NotAllowed(f"'a{name} {self.ends[name]}' after a run list that leaves '{actor.kind.text()}'")
         elif len(actor.ran) != sum(len(caller.calls_to(name)) for caller in self.world.callers.values()):
             raise NotAllowed(f"a{name} retired before it ran all calls")
+        elif any(item.ends_actor() for item in actor.ran):
+            raise NotAllowed(f"a{name} retired after a terminate")
 
-    def judge_dead(self, name):
+    def judge_dead(self, name, actor):
         if self.ends[name] != "dead":
             raise NotAllowed(f"'a{name} {self.ends[name]}' says more than a death")
-        if name not in self.world.to_be_killed:
-            raise NotAllowed(f"a{name} is dead, and no plan has a kill of it")
+        if name not in self.world.to_be_killed and not any(item.ends_actor() for item in actor.ran):
+            raise NotAllowed(f"a{name} is dead, no plan has a kill of it, and it ran no terminate")
 
     def judge_call(self, call):
         """An answer comes of a run, and a death of a dead actor."""

@@ -1,7 +1,7 @@
 #!/usr/bin/env python3
 """Runs random plans in threads by the proved program, and judges each report by a second reading of the rules.
 
-    tools/threads.py [--seed N] [--count N] [--kills N] [--program PATH]
+    tools/threads.py [--seed N] [--count N] [--kills N] [--ends N] [--program PATH]
 
 A seed gives the same scripts each time. Most of them are plans of up to 16 callers and 8 actors, without a
 bad step; some have one, or a fault of the script. The judge (tools/reading_of_rules.py) says whether the rules
@@ -9,7 +9,8 @@ allow the report, and is tried itself: it must allow the worked reports, and ref
 tampered with. A run of more than 60 seconds is a failure. So are three things that the rules leave open: an actor
 of which a kill was asked and that retired, an answer of an actor after its death was collected, and a call that
 ran before the answers that it needed. Fails also where the scripts came too seldom to what they should try. The
-worked script of a kill is run many times, and the shares of its outcomes are printed.
+worked script of a kill is run many times, and the shares of its outcomes are printed; and so is that of an end that
+waits its turn, which must always leave the same.
 """
 import argparse
 import collections
@@ -29,6 +30,7 @@ TOP = pathlib.Path(__file__).resolve().parent.parent
 ROWS = TOP / "crates/ray_actors/thread_rows"
 EXAMPLES = TOP / "examples"
 KILL = ROWS / "kill.actors"
+END = ROWS / "terminate_waits_its_turn.actors"
 PROGRAM = TOP / "crates/ray_actors/out/ray_actors"
 
 AT_ONCE = 4
@@ -51,6 +53,7 @@ class Author(fuzz.Author):
         self.world = reading.Planned([self.role(actor) for actor in actors])
         self.pairs = [(caller, actor) for caller, named in self.world.callers.items() for actor in named.copies]
         self.futures = chance.choice([0, 0.1, 0.4, 0.7])
+        self.ends = chance.choice([0, 0, 0, 0.01, 0.05])
         self.kills = chance.choice([0, 0, 1, 3])
         self.slips = chance.choice([0, 0, 0, 0, 1])  # so many refused steps are written too
 
@@ -118,7 +121,7 @@ FLOORS = {
     "refused NoActor": 5, "refused NoHandle": 5, "refused TooManyArgs": 5, "refused BadFuture": 5, "refused NoFuture": 10,
     "answer NoMethod": 150, "answer BadArgs": 200, "answer Overflow": 50, "answer NoKey": 80, "answer BadAmount": 80,
     "answer Insufficient": 50, "answer NoItems": 40, "answer NoItem": 60, "answer Dependency": 100, "answer ActorDied": 50,
-    "answer unit": 80,
+    "answer unit": 80, "an end": 30, "an end with an argument": 30,
 }  # fmt: skip
 
 
@@ -159,6 +162,8 @@ def sorts_of_report(report):
                 yield f"{words[1]} after a call"
         elif words[2:3] == ["="]:
             yield "answer " + words[3].partition("(")[0]
+        elif words[2:3] == [reading.END]:
+            yield "an end" if len(words) == 3 else "an end with an argument"
 
 
 def too_seldom(gots):
@@ -282,6 +287,11 @@ def swapped(lines, one, other):
     return changed(changed(lines, one, lines[other]), other, lines[one])
 
 
+def ended(world):
+    """The actors that a call ended."""
+    return [name for name, actor in world.actors.items() if any(item.ends_actor() for item in actor.ran)]
+
+
 def retired(world):
     return [name for name, actor in world.actors.items() if actor.stage == "retired"]
 
@@ -389,7 +399,7 @@ def another_argument(chance, lines, world):
 
 
 def dead_without_a_kill(chance, lines, world):
-    name = chance.choice([name for name in world.actors if name not in world.to_be_killed])
+    name = chance.choice([name for name in retired(world) if name not in world.to_be_killed])
     (place,) = places(lines, f"a{name} ")
     return changed(lines, place, f"a{name} dead")
 
@@ -399,6 +409,22 @@ def retired_too_early(chance, lines, world):
     due = {name: sum(len(caller.calls_to(name)) for caller in world.callers.values()) for name in world.actors}
     dead = [name for name, actor in world.actors.items() if actor.stage == "dead" and len(actor.ran) < due[name]]
     name = chance.choice(dead)
+    (place,) = places(lines, f"a{name} ")
+    return changed(lines, place, f"a{name} retired {world.actors[name].kind.text()}")
+
+
+def call_after_a_terminate(chance, lines, world):
+    """One of the calls that were still to run when their actor ended stands after its end."""
+    name = chance.choice(ended(world))
+    actor = world.actors[name]
+    left = [call for caller in world.callers.values() for call in caller.calls_to(name) if call.number == actor.ran_of(call.caller)]
+    call = chance.choice([call for call in left if not call.arguments])
+    end = places(lines, f"a{name}[ .]")[-1]
+    return inserted(lines, end + 1, f"a{name}.{len(actor.ran)} {call.spelled_future()} {call.method}")
+
+
+def retired_after_a_terminate(chance, lines, world):
+    name = chance.choice(ended(world))
     (place,) = places(lines, f"a{name} ")
     return changed(lines, place, f"a{name} retired {world.actors[name].kind.text()}")
 
@@ -439,7 +465,7 @@ TAMPERS |= {
     for tamper in [
         calls_swapped, items_swapped, futures_swapped, another_number, death_of_a_retired_actor, answer_without_a_run,
         last_item_dropped, item_doubled, item_of_another_caller, item_of_another_actor, another_method, another_argument,
-        dead_without_a_kill, retired_too_early, another_state, line_dropped, line_doubled, empty_line, space_at_an_end,
+        dead_without_a_kill, retired_too_early, call_after_a_terminate, retired_after_a_terminate, another_state, line_dropped, line_doubled, empty_line, space_at_an_end,
         fault_of_good_plans,
     ]
 }  # fmt: skip
@@ -591,6 +617,16 @@ def judge_kills(program, count):
     return sum(wrong.values())
 
 
+def judge_ends(program, count):
+    """How many runs of the worked end leave something else than they must."""
+    wanted = END.with_suffix(".report").read_bytes(), 0
+    tallies = collections.Counter(runs(program, [END.read_bytes()] * count))
+    for got, number in tallies.items():
+        if got != wanted:
+            print(f"{number} of {count} ends left {got!r:.600}")
+    return count - tallies[wanted]
+
+
 def tell_trial(checks):
     """How many checks of the judge passed, and how many failed; the first few are shown."""
     passed = failed = 0
@@ -606,6 +642,7 @@ def chosen_options():
     options.add_argument("--seed", type=int, default=1)
     options.add_argument("--count", type=int, default=200, help="how many random scripts")
     options.add_argument("--kills", type=int, default=50, help="how many runs of the worked kill")
+    options.add_argument("--ends", type=int, default=200, help="how many runs of the worked end that waits its turn")
     options.add_argument("--program", type=pathlib.Path, default=PROGRAM)
     chosen = options.parse_args()
     if chosen.count < 100:
@@ -623,9 +660,9 @@ def main():
     seldom = list(too_seldom(right))
     print("".join(f"{failure}\n" for failure in seldom), end="")
     passed, failed = tell_trial([*trial_by_rows(), *trial_by_circles(), *trial_by_tampering(chosen.seed, right)])
-    wrong_kills = judge_kills(program, chosen.kills)
-    passed += len(scripts) - wrong + len(FLOORS) - len(seldom) + chosen.kills - wrong_kills
-    failed += wrong + len(seldom) + wrong_kills
+    wrong_kills, wrong_ends = judge_kills(program, chosen.kills), judge_ends(program, chosen.ends)
+    passed += len(scripts) - wrong + len(FLOORS) - len(seldom) + chosen.kills - wrong_kills + chosen.ends - wrong_ends
+    failed += wrong + len(seldom) + wrong_kills + wrong_ends
     print(f"threads: {passed} passed, {failed} failed")
     sys.exit(1 if failed else 0)
 
