@@ -7,9 +7,8 @@ use Rattle.act_types.specs.declared.message.Notice.{Notice}
 use Rattle.act_types.specs.declared.message.Notice.TheVariants.{Answered}
 use Rattle.act_rules.specs.declared.history.RunItem.{RunItem}
 use Rattle.act_rules.specs.Consistent.{IsFront}
-use Rattle.act_inbox.specs.Inbox.{next_of}
 use Rattle.act_actor.specs.Value.{ActorSeen}
-use Rattle.act_actor.specs.Actor.{item_of, reply_to, HasRun}
+use Rattle.act_actor.specs.Actor.{item_of, reply_to, next_call, HasRun}
 use Rattle.std.proofs.lemmas.List.Elements.{All-push}
 use Rattle.std.proofs.lemmas.List.Quantifiers.{all_pairs_push}
 use Rattle.act_mailbox.specs.Mails.{MailValue}
@@ -94,11 +93,11 @@ named caller before after (Some packet) reply is ran =
 same_front : (before after : ActorSeen) → after ≡ before → IsFront before.log after.log
 same_front before after same = ([], append-nil before.log ∙ sym (ap (λ (a : ActorSeen). a.log) same))
 
-pub run_named : {E : Type 0} (caller : ℕ) (before after : ActorSeen) (result : Result (Option Reply) E) → IfOk result (λ reply. reply ≡ option_map (reply_to before) (next_of before.inbox caller)) → OnOk result (IfSome (next_of before.inbox caller) (λ packet. HasRun caller packet before after)) → IfOk result (λ reply. IfNone reply (after ≡ before)) → OnErr result (after ≡ before)
+pub run_named : {E : Type 0} (caller : ℕ) (before after : ActorSeen) (result : Result (Option Reply) E) → IfOk result (λ reply. reply ≡ option_map (reply_to before) (next_call before.log before.inbox caller)) → OnOk result (IfSome (next_call before.log before.inbox caller) (λ packet. HasRun caller packet before after)) → IfOk result (λ reply. IfNone reply (after ≡ before)) → OnErr result (after ≡ before)
     → (after.id ≡ before.id) × IsFront before.log after.log × IfOk result (λ ran. IfSome ran (λ reply. (reply.actor ≡ before.id) × NamesPlace after.log (Answered reply)))
 run_named caller before after (Err e) told ran gap same = (ap (λ (a : ActorSeen). a.id) same, same_front before after same, tt)
 run_named caller before after (Ok None) told ran gap same = (ap (λ (a : ActorSeen). a.id) gap, same_front before after gap, tt)
-run_named caller before after (Ok (Some reply)) told ran gap same = named caller before after (next_of before.inbox caller) reply told ran
+run_named caller before after (Ok (Some reply)) told ran gap same = named caller before after (next_call before.log before.inbox caller) reply told ran
 
 pub given_on : (result : Result Unit Notice) (old new : ReplyExecValue) (log : List RunItem) (reply : Reply) → OnOk result (new ≡ record old { given = old.given ++ Answered reply ∷ []; seen = log }) → OnErr result (new ≡ old) → IsFront old.seen log → All IsReply old.given
     → (new.line ≡ old.line) × (new.actor ≡ old.actor) × IsFront new.seen log × All IsReply new.given
