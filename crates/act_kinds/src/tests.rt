@@ -96,7 +96,12 @@ fn counter_rows(rt: HostRuntime) -> Result<(), Fail> {
             "counter 4",
         ),
         (Method::Add, &[Word::Unit], Err(Fault::BadArgs), "counter 4"),
-        (Method::Terminate, &[], Err(Fault::NoMethod), "counter 4"),
+        (
+            Method::Terminate,
+            &[Word::Unit],
+            Err(Fault::NoMethod),
+            "counter 4",
+        ),
     ];
     play(&rt, rt.alloc(), &mut counter, &rows)?;
     Ok(())
