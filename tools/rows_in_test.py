@@ -2,7 +2,8 @@
 """Writes the worked scripts beside the program into the tables that act_console's tests run.
 
 The scripts of events make one table, and those for threads another, but for those whose report depends
-on the schedule. `--check` writes nothing, and ends with status 1 where a table is not that of the scripts.
+on the schedule. The scripts of an end that waits its turn are left to tools/rows.py: with them the
+table is more than the check of one declaration can read. `--check` writes nothing, and ends with status 1 where a table is not that of the scripts.
 """
 import pathlib
 import sys
@@ -50,6 +51,7 @@ def row(path):
 def table(head, folder):
     """The whole file of the scripts in a folder; in threads of those with a fixed report."""
     paths = sorted(path for path in folder.glob("*.actors") if folder == ROWS or path.with_suffix(".report").exists())
+    paths = [path for path in paths if not path.stem.startswith("terminate_")]
     return head + f"pub const ROWS: [Row; {len(paths)}] = [\n" + "".join(map(row, paths)) + "];\n"
 
 

@@ -9,7 +9,7 @@ pub struct Row {
     pub answer: Result<(), ConsoleFault>,
 }
 
-pub const ROWS: [Row; 62] = [
+pub const ROWS: [Row; 55] = [
     // a_failed_argument
     Row {
         script: "actor a1 table c1\nsubmit c1 a1 get \"x\"\nsend c1 0\ndeliver 0\nrun a1 c1\ncollect 0\nsubmit c1 a1 put \"y\" @0\nsubmit c1 a1 size\nsend c1 1\nsend c1 2\ndeliver 2\nrun a1 c1\ndeliver 1\nrun a1 c1\nrun a1 c1\ncollect 1\ncollect 2\n",
@@ -332,48 +332,6 @@ pub const ROWS: [Row; 62] = [
     Row {
         script: "actor a1 table c1\nsubmit c1 a1 put \"k\" 5\nsubmit c1 a1 get \"k\"\nsend c1 0\nsend c1 1\ndeliver 1\ndeliver 0\nrun a1 c1\nrun a1 c1\ncollect 1\ncollect 0\n",
         output: "0: future c1.0\n1: future c1.1\n2: mail 0\n3: mail 1\n4: new\n5: new\n6: place 0 reply 0\n7: place 1 reply 1\n8: kept c1.1\n9: kept c1.0\nc1.0 a1 = unit\nc1.1 a1 = 5\na1 live table \"k\" 5\na1.0 c1.0 put \"k\" 5\na1.1 c1.1 get \"k\"\n",
-        answer: Ok(()),
-    },
-    // terminate_before_a_kill_is_taken
-    Row {
-        script: "actor a1 list c1\nsubmit c1 a1 push 4\nsubmit c1 a1 terminate\nsend c1 0\nsend c1 1\ndeliver 0\ndeliver 1\nkill c1 a1\nrun a1 c1\nrun a1 c1\ntake a1\ntell a1 c1\ncollect 2\ncollect 1\ncollect 0\n",
-        output: "0: future c1.0\n1: future c1.1\n2: mail 0\n3: mail 1\n4: new\n5: new\n6: asked\n7: place 0 reply 0\n8: place 1 reply 1\n9: refused ActorEnded\n10: reply 2\n11: died 2\n12: late c1.1\n13: late c1.0\nc1.0 a1 = ActorDied\nc1.1 a1 = ActorDied\na1 dead\na1.0 c1.0 push 4\na1.1 c1.1 terminate\n",
-        answer: Ok(()),
-    },
-    // terminate_held_by_a_gap
-    Row {
-        script: "actor a1 counter c1\nsubmit c1 a1 add 5\nsubmit c1 a1 terminate\nsend c1 0\nsend c1 1\ndeliver 1\nrun a1 c1\ntell a1 c1\ndeliver 0\nrun a1 c1\nrun a1 c1\ndeliver 0\ncollect 0\ncollect 1\n",
-        output: "0: future c1.0\n1: future c1.1\n2: mail 0\n3: mail 1\n4: new\n5: gap\n6: refused NotDead\n7: new\n8: place 0 reply 0\n9: place 1 reply 1\n10: refused ActorEnded\n11: kept c1.0\n12: kept c1.1\nc1.0 a1 = 5\nc1.1 a1 = unit\na1 dead\na1.0 c1.0 add 5\na1.1 c1.1 terminate\n",
-        answer: Ok(()),
-    },
-    // terminate_leaves_nothing_to_retire
-    Row {
-        script: "actor a1 account c1\nsubmit c1 a1 terminate\nrelease c1 a1\nsend c1 0\ndeliver 0\ndeliver 1\nretire a1\nrun a1 c1\nretire a1\ndeliver 0\ntell a1 c1\ncollect 0\n",
-        output: "0: future c1.0\n1: mail 0\n2: mail 1\n3: new\n4: new\n5: refused NotDrained\n6: place 0 reply 0\n7: refused ActorEnded\n8: refused ActorEnded\n9: reply 1\n10: kept c1.0\nc1.0 a1 = unit\na1 dead\na1.0 c1.0 terminate\n",
-        answer: Ok(()),
-    },
-    // terminate_waits_its_turn
-    Row {
-        script: "actor a1 counter c1\nsubmit c1 a1 add 5\nsubmit c1 a1 terminate\nsubmit c1 a1 add 1\nsend c1 0\nsend c1 1\nsend c1 2\ndeliver 2\ndeliver 1\ndeliver 0\nrun a1 c1\nrun a1 c1\nrun a1 c1\ncollect 0\ncollect 1\ntell a1 c1\ncollect 2\n",
-        output: "0: future c1.0\n1: future c1.1\n2: future c1.2\n3: mail 0\n4: mail 1\n5: mail 2\n6: new\n7: new\n8: new\n9: place 0 reply 0\n10: place 1 reply 1\n11: refused ActorEnded\n12: kept c1.0\n13: kept c1.1\n14: reply 2\n15: died 1\nc1.0 a1 = 5\nc1.1 a1 = unit\nc1.2 a1 = ActorDied\na1 dead\na1.0 c1.0 add 5\na1.1 c1.1 terminate\n",
-        answer: Ok(()),
-    },
-    // terminate_with_an_argument
-    Row {
-        script: "actor a1 counter c1\nsubmit c1 a1 terminate 1\nsubmit c1 a1 add 2\nsend c1 0\nsend c1 1\ndeliver 0\ndeliver 1\nrun a1 c1\nrun a1 c1\ncollect 0\ncollect 1\n",
-        output: "0: future c1.0\n1: future c1.1\n2: mail 0\n3: mail 1\n4: new\n5: new\n6: place 0 reply 0\n7: place 1 reply 1\n8: kept c1.0\n9: kept c1.1\nc1.0 a1 = BadArgs\nc1.1 a1 = 2\na1 live counter 2\na1.0 c1.0 terminate 1\na1.1 c1.1 add 2\n",
-        answer: Ok(()),
-    },
-    // terminate_with_calls_of_another_held
-    Row {
-        script: "actor a1 counter c1 c2\nsubmit c1 a1 terminate\nsubmit c2 a1 add 1\nsubmit c2 a1 add 2\nsend c2 0\nsend c2 1\nsend c1 0\ndeliver 0\ndeliver 2\nrun a1 c1\nrun a1 c2\ndeliver 1\ntell a1 c2\ntell a1 c1\ncollect 0\ncollect 1\ncollect 2\nsubmit c1 a1 get\nsubmit c2 a1 get\n",
-        output: "0: future c1.0\n1: future c2.0\n2: future c2.1\n3: mail 0\n4: mail 1\n5: mail 2\n6: new\n7: new\n8: place 0 reply 0\n9: refused ActorEnded\n10: refused ActorEnded\n11: reply 1\n12: reply 2\n13: kept c1.0\n14: died 2\n15: died 0\n16: future c1.1\n17: future c2.2\nc1.0 a1 = unit\nc1.1 a1 = ActorDied\nc2.0 a1 = ActorDied\nc2.1 a1 = ActorDied\nc2.2 a1 = ActorDied\na1 dead\na1.0 c1.0 terminate\n",
-        answer: Ok(()),
-    },
-    // terminate_with_failed_arguments
-    Row {
-        script: "actor a1 table c1\nsubmit c1 a1 get \"x\"\nsubmit c1 a1 size\nsend c1 0\nsend c1 1\ndeliver 0\ndeliver 1\nrun a1 c1\nrun a1 c1\ncollect 0\ncollect 1\nsubmit c1 a1 terminate @0\nsubmit c1 a1 terminate @1\nsubmit c1 a1 terminate 1 @0\nsubmit c1 a1 size\nsend c1 2\nsend c1 3\nsend c1 4\nsend c1 5\ndeliver 2\ndeliver 3\ndeliver 4\ndeliver 5\nrun a1 c1\nrun a1 c1\nrun a1 c1\nrun a1 c1\ncollect 2\ncollect 3\ncollect 4\ncollect 5\n",
-        output: "0: future c1.0\n1: future c1.1\n2: mail 0\n3: mail 1\n4: new\n5: new\n6: place 0 reply 0\n7: place 1 reply 1\n8: kept c1.0\n9: kept c1.1\n10: future c1.2\n11: future c1.3\n12: future c1.4\n13: future c1.5\n14: mail 2\n15: mail 3\n16: mail 4\n17: mail 5\n18: new\n19: new\n20: new\n21: new\n22: place 2 reply 2\n23: place 3 reply 3\n24: place 4 reply 4\n25: place 5 reply 5\n26: kept c1.2\n27: kept c1.3\n28: kept c1.4\n29: kept c1.5\nc1.0 a1 = NoKey\nc1.1 a1 = 0\nc1.2 a1 = Dependency(0)\nc1.3 a1 = BadArgs\nc1.4 a1 = Dependency(0)\nc1.5 a1 = 0\na1 live table\na1.0 c1.0 get \"x\"\na1.1 c1.1 size\na1.2 c1.2 terminate !0\na1.3 c1.3 terminate 0\na1.4 c1.4 terminate 1 !0\na1.5 c1.5 size\n",
         answer: Ok(()),
     },
     // two_failed_arguments

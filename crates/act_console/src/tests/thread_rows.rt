@@ -3,7 +3,7 @@
 use super::rows::Row;
 use crate::fault::ConsoleFault;
 
-pub const ROWS: [Row; 38] = [
+pub const ROWS: [Row; 35] = [
     // a_failed_argument
     Row {
         script: "actor a1 table c1\nactor a2 list c1\nsubmit c1 a1 get \"x\"\nsubmit c1 a2 push @0\nsubmit c1 a2 push @1\nsubmit c1 a2 len\n",
@@ -194,24 +194,6 @@ pub const ROWS: [Row; 38] = [
     Row {
         script: "actor a1 list c2\nsubmit c2 a1 push \"\"\"\nsubmit c2 a1 at 0",
         output: "c2.0 a1 = 1\nc2.1 a1 = \"\"\"\na1 retired list \"\"\"\na1.0 c2.0 push \"\"\"\na1.1 c2.1 at 0\n",
-        answer: Ok(()),
-    },
-    // terminate_before_other_calls
-    Row {
-        script: "actor a1 counter c1\nsubmit c1 a1 terminate\nsubmit c1 a1 get\nawait c1 1\nsubmit c1 a1 get\n",
-        output: "c1.0 a1 = unit\nc1.1 a1 = ActorDied\nc1.2 a1 = ActorDied\na1 dead\na1.0 c1.0 terminate\n",
-        answer: Ok(()),
-    },
-    // terminate_waits_its_turn
-    Row {
-        script: "actor a1 counter c1\nsubmit c1 a1 add 5\nsubmit c1 a1 terminate\n",
-        output: "c1.0 a1 = 5\nc1.1 a1 = unit\na1 dead\na1.0 c1.0 add 5\na1.1 c1.1 terminate\n",
-        answer: Ok(()),
-    },
-    // terminate_with_an_argument
-    Row {
-        script: "actor a1 counter c1\nsubmit c1 a1 add 5\nsubmit c1 a1 terminate @0\nsubmit c1 a1 get\n",
-        output: "c1.0 a1 = 5\nc1.1 a1 = BadArgs\nc1.2 a1 = 5\na1 retired counter 5\na1.0 c1.0 add 5\na1.1 c1.1 terminate 5\na1.2 c1.2 get\n",
         answer: Ok(()),
     },
     // three_callers
