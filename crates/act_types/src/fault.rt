@@ -6,19 +6,32 @@ ghost use Rattle.act_types.specs.Texts.{fault_text};
 use crate::{FutureId, Value};
 use std::fmt;
 
-/// Why a call has no value.
+/// Why a call has no value. `ActorDied` is after `ActorDiedError` of Ray; that an argument's fault
+/// is the call's is so in Ray, too, which raises the task's own error. The others are those of the
+/// kinds here.
 #[derive(Clone, Copy, Debug, PartialEq, Eq)]
 pub enum Fault {
+    /// The kind has no such method.
     NoMethod,
+    /// The method doesn't take these arguments.
     BadArgs,
+    /// The number would leave the range of an `i64`.
     Overflow,
+    /// The table has nothing under this key.
     NoKey,
+    /// The amount is not above 0.
     BadAmount,
+    /// The account holds less.
     Insufficient,
+    /// The list is empty.
     NoItems,
+    /// The list has nothing at this place.
     NoItem,
+    /// The table or the list holds as much as it may.
     KindFull,
+    /// This future was an argument, and has a fault.
     Dependency(FutureId),
+    /// The actor was dead before the caller had the answer.
     ActorDied,
 }
 

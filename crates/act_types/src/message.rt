@@ -10,6 +10,7 @@ use std::alloc::Global;
 pub struct Packet {
     pub caller: CallerId,
     pub actor: ActorId,
+    /// How many of the caller's calls to this actor came before it.
     pub number: u32,
     pub future: FutureId,
     pub method: Method,
@@ -35,6 +36,7 @@ pub struct Reply {
     pub actor: ActorId,
     pub caller: CallerId,
     pub future: FutureId,
+    /// The call's place in the actor's run list, from 0.
     pub place: u32,
     pub answer: Answer,
 }
@@ -65,6 +67,7 @@ impl CopyOf for Reply {
 #[derive(Debug, Drop, PartialEq, Eq)]
 pub enum Notice {
     Answered(Reply),
+    /// This actor is dead, and runs nothing more.
     Death(ActorId),
 }
 
@@ -82,6 +85,7 @@ impl CopyOf for Notice {
 pub struct ReleaseNote {
     pub caller: CallerId,
     pub actor: ActorId,
+    /// How many calls the caller submitted to the actor in all.
     pub after: u32,
 }
 
