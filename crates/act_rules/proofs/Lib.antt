@@ -14,6 +14,7 @@ pub mod Unique
 pub mod Sound
 pub mod Retired
 pub mod RanAll
+pub mod Limits
 pub mod Table
 pub mod Numbers
 pub mod Marks

@@ -1,7 +1,8 @@
 -- What a plan submits is what a world takes of its events.
 use Rattle.std.proofs.Common.{◌≡◌, ◌≢◌, ℕ, suc, ◌<◌, Bool, true, false, cond, List, [], ◌∷◌, ◌++◌, length, Some, None, refl, sym, ap, subst, ◌∙◌, arith, append-nil}
-use Rattle.std.specs.Prelude.{Option, ◌==◌, ◌&&◌, ◌||◌, map, filter, find, is_some, option_map, slice_index_or, AllPairs}
-use Rattle.std.specs.List.{list_any}
+use Rattle.std.specs.Prelude.{Option, ◌==◌, ◌&&◌, ◌||◌, not, map, filter, find, is_some, option_map, option_and_then, nat_lt, nat_le, slice_get, slice_index_or, All, AllPairs}
+use Rattle.std.specs.Option.{option_or}
+use Rattle.std.specs.List.{list_all, list_any}
 use Rattle.std.proofs.lemmas.Bool.{eqb-true, eq-eqb}
 use Rattle.act_types.specs.declared.call.Arg.{Arg}
 use Rattle.act_types.specs.declared.call.Method.{Method}
@@ -9,15 +10,22 @@ use Rattle.act_rules.specs.declared.history.RunItem.{RunItem}
 use Rattle.act_rules.specs.declared.event.Event.{Event}
 use Rattle.act_rules.specs.declared.event.Event.TheVariants.{Submit, Copy, Release, Send, Deliver, Run, Collect, AskKill, TakeKill, Tell, Retire}
 use Rattle.act_rules.specs.declared.outcome.WorldRefusal.{WorldRefusal}
-use Rattle.act_rules.specs.declared.outcome.WorldRefusal.TheVariants.{Submit as SubmitRefused, Handle, NoCaller}
+use Rattle.act_rules.specs.declared.outcome.WorldRefusal.TheVariants.{Submit as SubmitRefused, Handle, Sending, NoCaller, NoReply, ActorEnded, NoKill, NotDead, NotDrained}
+use Rattle.act_rules.specs.declared.outcome.HandleRefusal.{HandleRefusal}
+use Rattle.act_rules.specs.declared.outcome.HandleRefusal.TheVariants.{NoActor}
+use Rattle.act_rules.specs.declared.outcome.SendRefusal.{SendRefusal}
+use Rattle.act_rules.specs.declared.outcome.SubmitRefusal.{SubmitRefusal}
+use Rattle.act_rules.specs.declared.outcome.SubmitRefusal.TheVariants.{NoActor as NoSuchActor, NoHandle as NoCopy, TooManyArgs, BadFuture, TooManyCalls, PendingLimit}
+use Rattle.act_rules.specs.declared.history.Letter.{Letter}
 use Rattle.act_rules.specs.declared.script.Role.{Role}
 use Rattle.act_rules.specs.declared.script.Step.{Step}
 use Rattle.act_rules.specs.declared.script.Step.TheVariants as step
-use Rattle.act_rules.specs.Submissions.{needs, handle_refusal, copy_refusal, submit_refusal}
-use Rattle.act_rules.specs.History.{Casting, History, opening, contains, names, actors_naming, is_caller, under, times, copies_of, calls_of, next_item}
-use Rattle.act_rules.specs.Plans.{Progress, nothing_done, occurrences, holds, is_refused, stepped, done_by, planned, events_of, is_planned_by}
-use Rattle.act_rules.specs.Rules.{refusal_of, added, after_by, after, after_run, after_all}
+use Rattle.act_rules.specs.Submissions.{needs, copies_held, handle_refusal, copy_refusal, submit_refusal, limit_refusal, send_refusal, is_earlier}
+use Rattle.act_rules.specs.History.{Casting, History, opening, contains, cast_of, names, actors_naming, is_caller, under, times, copies_of, limit_of, calls_of, kept_of, is_dead, is_ended, is_drained, next_item}
+use Rattle.act_rules.specs.Plans.{Progress, nothing_done, occurrences, holds, is_refused, stepped, done_by, planned, events_of, is_limit, is_held_back, let_through, is_planned_by}
+use Rattle.act_rules.specs.Rules.{actor_of, was_sent, deliver_refusal, unanswered, submission_refusal, refusal_of, added, after_by, after, after_run, after_all}
 use Rattle.act_rules.specs.Scripts.{casting, actors_of}
+use Rattle.act_rules.proofs.Growth.{added_grows}
 use Rattle.act_rules.proofs.Steps.{after_keeps}
 use Rattle.act_rules.proofs.Ended.{under-push}
 
@@ -145,6 +153,27 @@ gate true stranger f None h = refl
 gate true stranger f (Some r) h = refl
 gate false stranger f o h = sym (h refl)
 
+-- the refusal of a caller that is known, where it isn't that of a limit
+limit_gate : (known : Bool) (refusal : Option SubmitRefusal) (limit : Option ℕ) (pending : ℕ)
+    → is_limit (needs known NoCaller (option_map SubmitRefused (option_or refusal (limit_refusal limit pending)))) ≡ false → (known ≡ false → is_some refusal ≡ true)
+    → is_some (needs known NoCaller (option_map SubmitRefused (option_or refusal (limit_refusal limit pending)))) ≡ is_some refusal
+limit_gate true None None pending e h = refl
+limit_gate true None (Some limit) pending e h = go (nat_lt pending limit) e
+  where
+    go : (b : Bool) → is_limit (option_map SubmitRefused (needs b PendingLimit None)) ≡ false → is_some (option_map SubmitRefused (needs b PendingLimit None)) ≡ false
+    go true e = refl
+    go false e = cc
+limit_gate true (Some refusal) limit pending e h = refl
+limit_gate false refusal limit pending e h = sym (h refl)
+
+-- a submission that a limit holds back leaves the history
+held_leaves : (P : History → Type 0) (h : History) (event : Event) → is_held_back h event ≡ true → P h → P (after h event)
+held_leaves P h event e held = go (refusal_of h event) e
+  where
+    go : (o : Option WorldRefusal) → is_limit o ≡ true → P (after_by h event o)
+    go None e = cc
+    go (Some refusal) e = held
+
 module _ (c : ℕ) (casts : List Casting) (differ : Differ casts) where
   copies_is : (a : ℕ) (h : History) (p : Progress) → Agrees c casts h p → copies_of c a h ≡ holds a (actors_naming c casts) p
   copies_is a h p agrees = rw (agrees.opened, names_is c a casts differ, times-under c a h.copied, times-under c a h.released, agrees.copied, agrees.released) refl
@@ -153,10 +182,14 @@ module _ (c : ℕ) (casts : List Casting) (differ : Differ casts) where
   holds_none : (a : ℕ) (h : History) (p : Progress) → Agrees c casts h p → is_caller c h ≡ false → holds a (actors_naming c casts) p ≡ None
   holds_none a h p agrees e = let none : actors_naming c casts ≡ [] = nobody c casts (ap (λ cs. list_any (λ x. contains c x.callers) cs) (sym agrees.opened) ∙ e) in rw none refl
 
-  submission_refused : (a : ℕ) (method : Method) (args : List Arg) (h : History) (p : Progress) → Agrees c casts h p
+  submission_refused : (a : ℕ) (method : Method) (args : List Arg) (h : History) (p : Progress) → is_held_back h (Submit c a method args) ≡ false → Agrees c casts h p
       → is_some (refusal_of h (Submit c a method args)) ≡ is_refused (actors_naming c casts) p (step.Submit a method args)
-  submission_refused a method args h p agrees =
-      rw (copies_is a h p agrees, agrees.submitted) (gate (is_caller c h) NoCaller SubmitRefused (submit_refusal (holds a (actors_naming c casts) p) (length p.submitted) args) (λ e. rw (holds_none a h p agrees e) refl))
+  submission_refused a method args h p through agrees =
+      let same : submit_refusal (copies_of c a h) (length (calls_of c h)) args ≡ submit_refusal (holds a (actors_naming c casts) p) (length p.submitted) args
+      = rw (copies_is a h p agrees, agrees.submitted) refl in
+      limit_gate (is_caller c h) (submit_refusal (copies_of c a h) (length (calls_of c h)) args) (limit_of c a h) (unanswered c a h) through
+      (λ e. ap is_some same ∙ rw (holds_none a h p agrees e) refl)
+      ∙ ap is_some same
 
   copy_refused : (a : ℕ) (h : History) (p : Progress) → Agrees c casts h p → is_some (refusal_of h (Copy c a)) ≡ is_refused (actors_naming c casts) p (step.Copy a)
   copy_refused a h p agrees = rw (copies_is a h p agrees) (gate (is_caller c h) NoCaller Handle (copy_refusal (holds a (actors_naming c casts) p)) (λ e. rw (holds_none a h p agrees e) refl))
@@ -164,10 +197,10 @@ module _ (c : ℕ) (casts : List Casting) (differ : Differ casts) where
   release_refused : (a : ℕ) (h : History) (p : Progress) → Agrees c casts h p → is_some (refusal_of h (Release c a)) ≡ is_refused (actors_naming c casts) p (step.Release a)
   release_refused a h p agrees = rw (copies_is a h p agrees) (gate (is_caller c h) NoCaller Handle (handle_refusal (holds a (actors_naming c casts) p)) (λ e. rw (holds_none a h p agrees e) refl))
 
-  own_submission : (a : ℕ) (method : Method) (args : List Arg) (h : History) (p : Progress) → Agrees c casts h p
+  own_submission : (a : ℕ) (method : Method) (args : List Arg) (h : History) (p : Progress) → is_held_back h (Submit c a method args) ≡ false → Agrees c casts h p
       → Agrees c casts (after h (Submit c a method args)) (next (actors_naming c casts) p (step.Submit a method args))
-  own_submission a method args h p agrees =
-      both_refused (Agrees c casts) h (added h (Submit c a method args)) p (stepped p (step.Submit a method args)) (Submit c a method args) _ (submission_refused a method args h p agrees) refl agrees (record {
+  own_submission a method args h p through agrees =
+      both_refused (Agrees c casts) h (added h (Submit c a method args)) p (stepped p (step.Submit a method args)) (Submit c a method args) _ (submission_refused a method args h p through agrees) refl agrees (record {
         opened = agrees.opened;
         submitted = own c h.submitted _ p.submitted agrees.submitted;
         copied = agrees.copied;
@@ -208,21 +241,22 @@ module _ (c : ℕ) (casts : List Casting) (differ : Differ casts) where
   quiet : (h : History) (event : Event) (p : Progress) → Agrees c casts h p → Agrees c casts (added h event) p → Agrees c casts (after h event) p
   quiet h event p agrees later = after_keeps (λ g. Agrees c casts g p) h event agrees (λ _. later)
 
-  -- each event
-  moves : (h : History) (event : Event) (p : Progress) → Agrees c casts h p → Agrees c casts (after h event) (moved c (actors_naming c casts) p event)
-  moves h (Submit d a method args) p agrees = go (d == c) refl
+  -- each event that no limit holds back
+  moves : (h : History) (event : Event) (p : Progress) → is_held_back h event ≡ false → Agrees c casts h p → Agrees c casts (after h event) (moved c (actors_naming c casts) p event)
+  moves h (Submit d a method args) p through agrees = go (d == c) refl
     where
       go : (mine : Bool) → (d == c) ≡ mine → Agrees c casts (after h (Submit d a method args)) (cond mine (next (actors_naming c casts) p (step.Submit a method args)) p)
       go true e =
           let same : d ≡ c = eqb-true d c e in
-          subst (λ x. Agrees c casts (after h (Submit x a method args)) (next (actors_naming c casts) p (step.Submit a method args))) (sym same) (own_submission a method args h p agrees)
+          let own_through = subst (λ x. is_held_back h (Submit x a method args) ≡ false) same through in
+          subst (λ x. Agrees c casts (after h (Submit x a method args)) (next (actors_naming c casts) p (step.Submit a method args))) (sym same) (own_submission a method args h p own_through agrees)
       go false e = quiet h (Submit d a method args) p agrees (record {
         opened = agrees.opened;
         submitted = others c d h.submitted _ p.submitted e agrees.submitted;
         copied = agrees.copied;
         released = agrees.released;
       })
-  moves h (Copy d a) p agrees = go (d == c) refl
+  moves h (Copy d a) p through agrees = go (d == c) refl
     where
       go : (mine : Bool) → (d == c) ≡ mine → Agrees c casts (after h (Copy d a)) (cond mine (next (actors_naming c casts) p (step.Copy a)) p)
       go true e = let same : d ≡ c = eqb-true d c e in subst (λ x. Agrees c casts (after h (Copy x a)) (next (actors_naming c casts) p (step.Copy a))) (sym same) (own_copy a h p agrees)
@@ -232,7 +266,7 @@ module _ (c : ℕ) (casts : List Casting) (differ : Differ casts) where
         copied = others c d h.copied _ p.copied e agrees.copied;
         released = agrees.released;
       })
-  moves h (Release d a) p agrees = go (d == c) refl
+  moves h (Release d a) p through agrees = go (d == c) refl
     where
       go : (mine : Bool) → (d == c) ≡ mine → Agrees c casts (after h (Release d a)) (cond mine (next (actors_naming c casts) p (step.Release a)) p)
       go true e = let same : d ≡ c = eqb-true d c e in subst (λ x. Agrees c casts (after h (Release x a)) (next (actors_naming c casts) p (step.Release a))) (sym same) (own_release a h p agrees)
@@ -242,18 +276,26 @@ module _ (c : ℕ) (casts : List Casting) (differ : Differ casts) where
         copied = agrees.copied;
         released = others c d h.released _ p.released e agrees.released;
       })
-  moves h (Send d k) p agrees = quiet h (Send d k) p agrees (alike h _ p refl refl refl refl agrees)
-  moves h (Deliver i) p agrees = quiet h (Deliver i) p agrees (alike h _ p refl refl refl refl agrees)
-  moves h (Run a d) p agrees = quiet h (Run a d) p agrees (run_agrees a d h p (next_item a d h) agrees)
-  moves h (Collect j) p agrees = quiet h (Collect j) p agrees (alike h _ p refl refl refl refl agrees)
-  moves h (AskKill d a) p agrees = quiet h (AskKill d a) p agrees (alike h _ p refl refl refl refl agrees)
-  moves h (TakeKill a) p agrees = quiet h (TakeKill a) p agrees (alike h _ p refl refl refl refl agrees)
-  moves h (Tell a d) p agrees = quiet h (Tell a d) p agrees (alike h _ p refl refl refl refl agrees)
-  moves h (Retire a) p agrees = quiet h (Retire a) p agrees (alike h _ p refl refl refl refl agrees)
+  moves h (Send d k) p through agrees = quiet h (Send d k) p agrees (alike h _ p refl refl refl refl agrees)
+  moves h (Deliver i) p through agrees = quiet h (Deliver i) p agrees (alike h _ p refl refl refl refl agrees)
+  moves h (Run a d) p through agrees = quiet h (Run a d) p agrees (run_agrees a d h p (next_item a d h) agrees)
+  moves h (Collect j) p through agrees = quiet h (Collect j) p agrees (alike h _ p refl refl refl refl agrees)
+  moves h (AskKill d a) p through agrees = quiet h (AskKill d a) p agrees (alike h _ p refl refl refl refl agrees)
+  moves h (TakeKill a) p through agrees = quiet h (TakeKill a) p agrees (alike h _ p refl refl refl refl agrees)
+  moves h (Tell a d) p through agrees = quiet h (Tell a d) p agrees (alike h _ p refl refl refl refl agrees)
+  moves h (Retire a) p through agrees = quiet h (Retire a) p agrees (alike h _ p refl refl refl refl agrees)
 
-  all_agree : (h : History) (events : List Event) (p : Progress) → Agrees c casts h p → Agrees c casts (after_all h events) (moved_all c (actors_naming c casts) p events)
+  all_agree : (h : History) (events : List Event) (p : Progress) → Agrees c casts h p → Agrees c casts (after_all h events) (moved_all c (actors_naming c casts) p (let_through h events))
   all_agree h [] p agrees = agrees
-  all_agree h (event ∷ events) p agrees = all_agree (after h event) events (moved c (actors_naming c casts) p event) (moves h event p agrees)
+  all_agree h (event ∷ events) p agrees = go (is_held_back h event) refl (λ q. all_agree (after h event) events q)
+    where
+      later : List Event
+      later = let_through (after h event) events
+
+      go : (held : Bool) → is_held_back h event ≡ held → ((q : Progress) → Agrees c casts (after h event) q → Agrees c casts (after_all (after h event) events) (moved_all c (actors_naming c casts) q later))
+          → Agrees c casts (after_all (after h event) events) (moved_all c (actors_naming c casts) p (cond held later (event ∷ later)))
+      go true e rest = rest p (held_leaves (λ g. Agrees c casts g p) h event e agrees)
+      go false e rest = rest (moved c (actors_naming c casts) p event) (moves h event p e agrees)
 
 -- ---- events and steps
 
@@ -300,21 +342,98 @@ nothing_yet c casts = record { opened = refl; submitted = refl; copied = refl; r
 
 -- what a world takes from a caller
 taken : (c : ℕ) (casts : List Casting) (events : List Event) → AllPairs (λ one other. one.actor ≢ other.actor) casts
-    → (moved_all c (actors_naming c casts) nothing_done events).submitted ≡ calls_of c (after_all (opening casts) events)
+    → (moved_all c (actors_naming c casts) nothing_done (let_through (opening casts) events)).submitted ≡ calls_of c (after_all (opening casts) events)
 taken c casts events differ = sym (all_agree c casts differ (opening casts) events nothing_done (nothing_yet c casts)).submitted
 
-pub planned_is_taken : (casts : List Casting) (c : ℕ) (plan : List Step) → AllPairs (λ one other. one.actor ≢ other.actor) casts
-    → planned (actors_naming c casts) plan ≡ calls_of c (after_all (opening casts) (events_of c plan))
-planned_is_taken casts c plan differ =
-    ap (λ (p : Progress). p.submitted) (sym (moved_all-events_of c (actors_naming c casts) nothing_done plan)) ∙ taken c casts (events_of c plan) differ
-
 pub planned_is_taken_among_others : (casts : List Casting) (c : ℕ) (plan : List Step) (events : List Event) → AllPairs (λ one other. one.actor ≢ other.actor) casts
-    → filter (is_planned_by c) events ≡ events_of c plan → planned (actors_naming c casts) plan ≡ calls_of c (after_all (opening casts) events)
+    → filter (is_planned_by c) (let_through (opening casts) events) ≡ events_of c plan → planned (actors_naming c casts) plan ≡ calls_of c (after_all (opening casts) events)
 planned_is_taken_among_others casts c plan events differ same =
     let actors : List ℕ = actors_naming c casts in
-    let by_plan : moved_all c actors nothing_done events ≡ done_by actors nothing_done plan
-    = sym (moved_all-filter c actors nothing_done events) ∙ ap (moved_all c actors nothing_done) same ∙ moved_all-events_of c actors nothing_done plan in
+    let through : List Event = let_through (opening casts) events in
+    let by_plan : moved_all c actors nothing_done through ≡ done_by actors nothing_done plan
+    = sym (moved_all-filter c actors nothing_done through) ∙ ap (moved_all c actors nothing_done) same ∙ moved_all-events_of c actors nothing_done plan in
     ap (λ (p : Progress). p.submitted) (sym by_plan) ∙ taken c casts events differ
+
+-- ---- without limits
+
+-- no cast sets a limit
+abbrev AreFree : List Casting → Type 0
+AreFree casts = All (λ cast. cast.pending ≡ None) casts
+
+found_free : (a : ℕ) (casts : List Casting) → AreFree casts → option_and_then (λ (cast : Casting). cast.pending) (find (λ cast. cast.actor == a) casts) ≡ None
+found_free a [] free = refl
+found_free a (cast ∷ casts) free = go (cast.actor == a) (found_free a casts (λ i d within. free (suc i) d (omega arith)))
+  where
+    go : (b : Bool) → option_and_then (λ (x : Casting). x.pending) (find (λ x. x.actor == a) casts) ≡ None
+        → option_and_then (λ (x : Casting). x.pending) (cond b (Some cast) (find (λ x. x.actor == a) casts)) ≡ None
+    go true rest = free 0 cast (omega arith)
+    go false rest = rest
+
+limit_free : (c a : ℕ) (h : History) → AreFree h.casts → limit_of c a h ≡ None
+limit_free c a h free = go (names c (cast_of a h))
+  where
+    go : (b : Bool) → cond b (option_and_then (λ (x : Casting). x.pending) (cast_of a h)) None ≡ None
+    go true = found_free a h.casts free
+    go false = refl
+
+-- what is needed is refused by no limit
+needs_no_limit : (b : Bool) (refusal : WorldRefusal) (o : Option WorldRefusal) → is_limit (Some refusal) ≡ false → is_limit o ≡ false → is_limit (needs b refusal o) ≡ false
+needs_no_limit true refusal o one other = other
+needs_no_limit false refusal o one other = one
+
+handle_no_limit : (o : Option HandleRefusal) → is_limit (option_map Handle o) ≡ false
+handle_no_limit None = refl
+handle_no_limit (Some refusal) = refl
+
+sending_no_limit : (o : Option SendRefusal) → is_limit (option_map Sending o) ≡ false
+sending_no_limit None = refl
+sending_no_limit (Some refusal) = refl
+
+submit_no_limit : (listed held few earlier room : Bool)
+    → is_limit (option_map SubmitRefused (option_or (needs listed NoSuchActor (needs held NoCopy (needs few TooManyArgs (needs earlier BadFuture (needs room TooManyCalls None))))) None)) ≡ false
+submit_no_limit false held few earlier room = refl
+submit_no_limit true false few earlier room = refl
+submit_no_limit true true false earlier room = refl
+submit_no_limit true true true false room = refl
+submit_no_limit true true true true false = refl
+submit_no_limit true true true true true = refl
+
+deliver_no_limit : (o : Option Letter) (h : History) → is_limit (deliver_refusal o h) ≡ false
+deliver_no_limit None h = refl
+deliver_no_limit (Some letter) h = needs_no_limit (not (is_ended (actor_of letter) h)) ActorEnded None refl refl
+
+none_held : (h : History) (event : Event) → AreFree h.casts → is_held_back h event ≡ false
+none_held h (Submit c a method args) free =
+    let count = length (calls_of c h) in
+    let copies = copies_of c a h in
+    let only : option_map SubmitRefused (submission_refusal c a args h) ≡ option_map SubmitRefused (option_or (submit_refusal copies count args) None)
+    = ap (λ limit. option_map SubmitRefused (option_or (submit_refusal copies count args) (limit_refusal limit (unanswered c a h)))) (limit_free c a h free) in
+    needs_no_limit (is_caller c h) NoCaller (option_map SubmitRefused (submission_refusal c a args h)) refl
+    (ap is_limit only ∙ submit_no_limit (is_some copies) (nat_lt 0 (copies_held copies)) (nat_le (length args) 4) (list_all (is_earlier count) args) (nat_lt count 65536))
+none_held h (Copy c a) free = needs_no_limit (is_caller c h) NoCaller _ refl (handle_no_limit (copy_refusal (copies_of c a h)))
+none_held h (Release c a) free = needs_no_limit (is_caller c h) NoCaller _ refl (handle_no_limit (handle_refusal (copies_of c a h)))
+none_held h (Send c k) free = needs_no_limit (is_caller c h) NoCaller _ refl (sending_no_limit (send_refusal (kept_of c h) k (was_sent c k (slice_get (calls_of c h) k) h) (slice_get (calls_of c h) k)))
+none_held h (Deliver i) free = deliver_no_limit (slice_get h.mail i) h
+none_held h (Run a c) free = needs_no_limit (is_caller c h) NoCaller _ refl (needs_no_limit (names c (cast_of a h)) (Handle NoActor) _ refl (needs_no_limit (not (is_ended a h)) ActorEnded None refl refl))
+none_held h (Collect j) free = needs_no_limit (is_some (slice_get h.posts j)) NoReply None refl refl
+none_held h (AskKill c a) free = needs_no_limit (is_caller c h) NoCaller _ refl (handle_no_limit (handle_refusal (copies_of c a h)))
+none_held h (TakeKill a) free = needs_no_limit (is_some (cast_of a h)) (Handle NoActor) _ refl (needs_no_limit (not (is_ended a h)) ActorEnded _ refl (needs_no_limit (contains a h.asked) NoKill None refl refl))
+none_held h (Tell a c) free = needs_no_limit (is_caller c h) NoCaller _ refl (needs_no_limit (names c (cast_of a h)) (Handle NoActor) _ refl (needs_no_limit (is_dead a h) NotDead None refl refl))
+none_held h (Retire a) free = needs_no_limit (is_some (cast_of a h)) (Handle NoActor) _ refl (needs_no_limit (not (is_ended a h)) ActorEnded _ refl (needs_no_limit (is_drained a h) NotDrained None refl refl))
+
+-- then each event is let through
+all_through : (h : History) (events : List Event) → AreFree h.casts → let_through h events ≡ events
+all_through h [] free = refl
+all_through h (event ∷ events) free =
+    let later : AreFree (after h event).casts = after_keeps (λ g. AreFree g.casts) h event free (λ _. subst AreFree (sym (added_grows h event).casts) free) in
+    rw (none_held h event free) (ap (λ (rest : List Event). event ∷ rest) (all_through (after h event) events later))
+
+pub planned_is_taken : (casts : List Casting) (c : ℕ) (plan : List Step) → AllPairs (λ one other. one.actor ≢ other.actor) casts → All (λ cast. cast.pending ≡ None) casts
+    → planned (actors_naming c casts) plan ≡ calls_of c (after_all (opening casts) (events_of c plan))
+planned_is_taken casts c plan differ free =
+    ap (λ (p : Progress). p.submitted) (sym (moved_all-events_of c (actors_naming c casts) nothing_done plan))
+    ∙ ap (λ events. (moved_all c (actors_naming c casts) nothing_done events).submitted) (sym (all_through (opening casts) (events_of c plan) free))
+    ∙ taken c casts (events_of c plan) differ
 
 pub actors_of-casting : (c : ℕ) (roles : List Role) → actors_of c roles ≡ actors_naming c (map casting roles)
 actors_of-casting c [] = refl

@@ -1,6 +1,7 @@
 -- A retired actor ran every call that was submitted to it.
 use Rattle.std.proofs.Common.{◌≡◌, ℕ, ◌+◌, ◌-◌, Bool, true, false, cond, List, [], ◌∷◌, ◌++◌, length, Some, None, refl, ap, sym, ◌∙◌, arith, length-append}
 use Rattle.std.specs.Prelude.{Option, ◌==◌, ◌&&◌, slice_get, option_map, is_some, nat_lt, nat_le}
+use Rattle.std.specs.Option.{option_or}
 use Rattle.std.specs.List.{AllByRecursion, list_all}
 use Rattle.std.proofs.lemmas.Bool.{eqb-true, eq-eqb, and_parts, and_from}
 use Rattle.std.proofs.lemmas.List.{append-nil}
@@ -14,27 +15,33 @@ use Rattle.act_rules.specs.declared.outcome.WorldRefusal.TheVariants.{Submit as 
 use Rattle.act_rules.specs.declared.outcome.HandleRefusal.TheVariants.{NoActor, NoHandle, TooManyCopies}
 use Rattle.act_rules.specs.declared.outcome.SubmitRefusal.TheVariants.{NoActor as NoSuchActor, NoHandle as NoCopy, TooManyArgs, BadFuture, TooManyCalls}
 use Rattle.act_rules.specs.declared.history.Submission.{Submission}
-use Rattle.act_rules.specs.Submissions.{calls_to, needs, copies_held, copy_refusal, submit_refusal, is_earlier}
+use Rattle.act_rules.specs.Submissions.{calls_to, needs, copies_held, copy_refusal, submit_refusal, limit_refusal, is_earlier}
 use Rattle.act_rules.specs.declared.history.Letter.{Letter}
 use Rattle.act_rules.specs.declared.history.Letter.TheVariants.{Call as CallLetter, Note as NoteLetter}
-use Rattle.act_rules.specs.History.{History, cast_of, names, is_caller, calls_of, under, times, copies_of, next_item}
-use Rattle.act_rules.specs.Rules.{refusal_of, added, and_also, after_run, call_letter, is_last}
+use Rattle.act_rules.specs.History.{History, cast_of, names, is_caller, calls_of, under, times, copies_of, limit_of, next_item}
+use Rattle.act_rules.specs.Rules.{unanswered, submission_refusal, refusal_of, added, and_also, after_run, call_letter, is_last}
 use Rattle.act_rules.proofs.Lists.{enumerate_from-append, All_more, All_weaker, All_at}
 use Rattle.act_rules.proofs.Steps.{IsKept}
 use Rattle.act_rules.proofs.Ended.{needs-none, under-push}
 
 -- ---- a caller that holds no copy
 
-option_map-none : {A B : Type 0} (f : A → B) (o : Option A) → option_map f o ≡ None → o ≡ None
+pub option_map-none : {A B : Type 0} (f : A → B) (o : Option A) → option_map f o ≡ None → o ≡ None
 option_map-none f None e = refl
 option_map-none f (Some x) e = cc
+
+-- where neither of two refuses, the first doesn't
+pub option_or-none : {A : Type 0} (o p : Option A) → option_or o p ≡ None → o ≡ None
+option_or-none None p e = refl
+option_or-none (Some x) p e = cc
 
 -- an accepted submission comes from a holder
 pub submit_needs : (h : History) (c a : ℕ) (method : Method) (args : List Arg) → refusal_of h (Submit c a method args) ≡ None → (is_some (copies_of c a h) ≡ true) × (nat_lt 0 (copies_held (copies_of c a h)) ≡ true)
 submit_needs h c a method args e =
     let count = length (calls_of c h) in
     let copies = copies_of c a h in
-    let none = option_map-none SubmitRefused (submit_refusal copies count args) (needs-none (is_caller c h) NoCaller (option_map SubmitRefused (submit_refusal copies count args)) e).1 in
+    let whole = option_map-none SubmitRefused (submission_refusal c a args h) (needs-none (is_caller c h) NoCaller (option_map SubmitRefused (submission_refusal c a args h)) e).1 in
+    let none = option_or-none (submit_refusal copies count args) (limit_refusal (limit_of c a h) (unanswered c a h)) whole in
     let last = needs (nat_lt count 65536) TooManyCalls None in
     let third = needs (nat_le (length args) 4) TooManyArgs (needs (list_all (is_earlier count) args) BadFuture last) in
     let first = needs-none (is_some copies) NoSuchActor (needs (nat_lt 0 (copies_held copies)) NoCopy third) none in

@@ -1,5 +1,5 @@
 -- Further rows, of an end that waits its turn.
-use Rattle.std.specs.Prelude.{◌≡◌, true, List, [], ◌∷◌, pos, Ok, codes}
+use Rattle.std.specs.Prelude.{◌≡◌, true, List, [], ◌∷◌, pos, None, Ok, codes}
 use Rattle.act_types.specs.declared.value.Value.TheVariants.{Unit as Nothing, Int}
 use Rattle.act_types.specs.declared.call.Arg.TheVariants.{Plain}
 use Rattle.act_types.specs.declared.call.Method.TheVariants.{Add, Terminate}
@@ -105,7 +105,7 @@ pub record EndRows : Type 0 where
 -- a plan that adds and then ends the actor, as it is spelled
 abbrev pub ending_plan : Script
 ending_plan = record {
-  roles = record { actor = 1; callers = 1 ∷ []; kind = Counter } ∷ [];
+  roles = record { actor = 1; callers = 1 ∷ []; kind = Counter; pending = None } ∷ [];
   events = [];
   steps = (1, Submit 1 Add (Plain (Int (pos 5)) ∷ []), 2) ∷ (1, Submit 1 Terminate [], 3) ∷ [];
 }

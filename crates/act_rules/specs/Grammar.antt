@@ -16,7 +16,7 @@ use Rattle.act_rules.specs.declared.script.Line.{Line}
 use Rattle.act_rules.specs.declared.script.Line.TheVariants.{Role as RoleLine, Event as EventLine, Step as StepLine}
 use Rattle.act_rules.specs.declared.script.Wrong.{Wrong}
 use Rattle.act_rules.specs.declared.script.Wrong.TheVariants.{TooLong, BadLine, LateActor, TwiceActor, TwiceCaller}
-use Rattle.act_rules.specs.Words.{Word, ◌>>=◌, found, named_by, kind_text, all_kinds, method_at, number_at, caller_at, actor_at, arg_at}
+use Rattle.act_rules.specs.Words.{Word, ◌>>=◌, found, named_by, kind_text, all_kinds, method_at, number_at, limit_at, caller_at, actor_at, arg_at}
 
 -- ---- the forms of line
 
@@ -41,13 +41,28 @@ abbrev pub two_at : {A B C : Type 0} → (A → B → C) → (Word → Result A 
 two_at f first second (u ∷ v ∷ []) = first u >>= λ x. second v >>= λ y. Ok (f x y)
 two_at f first second words = Err BadLine
 
--- an actor, one of these kinds, and one or more callers
+-- one or more callers
+abbrev pub some_callers_at : List Word → Result (List ℕ) Wrong
+some_callers_at [] = Err BadLine
+some_callers_at (word ∷ words) = callers_at (word ∷ words)
+
+-- a limit and one or more callers
+abbrev pub limited_at : List Word → Result (Option ℕ × List ℕ) Wrong
+limited_at [] = Err BadLine
+limited_at (number ∷ words) = limit_at number >>= λ limit. some_callers_at words >>= λ callers. Ok (Some limit, callers)
+
+-- `max`, a limit and one or more callers, or the callers alone
+unfoldable pub naming_at : List Word → Result (Option ℕ × List ℕ) Wrong
+naming_at [] = Err BadLine
+naming_at (word ∷ words) = if bytes_eq word (codes "max") then limited_at words else (some_callers_at (word ∷ words) >>= λ callers. Ok (None, callers))
+
+-- an actor, one of these kinds, a limit if there is one, and one or more callers
 unfoldable pub role_at : List KindName → List Word → Result Role Wrong
-role_at kinds (actor ∷ kind ∷ caller ∷ callers) = do
+role_at kinds (actor ∷ kind ∷ words) = do
   a ← actor_at actor
   k ← named_by kind_text kinds kind
-  cs ← callers_at (caller ∷ callers)
-  Ok (record { actor = a; callers = cs; kind = k })
+  named ← naming_at words
+  Ok (record { actor = a; callers = named.1; kind = k; pending = named.0 })
 role_at kinds words = Err BadLine
 
 -- a caller, an actor, a method and its arguments

@@ -12,11 +12,12 @@ use Rattle.act_rules.specs.RunList.{Answer, answer_at, items_of, has_terminated}
 use Rattle.act_rules.specs.declared.history.Submission.{Submission}
 use Rattle.act_rules.specs.Submissions.{calls_to, settled}
 
--- an actor, the callers that may call it, and the state in which its box is opened
+-- an actor, the callers that may call it, the state in which its box is opened, and how many calls of each caller may be pending there
 pub record Casting : Type 0 where
   pub actor : ℕ
   pub callers : List ℕ
   pub opening : KindState
+  pub pending : Option ℕ
 
 -- what the accepted events leave, each list in their order
 pub record History : Type 0 where
@@ -96,6 +97,10 @@ times c a pairs = length (filter (λ pair. (pair.0 == c) && (pair.1 == a)) pairs
 -- the copies of the handle that the caller holds, where the actor's cast names it: the first, those made, without those released
 abbrev pub copies_of : ℕ → ℕ → History → Option ℕ
 copies_of c a h = if names c (cast_of a h) then Some ((1 + times c a h.copied) - times c a h.released) else None
+
+-- how many of the caller's calls to the actor may have no answer, where the actor's cast names it and sets a limit
+abbrev pub limit_of : ℕ → ℕ → History → Option ℕ
+limit_of c a h = if names c (cast_of a h) then option_and_then (λ cast. cast.pending) (cast_of a h) else None
 
 -- the run list of an actor
 abbrev pub runs_of : ℕ → History → List RunItem

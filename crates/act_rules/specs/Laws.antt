@@ -1,5 +1,5 @@
 -- The laws of every run.
-use Rattle.std.specs.Prelude.{ℕ, ◌≡◌, ◌≢◌, ◌++◌, ◌^◌, ◌&&◌, Bool, true, nat_lt, nat_le, List, map, filter, AllPairs, Some, Result, Ok, IsTrue, codes, decimal}
+use Rattle.std.specs.Prelude.{ℕ, ◌≡◌, ◌≢◌, ◌≤◌, ◌++◌, ◌^◌, ◌&&◌, Bool, true, nat_lt, nat_le, List, map, filter, All, AllPairs, Some, None, Result, Ok, IsTrue, codes, decimal}
 use Rattle.act_types.specs.declared.limits.TheConstants.{MOST_ACTORS, MOST_CALLERS}
 use Rattle.act_types.specs.declared.value.Value.{Value}
 use Rattle.act_types.specs.declared.value.Value.TheVariants as value
@@ -16,9 +16,9 @@ use Rattle.act_rules.specs.Kinds.{is_in_range}
 use Rattle.act_rules.specs.RunList.{Answer, items_of, NothingFollowsAnEnd}
 use Rattle.act_rules.specs.Submissions.{calls_to, kept_at}
 use Rattle.act_rules.specs.Consistent.{Consistent}
-use Rattle.act_rules.specs.Plans.{planned, events_of, is_planned_by}
-use Rattle.act_rules.specs.History.{Casting, History, opening, opening_of, actors_naming, calls_of, runs_of, kept_of, is_dead, is_retired, is_ended}
-use Rattle.act_rules.specs.Rules.{after_all}
+use Rattle.act_rules.specs.Plans.{planned, events_of, let_through, is_planned_by}
+use Rattle.act_rules.specs.History.{Casting, History, opening, opening_of, actors_naming, limit_of, calls_of, runs_of, kept_of, is_dead, is_retired, is_ended}
+use Rattle.act_rules.specs.Rules.{unanswered, after_all}
 use Rattle.act_rules.specs.Scripts.{casting, actors_of}
 
 -- what a world of these actors is after the events
@@ -45,23 +45,30 @@ RetiredRanAll = (casts : List Casting) (events : List Event) (a c : ℕ) →
     let w = world casts events in
     IsTrue (is_retired a w) → map (λ item. item.future) (items_of c (runs_of a w)) ≡ map (λ call. call.0) (calls_to a (calls_of c w))
 
+-- a caller's calls to an actor that have no answer are never more than the limit
+abbrev pub PendingStaysWithinTheLimit : Type 0
+PendingStaysWithinTheLimit = (casts : List Casting) (events : List Event) (c a limit : ℕ) →
+    let w = world casts events in
+    limit_of c a w ≡ Some limit → unanswered c a w ≤ limit
+
 -- opening states, submissions, run lists, kept answers and dead actors fit one another
 abbrev pub EachWorldIsConsistent : Type 0
 EachWorldIsConsistent = (casts : List Casting) (events : List Event) →
     let w = world casts events in
     Consistent (λ a. opening_of a w) (λ c. calls_of c w) (λ a. runs_of a w) (λ c. kept_of c w) (λ a. is_dead a w)
 
--- where no two casts have one actor, a world takes from a caller what its plan submits
+-- where no two casts have one actor and none has a limit, a world takes from a caller what its plan submits
 abbrev pub PlannedIsTaken : Type 0
 PlannedIsTaken = (casts : List Casting) (c : ℕ) (plan : List Step) →
     AllPairs (λ one other. one.actor ≢ other.actor) casts →
+    All (λ cast. cast.pending ≡ None) casts →
     planned (actors_naming c casts) plan ≡ calls_of c (world casts (events_of c plan))
 
--- the same among any other events, where the caller's submissions, copies and releases are those of its plan, in order
+-- the same among any other events and with limits, where the caller's submissions that no limit held back, its copies and its releases are those of its plan, in order
 abbrev pub PlannedIsTakenAmongOthers : Type 0
 PlannedIsTakenAmongOthers = (casts : List Casting) (c : ℕ) (plan : List Step) (events : List Event) →
     AllPairs (λ one other. one.actor ≢ other.actor) casts →
-    filter (is_planned_by c) events ≡ events_of c plan →
+    filter (is_planned_by c) (let_through (opening casts) events) ≡ events_of c plan →
     planned (actors_naming c casts) plan ≡ calls_of c (world casts events)
 
 -- the roles of a script name the same actors for a caller as the casts of its world

@@ -6,7 +6,12 @@ use Rattle.act_rules.specs.declared.event.Event.TheVariants as event
 use Rattle.act_rules.specs.declared.script.Step.{Step}
 use Rattle.act_rules.specs.declared.script.Step.TheVariants.{Submit, Copy, Release, Kill, Await}
 use Rattle.act_rules.specs.declared.history.Submission.{Submission}
+use Rattle.act_rules.specs.declared.outcome.SubmitRefusal.TheVariants.{PendingLimit}
+use Rattle.act_rules.specs.declared.outcome.WorldRefusal.{WorldRefusal}
+use Rattle.act_rules.specs.declared.outcome.WorldRefusal.TheVariants.{Submit as SubmitRefused}
 use Rattle.act_rules.specs.Submissions.{handle_refusal, copy_refusal, submit_refusal}
+use Rattle.act_rules.specs.History.{History}
+use Rattle.act_rules.specs.Rules.{refusal_of, after}
 
 -- what a caller did so far: its submissions, and the actors whose handles it copied and released
 pub record Progress : Type 0 where
@@ -79,6 +84,20 @@ events_for c (Await k) = []
 -- the events of a caller's plan
 abbrev pub events_of : ℕ → List Step → List Event
 events_of c plan = flat_map (events_for c) plan
+
+-- whether a refusal is that of a limit
+abbrev pub is_limit : Option WorldRefusal → Bool
+is_limit (Some (SubmitRefused PendingLimit)) = true
+is_limit refusal = false
+
+-- whether an event is a submission that only its actor's limit refuses
+abbrev pub is_held_back : History → Event → Bool
+is_held_back h event = is_limit (refusal_of h event)
+
+-- these events, without the submissions that a limit held back
+abbrev pub let_through : History → List Event → List Event
+let_through h [] = []
+let_through h (event ∷ events) = if is_held_back h event then let_through (after h event) events else event ∷ let_through (after h event) events
 
 -- whether an event is a submission, a copy or a release by the caller
 abbrev pub is_planned_by : ℕ → Event → Bool

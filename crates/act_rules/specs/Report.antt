@@ -74,6 +74,7 @@ submit_text submit.NoHandle = codes "NoHandle"
 submit_text submit.TooManyArgs = codes "TooManyArgs"
 submit_text submit.BadFuture = codes "BadFuture"
 submit_text submit.TooManyCalls = codes "TooManyCalls"
+submit_text submit.PendingLimit = codes "PendingLimit"
 submit_text submit.NoMemory = codes "NoMemory"
 
 abbrev pub sending_text : SendRefusal → List ℕ

@@ -1,5 +1,7 @@
 -- What each event of a world tells, and what it adds.
 use Rattle.std.specs.Prelude.{ℕ, ◌+◌, ◌-◌, ◌==◌, Bool, false, not, if◌then◌else◌, List, [], ◌∷◌, ◌++◌, length, filter, slice_get, Option, Some, None, option_map, is_some, is_none, Result, Ok, Err}
+use Rattle.std.specs.Option.{option_or}
+use Rattle.act_types.specs.declared.call.Arg.{Arg}
 use Rattle.act_rules.specs.declared.history.RunItem.{RunItem}
 use Rattle.act_rules.specs.declared.event.Event.{Event}
 use Rattle.act_rules.specs.declared.event.Event.TheVariants.{Submit, Copy, Release, Send, Deliver, Run, Collect, AskKill, TakeKill, Tell, Retire}
@@ -7,15 +9,16 @@ use Rattle.act_rules.specs.declared.outcome.Arrival.TheVariants.{New, Repeat}
 use Rattle.act_rules.specs.declared.outcome.Did.{Did}
 use Rattle.act_rules.specs.declared.outcome.Did.TheVariants.{Future, Copies, Mail, Arrived, Ran, Gap, Kept, Late, Died, Asked, Dead, Told, Retired}
 use Rattle.act_rules.specs.declared.outcome.HandleRefusal.TheVariants.{NoActor}
+use Rattle.act_rules.specs.declared.outcome.SubmitRefusal.{SubmitRefusal}
 use Rattle.act_rules.specs.declared.outcome.WorldRefusal.{WorldRefusal}
 use Rattle.act_rules.specs.declared.outcome.WorldRefusal.TheVariants.{Submit as SubmitRefused, Handle, Sending, NoCaller, NoMail, NoReply, ActorEnded, NoKill, NotDead, NotDrained}
 use Rattle.act_rules.specs.declared.history.Submission.{Submission}
-use Rattle.act_rules.specs.Submissions.{needs, calls_to, number_of, kept_at, copies_held, handle_refusal, copy_refusal, submit_refusal, send_refusal}
+use Rattle.act_rules.specs.Submissions.{needs, calls_to, number_of, kept_at, copies_held, handle_refusal, copy_refusal, submit_refusal, limit_refusal, send_refusal}
 use Rattle.act_rules.specs.declared.history.Letter.{Letter}
 use Rattle.act_rules.specs.declared.history.Letter.TheVariants.{Call as CallLetter, Note as NoteLetter}
 use Rattle.act_rules.specs.declared.history.Post.{Post}
 use Rattle.act_rules.specs.declared.history.Post.TheVariants.{Reply as ReplyPost, Death as DeathPost}
-use Rattle.act_rules.specs.History.{History, contains, cast_of, names, is_caller, calls_of, copies_of, runs_of, kept_of, is_dead, is_ended, has_letter, next_item, is_drained}
+use Rattle.act_rules.specs.History.{History, contains, cast_of, names, is_caller, calls_of, copies_of, limit_of, runs_of, kept_of, is_dead, is_ended, has_letter, next_item, is_drained}
 
 abbrev pub Outcome : Type 0
 Outcome = Result Did WorldRefusal
@@ -39,10 +42,20 @@ abbrev pub deliver_refusal : Option Letter → History → Option WorldRefusal
 deliver_refusal None h = Some NoMail
 deliver_refusal (Some letter) h = needs (not (is_ended (actor_of letter) h)) ActorEnded None
 
+-- how many of the caller's calls to an actor have no answer
+abbrev pub unanswered : ℕ → ℕ → History → ℕ
+unanswered c a h = length (filter (λ call. is_none (kept_at (kept_of c h) call.0)) (calls_to a (calls_of c h)))
+
+-- the first refusal that meets a submission; that of a limit is the last
+abbrev pub submission_refusal : ℕ → ℕ → List Arg → History → Option SubmitRefusal
+submission_refusal c a args h =
+    option_or (submit_refusal (copies_of c a h) (length (calls_of c h)) args)
+    (limit_refusal (limit_of c a h) (unanswered c a h))
+
 -- the first refusal that meets an event
 abbrev pub refusal_of : History → Event → Option WorldRefusal
 refusal_of h (Submit c a method args) =
-    needs (is_caller c h) NoCaller (option_map SubmitRefused (submit_refusal (copies_of c a h) (length (calls_of c h)) args))
+    needs (is_caller c h) NoCaller (option_map SubmitRefused (submission_refusal c a args h))
 refusal_of h (Copy c a) = needs (is_caller c h) NoCaller (option_map Handle (copy_refusal (copies_of c a h)))
 refusal_of h (Release c a) = needs (is_caller c h) NoCaller (option_map Handle (handle_refusal (copies_of c a h)))
 refusal_of h (Send c k) =
@@ -71,10 +84,6 @@ refusal_of h (Retire a) =
 -- whether a release leaves no copy
 abbrev pub is_last : ℕ → ℕ → History → Bool
 is_last c a h = copies_held (copies_of c a h) == 1
-
--- how many of the caller's calls to an actor have no answer
-abbrev pub unanswered : ℕ → ℕ → History → ℕ
-unanswered c a h = length (filter (λ call. is_none (kept_at (kept_of c h) call.0)) (calls_to a (calls_of c h)))
 
 -- the reply for call k is kept where the call has no answer
 abbrev pub did_reply : ℕ → History → Option RunItem → Did

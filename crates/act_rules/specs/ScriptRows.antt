@@ -1,5 +1,5 @@
 -- The worked rows as scripts: what they write, from bytes to bytes.
-use Rattle.std.specs.Prelude.{ℕ, ◌≡◌, ◌<◌, List, [], ◌∷◌, length, Ok, Err, codes, pos}
+use Rattle.std.specs.Prelude.{ℕ, ◌≡◌, ◌<◌, List, [], ◌∷◌, length, None, Ok, Err, codes, pos}
 use Rattle.act_types.specs.declared.limits.TheConstants.{MOST_ACTORS, MOST_CALLERS}
 use Rattle.act_types.specs.declared.call.Arg.TheVariants.{Plain, Fut}
 use Rattle.act_types.specs.declared.call.Method.TheVariants.{Put, Get, Deposit, Withdraw}
@@ -12,7 +12,7 @@ use Rattle.act_rules.specs.Report.{line}
 use Rattle.act_rules.specs.Plans.{kills_to}
 use Rattle.act_rules.specs.Grammar.{Script}
 use Rattle.act_rules.specs.Scripts.{played, spelled_plans, submissions_of}
-use Rattle.act_rules.specs.Rows.{lines_text}
+use Rattle.act_rules.specs.Rows.{lines_text, one_call_report, reversed_report, repeated_report, lost_report, earlier_call_waits_report, another_caller_passes_report, failed_argument_report, one_packet_for_good_report, ran_and_yet_died_report, kill_with_held_calls_report, known_dead_report, refused_submissions_report, release_and_retire_report, nothing_there_report}
 
 -- the script of these lines writes those
 abbrev pub Writes : List (List ℕ) → List (List ℕ) → Type 0
@@ -36,9 +36,7 @@ Empty = Writes (
 abbrev pub OneCall : Type 0
 OneCall = Writes (
     codes "actor a1 counter c1" ∷ codes "submit c1 a1 add 5" ∷ codes "send c1 0" ∷ codes "deliver 0" ∷
-    codes "run a1 c1" ∷ codes "collect 0" ∷ []) (
-    codes "0: future c1.0" ∷ codes "1: mail 0" ∷ codes "2: new" ∷ codes "3: place 0 reply 0" ∷
-    codes "4: kept c1.0" ∷ codes "c1.0 a1 = 5" ∷ codes "a1 live counter 5" ∷ codes "a1.0 c1.0 add 5" ∷ [])
+    codes "run a1 c1" ∷ codes "collect 0" ∷ []) one_call_report
 
 -- reversed
 abbrev pub Reversed : Type 0
@@ -46,42 +44,27 @@ Reversed = Writes (
     codes "actor a1 counter c1" ∷ codes "submit c1 a1 add 1" ∷ codes "submit c1 a1 add 2" ∷
     codes "submit c1 a1 add 3" ∷ codes "send c1 0" ∷ codes "send c1 1" ∷ codes "send c1 2" ∷ codes "deliver 2" ∷
     codes "run a1 c1" ∷ codes "deliver 1" ∷ codes "run a1 c1" ∷ codes "deliver 0" ∷ codes "run a1 c1" ∷
-    codes "run a1 c1" ∷ codes "run a1 c1" ∷ []) (
-    codes "0: future c1.0" ∷ codes "1: future c1.1" ∷ codes "2: future c1.2" ∷ codes "3: mail 0" ∷
-    codes "4: mail 1" ∷ codes "5: mail 2" ∷ codes "6: new" ∷ codes "7: gap" ∷ codes "8: new" ∷ codes "9: gap" ∷
-    codes "10: new" ∷ codes "11: place 0 reply 0" ∷ codes "12: place 1 reply 1" ∷ codes "13: place 2 reply 2" ∷
-    codes "c1.0 a1 ?" ∷ codes "c1.1 a1 ?" ∷ codes "c1.2 a1 ?" ∷ codes "a1 live counter 6" ∷
-    codes "a1.0 c1.0 add 1" ∷ codes "a1.1 c1.1 add 2" ∷ codes "a1.2 c1.2 add 3" ∷ [])
+    codes "run a1 c1" ∷ codes "run a1 c1" ∷ []) reversed_report
 
 -- repeated
 abbrev pub Repeated : Type 0
 Repeated = Writes (
     codes "actor a1 counter c1" ∷ codes "submit c1 a1 add 5" ∷ codes "send c1 0" ∷ codes "deliver 0" ∷
-    codes "deliver 0" ∷ codes "run a1 c1" ∷ codes "deliver 0" ∷ codes "run a1 c1" ∷ []) (
-    codes "0: future c1.0" ∷ codes "1: mail 0" ∷ codes "2: new" ∷ codes "3: repeat" ∷
-    codes "4: place 0 reply 0" ∷ codes "5: repeat" ∷ codes "6: gap" ∷ codes "c1.0 a1 ?" ∷
-    codes "a1 live counter 5" ∷ codes "a1.0 c1.0 add 5" ∷ [])
+    codes "deliver 0" ∷ codes "run a1 c1" ∷ codes "deliver 0" ∷ codes "run a1 c1" ∷ []) repeated_report
 
 -- lost
 abbrev pub Lost : Type 0
 Lost = Writes (
     codes "actor a1 counter c1" ∷ codes "submit c1 a1 add 1" ∷ codes "submit c1 a1 add 2" ∷
     codes "submit c1 a1 add 3" ∷ codes "send c1 0" ∷ codes "send c1 1" ∷ codes "send c1 2" ∷ codes "deliver 0" ∷
-    codes "deliver 2" ∷ codes "run a1 c1" ∷ codes "run a1 c1" ∷ codes "run a1 c1" ∷ []) (
-    codes "0: future c1.0" ∷ codes "1: future c1.1" ∷ codes "2: future c1.2" ∷ codes "3: mail 0" ∷
-    codes "4: mail 1" ∷ codes "5: mail 2" ∷ codes "6: new" ∷ codes "7: new" ∷ codes "8: place 0 reply 0" ∷
-    codes "9: gap" ∷ codes "10: gap" ∷ codes "c1.0 a1 ?" ∷ codes "c1.1 a1 ?" ∷ codes "c1.2 a1 ?" ∷
-    codes "a1 live counter 1" ∷ codes "a1.0 c1.0 add 1" ∷ [])
+    codes "deliver 2" ∷ codes "run a1 c1" ∷ codes "run a1 c1" ∷ codes "run a1 c1" ∷ []) lost_report
 
 -- an earlier call waits
 abbrev pub EarlierCallWaits : Type 0
 EarlierCallWaits = Writes (
     codes "actor a1 counter c1 c2" ∷ codes "actor a2 counter c1" ∷ codes "submit c1 a2 add 7" ∷
     codes "submit c1 a1 add @0" ∷ codes "submit c1 a1 add 1" ∷ codes "send c1 1" ∷ codes "send c1 2" ∷
-    codes "deliver 0" ∷ codes "run a1 c1" ∷ []) (
-    codes "0: future c1.0" ∷ codes "1: future c1.1" ∷ codes "2: future c1.2" ∷ codes "3: refused NotReady" ∷
-    codes "4: mail 0" ∷ codes "5: new" ∷ codes "6: gap" ∷ codes "c1.0 a2 ?" ∷ codes "c1.1 a1 ?" ∷
-    codes "c1.2 a1 ?" ∷ codes "a1 live counter 0" ∷ codes "a2 live counter 0" ∷ [])
+    codes "deliver 0" ∷ codes "run a1 c1" ∷ []) earlier_call_waits_report
 
 -- another caller passes
 abbrev pub AnotherCallerPasses : Type 0
@@ -91,15 +74,7 @@ AnotherCallerPasses = Writes (
     codes "deliver 0" ∷ codes "run a1 c1" ∷ codes "submit c2 a1 add 100" ∷ codes "send c2 0" ∷
     codes "deliver 1" ∷ codes "run a1 c2" ∷ codes "send c1 0" ∷ codes "deliver 2" ∷ codes "run a2 c1" ∷
     codes "collect 1" ∷ codes "send c1 1" ∷ codes "deliver 3" ∷ codes "run a1 c1" ∷ codes "run a1 c1" ∷
-    codes "collect 0" ∷ codes "collect 2" ∷ codes "collect 3" ∷ []) (
-    codes "0: future c1.0" ∷ codes "1: future c1.1" ∷ codes "2: future c1.2" ∷ codes "3: refused NotReady" ∷
-    codes "4: mail 0" ∷ codes "5: new" ∷ codes "6: gap" ∷ codes "7: future c2.0" ∷ codes "8: mail 1" ∷
-    codes "9: new" ∷ codes "10: place 0 reply 0" ∷ codes "11: mail 2" ∷ codes "12: new" ∷
-    codes "13: place 0 reply 1" ∷ codes "14: kept c1.0" ∷ codes "15: mail 3" ∷ codes "16: new" ∷
-    codes "17: place 1 reply 2" ∷ codes "18: place 2 reply 3" ∷ codes "19: kept c2.0" ∷ codes "20: kept c1.1" ∷
-    codes "21: kept c1.2" ∷ codes "c1.0 a2 = 7" ∷ codes "c1.1 a1 = 107" ∷ codes "c1.2 a1 = 108" ∷
-    codes "c2.0 a1 = 100" ∷ codes "a1 live counter 108" ∷ codes "a1.0 c2.0 add 100" ∷ codes "a1.1 c1.1 add 7" ∷
-    codes "a1.2 c1.2 add 1" ∷ codes "a2 live counter 7" ∷ codes "a2.0 c1.0 add 7" ∷ [])
+    codes "collect 0" ∷ codes "collect 2" ∷ codes "collect 3" ∷ []) another_caller_passes_report
 
 -- failed argument
 abbrev pub FailedArgument : Type 0
@@ -107,13 +82,7 @@ FailedArgument = Writes (
     codes "actor a1 table c1" ∷ codes "submit c1 a1 get \"x\"" ∷ codes "send c1 0" ∷ codes "deliver 0" ∷
     codes "run a1 c1" ∷ codes "collect 0" ∷ codes "submit c1 a1 put \"y\" @0" ∷ codes "submit c1 a1 size" ∷
     codes "send c1 1" ∷ codes "send c1 2" ∷ codes "deliver 2" ∷ codes "run a1 c1" ∷ codes "deliver 1" ∷
-    codes "run a1 c1" ∷ codes "run a1 c1" ∷ codes "collect 1" ∷ codes "collect 2" ∷ []) (
-    codes "0: future c1.0" ∷ codes "1: mail 0" ∷ codes "2: new" ∷ codes "3: place 0 reply 0" ∷
-    codes "4: kept c1.0" ∷ codes "5: future c1.1" ∷ codes "6: future c1.2" ∷ codes "7: mail 1" ∷
-    codes "8: mail 2" ∷ codes "9: new" ∷ codes "10: gap" ∷ codes "11: new" ∷ codes "12: place 1 reply 1" ∷
-    codes "13: place 2 reply 2" ∷ codes "14: kept c1.1" ∷ codes "15: kept c1.2" ∷ codes "c1.0 a1 = NoKey" ∷
-    codes "c1.1 a1 = Dependency(0)" ∷ codes "c1.2 a1 = 0" ∷ codes "a1 live table" ∷ codes "a1.0 c1.0 get \"x\"" ∷
-    codes "a1.1 c1.1 put \"y\" !0" ∷ codes "a1.2 c1.2 size" ∷ [])
+    codes "run a1 c1" ∷ codes "run a1 c1" ∷ codes "collect 1" ∷ codes "collect 2" ∷ []) failed_argument_report
 
 -- one packet for good
 abbrev pub OnePacketForGood : Type 0
@@ -122,23 +91,14 @@ OnePacketForGood = Writes (
     codes "submit c1 a2 push @0" ∷ codes "send c1 0" ∷ codes "deliver 0" ∷ codes "run a1 c1" ∷
     codes "kill c1 a1" ∷ codes "take a1" ∷ codes "tell a1 c1" ∷ codes "collect 1" ∷ codes "send c1 1" ∷
     codes "collect 0" ∷ codes "send c1 1" ∷ codes "deliver 2" ∷ codes "deliver 1" ∷ codes "run a2 c1" ∷
-    codes "collect 2" ∷ []) (
-    codes "0: future c1.0" ∷ codes "1: future c1.1" ∷ codes "2: mail 0" ∷ codes "3: new" ∷
-    codes "4: place 0 reply 0" ∷ codes "5: asked" ∷ codes "6: dead" ∷ codes "7: reply 1" ∷ codes "8: died 1" ∷
-    codes "9: mail 1" ∷ codes "10: late c1.0" ∷ codes "11: mail 2" ∷ codes "12: new" ∷ codes "13: repeat" ∷
-    codes "14: place 0 reply 2" ∷ codes "15: kept c1.1" ∷ codes "c1.0 a1 = ActorDied" ∷
-    codes "c1.1 a2 = Dependency(0)" ∷ codes "a1 dead" ∷ codes "a1.0 c1.0 add 5" ∷ codes "a2 live list" ∷
-    codes "a2.0 c1.1 push !0" ∷ [])
+    codes "collect 2" ∷ []) one_packet_for_good_report
 
 -- ran and yet died
 abbrev pub RanAndYetDied : Type 0
 RanAndYetDied = Writes (
     codes "actor a1 counter c1" ∷ codes "submit c1 a1 add 5" ∷ codes "send c1 0" ∷ codes "deliver 0" ∷
     codes "run a1 c1" ∷ codes "kill c1 a1" ∷ codes "take a1" ∷ codes "tell a1 c1" ∷ codes "collect 1" ∷
-    codes "collect 0" ∷ []) (
-    codes "0: future c1.0" ∷ codes "1: mail 0" ∷ codes "2: new" ∷ codes "3: place 0 reply 0" ∷ codes "4: asked" ∷
-    codes "5: dead" ∷ codes "6: reply 1" ∷ codes "7: died 1" ∷ codes "8: late c1.0" ∷
-    codes "c1.0 a1 = ActorDied" ∷ codes "a1 dead" ∷ codes "a1.0 c1.0 add 5" ∷ [])
+    codes "collect 0" ∷ []) ran_and_yet_died_report
 
 -- kill with held calls
 abbrev pub KillWithHeldCalls : Type 0
@@ -147,25 +107,14 @@ KillWithHeldCalls = Writes (
     codes "submit c1 a1 add 3" ∷ codes "submit c1 a1 add 4" ∷ codes "send c1 0" ∷ codes "send c1 1" ∷
     codes "send c1 2" ∷ codes "send c1 3" ∷ codes "deliver 0" ∷ codes "run a1 c1" ∷ codes "deliver 2" ∷
     codes "deliver 3" ∷ codes "kill c1 a1" ∷ codes "take a1" ∷ codes "deliver 1" ∷ codes "run a1 c1" ∷
-    codes "take a1" ∷ codes "retire a1" ∷ codes "tell a1 c1" ∷ codes "collect 1" ∷ []) (
-    codes "0: future c1.0" ∷ codes "1: future c1.1" ∷ codes "2: future c1.2" ∷ codes "3: future c1.3" ∷
-    codes "4: mail 0" ∷ codes "5: mail 1" ∷ codes "6: mail 2" ∷ codes "7: mail 3" ∷ codes "8: new" ∷
-    codes "9: place 0 reply 0" ∷ codes "10: new" ∷ codes "11: new" ∷ codes "12: asked" ∷ codes "13: dead" ∷
-    codes "14: refused ActorEnded" ∷ codes "15: refused ActorEnded" ∷ codes "16: refused ActorEnded" ∷
-    codes "17: refused ActorEnded" ∷ codes "18: reply 1" ∷ codes "19: died 4" ∷ codes "c1.0 a1 = ActorDied" ∷
-    codes "c1.1 a1 = ActorDied" ∷ codes "c1.2 a1 = ActorDied" ∷ codes "c1.3 a1 = ActorDied" ∷ codes "a1 dead" ∷
-    codes "a1.0 c1.0 add 1" ∷ [])
+    codes "take a1" ∷ codes "retire a1" ∷ codes "tell a1 c1" ∷ codes "collect 1" ∷ []) kill_with_held_calls_report
 
 -- known dead
 abbrev pub KnownDead : Type 0
 KnownDead = Writes (
     codes "actor a1 counter c1" ∷ codes "kill c1 a1" ∷ codes "tell a1 c1" ∷ codes "take a1" ∷
     codes "tell a1 c1" ∷ codes "collect 0" ∷ codes "submit c1 a1 get" ∷ codes "send c1 0" ∷
-    codes "release c1 a1" ∷ codes "submit c1 a1 get" ∷ codes "kill c1 a1" ∷ codes "deliver 0" ∷ []) (
-    codes "0: asked" ∷ codes "1: refused NotDead" ∷ codes "2: dead" ∷ codes "3: reply 0" ∷ codes "4: died 0" ∷
-    codes "5: future c1.0" ∷ codes "6: refused Answered" ∷ codes "7: mail 0" ∷ codes "8: refused NoHandle" ∷
-    codes "9: refused NoHandle" ∷ codes "10: refused ActorEnded" ∷ codes "c1.0 a1 = ActorDied" ∷
-    codes "a1 dead" ∷ [])
+    codes "release c1 a1" ∷ codes "submit c1 a1 get" ∷ codes "kill c1 a1" ∷ codes "deliver 0" ∷ []) known_dead_report
 
 -- largest number
 abbrev pub LargestNumber : Type 0
@@ -187,11 +136,7 @@ abbrev pub RefusedSubmissions : Type 0
 RefusedSubmissions = Writes (
     codes "actor a1 counter c1" ∷ codes "submit c1 a1 add @0" ∷ codes "submit c1 a1 add 1 2 3 4 5" ∷
     codes "submit c1 a2 get" ∷ codes "submit c2 a1 get" ∷ codes "submit c1 a1 add 1 2" ∷ codes "send c1 0" ∷
-    codes "deliver 0" ∷ codes "run a1 c1" ∷ codes "collect 0" ∷ []) (
-    codes "0: refused BadFuture" ∷ codes "1: refused TooManyArgs" ∷ codes "2: refused NoActor" ∷
-    codes "3: refused NoCaller" ∷ codes "4: future c1.0" ∷ codes "5: mail 0" ∷ codes "6: new" ∷
-    codes "7: place 0 reply 0" ∷ codes "8: kept c1.0" ∷ codes "c1.0 a1 = BadArgs" ∷ codes "a1 live counter 0" ∷
-    codes "a1.0 c1.0 add 1 2" ∷ [])
+    codes "deliver 0" ∷ codes "run a1 c1" ∷ codes "collect 0" ∷ []) refused_submissions_report
 
 -- release and retire
 abbrev pub ReleaseAndRetire : Type 0
@@ -199,21 +144,13 @@ ReleaseAndRetire = Writes (
     codes "actor a1 counter c1" ∷ codes "submit c1 a1 add 2" ∷ codes "send c1 0" ∷ codes "copy c1 a1" ∷
     codes "release c1 a1" ∷ codes "release c1 a1" ∷ codes "retire a1" ∷ codes "deliver 1" ∷ codes "retire a1" ∷
     codes "deliver 1" ∷ codes "deliver 0" ∷ codes "retire a1" ∷ codes "run a1 c1" ∷ codes "retire a1" ∷
-    codes "deliver 0" ∷ codes "collect 0" ∷ []) (
-    codes "0: future c1.0" ∷ codes "1: mail 0" ∷ codes "2: copies 2" ∷ codes "3: copies 1" ∷ codes "4: mail 1" ∷
-    codes "5: refused NotDrained" ∷ codes "6: new" ∷ codes "7: refused NotDrained" ∷ codes "8: repeat" ∷
-    codes "9: new" ∷ codes "10: refused NotDrained" ∷ codes "11: place 0 reply 0" ∷ codes "12: retired" ∷
-    codes "13: refused ActorEnded" ∷ codes "14: kept c1.0" ∷ codes "c1.0 a1 = 2" ∷ codes "a1 retired counter 2" ∷
-    codes "a1.0 c1.0 add 2" ∷ [])
+    codes "deliver 0" ∷ codes "collect 0" ∷ []) release_and_retire_report
 
 -- nothing there
 abbrev pub NothingThere : Type 0
 NothingThere = Writes (
     codes "actor a1 counter c1" ∷ codes "deliver 0" ∷ codes "collect 0" ∷ codes "take a1" ∷ codes "send c1 0" ∷
-    codes "run a1 c1" ∷ codes "run a2 c1" ∷ codes "run a1 c2" ∷ codes "tell a1 c1" ∷ []) (
-    codes "0: refused NoMail" ∷ codes "1: refused NoReply" ∷ codes "2: refused NoKill" ∷
-    codes "3: refused NoFuture" ∷ codes "4: gap" ∷ codes "5: refused NoActor" ∷ codes "6: refused NoCaller" ∷
-    codes "7: refused NotDead" ∷ codes "a1 live counter 0" ∷ [])
+    codes "run a1 c1" ∷ codes "run a2 c1" ∷ codes "run a1 c2" ∷ codes "tell a1 c1" ∷ []) nothing_there_report
 
 -- a table
 abbrev pub TableScript : Type 0
@@ -281,7 +218,7 @@ TooManyCallers = spelled_plans 2 2 (lines_text three_callers) ≡ Err (0, TooMan
 -- threads that serve every caller take the same script
 abbrev pub ThreeCallers : Type 0
 ThreeCallers = SpellsPlans three_callers (record {
-  roles = record { actor = 1; callers = 1 ∷ 2 ∷ 3 ∷ []; kind = Counter } ∷ [];
+  roles = record { actor = 1; callers = 1 ∷ 2 ∷ 3 ∷ []; kind = Counter; pending = None } ∷ [];
   events = [];
   steps = [];
 })
@@ -296,8 +233,8 @@ two_plans =
 abbrev pub two_plans_spelled : Script
 two_plans_spelled = record {
   roles =
-      record { actor = 1; callers = 1 ∷ 2 ∷ []; kind = Table } ∷
-      record { actor = 2; callers = 2 ∷ []; kind = Account } ∷ [];
+      record { actor = 1; callers = 1 ∷ 2 ∷ []; kind = Table; pending = None } ∷
+      record { actor = 2; callers = 2 ∷ []; kind = Account; pending = None } ∷ [];
   events = [];
   steps =
       (1, Submit 1 Put (Plain (Text (codes "k")) ∷ Plain (Int (pos 5)) ∷ []), 3) ∷

@@ -24,7 +24,7 @@ opening_state kind.Account = AccountAt (pos 0)
 opening_state kind.ListKind = ItemsOf []
 
 abbrev pub casting : Role → Casting
-casting role = record { actor = role.actor; callers = role.callers; opening = opening_state role.kind }
+casting role = record { actor = role.actor; callers = role.callers; opening = opening_state role.kind; pending = role.pending }
 
 -- the world of these roles, as it is opened
 abbrev pub opened : List Role → History

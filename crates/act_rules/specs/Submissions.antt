@@ -1,5 +1,5 @@
 -- What one caller submits, and when a submission, a handle call or a sending is refused.
-use Rattle.std.specs.Prelude.{ℕ, ◌==◌, Bool, true, not, ◌||◌, if◌then◌else◌, nat_lt, nat_le, List, length, filter, take, slice_get, Option, Some, None, option_and_then, is_some, Ok}
+use Rattle.std.specs.Prelude.{ℕ, ◌≤◌, ◌==◌, Bool, true, not, ◌||◌, if◌then◌else◌, nat_lt, nat_le, List, length, filter, take, slice_get, Option, Some, None, option_and_then, is_some, Ok}
 use Rattle.std.specs.List.{list_all, enumerate_from}
 use Rattle.act_types.specs.declared.limits.TheConstants.{MOST_ARGS, MOST_CALLS, MOST_COPIES}
 use Rattle.act_types.specs.declared.call.Arg.{Arg}
@@ -9,7 +9,7 @@ use Rattle.act_types.specs.declared.call.Settled.TheVariants.{Good, Bad}
 use Rattle.act_rules.specs.declared.outcome.HandleRefusal.{HandleRefusal}
 use Rattle.act_rules.specs.declared.outcome.HandleRefusal.TheVariants.{NoActor, NoHandle, TooManyCopies}
 use Rattle.act_rules.specs.declared.outcome.SubmitRefusal.{SubmitRefusal}
-use Rattle.act_rules.specs.declared.outcome.SubmitRefusal.TheVariants.{NoActor as NoSuchActor, NoHandle as NoCopy, TooManyArgs, BadFuture, TooManyCalls}
+use Rattle.act_rules.specs.declared.outcome.SubmitRefusal.TheVariants.{NoActor as NoSuchActor, NoHandle as NoCopy, TooManyArgs, BadFuture, TooManyCalls, PendingLimit}
 use Rattle.act_rules.specs.declared.outcome.SendRefusal.{SendRefusal}
 use Rattle.act_rules.specs.declared.outcome.SendRefusal.TheVariants.{NoFuture, NotReady, Answered}
 use Rattle.act_rules.specs.declared.history.Submission.{Submission}
@@ -76,6 +76,16 @@ submit_refusal copies count args =
     needs (nat_le (length args) MOST_ARGS) TooManyArgs (
     needs (list_all (is_earlier count) args) BadFuture (
     needs (nat_lt count MOST_CALLS) TooManyCalls None))))
+
+-- one call more to an actor, while so many have no answer: refused where the actor's limit is reached
+abbrev pub limit_refusal : Option ℕ → ℕ → Option SubmitRefusal
+limit_refusal None pending = None
+limit_refusal (Some limit) pending = needs (nat_lt pending limit) PendingLimit None
+
+-- no limit, or one from 1 to 65,536
+abbrev pub IsLimit : Option ℕ → Type 0
+IsLimit None = Unit {0}
+IsLimit (Some limit) = (1 ≤ limit) × (limit ≤ MOST_CALLS)
 
 -- the sending of call k, which was sent before or wasn't
 abbrev pub send_refusal : List (Option Answer) → ℕ → Bool → Option Submission → Option SendRefusal

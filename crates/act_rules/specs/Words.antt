@@ -3,7 +3,7 @@ use Rattle.std.specs.Prelude.{ℕ, ◌^◌, ◌==◌, ◌-◌, ◌&&◌, ℤ, po
 use Rattle.std.specs.List.{list_all}
 use Rattle.std.specs.Char.{is_ascii_digit}
 use Rattle.std.specs.Str.Parse.{digits_value}
-use Rattle.act_types.specs.declared.limits.TheConstants.{MOST_ACTORS, MOST_CALLERS}
+use Rattle.act_types.specs.declared.limits.TheConstants.{MOST_ACTORS, MOST_CALLERS, MOST_CALLS}
 use Rattle.act_types.specs.GoodText.{is_good_text}
 use Rattle.act_types.specs.Texts.{method_text}
 use Rattle.act_types.specs.declared.value.Value.{Value}
@@ -59,6 +59,12 @@ is_numeral ds = if length ds == 0 then false else (if slice_index ds 0 == 48 the
 -- a number below 2 ^ 32
 unfoldable pub number_at : Word → Result ℕ Wrong
 number_at word = if is_numeral word && nat_lt (digits_value 10 word) (2 ^ 32) then Ok (digits_value 10 word) else Err BadLine
+
+-- a limit: a number from 1 to 65,536
+unfoldable pub limit_at : Word → Result ℕ Wrong
+limit_at word = do
+  n ← number_at word
+  if nat_lt n 1 then Err BadLine else (if nat_lt MOST_CALLS n then Err BadLine else Ok n)
 
 -- a numeral, or a minus and one that does not begin with 0
 abbrev pub is_integer : Word → Bool

@@ -1,6 +1,6 @@
-// The laws of every run, over the definitions alone.
+//! The laws of every run, over the definitions alone.
 
-ghost use Rattle.act_rules.specs.Laws.{NothingRunsAfterTheEnd, NothingFollowsATerminate, KeptAnswersStay, RetiredRanAll, EachWorldIsConsistent};
+ghost use Rattle.act_rules.specs.Laws.{NothingRunsAfterTheEnd, NothingFollowsATerminate, KeptAnswersStay, RetiredRanAll, PendingStaysWithinTheLimit, EachWorldIsConsistent};
 
 /// Nothing runs at an actor that is dead or retired.
 #[tactic(none)]
@@ -30,6 +30,12 @@ pub fn each_world_is_consistent()
 #[tactic(none)]
 pub fn retired_ran_all()
     ensures { RetiredRanAll }
+{}
+
+/// A caller's calls to an actor that have no answer are never more than the actor's limit.
+#[tactic(none)]
+pub fn pending_stays_within_the_limit()
+    ensures { PendingStaysWithinTheLimit }
 {}
 
 ghost use Rattle.act_rules.specs.Laws.{PlannedIsTaken, PlannedIsTakenAmongOthers, RolesNameAsCasts};

@@ -16,8 +16,11 @@ pub use event::Event;
 pub use history::{Letter, Post, RunItem, Submission};
 pub use laws::{
     each_text_reads_back, each_world_is_consistent, kept_answers_stay, nothing_follows_a_terminate,
-    nothing_runs_after_the_end, one_spelling, planned_is_what_a_world_takes, retired_ran_all,
+    nothing_runs_after_the_end, one_spelling, pending_stays_within_the_limit,
+    planned_is_what_a_world_takes, retired_ran_all,
 };
 pub use outcome::{Arrival, Did, HandleRefusal, Outcome, SendRefusal, SubmitRefusal, WorldRefusal};
-pub use rows::{end_rows, further_lines, further_rows, worked_kinds, worked_rows, worked_scripts};
+pub use rows::{
+    end_rows, further_lines, further_rows, pending_rows, worked_kinds, worked_rows, worked_scripts,
+};
 pub use script::{KindName, Line, Mode, Role, Step, Wrong};

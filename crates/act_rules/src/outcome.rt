@@ -70,6 +70,9 @@ pub enum SubmitRefusal {
     BadFuture,
     /// The caller has submitted 65,536 calls.
     TooManyCalls,
+    /// As many of the caller's calls to the actor as its limit allows have no answer yet. This is
+    /// after `max_pending_calls` of Ray's actors, for each of which the caller gets an exception.
+    PendingLimit,
     NoMemory,
 }
 
@@ -168,6 +171,7 @@ impl fmt::Display for SubmitRefusal {
             SubmitRefusal::TooManyArgs => write!(f, "TooManyArgs"),
             SubmitRefusal::BadFuture => write!(f, "BadFuture"),
             SubmitRefusal::TooManyCalls => write!(f, "TooManyCalls"),
+            SubmitRefusal::PendingLimit => write!(f, "PendingLimit"),
             SubmitRefusal::NoMemory => write!(f, "NoMemory"),
         }
     }

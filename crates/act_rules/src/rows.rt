@@ -1,4 +1,4 @@
-// The worked rows, computed by the definitions.
+//! The worked rows, computed by the definitions.
 
 ghost use Rattle.act_rules.specs.Rows as rows;
 
@@ -82,6 +82,15 @@ ghost use Rattle.act_rules.specs.EndRows.{EndRows, EndingPlan};
 pub fn end_rows()
     ensures scripts { EndRows }
     ensures plan { EndingPlan }
+{}
+
+ghost use Rattle.act_rules.specs.PendingRows.{PendingRows, LimitedPlan};
+
+/// What further examples of a limit on pending calls write, and what a plan under one submits.
+#[tactic(none)]
+pub fn pending_rows()
+    ensures scripts { PendingRows }
+    ensures plan { LimitedPlan }
 {}
 
 ghost use Rattle.act_rules.specs.LineRows.{FaultyLines, FineLines, FaultyPlans};

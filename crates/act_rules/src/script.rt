@@ -23,12 +23,14 @@ pub enum KindName {
     ListKind,
 }
 
-/// An actor of a script: the callers that may call it, and its kind.
+/// An actor of a script: the callers that may call it, its kind, and its limit if it has one.
 #[derive(Debug, Drop)]
 pub struct Role {
     pub actor: ActorId,
     pub callers: ListOf<CallerId>,
     pub kind: KindName,
+    /// How many calls of each caller to the actor may have no answer yet, from 1 to 65,536.
+    pub pending: Option<u32>,
 }
 
 /// One step of a caller's plan.
