@@ -4,18 +4,22 @@ ghost use Rattle.std.specs.Prelude.{◌≡◌, ◌==◌, IfOk};
 ghost use Rattle.std.specs.List.{list_any};
 ghost use Rattle.std.specs.Bool.{Decides};
 ghost use Rattle.act_actor.specs.Cast.{CallersDiffer, ActorsDiffer, IsFitting};
-ghost use Rattle.act_actor.specs.Casts.{actors_naming};
+ghost use Rattle.act_rules.specs.History.{contains};
+ghost use Rattle.act_rules.specs.Submissions.{IsLimit};
+ghost use Rattle.act_actor.specs.Casts.{actors_naming, limits_naming};
 
 use act_kinds::Boxed;
-use act_types::{ActorId, CallerId, ListOf, NoMemory};
+use act_types::{ActorId, CallerId, ListOf, MOST_CALLS, NoMemory};
 use std::alloc::Global;
 
-/// An actor that is to be opened: its name, who may call it, and its kind.
+/// An actor that is to be opened: its name, who may call it, its kind, and its limit if it has one.
 #[derive(Drop)]
 pub struct Cast<K = Boxed> {
     pub actor: ActorId,
     pub callers: ListOf<CallerId>,
     pub kind: K,
+    /// How many calls of each caller to the actor may have no answer yet, from 1 to 65,536.
+    pub pending: Option<u32>,
 }
 
 /// Whether no caller stands twice.
@@ -49,14 +53,30 @@ fn actors_differ<K>(casts: &[Cast<K>]) -> bool
     true
 }
 
-/// Whether the actors are distinct, and the callers of each.
+/// Whether a limit is one that a cast may have.
+fn is_limit(pending: Option<u32>) -> bool
+    ensures { Decides result (IsLimit pending) }
+{
+    match pending {
+        None => true,
+        Some(limit) => 1 <= limit && limit <= MOST_CALLS,
+    }
+}
+
+/// Whether the actors are distinct, the callers of each are, and each limit is from 1 to 65,536.
 pub fn cast_fits<K>(casts: &[Cast<K>]) -> bool
     ensures { Decides result (IsFitting casts.now) }
 {
     actors_differ(casts)
-        && casts
-            .iter()
-            .all(|cast| callers_differ(cast.callers.as_slice()))
+        && casts.iter().all(|cast| callers_differ(cast.callers.as_slice())
+            && is_limit(cast.pending))
+}
+
+/// Whether the cast names the caller.
+fn names_caller<K>(cast: &Cast<K>, c: CallerId) -> bool
+    ensures { result ≡ contains c cast.now.callers }
+{
+    cast.callers.as_slice().contains(&c)
 }
 
 /// The actors whose casts name the caller, in the order of the casts.
@@ -65,8 +85,24 @@ pub fn actors_of<K>(alloc: Global, casts: &[Cast<K>], c: CallerId) -> Result<Vec
 {
     let actors = casts
         .iter()
-        .filter(|cast| cast.callers.as_slice().contains(&c))
+        .filter(|cast| names_caller(cast, c))
         .map(|cast| cast.actor)
         .collect(alloc)?;
     Ok(actors)
+}
+
+/// The actors whose casts name the caller, each with its limit, in the order of the casts.
+pub fn limits_of<K>(
+    alloc: Global,
+    casts: &[Cast<K>],
+    c: CallerId,
+) -> Result<Vec<(ActorId, Option<u32>)>, NoMemory>
+    ensures { IfOk result (λ limits. limits.items ≡ limits_naming c casts.now) }
+{
+    let limits = casts
+        .iter()
+        .filter(|cast| names_caller(cast, c))
+        .map(|cast| (cast.actor, cast.pending))
+        .collect(alloc)?;
+    Ok(limits)
 }

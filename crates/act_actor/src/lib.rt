@@ -12,7 +12,7 @@ mod terminate;
 mod tests;
 
 pub use act_rules::{Arrival, RunItem};
-pub use cast::{Cast, actors_of, cast_fits};
+pub use cast::{Cast, actors_of, cast_fits, limits_of};
 pub use dead::Dead;
 pub use live::Live;
 pub use retired::Retired;

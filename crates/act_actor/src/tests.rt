@@ -1,6 +1,6 @@
 //! Worked calls, each with its answer; and calls for which memory is refused.
 
-use crate::{Arrival, Cast, Live, actors_of, cast_fits};
+use crate::{Arrival, Cast, Live, actors_of, cast_fits, limits_of};
 use act_kinds::{Actor, Boxed, Counter, ListKind, Table};
 use act_types::{
     ActorId, CallerId, Fault, FutureId, ListOf, Method, NoMemory, Packet, ReleaseNote, Reply,
@@ -237,12 +237,12 @@ fn killed_with_calls_held(rt: HostRuntime) -> Result<(), Fail> {
     Ok(())
 }
 
-/// An actor and its callers.
-type Role = (ActorId, [CallerId; 2]);
+/// An actor, its callers and its limit.
+type Role = (ActorId, [CallerId; 2], Option<u32>);
 
 fn casts_of(alloc: Global, roles: &[Role]) -> Result<Vec<Cast<Counter>>, NoMemory> {
     let mut casts = Vec::new(alloc);
-    for (actor, names) in roles {
+    for (actor, names, pending) in roles {
         let mut callers = ListOf::new(alloc);
         for caller in names {
             callers.push(*caller)?;
@@ -251,6 +251,7 @@ fn casts_of(alloc: Global, roles: &[Role]) -> Result<Vec<Cast<Counter>>, NoMemor
             actor: *actor,
             callers,
             kind: Counter::open(),
+            pending: *pending,
         })?;
     }
     Ok(casts)
@@ -263,11 +264,15 @@ fn casts_that_fit(rt: HostRuntime) -> Result<(), Fail> {
     let a2 = ActorId::new(2).unwrap();
     let c1 = CallerId::new(1).unwrap();
     let c2 = CallerId::new(2).unwrap();
-    let rows: [(&[Role], bool); 4] = [
+    let rows: [(&[Role], bool); 8] = [
         (&[], true),
-        (&[(a1, [c1, c2]), (a2, [c2, c1])], true),
-        (&[(a1, [c1, c2]), (a1, [c2, c1])], false),
-        (&[(a1, [c1, c2]), (a2, [c2, c2])], false),
+        (&[(a1, [c1, c2], None), (a2, [c2, c1], None)], true),
+        (&[(a1, [c1, c2], None), (a1, [c2, c1], None)], false),
+        (&[(a1, [c1, c2], None), (a2, [c2, c2], None)], false),
+        (&[(a1, [c1, c2], Some(1))], true),
+        (&[(a1, [c1, c2], None), (a2, [c2, c1], Some(0))], false),
+        (&[(a1, [c1, c2], Some(65_536))], true),
+        (&[(a1, [c1, c2], Some(65_537))], false),
     ];
     for (roles, fits) in rows {
         let casts = casts_of(alloc, roles)?;
@@ -286,12 +291,19 @@ fn actors_that_name_a_caller(rt: HostRuntime) -> Result<(), Fail> {
     let c2 = CallerId::new(2).unwrap();
     let c3 = CallerId::new(3).unwrap();
     let c9 = CallerId::new(9).unwrap();
-    let casts = casts_of(alloc, &[(a3, [c1, c2]), (a2, [c1, c3]), (a1, [c3, c2])])?;
+    let roles = [
+        (a3, [c1, c2], Some(7)),
+        (a2, [c1, c3], None),
+        (a1, [c3, c2], None),
+    ];
+    let casts = casts_of(alloc, &roles)?;
     let rows: [(CallerId, &[ActorId]); 3] = [(c1, &[a3, a2]), (c2, &[a3, a1]), (c9, &[])];
     for (caller, wanted) in rows {
         let actors = actors_of(alloc, casts.as_slice(), caller)?;
         assert_eq!(rt; actors.as_slice(), wanted);
     }
+    let limits = limits_of(alloc, casts.as_slice(), c1)?;
+    assert_eq!(rt; limits.as_slice(), [(a3, Some(7)), (a2, None)].as_slice());
     Ok(())
 }
 

@@ -146,34 +146,34 @@ reply_cases true true owner reply m n = absurd (cc n)
 reply_cases false known owner reply m n = absurd (cc m)
 
 -- a caller after the first answer of a future
-pub reply_kept : (id : ℕ) (handles : List Handle) (calls : List Call) (rows new : List Row) (entered entered2 : List Entered) (dead : List Bool) (now : OwnerValue) (reply : Reply) → seen id handles calls rows entered dead ≡ now → new ≡ after_keep reply.future reply.answer rows → entered2 ≡ with_told entered reply.future → is_of_call now reply ≡ true → is_some (kept_at now.kept reply.future) ≡ false → seen id handles calls new entered2 dead ≡ after_reply now reply
-reply_kept id handles calls rows new entered entered2 dead now reply same is told mine unknown =
+pub reply_kept : (id : ℕ) (handles : List Handle) (calls : List Call) (rows new : List Row) (entered entered2 : List Entered) (dead : List Bool) (limits : List (ℕ × Option ℕ)) (now : OwnerValue) (reply : Reply) → seen id handles calls rows entered dead limits ≡ now → new ≡ after_keep reply.future reply.answer rows → entered2 ≡ with_told entered reply.future → is_of_call now reply ≡ true → is_some (kept_at now.kept reply.future) ≡ false → seen id handles calls new entered2 dead limits ≡ after_reply now reply
+reply_kept id handles calls rows new entered entered2 dead limits now reply same is told mine unknown =
     let before : is_some (kept_at (answers_of rows) reply.future) ≡ false = ap (λ (owner : OwnerValue). is_some (kept_at owner.kept reply.future)) same ∙ unknown in
-    ap (λ (sent : List Bool). record (seen id handles calls new entered dead) { sent = sent }) (ap (map (λ (call : Entered). call.sent)) told ∙ read_stays (λ (call : Entered). call.sent) (λ (call : Entered). record call { told = true }) (λ _. refl) entered reply.future)
-    ∙ ap (λ (kept : List (Option Answer)). record (seen id handles calls rows entered dead) { kept = kept }) (ap answers_of is ∙ keep_open reply.future reply.answer rows before)
+    ap (λ (sent : List Bool). record (seen id handles calls new entered dead limits) { sent = sent }) (ap (map (λ (call : Entered). call.sent)) told ∙ read_stays (λ (call : Entered). call.sent) (λ (call : Entered). record call { told = true }) (λ _. refl) entered reply.future)
+    ∙ ap (λ (kept : List (Option Answer)). record (seen id handles calls rows entered dead limits) { kept = kept }) (ap answers_of is ∙ keep_open reply.future reply.answer rows before)
     ∙ ap (λ (owner : OwnerValue). owner_with_answer owner reply.future reply.answer) same
     ∙ reply_cases (is_of_call now reply) (is_some (kept_at now.kept reply.future)) now reply mine unknown
 
 -- a caller after a call was sent
-pub sent_marked : (id : ℕ) (handles : List Handle) (calls : List Call) (rows : List Row) (entered entered2 : List Entered) (dead : List Bool) (now : OwnerValue) (k : ℕ) → seen id handles calls rows entered dead ≡ now → entered2 ≡ with_sent_entered entered k → seen id handles calls rows entered2 dead ≡ with_sent now k
-sent_marked id handles calls rows entered entered2 dead now k same is =
-    ap (λ (sent : List Bool). record (seen id handles calls rows entered dead) { sent = sent }) (ap (map (λ (call : Entered). call.sent)) is ∙ read_set (λ (call : Entered). call.sent) (λ (call : Entered). record call { sent = true }) true (λ _. refl) entered k)
+pub sent_marked : (id : ℕ) (handles : List Handle) (calls : List Call) (rows : List Row) (entered entered2 : List Entered) (dead : List Bool) (limits : List (ℕ × Option ℕ)) (now : OwnerValue) (k : ℕ) → seen id handles calls rows entered dead limits ≡ now → entered2 ≡ with_sent_entered entered k → seen id handles calls rows entered2 dead limits ≡ with_sent now k
+sent_marked id handles calls rows entered entered2 dead limits now k same is =
+    ap (λ (sent : List Bool). record (seen id handles calls rows entered dead limits) { sent = sent }) (ap (map (λ (call : Entered). call.sent)) is ∙ read_set (λ (call : Entered). call.sent) (λ (call : Entered). record call { sent = true }) true (λ _. refl) entered k)
     ∙ ap (λ (owner : OwnerValue). with_sent owner k) same
 
 -- what the death of a caller's actor tells
-pub death_told : (id : ℕ) (handles : List Handle) (calls : List Call) (rows : List Row) (entered : List Entered) (dead : List Bool) (now : OwnerValue) (a n : ℕ) → seen id handles calls rows entered dead ≡ now → map (λ row. row.actor) rows ≡ map (λ call. call.actor) calls → is_some (copies_in a now.handles) ≡ true → n ≡ count_by (row_waits_for a) rows → Died n ≡ collected_death now a
-death_told id handles calls rows entered dead now a n same actors listed count =
+pub death_told : (id : ℕ) (handles : List Handle) (calls : List Call) (rows : List Row) (entered : List Entered) (dead : List Bool) (limits : List (ℕ × Option ℕ)) (now : OwnerValue) (a n : ℕ) → seen id handles calls rows entered dead limits ≡ now → map (λ row. row.actor) rows ≡ map (λ call. call.actor) calls → is_some (copies_in a now.handles) ≡ true → n ≡ count_by (row_waits_for a) rows → Died n ≡ collected_death now a
+death_told id handles calls rows entered dead limits now a n same actors listed count =
     ap Died (count ∙ pending_count a rows calls actors)
     ∙ ap (λ (owner : OwnerValue). Died (count_by (waits_for a) (zip owner.calls owner.kept))) same
     ∙ sym (ap (λ b. if b then Died (count_by (waits_for a) (zip now.calls now.kept)) else Stray) listed)
 
 -- a caller after the death of one of its actors
-pub death_kept : (id : ℕ) (handles : List Handle) (calls : List Call) (rows new : List Row) (entered entered2 : List Entered) (dead : List Bool) (now : OwnerValue) (a number : ℕ) → seen id handles calls rows entered dead ≡ now → map (λ row. row.actor) rows ≡ map (λ call. call.actor) calls → is_some (copies_in a now.handles) ≡ true → new ≡ rows_after_death a rows → map (λ call. call.sent) entered2 ≡ map (λ call. call.sent) entered → number ≡ a → seen id handles calls new entered2 (slice_set dead number true) ≡ after_death now a
-death_kept id handles calls rows new entered entered2 dead now a number same actors listed is sent here =
-    let before = seen id handles calls rows entered dead in
-    ap (λ (flags : List Bool). record (seen id handles calls new entered (slice_set dead number true)) { sent = flags }) sent
-    ∙ ap (λ (rs : List Row). seen id handles calls rs entered (slice_set dead number true)) is
-    ∙ ap (λ b. seen id handles calls (rows_after_death a rows) entered (slice_set dead b true)) here
+pub death_kept : (id : ℕ) (handles : List Handle) (calls : List Call) (rows new : List Row) (entered entered2 : List Entered) (dead : List Bool) (limits : List (ℕ × Option ℕ)) (now : OwnerValue) (a number : ℕ) → seen id handles calls rows entered dead limits ≡ now → map (λ row. row.actor) rows ≡ map (λ call. call.actor) calls → is_some (copies_in a now.handles) ≡ true → new ≡ rows_after_death a rows → map (λ call. call.sent) entered2 ≡ map (λ call. call.sent) entered → number ≡ a → seen id handles calls new entered2 (slice_set dead number true) limits ≡ after_death now a
+death_kept id handles calls rows new entered entered2 dead limits now a number same actors listed is sent here =
+    let before = seen id handles calls rows entered dead limits in
+    ap (λ (flags : List Bool). record (seen id handles calls new entered (slice_set dead number true) limits) { sent = flags }) sent
+    ∙ ap (λ (rs : List Row). seen id handles calls rs entered (slice_set dead number true) limits) is
+    ∙ ap (λ b. seen id handles calls (rows_after_death a rows) entered (slice_set dead b true) limits) here
     ∙ ap (λ (kept : List (Option Answer)). record before { kept = kept; dead = slice_set dead a true }) (died_answers a rows calls actors)
     ∙ ap (λ (owner : OwnerValue). with_death owner a) same
     ∙ sym (ap (λ b. if b then with_death now a else now) listed)

@@ -4,3 +4,5 @@ pub mod Deaths
 pub mod Answers
 pub mod Life
 pub mod Told
+pub mod Limits
+pub mod Pending

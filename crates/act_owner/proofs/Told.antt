@@ -13,7 +13,7 @@ use Rattle.act_rules.specs.RunList.{Answer}
 use Rattle.act_rules.specs.Submissions.{kept_at, calls_to}
 use Rattle.act_handles.specs.Handles.{copies_in, given_in}
 use Rattle.act_owner.specs.declared.owner.Collected.TheVariants.{First, Late, Stray}
-use Rattle.act_owner.specs.Owner.{OwnerValue, submission_of, opened, with_death, after_reply_that, is_of_call, is_sent, is_dead, is_to, is_death, first_answer, answer_after_death}
+use Rattle.act_owner.specs.Owner.{OwnerValue, submission_of, opened_under, with_death, after_reply_that, is_of_call, is_sent, is_dead, is_to, is_death, first_answer, answer_after_death}
 use Rattle.act_owner.specs.declared.owner.Call.{Call}
 use Rattle.act_owner.specs.Life.{Change, Copied, Released, Submitted, Sent, Noticed, after, after_all, notices_in, IsToldBy, Hears}
 use Rattle.act_owner.proofs.Life.{Extends, step, found_below}
@@ -231,8 +231,8 @@ none_dead zero a = refl
 none_dead (suc n) zero = refl
 none_dead (suc n) (suc a) = none_dead n a
 
-pub hears_opened : (id : ℕ) (actors : List ℕ) → Hears (opened id actors) []
-hears_opened id actors = record {
+pub hears_opened : (limits : List (ℕ × Option ℕ)) (id : ℕ) (actors : List ℕ) → Hears (opened_under limits id actors) []
+hears_opened limits id actors = record {
   answers = λ k answer is. absurd (cc is);
   deaths = λ a is. absurd (cc (is, none_dead 9 a));
 }

@@ -18,8 +18,8 @@ use Rattle.act_owner.specs.Owner.{OwnerValue, submission_of, answers_of, futures
 use Rattle.act_owner.proofs.Calls.{get_last, set_last}
 
 -- one caller, seen through its parts
-abbrev pub seen : ℕ → List Handle → List Call → List Row → List Entered → List Bool → OwnerValue
-seen id handles calls rows entered dead = record { id = id; handles = handles; calls = map submission_of calls; sent = map (λ call. call.sent) entered; kept = answers_of rows; dead = dead }
+abbrev pub seen : ℕ → List Handle → List Call → List Row → List Entered → List Bool → List (ℕ × Option ℕ) → OwnerValue
+seen id handles calls rows entered dead limits = record { id = id; handles = handles; calls = map submission_of calls; sent = map (λ call. call.sent) entered; kept = answers_of rows; dead = dead; limits = limits }
 
 -- ---- a change of one call
 
@@ -77,9 +77,9 @@ is_known-read k entered =
     (elim (slice_get entered k) as (λ found. option_map_or (λ (call : Entered). list_all (is_told entered) call.futures) found false ≡ option_map_or (list_all (is_told entered)) (option_map (λ (call : Entered). call.futures) found) false) [ None ↦ refl | Some call ↦ refl ])
 
 -- the resolver knows a call exactly where all its future arguments have an answer
-pub known_same : (k id : ℕ) (handles : List Handle) (calls : List Call) (rows : List Row) (entered : List Entered) (dead : List Bool) → IsOwner handles calls rows entered → is_known entered k ≡ is_known_call (seen id handles calls rows entered dead) (slice_get (map submission_of calls) k)
-known_same k id handles calls rows entered dead fine =
-    let owner = seen id handles calls rows entered dead in
+pub known_same : (k id : ℕ) (handles : List Handle) (calls : List Call) (rows : List Row) (entered : List Entered) (dead : List Bool) (limits : List (ℕ × Option ℕ)) → IsOwner handles calls rows entered → is_known entered k ≡ is_known_call (seen id handles calls rows entered dead limits) (slice_get (map submission_of calls) k)
+known_same k id handles calls rows entered dead limits fine =
+    let owner = seen id handles calls rows entered dead limits in
     is_known-read k entered
     ∙ ap (λ (lists : List (List ℕ)). option_map_or (list_all (is_told entered)) (slice_get lists k) false) fine.waits
     ∙ rw (slice_get-map (λ (call : Call). futures_of call.args) calls k, slice_get-map submission_of calls k)
@@ -93,11 +93,11 @@ known_same k id handles calls rows entered dead fine =
 and_same : (a b c d e f : Bool) → a ≡ d → b ≡ e → c ≡ f → (a && not b && not c) ≡ (d && not e && not f)
 and_same a b c d e f first second third = cc
 
-ready_at_same : (k id : ℕ) (handles : List Handle) (calls : List Call) (rows : List Row) (entered : List Entered) (dead : List Bool) → IsOwner handles calls rows entered → is_ready entered k ≡ owner_is_ready (seen id handles calls rows entered dead) k
-ready_at_same k id handles calls rows entered dead fine =
-    let owner = seen id handles calls rows entered dead in
+ready_at_same : (k id : ℕ) (handles : List Handle) (calls : List Call) (rows : List Row) (entered : List Entered) (dead : List Bool) (limits : List (ℕ × Option ℕ)) → IsOwner handles calls rows entered → is_ready entered k ≡ owner_is_ready (seen id handles calls rows entered dead limits) k
+ready_at_same k id handles calls rows entered dead limits fine =
+    let owner = seen id handles calls rows entered dead limits in
     and_same (is_known entered k) (is_sent entered k) (is_told entered k) (is_known_call owner (slice_get owner.calls k)) (owner_is_sent owner k) (is_some (kept_at owner.kept k))
-    (known_same k id handles calls rows entered dead fine) (sent_same k entered) (told_same k entered rows fine.told)
+    (known_same k id handles calls rows entered dead limits fine) (sent_same k entered) (told_same k entered rows fine.told)
 
 find_same : (p q : ℕ → Bool) → ((k : ℕ) → p k ≡ q k) → (ks : List ℕ) → find p ks ≡ find q ks
 find_same p q same [] = refl
@@ -109,10 +109,10 @@ entered_all : (handles : List Handle) (calls : List Call) (rows : List Row) (ent
 entered_all handles calls rows entered fine =
     sym (length-map entered (λ (call : Entered). call.futures)) ∙ ap length fine.waits ∙ length-map calls (λ (call : Call). futures_of call.args)
 
-pub first_ready_same : (id : ℕ) (handles : List Handle) (calls : List Call) (rows : List Row) (entered : List Entered) (dead : List Bool) → IsOwner handles calls rows entered → first_ready entered ≡ owner_first_ready (seen id handles calls rows entered dead)
-first_ready_same id handles calls rows entered dead fine =
-    let owner = seen id handles calls rows entered dead in
-    find_same (is_ready entered) (owner_is_ready owner) (λ k. ready_at_same k id handles calls rows entered dead fine) (range_with_len 0 (length entered))
+pub first_ready_same : (id : ℕ) (handles : List Handle) (calls : List Call) (rows : List Row) (entered : List Entered) (dead : List Bool) (limits : List (ℕ × Option ℕ)) → IsOwner handles calls rows entered → first_ready entered ≡ owner_first_ready (seen id handles calls rows entered dead limits)
+first_ready_same id handles calls rows entered dead limits fine =
+    let owner = seen id handles calls rows entered dead limits in
+    find_same (is_ready entered) (owner_is_ready owner) (λ k. ready_at_same k id handles calls rows entered dead limits fine) (range_with_len 0 (length entered))
     ∙ ap (λ n. find (owner_is_ready owner) (range_with_len 0 n)) (entered_all handles calls rows entered fine ∙ sym (length-map calls submission_of))
 
 -- ---- a call as it enters

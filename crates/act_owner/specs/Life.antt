@@ -1,5 +1,5 @@
 -- The life of one caller, and that a call's packet is the same through all of it.
-use Rattle.std.specs.Prelude.{◌≡◌, ℕ, ◌++◌, Bool, true, false, List, [], ◌∷◌, slice_get, filter_map, Option, Some, None, Contains, IsTrue}
+use Rattle.std.specs.Prelude.{◌≡◌, ℕ, ◌≤◌, ◌++◌, Bool, true, false, List, [], ◌∷◌, slice_get, filter_map, Option, Some, None, Contains, IsTrue}
 use Rattle.act_types.specs.declared.call.Method.{Method}
 use Rattle.act_types.specs.declared.call.Arg.{Arg}
 use Rattle.act_types.specs.declared.message.Notice.{Notice}
@@ -8,7 +8,7 @@ use Rattle.act_types.specs.declared.message.Reply.{Reply}
 use Rattle.act_rules.specs.RunList.{Answer}
 use Rattle.act_rules.specs.Submissions.{kept_at}
 use Rattle.act_handles.specs.Handles.{with_copy, without_copy}
-use Rattle.act_owner.specs.Owner.{OwnerValue, opened, with_handles, with_call, with_sent, after_collect, is_known_call, packet_at, is_sent, is_dead, is_to, is_death}
+use Rattle.act_owner.specs.Owner.{OwnerValue, opened_under, limit_of, pending, submission_refusal, with_handles, with_call, with_sent, after_collect, is_known_call, packet_at, is_sent, is_dead, is_to, is_death}
 
 -- what a call of a caller changes it by; one that is refused changes nothing
 pub data Change : Type 0 where
@@ -36,9 +36,31 @@ abbrev pub after_all : OwnerValue → List Change → OwnerValue
 after_all owner [] = owner
 after_all owner (change ∷ changes) = after_all (after owner change) changes
 
--- a caller of these actors after some changes since its opening
-abbrev pub caller : ℕ → List ℕ → List Change → OwnerValue
-caller id actors changes = after_all (opened id actors) changes
+-- actors with their limits
+abbrev pub Limits : Type 0
+Limits = List (ℕ × Option ℕ)
+
+-- a caller of these actors, under these limits, after some changes since its opening
+abbrev pub caller : Limits → ℕ → List ℕ → List Change → OwnerValue
+caller limits id actors changes = after_all (opened_under limits id actors) changes
+
+-- a submission is one that nothing refuses
+abbrev pub IsAccepted : OwnerValue → Change → Type 0
+IsAccepted owner (Copied a) = Unit {0}
+IsAccepted owner (Released a) = Unit {0}
+IsAccepted owner (Submitted a method args) = submission_refusal owner a args ≡ None
+IsAccepted owner (Sent k) = Unit {0}
+IsAccepted owner (Noticed notice) = Unit {0}
+
+-- each submission among these changes is one that nothing refuses at its time
+abbrev pub AreAccepted : OwnerValue → List Change → Type 0
+AreAccepted owner [] = Unit {0}
+AreAccepted owner (change ∷ changes) = IsAccepted owner change × AreAccepted (after owner change) changes
+
+-- never are more calls of an actor pending than its limit says
+abbrev pub NeverAboveTheLimit : Type 0
+NeverAboveTheLimit = (limits : Limits) (id : ℕ) (actors : List ℕ) (changes : List Change) (a limit : ℕ) →
+    AreAccepted (opened_under limits id actors) changes → limit_of (caller limits id actors changes) a ≡ Some limit → pending (caller limits id actors changes) a ≤ limit
 
 -- whether call k was submitted and all its future arguments have an answer
 abbrev pub is_known_at : OwnerValue → ℕ → Bool
@@ -46,18 +68,18 @@ is_known_at owner k = is_known_call owner (slice_get owner.calls k)
 
 -- a call whose arguments have their answers stays so
 abbrev pub KnownCallsStayKnown : Type 0
-KnownCallsStayKnown = (id : ℕ) (actors : List ℕ) (changes later : List Change) (k : ℕ) →
-    IsTrue (is_known_at (caller id actors changes) k) → IsTrue (is_known_at (caller id actors (changes ++ later)) k)
+KnownCallsStayKnown = (limits : Limits) (id : ℕ) (actors : List ℕ) (changes later : List Change) (k : ℕ) →
+    IsTrue (is_known_at (caller limits id actors changes) k) → IsTrue (is_known_at (caller limits id actors (changes ++ later)) k)
 
 -- its packet is the same from then on
 abbrev pub OnePacketForGood : Type 0
-OnePacketForGood = (id : ℕ) (actors : List ℕ) (changes later : List Change) (k : ℕ) →
-    IsTrue (is_known_at (caller id actors changes) k) → packet_at (caller id actors (changes ++ later)) k ≡ packet_at (caller id actors changes) k
+OnePacketForGood = (limits : Limits) (id : ℕ) (actors : List ℕ) (changes later : List Change) (k : ℕ) →
+    IsTrue (is_known_at (caller limits id actors changes) k) → packet_at (caller limits id actors (changes ++ later)) k ≡ packet_at (caller limits id actors changes) k
 
 -- a call that was sent stays so
 abbrev pub SentStaysSent : Type 0
-SentStaysSent = (id : ℕ) (actors : List ℕ) (changes later : List Change) (k : ℕ) →
-    IsTrue (is_sent (caller id actors changes) k) → IsTrue (is_sent (caller id actors (changes ++ later)) k)
+SentStaysSent = (limits : Limits) (id : ℕ) (actors : List ℕ) (changes later : List Change) (k : ℕ) →
+    IsTrue (is_sent (caller limits id actors changes) k) → IsTrue (is_sent (caller limits id actors (changes ++ later)) k)
 
 -- the notice that a change collects, if it collects one
 abbrev pub notice_of : Change → Option Notice
@@ -98,4 +120,4 @@ pub record Hears (owner : OwnerValue) (notices : List Notice) : Type 0 where
 
 -- a caller keeps and knows only what it collected
 abbrev pub AllIsHeard : Type 0
-AllIsHeard = (id : ℕ) (actors : List ℕ) (changes : List Change) → Hears (caller id actors changes) (notices_in changes)
+AllIsHeard = (limits : Limits) (id : ℕ) (actors : List ℕ) (changes : List Change) → Hears (caller limits id actors changes) (notices_in changes)

@@ -1,5 +1,6 @@
 -- What contracts say of one caller.
-use Rattle.std.specs.Prelude.{◌≡◌, ℕ, ◌≤◌, ◌==◌, Bool, true, false, not, ◌&&◌, if◌then◌else◌, List, [], ◌∷◌, ◌++◌, length, map, zip, replicate, filter, filter_map, find, count_by, slice_get, slice_set, Option, Some, None, is_some, option_map, unwrap_or, Result, Err}
+use Rattle.std.specs.Prelude.{◌≡◌, ℕ, ◌≤◌, ◌==◌, Bool, true, false, not, ◌&&◌, if◌then◌else◌, List, [], ◌∷◌, ◌++◌, length, map, zip, replicate, filter, filter_map, find, count_by, slice_get, slice_set, Option, Some, None, is_some, option_map, option_and_then, unwrap_or, Result, Err}
+use Rattle.std.specs.Option.{option_or}
 use Rattle.std.specs.List.{list_all, range_with_len}
 use Rattle.act_types.specs.declared.limits.TheConstants.{MOST_CALLS}
 use Rattle.act_types.specs.declared.fault.Fault.TheVariants.{ActorDied}
@@ -17,7 +18,7 @@ use Rattle.act_rules.specs.declared.outcome.HandleRefusal.{HandleRefusal}
 use Rattle.act_rules.specs.declared.outcome.SubmitRefusal.{SubmitRefusal}
 use Rattle.act_rules.specs.declared.outcome.SendRefusal.{SendRefusal}
 use Rattle.act_rules.specs.RunList.{Answer}
-use Rattle.act_rules.specs.Submissions.{number_of, kept_at, settled, is_known, copies_held, handle_refusal, submit_refusal, send_refusal}
+use Rattle.act_rules.specs.Submissions.{number_of, kept_at, settled, is_known, copies_held, handle_refusal, submit_refusal, limit_refusal, send_refusal}
 use Rattle.act_handles.specs.declared.handles.Handle.{Handle}
 use Rattle.act_handles.specs.Handles.{copies_in, given_in, given_of_all, with_number, or_else, opened as opened_handle}
 use Rattle.act_replies.specs.declared.table.Row.{Row}
@@ -35,10 +36,24 @@ pub record OwnerValue : Type 0 where
   pub kept : List (Option Answer)
   -- whether each actor, by its number, is known to be dead
   pub dead : List Bool
+  -- actors with their limits, as they were given at the opening
+  pub limits : List (ℕ × Option ℕ)
 
--- a caller that submitted nothing yet
+-- a caller of these actors that submitted nothing yet, with these limits
+abbrev pub opened_under : List (ℕ × Option ℕ) → ℕ → List ℕ → OwnerValue
+opened_under limits id actors = record { id = id; handles = map opened_handle actors; calls = []; sent = []; kept = []; dead = replicate 9 false; limits = limits }
+
+-- the same without limits
 abbrev pub opened : ℕ → List ℕ → OwnerValue
-opened id actors = record { id = id; handles = map opened_handle actors; calls = []; sent = []; kept = []; dead = replicate 9 false }
+opened id actors = opened_under [] id actors
+
+-- the same of actors that are given with their limits
+abbrev pub opened_with : ℕ → List (ℕ × Option ℕ) → OwnerValue
+opened_with id limits = opened_under limits id (map (λ limit. limit.0) limits)
+
+-- how many calls of an actor may have no answer, where the caller was opened with a limit of it
+abbrev pub limit_of : OwnerValue → ℕ → Option ℕ
+limit_of owner a = option_and_then (λ limit. limit.1) (find (λ limit. limit.0 == a) owner.limits)
 
 abbrev pub with_handles : OwnerValue → List Handle → OwnerValue
 with_handles owner handles = record owner { handles = handles }
@@ -63,10 +78,6 @@ is_sent owner k = unwrap_or (slice_get owner.sent k) false
 -- whether the actor is known to be dead
 abbrev pub is_dead : OwnerValue → ℕ → Bool
 is_dead owner a = unwrap_or (slice_get owner.dead a) false
-
--- why a call is not submitted, memory apart
-abbrev pub submission_refusal : OwnerValue → ℕ → List Arg → Option SubmitRefusal
-submission_refusal owner a args = submit_refusal (copies_in a owner.handles) (length owner.calls) args
 
 -- the answer of a new call, which it has where its actor is dead
 abbrev pub first_answer : Bool → Option Answer
@@ -162,6 +173,16 @@ after_reply owner reply = after_reply_that (collected_reply owner reply) owner r
 abbrev pub waits_for : ℕ → Submission × Option Answer → Bool
 waits_for a call = (call.0.actor == a) && not (is_some call.1)
 
+-- how many calls of the actor have no answer yet
+abbrev pub pending : OwnerValue → ℕ → ℕ
+pending owner a = count_by (waits_for a) (zip owner.calls owner.kept)
+
+-- why a call is not submitted, memory apart
+abbrev pub submission_refusal : OwnerValue → ℕ → List Arg → Option SubmitRefusal
+submission_refusal owner a args =
+    option_or (submit_refusal (copies_in a owner.handles) (length owner.calls) args)
+    (limit_refusal (limit_of owner a) (pending owner a))
+
 -- the answer of a call after the death of an actor
 abbrev pub answer_after_death : ℕ → Submission × Option Answer → Option Answer
 answer_after_death a call = if waits_for a call then Some (Err ActorDied) else call.1
@@ -170,7 +191,7 @@ answer_after_death a call = if waits_for a call then Some (Err ActorDied) else c
 abbrev pub collected_death : OwnerValue → ℕ → Collected
 collected_death owner a =
     if is_some (copies_in a owner.handles)
-    then Died (count_by (waits_for a) (zip owner.calls owner.kept))
+    then Died (pending owner a)
     else Stray
 
 abbrev pub with_death : OwnerValue → ℕ → OwnerValue

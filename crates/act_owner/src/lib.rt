@@ -9,5 +9,5 @@ mod owner;
 mod tests;
 
 pub use act_rules::{HandleRefusal, SendRefusal, SubmitRefusal};
-pub use laws::{one_packet_for_good, told_by_notices};
+pub use laws::{never_above_the_limit, one_packet_for_good, told_by_notices};
 pub use owner::{Call, Collected, Owner};

@@ -1,12 +1,12 @@
 //! One caller and its calls.
 
-ghost use Rattle.std.specs.Prelude.{◌≡◌, ◌≢◌, ℕ, ◌≤◌, map, length, count_by, AllPairs, Option, None, Some, Err, IfOk, OnOk, IfErr, OnErr, option_copied, unwrap_or, is_some, slice_get, zip};
+ghost use Rattle.std.specs.Prelude.{◌≡◌, ◌≢◌, ◌==◌, ℕ, ◌≤◌, map, length, count_by, All, AllPairs, Option, None, Some, Err, IfOk, OnOk, IfErr, OnErr, option_and_then, option_copied, find, position, unwrap_or, is_some, slice_get, zip};
 ghost use Rattle.std.specs.List.{list_all, list_any};
 ghost use Rattle.act_rules.specs.declared.outcome.SubmitRefusal.TheVariants.{NoMemory as NoRoom};
 ghost use Rattle.act_rules.specs.declared.outcome.SendRefusal.TheVariants.{NoMemory as NoRoomToSend};
-ghost use Rattle.act_rules.specs.Submissions.{calls_to, copies_held, handle_refusal, kept_at};
+ghost use Rattle.act_rules.specs.Submissions.{calls_to, copies_held, handle_refusal, limit_refusal, kept_at};
 ghost use Rattle.act_handles.specs.Handles.{copies_in, given_in, copied, with_copy, without_copy};
-ghost use Rattle.act_owner.specs.Owner.{OwnerValue, opened, with_handles, release_told, kill_told, submission_refusal, with_call, call_at, is_sent, is_dead, sending_refusal, packet_at, with_sent, is_known_call, first_ready, is_to, is_death, is_of_call, collected_reply, after_reply, collected_death, after_death, collected, after_collect, waits_for, KnowsDeath};
+ghost use Rattle.act_owner.specs.Owner.{OwnerValue, opened, opened_under, opened_with, limit_of, pending, with_handles, release_told, kill_told, submission_refusal, with_call, call_at, is_sent, is_dead, sending_refusal, packet_at, with_sent, is_known_call, first_ready, is_to, is_death, is_of_call, collected_reply, after_reply, collected_death, after_death, collected, after_collect, waits_for, KnowsDeath};
 ghost use Rattle.act_types.specs.declared.message.Notice.TheVariants.{Death};
 
 use crate::args::{all_settled, are_earlier};
@@ -45,6 +45,9 @@ pub enum Collected {
     Died(u32),
 }
 
+/// Actors, each with the number of its calls that may have no answer yet.
+type Limits = Vec<(ActorId, Option<u32>)>;
+
 /// One caller: its handles, its calls, and the answers that it keeps.
 #[derive(Drop)]
 pub struct Owner {
@@ -56,6 +59,8 @@ pub struct Owner {
     table: ReplyTable,
     /// Whether each actor, by its number, is known to be dead.
     dead: [bool; 9],
+    /// How many calls of an actor may have no answer yet, where the caller was opened with limits.
+    limits: Limits,
 }
 
 impl Model for Owner {
@@ -71,6 +76,7 @@ impl Model for Owner {
       sent = map (λ call. call.sent) owner.resolver.calls;
       kept = answers_of owner.table.rows;
       dead = owner.dead;
+      limits = owner.limits.items;
     } };
 
     ghost invariant = { λ owner. IsOwner owner.handles owner.calls.items owner.table.rows owner.resolver.calls };
@@ -86,11 +92,49 @@ fn is_death(answer: &Answer) -> bool
     }
 }
 
+/// The actors of a list of actors with their limits.
+fn names_of(alloc: Global, actors: &[(ActorId, Option<u32>)]) -> Result<Vec<ActorId>, NoMemory>
+    ensures { IfOk result (λ names. names.items ≡ map (λ actor. actor.0) actors.now) }
+{
+    let names = actors.iter().map(|actor| actor.0).collect(alloc)?;
+    Ok(names)
+}
+
+/// A copy of a list of actors with their limits.
+fn copy_of(alloc: Global, actors: &[(ActorId, Option<u32>)]) -> Result<Limits, NoMemory>
+    ensures { IfOk result (λ limits. limits.items ≡ actors.now) }
+{
+    let limits = actors.iter().copied().collect(alloc)?;
+    Ok(limits)
+}
+
+/// The place of the actor in a list of actors with their limits.
+fn place_in(limits: &[(ActorId, Option<u32>)], a: ActorId) -> Option<usize>
+    ensures { result ≡ position (λ limit. limit.0 == a) limits.now }
+{
+    limits.iter().position(|limit| limit.0 == a)
+}
+
+/// The limit of an actor in a list of actors with their limits.
+fn limit_in(limits: &[(ActorId, Option<u32>)], a: ActorId) -> Option<u32>
+    ensures { result ≡ option_and_then (λ limit. limit.1) (find (λ limit. limit.0 == a) limits.now) }
+{
+    match place_in(limits, a) {
+        None => None,
+        Some(place) => limits[place].1,
+    }
+}
+
 impl Owner {
     /// A caller of these actors, which holds one copy of each one's handle and submitted nothing.
-    pub fn open(alloc: Global, id: CallerId, actors: &[ActorId]) -> Result<Owner, NoMemory>
+    fn opened_under(
+        alloc: Global,
+        limits: Limits,
+        id: CallerId,
+        actors: &[ActorId],
+    ) -> Result<Owner, NoMemory>
         requires distinct { AllPairs (λ one other. one ≢ other) actors.now }
-        ensures { IfOk result (λ owner. owner ≡ opened id actors.now) }
+        ensures { IfOk result (λ owner. owner ≡ opened_under limits.items id actors.now) }
     {
         Ok(Owner {
             id,
@@ -99,7 +143,34 @@ impl Owner {
             resolver: Resolver::new(alloc),
             table: ReplyTable::new(alloc),
             dead: [false; 9],
+            limits,
         })
+    }
+
+    /// A caller of these actors, which holds one copy of each one's handle and submitted nothing.
+    /// Nothing limits how many of its calls may have no answer yet.
+    pub fn open(alloc: Global, id: CallerId, actors: &[ActorId]) -> Result<Owner, NoMemory>
+        requires distinct { AllPairs (λ one other. one ≢ other) actors.now }
+        ensures { IfOk result (λ owner. owner ≡ opened id actors.now) }
+    {
+        Owner::opened_under(alloc, Vec::new(alloc), id, actors)
+    }
+
+    /// The same of actors that are each given with the number of its calls that may have no answer
+    /// yet, or with none where nothing limits them. A limit of 0 would refuse every call, and a
+    /// thread would wait for ever.
+    pub fn open_with(
+        alloc: Global,
+        id: CallerId,
+        actors: &[(ActorId, Option<u32>)],
+    ) -> Result<Owner, NoMemory>
+        requires distinct { AllPairs (λ one other. one.0 ≢ other.0) actors.now }
+        requires limits { All (λ actor. actor.1 ≢ Some 0) actors.now }
+        ensures { IfOk result (λ owner. owner ≡ opened_with id actors.now) }
+    {
+        let names = names_of(alloc, actors)?;
+        let limits = copy_of(alloc, actors)?;
+        Owner::opened_under(alloc, limits, id, names.as_slice())
     }
 
     /// This caller.
@@ -192,9 +263,28 @@ impl Owner {
     /// kept, and none counts once the actor's death was collected. The number is kept: asking for it
     /// takes constant time, and no memory.
     pub fn pending(&self, a: ActorId) -> u32
-        ensures { result ≡ count_by (waits_for a) (zip self.now.calls self.now.kept) }
+        ensures { result ≡ pending self.now a }
     {
         self.table.pending(a)
+    }
+
+    /// How many calls of the actor may have no answer yet, as the caller was opened with it: none
+    /// where nothing limits them, or the actor is not one of this caller's. It takes no memory.
+    pub fn limit(&self, a: ActorId) -> Option<u32>
+        ensures { result ≡ limit_of self.now a }
+    {
+        limit_in(self.limits.as_slice(), a)
+    }
+
+    /// Why the actor's limit would refuse one call more.
+    fn limit_refusal(&self, a: ActorId) -> Option<SubmitRefusal>
+        ensures { result ≡ limit_refusal (limit_of self.now a) (pending self.now a) }
+    {
+        let limit = self.limit(a)?;
+        if self.pending(a) < limit {
+            return None;
+        }
+        Some(SubmitRefusal::PendingLimit)
     }
 
     /// Whether a call of the actor has no answer yet. It is known without a search.
@@ -247,7 +337,7 @@ impl Owner {
             None if args.len() > MOST_ARGS => Some(SubmitRefusal::TooManyArgs),
             None if !are_earlier(args, count) => Some(SubmitRefusal::BadFuture),
             None if count >= MOST_CALLS => Some(SubmitRefusal::TooManyCalls),
-            None => None,
+            None => self.limit_refusal(a),
         }
     }
 

@@ -1,6 +1,8 @@
 //! One caller from its first call to a death, calls that wait for answers, forged notices, the most
 //! calls and copies, and refused memory.
 
+ghost use Rattle.std.specs.Prelude.{◌≢◌};
+
 use crate::{Collected, HandleRefusal, Owner, SendRefusal, SubmitRefusal};
 use act_types::{
     ActorId, Answer, Arg, CallerId, Fault, FutureId, ListOf, Method, NoMemory, Notice, Reply,
@@ -212,6 +214,65 @@ fn from_the_first_call_to_a_death(rt: HostRuntime) -> Result<(), Fail> {
     Ok(())
 }
 
+/// The same, under a limit of the first actor alone.
+fn opened_with_a_limit(alloc: Global, limit: u32) -> Result<Owner, NoMemory>
+    requires { limit ≢ 0 }
+{
+    let c1 = CallerId::new(1).unwrap();
+    let a1 = ActorId::new(1).unwrap();
+    let a2 = ActorId::new(2).unwrap();
+    Owner::open_with(alloc, c1, &[(a1, Some(limit)), (a2, None)])
+}
+
+/// A row that submits `get`, and what is to be told of it.
+fn get_of(a: ActorId, want: Told) -> (Ask, Told) {
+    (Ask::Submit(a, Method::Get, 0, 0), want)
+}
+
+fn refused() -> Told {
+    Told::NotSubmitted(SubmitRefusal::PendingLimit)
+}
+
+fn calls_under_a_limit() -> [(Ask, Told); 13] {
+    let a1 = ActorId::new(1).unwrap();
+    let a2 = ActorId::new(2).unwrap();
+    let [k0, k1, k2, k3, k4, k5] = [0, 1, 2, 3, 4, 5].map(FutureId::new);
+    [
+        get_of(a1, Told::Future(k0)),
+        get_of(a1, refused()),
+        (
+            Ask::Submit(a1, Method::Get, 5, 0),
+            Told::NotSubmitted(SubmitRefusal::TooManyArgs),
+        ),
+        get_of(a2, Told::Future(k1)),
+        get_of(a2, Told::Future(k2)),
+        (Ask::Packet(k0), Told::Packet(0, None)),
+        get_of(a1, refused()),
+        (
+            Ask::Reply(a1, k0, Ok(5)),
+            Told::Collected(Collected::First(k0)),
+        ),
+        get_of(a1, Told::Future(k3)),
+        get_of(a1, refused()),
+        (Ask::Death(a1), Told::Collected(Collected::Died(1))),
+        get_of(a1, Told::Future(k4)),
+        get_of(a1, Told::Future(k5)),
+    ]
+}
+
+/// A call counts until its answer is kept, and none does once the actor's death was collected.
+#[test]
+fn a_limit_counts_what_has_no_answer(rt: HostRuntime) -> Result<(), Fail> {
+    let a1 = ActorId::new(1).unwrap();
+    let a2 = ActorId::new(2).unwrap();
+    let a3 = ActorId::new(3).unwrap();
+    let mut owner = opened_with_a_limit(rt.alloc(), 1)?;
+    let limits = [owner.limit(a1), owner.limit(a2), owner.limit(a3)];
+    assert_eq!(rt; limits, [Some(1), None, None]);
+    assert_told(&rt, rt.alloc(), &mut owner, &calls_under_a_limit());
+    Ok(())
+}
+
 fn waiting_calls() -> [(Ask, Told); 7] {
     let a1 = ActorId::new(1).unwrap();
     let a2 = ActorId::new(2).unwrap();
@@ -354,7 +415,7 @@ fn forged_notices_change_nothing(rt: HostRuntime) -> Result<(), Fail> {
 }
 
 /// Submits so many calls of an actor. The last that was refused, by how many came before it.
-fn refused(
+fn last_refused(
     alloc: Global,
     owner: &mut Owner,
     a: ActorId,
@@ -374,9 +435,9 @@ fn the_most_calls(rt: HostRuntime) -> Result<(), Fail> {
     let c1 = CallerId::new(1).unwrap();
     let a1 = ActorId::new(1).unwrap();
     let mut owner = Owner::open(rt.alloc(), c1, &[a1])?;
-    let refused = refused(rt.alloc(), &mut owner, a1, 65_537);
+    let last = last_refused(rt.alloc(), &mut owner, a1, 65_537);
     assert_eq!(rt;
-        (refused, owner.count()),
+        (last, owner.count()),
         (Some((65_536, SubmitRefusal::TooManyCalls)), 65_536)
     );
     Ok(())
@@ -456,9 +517,9 @@ fn asked_again(
 
 /// The caller, which is opened once more where memory is refused.
 fn opened_again(rt: &impl Abort, alloc: Global) -> Result<Owner, NoMemory> {
-    let mut owner = opened(alloc);
+    let mut owner = opened_with_a_limit(alloc, 2);
     if owner.is_err() {
-        owner = opened(alloc);
+        owner = opened_with_a_limit(alloc, 2);
         assert!(rt; owner.is_ok());
     }
     owner

@@ -10,11 +10,11 @@ invariant_of-self c =
 pub returns-clause-value : goal.returns-clause-value
 returns-clause-value c =
     let inside = c.self.inside in
-    death_told inside.id inside.handles inside.calls.items inside.table.rows inside.resolver.calls inside.dead c.args.self.now c.args.a c.answer_death.result
+    death_told inside.id inside.handles inside.calls.items inside.table.rows inside.resolver.calls inside.dead inside.limits.items c.args.self.now c.args.a c.answer_death.result
     c.self.view_is c.self.invariant.actors (sym c.is_listed.ensures ∙ c.if-not-is_listed.false) c.answer_death.ensures.value
 
 pub returns-clause-after : goal.returns-clause-after
 returns-clause-after c =
     let inside = c.self.inside in
-    death_kept inside.id inside.handles inside.calls.items inside.table.rows c.answer_death.new.table.rows inside.resolver.calls c.answer_death.new.resolver.calls inside.dead c.args.self.now c.args.a c.number.result
+    death_kept inside.id inside.handles inside.calls.items inside.table.rows c.answer_death.new.table.rows inside.resolver.calls c.answer_death.new.resolver.calls inside.dead inside.limits.items c.args.self.now c.args.a c.number.result
     c.self.view_is c.self.invariant.actors (sym c.is_listed.ensures ∙ c.if-not-is_listed.false) c.answer_death.ensures.rows c.answer_death.ensures.sent c.number.ensures.value

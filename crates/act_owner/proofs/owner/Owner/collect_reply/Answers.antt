@@ -13,5 +13,5 @@ invariant_of-self c =
 pub returns-clause-after : goal.returns-clause-after
 returns-clause-after c =
     let inside = c.self.inside in
-    reply_kept inside.id inside.handles inside.calls.items inside.table.rows c.keep.new.self.rows inside.resolver.calls c.told.new.self.calls inside.dead c.args.self.now c.args.reply
+    reply_kept inside.id inside.handles inside.calls.items inside.table.rows c.keep.new.self.rows inside.resolver.calls c.told.new.self.calls inside.dead inside.limits.items c.args.self.now c.args.reply
     c.self.view_is c.keep.ensures.rows c.told.ensures.calls (sym c.is_of_call.ensures ∙ c.if-not-is_of_call.false) (sym c.is_answered.ensures ∙ c.if-is_answered.false)

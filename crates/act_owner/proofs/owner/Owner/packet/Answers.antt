@@ -9,4 +9,4 @@ invariant_of-self c =
 pub returns-clause-ok : goal.returns-clause-ok
 returns-clause-ok c =
     let inside = c.self.inside in
-    sent_marked inside.id inside.handles inside.calls.items inside.table.rows inside.resolver.calls c.mark_sent.new.self.calls inside.dead c.args.self.now c.args.k c.self.view_is c.mark_sent.ensures.calls
+    sent_marked inside.id inside.handles inside.calls.items inside.table.rows inside.resolver.calls c.mark_sent.new.self.calls inside.dead inside.limits.items c.args.self.now c.args.k c.self.view_is c.mark_sent.ensures.calls

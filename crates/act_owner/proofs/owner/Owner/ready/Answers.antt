@@ -7,5 +7,5 @@ pub returns : goal.returns
 returns c =
     let inside = c.self.inside in
     c.ready.ensures
-    ∙ first_ready_same inside.id inside.handles inside.calls.items inside.table.rows inside.resolver.calls inside.dead c.self.invariant
+    ∙ first_ready_same inside.id inside.handles inside.calls.items inside.table.rows inside.resolver.calls inside.dead inside.limits.items c.self.invariant
     ∙ ap (λ (owner : OwnerValue). first_ready owner) c.self.view_is
