@@ -57,6 +57,7 @@ copied_owner : (h : History) (c a : ℕ) (owner : OwnerValue) → IsLawful h →
 copied_owner h c a owner lawful is held = record {
   id = is.id;
   copies = copies_after h c a owner is held;
+  limits = is.limits;
   given = λ b. given-with_copy a b owner.handles ∙ is.given b;
   calls = is.calls;
   marks = is.marks;

@@ -17,7 +17,7 @@ use Rattle.act_rules.specs.declared.history.Post.{Post}
 use Rattle.act_rules.specs.declared.history.Post.TheVariants.{Reply as ReplyPost, Death as DeathPost}
 use Rattle.act_rules.specs.RunList.{items_of, state_after, has_terminated}
 use Rattle.act_rules.specs.Submissions.{calls_to}
-use Rattle.act_rules.specs.History.{Casting, History, contains, under, cast_of, names, is_caller, calls_of, copies_of, runs_of, ran_count, kept_of, is_ended, is_dead, is_retired, has_letter}
+use Rattle.act_rules.specs.History.{Casting, History, contains, under, cast_of, names, is_caller, calls_of, copies_of, limit_of, runs_of, ran_count, kept_of, is_ended, is_dead, is_retired, has_letter}
 use Rattle.act_rules.specs.Rules.{was_sent}
 use Rattle.act_rules.proofs.Lists.{slice_get_front, All_at}
 use Rattle.act_rules.proofs.Growth.{Grows, calls_grow, runs_grow, calls_to_grow}
@@ -49,6 +49,9 @@ is_caller-same h g c casts = ap (λ (l : List Casting). list_any (λ (cast : Cas
 pub names-same : (h g : History) (c a : ℕ) → g.casts ≡ h.casts → names c (cast_of a g) ≡ names c (cast_of a h)
 names-same h g c a casts = ap (names c) (cast_of-same h g a casts)
 
+limit_of-same : (h g : History) (c a : ℕ) → g.casts ≡ h.casts → limit_of c a g ≡ limit_of c a h
+limit_of-same h g c a casts = ap (λ (found : Option Casting). cond (names c found) (option_and_then (λ (cast : Casting). cast.pending) found) None) (cast_of-same h g a casts)
+
 -- ---- callers
 
 -- nothing of the caller's changes
@@ -59,10 +62,11 @@ pub record SameCaller (c : ℕ) (h g : History) : Type 0 where
   pub kept : kept_of c g ≡ kept_of c h
   pub deaths : (a : ℕ) → list_any (is_death_to c a) g.collected ≡ list_any (is_death_to c a) h.collected
 
-pub owner_stays : (c : ℕ) (h g : History) (owner : OwnerValue) → SameCaller c h g → IsOwnerOf h c owner → IsOwnerOf g c owner
-owner_stays c h g owner same is = record {
+owner_stays : (c : ℕ) (h g : History) (owner : OwnerValue) → g.casts ≡ h.casts → SameCaller c h g → IsOwnerOf h c owner → IsOwnerOf g c owner
+owner_stays c h g owner casts same is = record {
   id = is.id;
   copies = λ a. is.copies a ∙ sym (same.copies a);
+  limits = λ a. is.limits a ∙ sym (limit_of-same h g c a casts);
   given = λ a. is.given a ∙ ap (λ (calls : List Submission). length (calls_to a calls)) (sym same.calls);
   calls = is.calls ∙ sym same.calls;
   marks = is.marks ∙ ap (λ (calls : List Submission). length calls) (sym same.calls);
@@ -74,7 +78,7 @@ owner_stays c h g owner same is = record {
 -- callers of whom nothing changes
 pub owner_at_stays : (c : ℕ) (h g : History) (owner : Option OwnerValue) → g.casts ≡ h.casts → SameCaller c h g → IsOwnerAt h c owner → IsOwnerAt g c owner
 owner_at_stays c h g None casts same is = is_caller-same h g c casts ∙ is
-owner_at_stays c h g (Some owner) casts same is = (is_caller-same h g c casts ∙ is.0, owner_stays c h g owner same is.1)
+owner_at_stays c h g (Some owner) casts same is = (is_caller-same h g c casts ∙ is.0, owner_stays c h g owner casts same is.1)
 
 pub owners_stay : (h g : History) (owners : List OwnerValue) → g.casts ≡ h.casts → ((c : ℕ) → SameCaller c h g)
     → ((c : ℕ) → IsOwnerAt h c (find (is_owner c) owners)) → (c : ℕ) → IsOwnerAt g c (find (is_owner c) owners)

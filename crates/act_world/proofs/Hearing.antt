@@ -6,9 +6,7 @@ use Rattle.std.proofs.Math.Bool.{or-true, or-false}
 use Rattle.std.proofs.lemmas.Bool.{eq-eqb, ne_eqb}
 use Rattle.std.proofs.lemmas.Bool.Decides.{eqb_tells}
 use Rattle.std.proofs.lemmas.List.{length-map}
-use Rattle.std.proofs.lemmas.List.FromFn.{length-enumerate_from}
 use Rattle.std.proofs.lemmas.List.Folds.{list_any-append}
-use Rattle.std.proofs.lemmas.List.Sums.{length-filter}
 use Rattle.std.proofs.lemmas.Option.{slice_get_within}
 use Rattle.act_types.specs.declared.fault.Fault.TheVariants.{NoMethod, BadArgs, Overflow, NoKey, BadAmount, Insufficient, NoItems, NoItem, KindFull, Dependency, ActorDied}
 use Rattle.act_types.specs.declared.message.Reply.{Reply}
@@ -26,7 +24,7 @@ use Rattle.act_rules.specs.declared.outcome.Did.TheVariants.{Kept, Late as DidLa
 use Rattle.act_rules.specs.RunList.{Answer, answer_at, items_of}
 use Rattle.act_rules.specs.Submissions.{calls_to, number_of, kept_at}
 use Rattle.act_rules.specs.History.{History, is_caller, calls_of, kept_of, runs_of, ran_count, opening_of, answer_of, answer_in, is_call, first_answer, has_letter}
-use Rattle.act_rules.specs.Rules.{did, Outcome, refusal_of, outcome_of, did_reply, did_collect, unanswered, added, after, and_also, was_sent}
+use Rattle.act_rules.specs.Rules.{did, Outcome, refusal_of, outcome_of, did_reply, did_collect, added, after, and_also, was_sent}
 use Rattle.act_rules.proofs.Lists.{slice_get-map, slice_get-enumerate_from, slice_get-filter, All_at}
 use Rattle.act_rules.proofs.Growth.{Grows, added_grows}
 use Rattle.act_rules.proofs.Posts.{IsSoundPost}
@@ -45,6 +43,7 @@ use Rattle.act_world.specs.Ties.{IsOwnerOf, is_death_to, reply_as, reply_at, pos
 use Rattle.act_world.proofs.Changes.{accepted_follows, get_set-same, get_set-other}
 use Rattle.act_world.proofs.Lawful.{IsLawful, IsNamedPost, named_caller}
 use Rattle.act_world.proofs.Frames.{SameCaller, owners_change, owner_absent, mail_stays, replies_stay, stages_stay}
+use Rattle.act_world.proofs.Pending.{kept_long, unanswered_is}
 use Rattle.act_world.proofs.Seeing.{is_named}
 use Rattle.act_world.proofs.Sending.{SeesOwner, seen_owner}
 
@@ -76,9 +75,6 @@ kept_there h c j x e =
     slice_get-map (first_answer h c) (enumerate_from 0 (calls_of c h)) j
     ∙ ap (λ (o : Option (ℕ × Submission)). option_map (first_answer h c) o) (slice_get-enumerate_from 0 (calls_of c h) j ∙ ap (λ (o : Option Submission). option_map (λ (y : Submission). (0 + j, y)) o) e)
     ∙ ap (λ (m : ℕ). Some (first_answer h c (m, x))) z
-
-kept_long : (h : History) (c : ℕ) → length (kept_of c h) ≡ length (calls_of c h)
-kept_long h c = length-map (enumerate_from 0 (calls_of c h)) (first_answer h c) ∙ length-enumerate_from 0 (calls_of c h)
 
 -- ---- the history after the post was collected
 
@@ -205,6 +201,7 @@ bereaved : (h : History) (c a : ℕ) (owner : OwnerValue) → IsOwnerOf h c owne
 bereaved h c a owner is known = record {
   id = is.id;
   copies = is.copies;
+  limits = is.limits;
   given = is.given;
   calls = is.calls;
   marks = is.marks;
@@ -216,37 +213,6 @@ bereaved h c a owner is known = record {
     same_sent : (k : ℕ) (call : Option Submission) → was_sent c k call h ≡ was_sent c k call (heard h (DeathPost c a))
     same_sent k None = refl
     same_sent k (Some call) = refl
-
--- the calls that wait are those that have no answer
-waiting_from : (a n : ℕ) (whole kept : List (Option Answer)) (calls : List Submission) → length kept ≡ length calls → ((i : ℕ) → slice_get kept i ≡ slice_get whole (n + i))
-    → length (filter (waits_for a) (zip calls kept)) ≡ length (filter (λ (call : ℕ × Submission). is_none (kept_at whole call.0)) (filter (λ (call : ℕ × Submission). call.1.actor == a) (enumerate_from n calls)))
-waiting_from a n whole [] [] long h = refl
-waiting_from a n whole (o ∷ kept) [] long h = absurd (cc)
-waiting_from a n whole [] (x ∷ calls) long h = absurd (cc)
-waiting_from a n whole (o ∷ kept) (x ∷ calls) long h =
-    let none : n + 0 ≡ n = omega arith in
-    let here : kept_at whole n ≡ o = sym (ap (λ (m : ℕ). kept_at whole m) none) ∙ ap (λ (found : Option (Option Answer)). option_and_then (λ (answer : Option Answer). answer) found) (sym (h 0)) in
-    let rest = waiting_from a (n + 1) whole kept calls (omega arith) (λ i. let more : n + suc i ≡ (n + 1) + i = omega arith in h (suc i) ∙ ap (slice_get whole) more) in
-    go (x.actor == a) o here rest
-  where
-    ahead : List (ℕ × Submission)
-    ahead = filter (λ (call : ℕ × Submission). call.1.actor == a) (enumerate_from (n + 1) calls)
-
-    behind : List (Submission × Option Answer)
-    behind = filter (waits_for a) (zip calls kept)
-
-    go : (b : Bool) (o : Option Answer) → kept_at whole n ≡ o → length behind ≡ length (filter (λ (call : ℕ × Submission). is_none (kept_at whole call.0)) ahead)
-        → length (cond (b && not (is_some o)) ((x, o) ∷ behind) behind) ≡ length (filter (λ (call : ℕ × Submission). is_none (kept_at whole call.0)) (cond b ((n, x) ∷ ahead) ahead))
-    go false o here rest = rest
-    go true None here rest = rw here (ap suc rest)
-    go true (Some answer) here rest = rw here rest
-
-unanswered_is : (h : History) (c a : ℕ) (owner : OwnerValue) → IsOwnerOf h c owner → count_by (waits_for a) (zip owner.calls owner.kept) ≡ unanswered c a h
-unanswered_is h c a owner is =
-    sym (length-filter (waits_for a) (zip owner.calls owner.kept))
-    ∙ ap (λ (calls : List Submission). length (filter (waits_for a) (zip calls owner.kept))) is.calls
-    ∙ ap (λ (kept : List (Option Answer)). length (filter (waits_for a) (zip (calls_of c h) kept))) is.kept
-    ∙ waiting_from a 0 (kept_of c h) (kept_of c h) (calls_of c h) (kept_long h c) (λ i. let z : i ≡ 0 + i = omega arith in ap (slice_get (kept_of c h)) z)
 
 -- ---- what is asked of each notice
 
@@ -334,7 +300,7 @@ death_is (Err KindFull) e = cc
 death_is (Err (Dependency k)) e = cc
 death_is (Err ActorDied) e = refl
 
-alive_is : (answer : Answer) → answer ≢ Err ActorDied → is_death answer ≡ false
+pub alive_is : (answer : Answer) → answer ≢ Err ActorDied → is_death answer ≡ false
 alive_is answer alive = go (is_death answer) refl
   where
     go : (b : Bool) → is_death answer ≡ b → is_death answer ≡ false
@@ -429,6 +395,7 @@ answered_owner : (h : History) (c a place : ℕ) (owner : OwnerValue) (kept : Li
 answered_owner h c a place owner kept is kept_is = record {
   id = is.id;
   copies = is.copies;
+  limits = is.limits;
   given = is.given;
   calls = is.calls;
   marks = is.marks;

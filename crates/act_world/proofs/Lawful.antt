@@ -22,21 +22,18 @@ use Rattle.act_rules.specs.declared.outcome.HandleRefusal.TheVariants.{NoActor, 
 use Rattle.act_rules.specs.declared.outcome.SubmitRefusal.TheVariants.{NoActor as NoSuchActor, NoHandle as NoCopy, TooManyArgs, BadFuture, TooManyCalls}
 use Rattle.act_rules.specs.declared.outcome.WorldRefusal.TheVariants.{Submit as SubmitRefused, NoCaller, Handle, NotDead}
 use Rattle.act_rules.specs.RunList.{items_of}
-use Rattle.act_rules.specs.Submissions.{calls_to, needs, copies_held, submit_refusal, handle_refusal, is_earlier}
-use Rattle.act_rules.specs.History.{Casting, History, opening, contains, under, times, cast_of, names, is_caller, calls_of, copies_of, runs_of, ran_count, has_letter, is_letter, is_dead, next_item}
-use Rattle.act_rules.specs.Rules.{refusal_of, added, and_also, after_run, call_letter, is_last, after_all}
+use Rattle.act_rules.specs.Submissions.{calls_to, needs, copies_held, submit_refusal, limit_refusal, handle_refusal, is_earlier}
+use Rattle.act_rules.specs.History.{Casting, History, opening, contains, under, times, cast_of, names, is_caller, calls_of, copies_of, limit_of, runs_of, ran_count, has_letter, is_letter, is_dead, next_item}
+use Rattle.act_rules.specs.Rules.{unanswered, submission_refusal, refusal_of, added, and_also, after_run, call_letter, is_last, after_all}
 use Rattle.act_rules.proofs.Lists.{All_more, All_weaker, All_at}
 use Rattle.act_rules.proofs.Steps.{IsKept, after_all_keeps}
 use Rattle.act_rules.proofs.Ended.{needs-none, under-push, run_needs}
 use Rattle.act_rules.proofs.Order.{IsNext, next_item_is}
 use Rattle.act_rules.proofs.Unique.{map-slice_get}
 use Rattle.act_rules.proofs.AsSubmitted.{filter-slice_get}
+use Rattle.act_rules.proofs.Retired.{option_map-none, option_or-none}
 use Rattle.act_rules.proofs.RanAll.{Retires, retires_step, AllNamed, world_retires}
 use Rattle.act_rules.proofs.Sound.{IsSound, sound_step, world_sound}
-
-option_map-none : {A B : Type 0} (f : A → B) (o : Option A) → option_map f o ≡ None → o ≡ None
-option_map-none f None e = refl
-option_map-none f (Some x) e = cc
 
 -- ---- no caller submits too much
 
@@ -47,7 +44,8 @@ submit_below : (h : History) (c a : ℕ) (method : Method) (args : List Arg) →
 submit_below h c a method args e =
     let count = length (calls_of c h) in
     let copies = copies_of c a h in
-    let none = option_map-none SubmitRefused (submit_refusal copies count args) (needs-none (is_caller c h) NoCaller (option_map SubmitRefused (submit_refusal copies count args)) e).1 in
+    let whole = option_map-none SubmitRefused (submission_refusal c a args h) (needs-none (is_caller c h) NoCaller (option_map SubmitRefused (submission_refusal c a args h)) e).1 in
+    let none = option_or-none (submit_refusal copies count args) (limit_refusal (limit_of c a h) (unanswered c a h)) whole in
     let last = needs (nat_lt count 65536) TooManyCalls None in
     let fourth = needs (list_all (is_earlier count) args) BadFuture last in
     let third = needs (nat_le (length args) 4) TooManyArgs fourth in

@@ -3,6 +3,7 @@ pub mod Frames
 pub mod Playing
 pub mod Staging
 pub mod OneCaller
+pub mod Pending
 pub mod Copying
 pub mod Asking
 pub mod Submitting

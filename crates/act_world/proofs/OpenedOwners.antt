@@ -1,40 +1,56 @@
 -- The callers at the opening.
 use Rattle.std.proofs.Common.{◌≡◌, ◌≢◌, ℕ, zero, suc, ◌+◌, ◌<◌, Bool, true, false, List, [], ◌∷◌, ◌++◌, length, map, filter, take, Option, Some, None, is_some, All, AllPairs, get_or, inl, inr, refl, ap, sym, ◌∙◌, subst, arith}
-use Rattle.std.specs.Prelude.{◌==◌, ◌||◌, if◌then◌else◌, find, position, unwrap_or, slice_get, replicate}
+use Rattle.std.specs.Prelude.{◌==◌, ◌||◌, if◌then◌else◌, find, position, option_and_then, unwrap_or, slice_get, replicate}
 use Rattle.std.specs.Option.{option_or}
 use Rattle.std.proofs.lemmas.Bool.Decides.{eqb_tells}
 use Rattle.std.proofs.lemmas.List.{append-nil, append_assoc, get_or-map, length-map, take_more}
+use Rattle.std.proofs.lemmas.Simd.{map-map}
 use Rattle.std.proofs.lemmas.Grind.{flat_map-append}
-use Rattle.std.proofs.lemmas.List.Elements.{All-tail}
+use Rattle.std.proofs.lemmas.List.Elements.{All-tail, All-map, All-filter}
 use Rattle.std.proofs.lemmas.List.Folds.{find-append, list_any-append}
 use Rattle.std.proofs.lemmas.List.Kept.{AllPairs-filter}
 use Rattle.act_types.specs.KindState.{KindState}
-use Rattle.act_rules.specs.History.{opening, contains, cast_of, names, is_caller}
+use Rattle.act_rules.specs.Submissions.{IsLimit}
+use Rattle.act_rules.specs.History.{opening, contains, cast_of, names, limit_of, is_caller}
 use Rattle.act_handles.proofs.Lookups.{copies-opened, given-opened}
 use Rattle.act_inbox.proofs.Finding.{find-Some, find-None}
 use Rattle.act_actor.specs.declared.cast.Cast.{Cast}
 use Rattle.act_actor.specs.Cast.{ActorsDiffer}
-use Rattle.act_owner.specs.Owner.{OwnerValue, opened}
+use Rattle.act_owner.specs.Owner.{OwnerValue, opened_with, limit_of as limit_known}
 use Rattle.act_world.specs.Value.{is_owner}
 use Rattle.act_world.specs.Ties.{IsOwnerAt, IsOwnerOf}
-use Rattle.act_actor.specs.Casts.{casting, callers_named, actors_naming}
+use Rattle.act_actor.specs.Casts.{casting, limited, callers_named, actors_naming, limits_naming}
 use Rattle.act_world.specs.Openings.{HasOwners}
 
 -- ---- the actors of a caller
 
-differ_map : {X : Type 0} (f : X → ℕ) (xs : List X) → AllPairs (λ one other. f one ≢ f other) xs → AllPairs (λ one other. one ≢ other) (map f xs)
-differ_map f [] pairs i j d below within same = absurd (omega arith)
-differ_map f (x ∷ xs) pairs i j d below within same =
+differ_map : {X Y : Type 0} (f : X → Y) (g : Y → ℕ) (xs : List X) → AllPairs (λ one other. g (f one) ≢ g (f other)) xs → AllPairs (λ one other. g one ≢ g other) (map f xs)
+differ_map f g [] pairs i j d below within same = absurd (omega arith)
+differ_map f g (x ∷ xs) pairs i j d below within same =
     let long : length (map f (x ∷ xs)) ≡ length (x ∷ xs) = length-map (x ∷ xs) f in
     let second : j < length (x ∷ xs) = omega arith in
     let first : i < length (x ∷ xs) = omega arith in
-    pairs i j x below second (sym (get_or-map f (x ∷ xs) i x d first) ∙ same ∙ get_or-map f (x ∷ xs) j x d second)
+    pairs i j x below second (ap g (sym (get_or-map f (x ∷ xs) i x d first)) ∙ same ∙ ap g (get_or-map f (x ∷ xs) j x d second))
 
 -- no actor stands twice among those that name a caller
-pub actors_differ : {K : Type 0} (c : ℕ) (casts : List (Cast K)) → ActorsDiffer casts → AllPairs (λ one other. one ≢ other) (actors_naming c casts)
+pub actors_differ : {K : Type 0} (c : ℕ) (casts : List (Cast K)) → ActorsDiffer casts → AllPairs (λ one other. one.0 ≢ other.0) (limits_naming c casts)
 actors_differ {K} c casts differ =
-    differ_map (λ (cast : Cast K). cast.actor) (filter (λ cast. contains c cast.callers) casts)
+    differ_map (λ (cast : Cast K). limited cast) (λ (limit : ℕ × Option ℕ). limit.0) (filter (λ cast. contains c cast.callers) casts)
     (AllPairs-filter (λ (one other : Cast K). one.actor ≢ other.actor) (λ cast. contains c cast.callers) casts differ)
+
+-- and none has the limit 0
+pub limits_fit : {K : Type 0} (c : ℕ) (casts : List (Cast K)) → All (λ cast. IsLimit cast.pending) casts → All (λ limit. limit.1 ≢ Some 0) (limits_naming c casts)
+limits_fit {K} c casts fit =
+    All-map (λ (limit : ℕ × Option ℕ). limit.1 ≢ Some 0) (λ (cast : Cast K). limited cast) (filter (λ cast. contains c cast.callers) casts)
+    (All-filter (λ (cast : Cast K). contains c cast.callers) (λ (cast : Cast K). cast.pending ≢ Some 0) casts (λ i d within. some_calls (get_or casts i d).pending (fit i d within)))
+  where
+    some_calls : (limit : Option ℕ) → IsLimit limit → limit ≢ Some 0
+    some_calls None is same = cc
+    some_calls (Some limit) is same = let none : limit ≡ 0 = cc in absurd (omega (arith, is.0))
+
+-- without their limits they are the actors whose casts name the caller
+limits_named : {K : Type 0} (c : ℕ) (casts : List (Cast K)) → map (λ (limit : ℕ × Option ℕ). limit.0) (limits_naming c casts) ≡ actors_naming c casts
+limits_named {K} c casts = map-map (λ (limit : ℕ × Option ℕ). limit.0) (λ (cast : Cast K). limited cast) (filter (λ cast. contains c cast.callers) casts)
 
 -- ---- a caller more
 
@@ -45,8 +61,8 @@ is_in_more c d callers = list_any-append (λ m. m == d) callers (c ∷ [])
 pub owner_known : {K : Type 0} (casts : List (Cast K)) (callers : List ℕ) (owners : List OwnerValue) (c : ℕ) → is_some (position (is_owner c) owners) ≡ true → HasOwners casts callers owners → HasOwners casts (callers ++ c ∷ []) owners
 owner_known casts callers owners c there has d =
     elim (eqb_tells c d) [
-      | inl t ↦ subst (λ b. find (is_owner d) owners ≡ (if b then Some (opened d (actors_naming d casts)) else None)) (here (subst (λ x. contains x callers ≡ true) t.1 is_in)) (has d)
-      | inr f ↦ has d ∙ ap (λ b. if b then Some (opened d (actors_naming d casts)) else None) (sym (is_in_more c d callers ∙ ap (λ b. contains d callers || (b || false)) f.0 ∙ or_none (contains d callers)))
+      | inl t ↦ subst (λ b. find (is_owner d) owners ≡ (if b then Some (opened_with d (limits_naming d casts)) else None)) (here (subst (λ x. contains x callers ≡ true) t.1 is_in)) (has d)
+      | inr f ↦ has d ∙ ap (λ b. if b then Some (opened_with d (limits_naming d casts)) else None) (sym (is_in_more c d callers ∙ ap (λ b. contains d callers || (b || false)) f.0 ∙ or_none (contains d callers)))
     ]
   where
     or_none : (b : Bool) → (b || false) ≡ b
@@ -64,7 +80,7 @@ owner_known casts callers owners c there has d =
     is_in : contains c callers ≡ true
     is_in = cases (contains c callers) (sym (ap is_some (has c)) ∙ found (position (is_owner c) owners) refl there)
       where
-        cases : (b : Bool) → is_some (if b then Some (opened c (actors_naming c casts)) else None) ≡ true → b ≡ true
+        cases : (b : Bool) → is_some (if b then Some (opened_with c (limits_naming c casts)) else None) ≡ true → b ≡ true
         cases true e = refl
         cases false e = cc
 
@@ -72,20 +88,20 @@ owner_known casts callers owners c there has d =
     here e = e ∙ sym (is_in_more c d callers ∙ ap (λ b. b || ((c == d) || false)) e)
 
 -- one that is new
-pub owner_new : {K : Type 0} (casts : List (Cast K)) (callers : List ℕ) (owners : List OwnerValue) (c : ℕ) → is_some (position (is_owner c) owners) ≡ false → HasOwners casts callers owners → HasOwners casts (callers ++ c ∷ []) (owners ++ opened c (actors_naming c casts) ∷ [])
+pub owner_new : {K : Type 0} (casts : List (Cast K)) (callers : List ℕ) (owners : List OwnerValue) (c : ℕ) → is_some (position (is_owner c) owners) ≡ false → HasOwners casts callers owners → HasOwners casts (callers ++ c ∷ []) (owners ++ opened_with c (limits_naming c casts) ∷ [])
 owner_new casts callers owners c absent has d =
-    find-append (is_owner d) owners (opened c (actors_naming c casts) ∷ [])
+    find-append (is_owner d) owners (opened_with c (limits_naming c casts) ∷ [])
     ∙ elim (eqb_tells c d) [
       | inl t ↦
-          ap (λ o. option_or o (find (is_owner d) (opened c (actors_naming c casts) ∷ []))) (subst (λ x. find (is_owner x) owners ≡ None) t.1 none)
-          ∙ ap (λ b. if b then Some (opened c (actors_naming c casts)) else None) t.0
-          ∙ ap (λ x. Some (opened x (actors_naming x casts))) t.1
-          ∙ ap (λ b. if b then Some (opened d (actors_naming d casts)) else None) (sym (is_in_more c d callers ∙ ap (λ b. contains d callers || (b || false)) t.0 ∙ or_some (contains d callers)))
+          ap (λ o. option_or o (find (is_owner d) (opened_with c (limits_naming c casts) ∷ []))) (subst (λ x. find (is_owner x) owners ≡ None) t.1 none)
+          ∙ ap (λ b. if b then Some (opened_with c (limits_naming c casts)) else None) t.0
+          ∙ ap (λ x. Some (opened_with x (limits_naming x casts))) t.1
+          ∙ ap (λ b. if b then Some (opened_with d (limits_naming d casts)) else None) (sym (is_in_more c d callers ∙ ap (λ b. contains d callers || (b || false)) t.0 ∙ or_some (contains d callers)))
       | inr f ↦
-          ap (λ b. option_or (find (is_owner d) owners) (if b then Some (opened c (actors_naming c casts)) else None)) f.0
+          ap (λ b. option_or (find (is_owner d) owners) (if b then Some (opened_with c (limits_naming c casts)) else None)) f.0
           ∙ or_nothing (find (is_owner d) owners)
           ∙ has d
-          ∙ ap (λ b. if b then Some (opened d (actors_naming d casts)) else None) (sym (is_in_more c d callers ∙ ap (λ b. contains d callers || (b || false)) f.0 ∙ or_none (contains d callers)))
+          ∙ ap (λ b. if b then Some (opened_with d (limits_naming d casts)) else None) (sym (is_in_more c d callers ∙ ap (λ b. contains d callers || (b || false)) f.0 ∙ or_none (contains d callers)))
     ]
   where
     or_none : (b : Bool) → (b || false) ≡ b
@@ -147,6 +163,38 @@ actor_named {K} state a c (cast ∷ casts) differ =
           ])
     ]
 
+-- an actor that stands in no cast has no limit
+no_limit : {K : Type 0} (a c : ℕ) (casts : List (Cast K)) → All (λ cast. a ≢ cast.actor) casts → find (λ limit. limit.0 == a) (limits_naming c casts) ≡ None
+no_limit a c [] all = refl
+no_limit {K} a c (cast ∷ casts) all =
+    let rest = no_limit a c casts (All-tail (λ (cast : Cast K). a ≢ cast.actor) cast casts all) in
+    elim (eqb_tells cast.actor a) [
+      | inl t ↦ absurd (all 0 cast (omega arith) (sym t.1))
+      | inr f ↦ elim (contains c cast.callers) as (λ b. find (λ (limit : ℕ × Option ℕ). limit.0 == a) (map (λ (cast : Cast K). limited cast) (if b then cast ∷ filter (λ cast. contains c cast.callers) casts else filter (λ cast. contains c cast.callers) casts)) ≡ None) [
+        | true ↦ rw f.0 rest
+        | false ↦ rest
+      ]
+    ]
+
+-- the limit among those of a caller is that of the actor's cast, where it names the caller
+limit_named : {K : Type 0} (state : K → KindState) (a c : ℕ) (casts : List (Cast K)) → ActorsDiffer casts → limit_known (opened_with c (limits_naming c casts)) a ≡ limit_of c a (opening (map (casting state) casts))
+limit_named state a c [] differ = refl
+limit_named {K} state a c (cast ∷ casts) differ =
+    let rest = limit_named state a c casts (differ_tail cast casts differ) in
+    elim (eqb_tells cast.actor a) [
+      | inl t ↦
+          let none = no_limit a c casts (λ k d within same. differ_head cast casts differ k d within (t.1 ∙ same)) in
+          rw t.0 (elim (contains c cast.callers) as (λ b. option_and_then (λ (limit : ℕ × Option ℕ). limit.1) (find (λ (limit : ℕ × Option ℕ). limit.0 == a) (map (λ (cast : Cast K). limited cast) (if b then cast ∷ filter (λ cast. contains c cast.callers) casts else filter (λ cast. contains c cast.callers) casts))) ≡ (if b then cast.pending else None)) [
+            | true ↦ rw t.0 refl
+            | false ↦ rw none refl
+          ])
+      | inr f ↦
+          rw f.0 (elim (contains c cast.callers) as (λ b. option_and_then (λ (limit : ℕ × Option ℕ). limit.1) (find (λ (limit : ℕ × Option ℕ). limit.0 == a) (map (λ (cast : Cast K). limited cast) (if b then cast ∷ filter (λ cast. contains c cast.callers) casts else filter (λ cast. contains c cast.callers) casts))) ≡ limit_of c a (opening (map (casting state) casts))) [
+            | true ↦ rw f.0 rest
+            | false ↦ rest
+          ])
+    ]
+
 -- the callers that the casts name are the world's
 caller_named : {K : Type 0} (state : K → KindState) (c : ℕ) (casts : List (Cast K)) → contains c (callers_named casts) ≡ is_caller c (opening (map (casting state) casts))
 caller_named state c [] = refl
@@ -162,11 +210,12 @@ no_mark (suc count) (suc a) = no_mark count a
 pub nothing_asked : (a : ℕ) → unwrap_or (slice_get (replicate 9 false) a) false ≡ false
 nothing_asked a = no_mark 9 a
 
-owner_opened : {K : Type 0} (state : K → KindState) (c : ℕ) (casts : List (Cast K)) → ActorsDiffer casts → IsOwnerOf (opening (map (casting state) casts)) c (opened c (actors_naming c casts))
+owner_opened : {K : Type 0} (state : K → KindState) (c : ℕ) (casts : List (Cast K)) → ActorsDiffer casts → IsOwnerOf (opening (map (casting state) casts)) c (opened_with c (limits_naming c casts))
 owner_opened state c casts differ = record {
   id = refl;
-  copies = λ a. copies-opened a (actors_naming c casts) ∙ ap (λ b. if b then Some 1 else None) (actor_named state a c casts differ);
-  given = λ a. given-opened a (actors_naming c casts);
+  copies = λ a. copies-opened a (map (λ (limit : ℕ × Option ℕ). limit.0) (limits_naming c casts)) ∙ ap (λ b. if b then Some 1 else None) (ap (contains a) (limits_named c casts) ∙ actor_named state a c casts differ);
+  limits = λ a. limit_named state a c casts differ;
+  given = λ a. given-opened a (map (λ (limit : ℕ × Option ℕ). limit.0) (limits_naming c casts));
   calls = refl;
   marks = refl;
   sent = λ k. refl;
@@ -178,7 +227,7 @@ pub owners_opened : {K : Type 0} (state : K → KindState) (casts : List (Cast K
 owners_opened state casts owners differ has c =
     subst (IsOwnerAt (opening (map (casting state) casts)) c) (sym (has c)) (go (contains c (callers_named casts)) (sym (caller_named state c casts)))
   where
-    go : (b : Bool) → is_caller c (opening (map (casting state) casts)) ≡ b → IsOwnerAt (opening (map (casting state) casts)) c (if b then Some (opened c (actors_naming c casts)) else None)
+    go : (b : Bool) → is_caller c (opening (map (casting state) casts)) ≡ b → IsOwnerAt (opening (map (casting state) casts)) c (if b then Some (opened_with c (limits_naming c casts)) else None)
     go true e = (e, owner_opened state c casts differ)
     go false e = e
 

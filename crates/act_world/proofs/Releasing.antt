@@ -92,6 +92,7 @@ released_owner : (h : History) (c a : ℕ) (owner : OwnerValue) → IsLawful h �
 released_owner h c a owner lawful is = record {
   id = is.id;
   copies = copies_after h c a owner is;
+  limits = is.limits;
   given = λ b. given-without_copy a b owner.handles ∙ is.given b;
   calls = is.calls;
   marks = is.marks;

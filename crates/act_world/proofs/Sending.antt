@@ -128,6 +128,7 @@ sender : (h : History) (c k : ℕ) (call : Submission) (owner : OwnerValue) → 
 sender h c k call owner lawful grows is at = record {
   id = is.id;
   copies = is.copies;
+  limits = is.limits;
   given = is.given;
   calls = is.calls;
   marks = length-set owner.sent k true ∙ is.marks;

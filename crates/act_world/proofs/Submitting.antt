@@ -1,6 +1,7 @@
 -- A call that is submitted.
 use Rattle.std.proofs.Common.{◌≡◌, ◌≢◌, ℕ, zero, suc, ◌+◌, ◌<◌, ◌≤◌, Bool, true, false, cond, List, [], ◌∷◌, ◌++◌, length, map, Some, None, Ok, Err, inl, inr, refl, ap, sym, ◌∙◌, subst, arith, length-append, get_or}
 use Rattle.std.specs.Prelude.{Option, ◌==◌, ◌||◌, filter, position, slice_get, slice_set, option_map, unwrap_or, is_some, nat_lt, nat_le}
+use Rattle.std.specs.Option.{option_or}
 use Rattle.std.specs.List.{list_all, list_any, enumerate_from}
 use Rattle.std.proofs.lemmas.Bool.{ne_eqb, eq-eqb}
 use Rattle.std.proofs.lemmas.Bool.Decides.{eqb_tells}
@@ -18,33 +19,36 @@ use Rattle.act_rules.specs.declared.outcome.Did.TheVariants.{Future}
 use Rattle.act_rules.specs.declared.outcome.SubmitRefusal.{SubmitRefusal}
 use Rattle.act_rules.specs.declared.outcome.SubmitRefusal.TheVariants.{NoActor as NoSuchActor, NoHandle as NoCopy, TooManyArgs, BadFuture, TooManyCalls}
 use Rattle.act_rules.specs.declared.outcome.WorldRefusal.TheVariants.{NoCaller, Submit as SubmitRefused}
-use Rattle.act_rules.specs.Submissions.{needs, calls_to, number_of, copies_held, submit_refusal, is_earlier}
-use Rattle.act_rules.specs.History.{History, is_caller, calls_of, copies_of, first_answer, has_letter}
-use Rattle.act_rules.specs.Rules.{refusal_of, outcome_of, was_sent, added, after}
+use Rattle.act_rules.specs.Submissions.{needs, calls_to, number_of, copies_held, submit_refusal, limit_refusal, is_earlier}
+use Rattle.act_rules.specs.History.{History, is_caller, calls_of, limit_of, first_answer, has_letter}
+use Rattle.act_rules.specs.Rules.{unanswered, submission_refusal as history_refusal, refusal_of, outcome_of, was_sent, added, after}
 use Rattle.act_rules.proofs.Lists.{slice_get_more}
 use Rattle.act_rules.proofs.Ended.{needs-none, under-push}
 use Rattle.act_rules.proofs.Growth.{added_grows}
 use Rattle.act_rules.proofs.Letters.{IsSoundLetter, has_letter-sound}
-use Rattle.act_rules.proofs.Retired.{calls_to-push}
+use Rattle.act_rules.proofs.Retired.{option_or-none, calls_to-push}
 use Rattle.act_rules.proofs.Table.{kept_of-submitted, death_if, is_death_of, knows_dead}
 use Rattle.act_handles.specs.Handles.{copies_in, given_in, with_number}
 use Rattle.act_handles.proofs.Lookups.{copies-with_number, given-with_number, given-with_number-other}
-use Rattle.act_owner.specs.Owner.{OwnerValue, submission_refusal, with_call}
+use Rattle.act_owner.specs.Owner.{OwnerValue, limit_of as limit_known, pending, submission_refusal, with_call}
 use Rattle.act_world.specs.Exchange.{ExchangeValue, is_owner}
 use Rattle.act_world.specs.Value.{SlotSeen}
 use Rattle.act_world.specs.Ties.{Ties, IsOwnerOf, is_death_to}
 use Rattle.act_world.proofs.Changes.{refused_follows, accepted_follows}
 use Rattle.act_world.proofs.Lawful.{IsLawful}
 use Rattle.act_world.proofs.Frames.{SameCaller, owners_change, mail_stays}
+use Rattle.act_world.proofs.Pending.{unanswered_is}
 use Rattle.act_world.proofs.OneCaller.{needs_holds, IsHere, caller_here, callers_tie, sent_stays, under-other}
 
 -- a submission is refused as the caller says
 pub submission_refused : (h : History) (c a : ℕ) (method : Method) (args : List Arg) (owner : OwnerValue) (refusal : Option SubmitRefusal) → IsHere h c owner → submission_refusal owner a args ≡ refusal
     → refusal_of h (Submit c a method args) ≡ option_map SubmitRefused refusal
 submission_refused h c a method args owner refusal here e =
-    needs_holds (is_caller c h) NoCaller (option_map SubmitRefused (submit_refusal (copies_of c a h) (length (calls_of c h)) args)) here.caller
-    ∙ ap (λ (copies : Option ℕ). option_map SubmitRefused (submit_refusal copies (length (calls_of c h)) args)) (sym (here.is.copies a))
-    ∙ ap (λ (calls : List Submission). option_map SubmitRefused (submit_refusal (copies_in a owner.handles) (length calls) args)) (sym here.is.calls)
+    needs_holds (is_caller c h) NoCaller (option_map SubmitRefused (history_refusal c a args h)) here.caller
+    ∙ ap (λ (copies : Option ℕ). option_map SubmitRefused (option_or (submit_refusal copies (length (calls_of c h)) args) (limit_refusal (limit_of c a h) (unanswered c a h)))) (sym (here.is.copies a))
+    ∙ ap (λ (calls : List Submission). option_map SubmitRefused (option_or (submit_refusal (copies_in a owner.handles) (length calls) args) (limit_refusal (limit_of c a h) (unanswered c a h)))) (sym here.is.calls)
+    ∙ ap (λ (limit : Option ℕ). option_map SubmitRefused (option_or (submit_refusal (copies_in a owner.handles) (length owner.calls) args) (limit_refusal limit (unanswered c a h)))) (sym (here.is.limits a))
+    ∙ ap (λ (count : ℕ). option_map SubmitRefused (option_or (submit_refusal (copies_in a owner.handles) (length owner.calls) args) (limit_refusal (limit_known owner a) count))) (sym (unanswered_is h c a owner here.is))
     ∙ ap (option_map SubmitRefused) e
 
 -- ---- the caller that submits
@@ -69,9 +73,13 @@ given_after a b owner calls call to listed given = elim (eqb_tells a b) [
       ∙ sym (calls_to-count b calls call ∙ rw (ne_eqb call.actor b (λ same. f.1 (sym to ∙ same))) (let none : length (calls_to b calls) + 0 ≡ length (calls_to b calls) = omega arith in none))
 ]
 
-accepted_listed : (copies : Option ℕ) (count : ℕ) (args : List Arg) → submit_refusal copies count args ≡ None → is_some copies ≡ true
-accepted_listed copies count args e =
-    (needs-none (is_some copies) NoSuchActor (needs (nat_lt 0 (copies_held copies)) NoCopy (needs (nat_le (length args) 4) TooManyArgs (needs (list_all (is_earlier count) args) BadFuture (needs (nat_lt count 65536) TooManyCalls None)))) e).0
+-- what is accepted is of an actor of the caller's
+accepted_listed : (a : ℕ) (args : List Arg) (owner : OwnerValue) → submission_refusal owner a args ≡ None → is_some (copies_in a owner.handles) ≡ true
+accepted_listed a args owner e =
+    let copies = copies_in a owner.handles in
+    let count = length owner.calls in
+    let older = option_or-none (submit_refusal copies count args) (limit_refusal (limit_known owner a) (pending owner a)) e in
+    (needs-none (is_some copies) NoSuchActor (needs (nat_lt 0 (copies_held copies)) NoCopy (needs (nat_le (length args) 4) TooManyArgs (needs (list_all (is_earlier count) args) BadFuture (needs (nat_lt count 65536) TooManyCalls None)))) older).0
 
 -- ---- what was sent
 
@@ -150,6 +158,7 @@ submitted_owner : (h : History) (c a : ℕ) (method : Method) (args : List Arg) 
 submitted_owner h c a method args owner lawful is listed = record {
   id = is.id;
   copies = λ b. copies-with_number a b owner.handles ∙ is.copies b;
+  limits = is.limits;
   given = λ b. given_after a b owner (calls_of c h) call refl listed is.given ∙ ap (λ (calls : List Submission). length (calls_to b calls)) (sym more);
   calls = ap (λ (calls : List Submission). calls ++ call ∷ []) is.calls ∙ sym more;
   marks = length-append owner.sent (false ∷ []) ∙ ap (λ (n : ℕ). n + 1) is.marks ∙ sym (ap (λ (calls : List Submission). length calls) more ∙ length-append (calls_of c h) (call ∷ []));
@@ -185,7 +194,7 @@ pub submit_follows : (h : History) (old : ExchangeValue) (slots : List SlotSeen)
 submit_follows h old slots c a place k method args owner new lawful ties at owner_is accepted future new_is =
     let here = caller_here h old slots c place owner ties at owner_is in
     let grows = added_grows h (Submit c a method args) in
-    let listed = accepted_listed (copies_in a owner.handles) (length owner.calls) args accepted in
+    let listed = accepted_listed a args owner accepted in
     let now : IsOwnerOf (added h (Submit c a method args)) c new = subst (IsOwnerOf (added h (Submit c a method args)) c) (sym new_is) (submitted_owner h c a method args owner lawful here.is listed) in
     accepted_follows h (Submit c a method args) (Future c k) _ (submission_refused h c a method args owner None here accepted) (ap (Future c) (future ∙ ap (λ (calls : List Submission). length calls) here.is.calls))
     (callers_tie h (added h (Submit c a method args)) old _ slots lawful ties (record { grows = grows; arrived = refl; ran = refl; posts = refl; killed = refl; retired = refl })

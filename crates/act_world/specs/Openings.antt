@@ -2,10 +2,10 @@
 use Rattle.std.specs.Prelude.{◌≡◌, ℕ, List, find, Some, None, if◌then◌else◌}
 use Rattle.act_rules.specs.History.{contains}
 use Rattle.act_actor.specs.declared.cast.Cast.{Cast}
-use Rattle.act_actor.specs.Casts.{actors_naming}
-use Rattle.act_owner.specs.Owner.{OwnerValue, opened}
+use Rattle.act_actor.specs.Casts.{limits_naming}
+use Rattle.act_owner.specs.Owner.{OwnerValue, opened_with}
 use Rattle.act_world.specs.Value.{is_owner}
 
 -- of each of these callers there is one, just opened, and there is no other
 abbrev pub HasOwners : {K : Type 0} → List (Cast K) → List ℕ → List OwnerValue → Type 0
-HasOwners casts callers owners = (c : ℕ) → find (is_owner c) owners ≡ (if contains c callers then Some (opened c (actors_naming c casts)) else None)
+HasOwners casts callers owners = (c : ℕ) → find (is_owner c) owners ≡ (if contains c callers then Some (opened_with c (limits_naming c casts)) else None)

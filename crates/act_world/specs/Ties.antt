@@ -13,11 +13,11 @@ use Rattle.act_rules.specs.declared.history.Post.TheVariants.{Reply as ReplyPost
 use Rattle.act_rules.specs.declared.history.Submission.{Submission}
 use Rattle.act_rules.specs.RunList.{Answer, state_after}
 use Rattle.act_rules.specs.Submissions.{calls_to, settled}
-use Rattle.act_rules.specs.History.{Casting, History, contains, cast_of, names, is_caller, calls_of, copies_of, runs_of, ran_count, kept_of, answer_of, is_dead, is_retired, is_ended, has_letter}
+use Rattle.act_rules.specs.History.{Casting, History, contains, cast_of, names, is_caller, calls_of, copies_of, limit_of, runs_of, ran_count, kept_of, answer_of, is_dead, is_retired, is_ended, has_letter}
 use Rattle.act_rules.specs.Rules.{was_sent}
 use Rattle.act_handles.specs.Handles.{copies_in, given_in}
 use Rattle.act_inbox.specs.Inbox.{is_listed, handed_of, waiting, note_of}
-use Rattle.act_owner.specs.Owner.{OwnerValue, is_sent, is_dead as knows_dead}
+use Rattle.act_owner.specs.Owner.{OwnerValue, limit_of as limit_known, is_sent, is_dead as knows_dead}
 use Rattle.act_actor.specs.Value.{ActorSeen, DeadValue, RetiredSeen}
 use Rattle.act_world.specs.declared.exchange.Mailed.{Mailed}
 use Rattle.act_world.specs.declared.exchange.Mailed.TheVariants.{Call as MailedCall, Note as MailedNote}
@@ -35,6 +35,7 @@ is_death_to c a (DeathPost d b) = (d == c) && (b == a)
 pub record IsOwnerOf (h : History) (c : ℕ) (owner : OwnerValue) : Type 0 where
   pub id : owner.id ≡ c
   pub copies : (a : ℕ) → copies_in a owner.handles ≡ copies_of c a h
+  pub limits : (a : ℕ) → limit_known owner a ≡ limit_of c a h
   pub given : (a : ℕ) → given_in a owner.handles ≡ length (calls_to a (calls_of c h))
   pub calls : owner.calls ≡ calls_of c h
   pub marks : length owner.sent ≡ length (calls_of c h)

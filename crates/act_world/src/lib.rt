@@ -14,4 +14,4 @@ mod world;
 pub use act_actor::{Cast, cast_fits};
 pub use act_rules::{Did, Event, Outcome, WorldRefusal};
 pub use slot::Stage;
-pub use world::World;
+pub use world::{World, is_memory};

@@ -2,10 +2,10 @@
 
 ghost use Rattle.std.specs.Prelude.{◌≡◌, ◌≢◌, ◌+◌, ◌++◌, ◌∷◌, [], ℕ, List, IfOk, OnOk, AllPairs, length, map, replicate, slice_get, Some, ◌==◌, if◌then◌else◌};
 ghost use Rattle.act_rules.specs.History.{opening};
-ghost use Rattle.act_actor.specs.Cast.{ActorsDiffer, IsFitting};
-ghost use Rattle.act_actor.specs.Casts.{casting, callers_named, actors_naming};
+ghost use Rattle.act_actor.specs.Cast.{IsFitting};
+ghost use Rattle.act_actor.specs.Casts.{casting, callers_named, limits_naming};
 ghost use Rattle.act_actor.specs.Seen.{live_seen};
-ghost use Rattle.act_owner.specs.Owner.{opened};
+ghost use Rattle.act_owner.specs.Owner.{opened_with};
 ghost use Rattle.act_world.specs.Value.{Runs, Vacant, slot_seen, world_seen};
 ghost use Rattle.act_world.specs.Ties.{IsStage};
 ghost use Rattle.act_world.specs.Stands.{Stands};
@@ -14,19 +14,19 @@ ghost use Rattle.act_world.specs.Openings.{HasOwners};
 use crate::World;
 use crate::exchange::{Exchange, place_of};
 use crate::slot::{Slot, slot_of};
-use act_actor::{Cast, Live, actors_of};
+use act_actor::{Cast, Live, limits_of};
 use act_kinds::Actor;
 use act_owner::Owner;
 use act_types::{ActorId, CallerId, NoMemory};
 use std::alloc::Global;
 
-/// A caller with its first handles.
+/// A caller with its first handles, and with the limits of its actors.
 fn opened_owner<K>(alloc: Global, casts: &[Cast<K>], c: CallerId) -> Result<Owner, NoMemory>
-    requires distinct { ActorsDiffer casts.now }
-    ensures { IfOk result (λ owner. owner ≡ opened c (actors_naming c casts.now)) }
+    requires fit { IsFitting casts.now }
+    ensures { IfOk result (λ owner. owner ≡ opened_with c (limits_naming c casts.now)) }
 {
-    let actors = actors_of(alloc, casts, c)?;
-    Owner::open(alloc, c, actors.as_slice())
+    let limits = limits_of(alloc, casts, c)?;
+    Owner::open_with(alloc, c, limits.as_slice())
 }
 
 /// Adds a caller that isn't there yet.
@@ -36,7 +36,7 @@ fn add_owner<K>(
     casts: &[Cast<K>],
     c: CallerId,
 ) -> Result<(), NoMemory>
-    requires distinct { ActorsDiffer casts.now }
+    requires fit { IsFitting casts.now }
     ensures { OnOk result ((callers : List ℕ) → HasOwners casts.now callers owners.old.items → HasOwners casts.now (callers ++ c ∷ []) owners.new.items) }
 {
     if place_of(owners.as_slice(), c).is_some() {
@@ -54,7 +54,7 @@ fn add_owners<K>(
     casts: &[Cast<K>],
     these: &[CallerId],
 ) -> Result<(), NoMemory>
-    requires distinct { ActorsDiffer casts.now }
+    requires fit { IsFitting casts.now }
     ensures { OnOk result ((callers : List ℕ) → HasOwners casts.now callers owners.old.items → HasOwners casts.now (callers ++ these.now) owners.new.items) }
 {
     for c in these {
@@ -65,7 +65,7 @@ fn add_owners<K>(
 
 /// The callers that the casts name.
 fn owners_of<K>(alloc: Global, casts: &[Cast<K>]) -> Result<Vec<Owner>, NoMemory>
-    requires distinct { ActorsDiffer casts.now }
+    requires fit { IsFitting casts.now }
     ensures { IfOk result (λ owners. HasOwners casts.now (callers_named casts.now) owners.items) }
 {
     let mut owners = Vec::new(alloc);
@@ -110,6 +110,7 @@ fn slots_of<K: Actor>(alloc: Global, casts: Vec<Cast<K>>) -> Result<[Slot<K>; 9]
             actor,
             callers,
             kind,
+            pending: _,
         } = cast;
         let live = Live::open(alloc, actor, callers.as_slice(), kind)?;
         seat(&mut slots, actor, live);
@@ -119,7 +120,7 @@ fn slots_of<K: Actor>(alloc: Global, casts: Vec<Cast<K>>) -> Result<[Slot<K>; 9]
 
 impl<K: Actor> World<K> {
     /// A world of these actors, each in its opening state, and of the callers that they name, each
-    /// with one copy of the handle of every actor that names it.
+    /// with one copy of the handle of every actor that names it, and with each one's limit.
     pub fn open(alloc: Global, casts: Vec<Cast<K>>) -> Result<World<K>, NoMemory>
         requires fit { IsFitting casts.items }
         ensures stands { IfOk result (λ world. Stands (map (casting K.state) casts.items) [] (world_seen K.state world)) }

@@ -4,7 +4,7 @@
 use crate::{Cast, Did, Event, Outcome, Stage, World, WorldRefusal, cast_fits};
 use act_kinds::{Actor, Boxed, Counter, ListKind};
 use act_owner::Owner;
-use act_rules::{Arrival, RunItem, SendRefusal};
+use act_rules::{Arrival, RunItem, SendRefusal, SubmitRefusal};
 use act_types::{
     ActorId, Answer, Arg, CallerId, FutureId, ListOf, Method, NoMemory, Settled, Value,
 };
@@ -79,6 +79,7 @@ fn cast_of<K: Actor>(
         actor,
         callers,
         kind,
+        pending: None,
     })
 }
 
@@ -404,6 +405,51 @@ fn ran_and_yet_died(rt: HostRuntime) -> Result<(), Fail> {
     let wanted = "c1.0 a1 = ActorDied\nc1.1 a1 = ActorDied\na1 dead\na1.0 c1.0 add 5\n";
     assert_eq!(rt; end.as_str(), wanted);
     world.consistent();
+    Ok(())
+}
+
+/// A call counts against its actor's limit until its answer is kept, though it ran. Memory is
+/// refused from outside, at most once.
+#[test]
+fn pending_limit(rt: HostRuntime) -> Result<(), Fail> {
+    let alloc = rt.alloc();
+    let c1 = CallerId::new(1).unwrap();
+    let a1 = ActorId::new(1).unwrap();
+    let [k0, k1, k2] = [FutureId::new(0), FutureId::new(1), FutureId::new(2)];
+    let mut cast = cast_of(alloc, a1, &[c1], Counter::open())?;
+    cast.pending = Some(2);
+    let mut casts = Vec::new(alloc);
+    casts.push(cast)?;
+    let rows = [
+        (
+            Step::Submit(c1, a1, Method::Add, Given::Int(1)),
+            Ok(Did::Future(c1, k0)),
+        ),
+        (
+            Step::Submit(c1, a1, Method::Add, Given::Int(2)),
+            Ok(Did::Future(c1, k1)),
+        ),
+        (
+            Step::Submit(c1, a1, Method::Add, Given::Int(3)),
+            Err(WorldRefusal::Submit(SubmitRefusal::PendingLimit)),
+        ),
+        (Step::Send(c1, k0), Ok(Did::Mail(0))),
+        (Step::Deliver(0), Ok(Did::Arrived(Arrival::New))),
+        (Step::Run(a1, c1), Ok(Did::Ran(0, 0))),
+        (
+            Step::Submit(c1, a1, Method::Add, Given::Int(3)),
+            Err(WorldRefusal::Submit(SubmitRefusal::PendingLimit)),
+        ),
+        (Step::Collect(0), Ok(Did::Kept(c1, k0))),
+        (
+            Step::Submit(c1, a1, Method::Add, Given::Int(3)),
+            Ok(Did::Future(c1, k2)),
+        ),
+    ];
+    let world = played(&rt, alloc, casts, &rows)?;
+    let end = end_of(alloc, &world, &[c1], &[a1])?;
+    let wanted = "c1.0 a1 = 1\nc1.1 a1 ?\nc1.2 a1 ?\na1 live counter 1\na1.0 c1.0 add 1\n";
+    assert_eq!(rt; end.as_str(), wanted);
     Ok(())
 }
 

@@ -3,6 +3,7 @@
 //! `K` is the kind, mostly a box. A clause names what is seen of a world by `world_seen` at the
 //! kind's state.
 
+ghost use Rattle.std.specs.Bool.{Decides};
 ghost use Rattle.std.specs.Prelude.{◌≡◌, ◌<◌, ◌++◌, ◌∷◌, [], ℕ, List, Option, Some, None, Err, ◌≤◌, ◌+◌, IfOk, IfErr, OnOk, OnErr, true, false, length, take, find, option_copied, vec_len, vec_capacity};
 ghost use Rattle.std.specs.Option.{option_map};
 ghost use Rattle.act_rules.specs.declared.event.Event.{Event as Happening};
@@ -32,8 +33,11 @@ pub struct World<K = Boxed> {
     pub(crate) slots: [Slot<K>; 9],
 }
 
-/// Whether memory was refused.
-fn is_memory(told: &Outcome) -> bool
+/// A world has fewer letters and notices than this: each has a place that a `u32` holds.
+const MOST_PLACES: usize = 4_294_967_296;
+
+/// Whether memory was refused, which is the one outcome that is not the rules'.
+pub fn is_memory(told: &Outcome) -> bool
     ensures { result ≡ is_memory told.now }
 {
     matches!(told, Err(WorldRefusal::NoMemory))
@@ -170,6 +174,18 @@ impl<K: Actor> World<K> {
             Event::Tell(a, c) => self.tell(*a, *c),
             Event::Retire(a) => Ok(self.retire(*a)),
         }
+    }
+
+    /// Whether there is room for so many events more: each adds one letter or notice at most.
+    pub fn has_room(&self, count: usize) -> bool
+        ensures { Decides result (HasRoom count (world_seen K.state self.now).exchange) }
+    {
+        let letters = self.exchange.mail.len();
+        let notices = self.exchange.replies.len();
+        letters < MOST_PLACES
+            && notices < MOST_PLACES
+            && count < MOST_PLACES
+            && letters + notices + count < MOST_PLACES
     }
 
     /// Does an event, and tells what it did or the first refusal that met it.

@@ -1,8 +1,7 @@
-use Rattle.std.proofs.Common.{length, refl, sym}
+use Rattle.std.proofs.Common.{refl, sym}
 use Rattle.std.specs.Prelude.{option_map}
 use Rattle.act_rules.specs.Laws.{world as history}
-use Rattle.act_rules.specs.Submissions.{submit_refusal}
-use Rattle.act_rules.specs.History.{calls_of, copies_of}
+use Rattle.act_rules.specs.Rules.{submission_refusal}
 use Rattle.act_rules.specs.declared.event.Event.TheVariants as event
 use Rattle.act_rules.specs.declared.outcome.WorldRefusal.TheVariants.{Submit}
 use Rattle.act_world.specs.Exchange.{ExchangeValue}
@@ -16,7 +15,7 @@ pub returns-in_default-clause-ok : goal.returns-in_default-clause-ok
 returns-in_default-clause-ok c =
     let old : ExchangeValue = record { owners = c.self.inside.owners.items; mail = c.self.inside.mail.items; replies = c.self.inside.replies.items; asked = c.self.inside.asked } in
     rw (← c.self.view_is) (λ slots casts before ties. no_caller_follows (history casts before) (event.Submit c.args.c c.args.a c.args.method c.args.args.now) old slots c.args.c
-    (option_map Submit (submit_refusal (copies_of c.args.c c.args.a (history casts before)) (length (calls_of c.args.c (history casts before))) c.args.args.now)) refl ties (sym (rw c.deref.ensures.value at c.in_default.ensures)))
+    (option_map Submit (submission_refusal c.args.c c.args.a c.args.args.now (history casts before))) refl ties (sym (rw c.deref.ensures.value at c.in_default.ensures)))
 
 pub returns-in-Some-submission_refusal-clause-ok : goal.returns-in-Some-submission_refusal-clause-ok
 returns-in-Some-submission_refusal-clause-ok c =
