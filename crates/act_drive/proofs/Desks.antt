@@ -66,16 +66,16 @@ seats_on mails owner later held seats on is = All-weaker (IsSeat mails owner hel
 
 -- ---- a notice, and a call that is sent
 
-reply_keeps : (owner : OwnerValue) (reply : Reply) (mine known : Bool) → let later = after_reply_that (if mine then (if known then Late reply.future else First reply.future) else Stray) owner reply in (later.id ≡ owner.id) × (later.calls ≡ owner.calls) × (later.handles ≡ owner.handles)
-reply_keeps owner reply false known = (refl, refl, refl)
-reply_keeps owner reply true true = (refl, refl, refl)
-reply_keeps owner reply true false = (refl, refl, refl)
+reply_keeps : (owner : OwnerValue) (reply : Reply) (mine known : Bool) → let later = after_reply_that (if mine then (if known then Late reply.future else First reply.future) else Stray) owner reply in (later.id ≡ owner.id) × (later.calls ≡ owner.calls) × (later.handles ≡ owner.handles) × (later.limits ≡ owner.limits)
+reply_keeps owner reply false known = (refl, refl, refl, refl)
+reply_keeps owner reply true true = (refl, refl, refl, refl)
+reply_keeps owner reply true false = (refl, refl, refl, refl)
 
-death_keeps : (owner : OwnerValue) (a : ℕ) (listed : Bool) → let later = (if listed then with_death owner a else owner) in (later.id ≡ owner.id) × (later.calls ≡ owner.calls) × (later.handles ≡ owner.handles)
-death_keeps owner a false = (refl, refl, refl)
-death_keeps owner a true = (refl, refl, refl)
+death_keeps : (owner : OwnerValue) (a : ℕ) (listed : Bool) → let later = (if listed then with_death owner a else owner) in (later.id ≡ owner.id) × (later.calls ≡ owner.calls) × (later.handles ≡ owner.handles) × (later.limits ≡ owner.limits)
+death_keeps owner a false = (refl, refl, refl, refl)
+death_keeps owner a true = (refl, refl, refl, refl)
 
-pub notice_keeps : (owner : OwnerValue) (notice : Notice) → ((after_collect owner notice).id ≡ owner.id) × ((after_collect owner notice).calls ≡ owner.calls) × ((after_collect owner notice).handles ≡ owner.handles)
+pub notice_keeps : (owner : OwnerValue) (notice : Notice) → ((after_collect owner notice).id ≡ owner.id) × ((after_collect owner notice).calls ≡ owner.calls) × ((after_collect owner notice).handles ≡ owner.handles) × ((after_collect owner notice).limits ≡ owner.limits)
 notice_keeps owner (Answered reply) = reply_keeps owner reply (is_of_call owner reply) (is_some (kept_at owner.kept reply.future))
 notice_keeps owner (Death a) = death_keeps owner a (is_some (copies_in a owner.handles))
 
@@ -137,6 +137,7 @@ calling_heard lines old new notice is collects letters kills hand calling =
       record {
         stay = record {
           id = ap (λ (o : OwnerValue). o.id) is ∙ keeps.0;
+          limits = ap (λ (o : OwnerValue). o.limits) is ∙ keeps.3;
           passes = record {
             letters = ap (λ (v : _). map bare_post v.items) letters;
             kills = ap (λ (v : _). map bare_ask v.items) kills;
@@ -154,9 +155,10 @@ pub desk_same : (new : Desk) (o : OwnerValue) (p : CallerPasses) (h : Option Let
 desk_same new o p h a b c =
     ap (λ (x : OwnerValue). record { owner = x; passes = new.passes; hand = new.hand; noted = new.noted }) a ∙ ap (λ (x : CallerPasses). record { owner = o; passes = x; hand = new.hand; noted = new.noted }) b ∙ ap (λ (x : Option Letter). record { owner = o; passes = p; hand = x; noted = new.noted }) c
 
-pub stays_same : (old new : Desk) → new.owner.id ≡ old.owner.id → new.passes ≡ old.passes → Stays old new
-stays_same old new id passes = record {
+pub stays_same : (old new : Desk) → new.owner.id ≡ old.owner.id → new.owner.limits ≡ old.owner.limits → new.passes ≡ old.passes → Stays old new
+stays_same old new id limits passes = record {
   id = id;
+  limits = limits;
   passes = record {
     letters = ap (λ (p : CallerPasses). map bare_post p.letters.items) passes;
     kills = ap (λ (p : CallerPasses). map bare_ask p.kills.items) passes;
@@ -167,6 +169,7 @@ stays_same old new id passes = record {
 pub stays_trans : (one two three : Desk) → Stays one two → Stays two three → Stays one three
 stays_trans one two three a b = record {
   id = b.id ∙ a.id;
+  limits = b.limits ∙ a.limits;
   passes = record {
     letters = b.passes.letters ∙ a.passes.letters;
     kills = b.passes.kills ∙ a.passes.kills;
@@ -175,7 +178,7 @@ stays_trans one two three a b = record {
 }
 
 pub waits_same : (desk : Desk) → Waits desk desk
-waits_same desk = record { stay = stays_same desk desk refl refl; calls = refl; handles = refl; kills = refl; heard = λ notice has. has }
+waits_same desk = record { stay = stays_same desk desk refl refl refl; calls = refl; handles = refl; kills = refl; heard = λ notice has. has }
 
 pub waits_trans : (one two three : Desk) → Waits one two → Waits two three → Waits one three
 waits_trans one two three a b = record { stay = stays_trans one two three a.stay b.stay; calls = b.calls ∙ a.calls; handles = b.handles ∙ a.handles; kills = b.kills ∙ a.kills; heard = λ notice has. b.heard notice (a.heard notice has) }
@@ -186,6 +189,7 @@ pub posted_waits : (old new : Desk) (at : ℕ) (seat : Seat (PutterValue Letter 
 posted_waits old new at seat pass here same is letters kills collects = record {
   stay = record {
     id = ap (λ (o : OwnerValue). o.id) is;
+    limits = ap (λ (o : OwnerValue). o.limits) is;
     passes = record {
       letters = ap (λ (l : List (Seat (PutterValue Letter Unit))). map bare_post l) letters ∙ map-set_same bare_post old.passes.letters.items at (record { place = seat.place; pass = pass }) seat (same ∙ ap bare_post here);
       kills = ap (λ (v : _). map bare_ask v.items) kills;

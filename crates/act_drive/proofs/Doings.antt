@@ -3,6 +3,7 @@ use Rattle.std.proofs.Common.{◌≡◌, ◌≢◌, ℕ, zero, suc, ◌+◌, ◌
 use Rattle.std.specs.Prelude.{map, option_map}
 use Rattle.std.proofs.Math.Seq.{map-set_same}
 use Rattle.act_mailbox.specs.Passes.{TakerValue}
+use Rattle.std.specs.Option.{option_or}
 use Rattle.std.specs.List.{list_any, list_all}
 use Rattle.std.specs.Prelude.{OnOk}
 use Rattle.std.proofs.lemmas.List.{set-get_or, length-map, take_more}
@@ -81,6 +82,10 @@ submit_holds copies count args is = positive (copies_held copies) (needs_both _ 
 copy_holds : (copies : Option ℕ) → copy_refusal copies ≡ None → copies_held copies ≢ 0
 copy_holds copies is = positive (copies_held copies) (needs_both _ _ _ (needs_both _ _ _ is).1).0
 
+first_none : {R : Type 0} (first next : Option R) → option_or first next ≡ None → first ≡ None
+first_none None next is = refl
+first_none (Some r) next is = absurd (cc is)
+
 none_of : {X : Type 0} (o : Option X) → is_some o ≡ false → o ≡ None
 none_of None is = refl
 none_of (Some x) is = absurd (cc is)
@@ -97,7 +102,7 @@ pub ended_submitted : (owner : OwnerValue) (a : ℕ) (method : Method) (args : L
     → (copies_held (copies_in b (with_number a owner.handles)) ≡ 0) × (length (calls_to b (owner.calls ++ record { actor = a; method = method; args = args } ∷ [])) ≡ length (calls_to b owner.calls))
 ended_submitted owner a method args accepted b none = (
   ap copies_held (copies-with_number a b owner.handles) ∙ none,
-  calls_other b owner.calls (record { actor = a; method = method; args = args }) (λ same. submit_holds (copies_in a owner.handles) (length owner.calls) args accepted (ap (λ (n : ℕ). copies_held (copies_in n owner.handles)) same ∙ none)),
+  calls_other b owner.calls (record { actor = a; method = method; args = args }) (λ same. submit_holds (copies_in a owner.handles) (length owner.calls) args (first_none _ _ accepted) (ap (λ (n : ℕ). copies_held (copies_in n owner.handles)) same ∙ none)),
 )
 
 pub ended_copied : (owner : OwnerValue) (a : ℕ) → copy_refusal (copies_in a owner.handles) ≡ None → (b : ℕ) → copies_held (copies_in b owner.handles) ≡ 0 → (copies_held (copies_in b (with_copy a owner.handles)) ≡ 0) × (length (calls_to b owner.calls) ≡ length (calls_to b owner.calls))
@@ -399,7 +404,7 @@ named_more controls id a seat pass kill there note put named d =
 -- ---- what is let go
 
 pub winds_same : (desk : Desk) → Winds desk desk
-winds_same desk = record { stay = stays_same desk desk refl refl; calls = refl; kills = refl; heard = λ notice has. has; handles = λ a. (refl, omega arith) }
+winds_same desk = record { stay = stays_same desk desk refl refl refl; calls = refl; kills = refl; heard = λ notice has. has; handles = λ a. (refl, omega arith) }
 
 pub winds_trans : (one two three : Desk) → Winds one two → Winds two three → Winds one three
 winds_trans one two three a b = record { stay = stays_trans one two three a.stay b.stay; calls = b.calls ∙ a.calls; kills = b.kills ∙ a.kills; heard = λ notice has. b.heard notice (a.heard notice has); handles = λ n. ((b.handles n).0 ∙ (a.handles n).0, omega (arith, (b.handles n).1, (a.handles n).1)) }
@@ -430,7 +435,7 @@ less_handles handles a b =
 
 pub released_winds : (old between new : Desk) (a : ℕ) → Waits old between → new.owner ≡ with_handles between.owner (without_copy a between.owner.handles) → new.passes ≡ between.passes → Winds old new
 released_winds old between new a waits is passes = record {
-  stay = stays_trans old between new waits.stay (stays_same between new (ap (λ (o : OwnerValue). o.id) is) passes);
+  stay = stays_trans old between new waits.stay (stays_same between new (ap (λ (o : OwnerValue). o.id) is) (ap (λ (o : OwnerValue). o.limits) is) passes);
   calls = ap (λ (o : OwnerValue). o.calls) is ∙ waits.calls;
   kills = ap (λ (p : CallerPasses). p.kills.items) passes ∙ waits.kills;
   heard = λ notice has. rw passes (waits.heard notice has);
@@ -463,6 +468,7 @@ pub asked_stays : (old new : Desk) (at : ℕ) (seat : Seat (PutterValue Asked �
     → new.owner ≡ old.owner → new.passes.kills.items ≡ set old.passes.kills.items at (record { place = seat.place; pass = pass }) → new.passes.letters ≡ old.passes.letters → new.passes.collects ≡ old.passes.collects → Stays old new
 asked_stays old new at seat pass here same is kills letters collects = record {
   id = ap (λ (o : OwnerValue). o.id) is;
+  limits = ap (λ (o : OwnerValue). o.limits) is;
   passes = record {
     letters = ap (λ (v : _). map bare_post v.items) letters;
     kills = ap (λ (l : List (Seat (PutterValue Asked ℕ))). map bare_ask l) kills ∙ map-set_same bare_ask old.passes.kills.items at (record { place = seat.place; pass = pass }) seat (same ∙ ap bare_ask here);
@@ -483,6 +489,11 @@ ask_refused seats at seat pass here same =
 pub step_of : {E : Type 0} (result : Result Unit E) (lines : CallerLines) (step other : Step) (old new : Desk) → step ≡ other → OnOk result ((l : CallerLines) → FollowsBy l other old new) → OnOk result (FollowsBy lines step old new)
 step_of (Ok x) lines step other old new is all = subst (λ (s : Step). FollowsBy lines s old new) (sym is) (all lines)
 step_of (Err e) lines step other old new is all = tt
+
+-- a step that is done after a wait
+pub waited_step : {E : Type 0} (result : Result Unit E) (lines : CallerLines) (step : Step) (old between new : Desk) → Waits old between → OnOk result ((l : CallerLines) → FollowsBy l step between new) → OnOk result (FollowsBy lines step old new)
+waited_step (Ok x) lines step old between new waits all = λ actors steps fine f. all lines actors steps fine (follows_waits lines actors steps old between waits f)
+waited_step (Err e) lines step old between new waits all = tt
 
 not_bad_from : (n : ℕ) (actors : List ℕ) (p : Progress) (steps : List Step) (step : Step) (rest : List Step) → first_bad_from n actors p (steps ++ step ∷ rest) ≡ None → is_refused actors (done_by actors p steps) step ≡ false
 not_bad_from n actors p [] step rest fits = go (is_refused actors p step) fits
@@ -564,7 +575,7 @@ fresh_calling lines owner passes noted fresh =
     record {
       places = rw fresh.owner_is refl;
       flags = rw fresh.owner_is refl;
-      hears = subst (λ (l : List Notice). Hears owner l) (sym fresh.unused.taken) (subst (λ (o : OwnerValue). Hears o []) (sym fresh.owner_is) (hears_opened owner.id actors));
+      hears = subst (λ (l : List Notice). Hears owner l) (sym fresh.unused.taken) (subst (λ (o : OwnerValue). Hears o []) (sym fresh.owner_is) (hears_opened owner.limits owner.id actors));
       collects = fresh.unused.collects;
       held = tt;
       letters = All-weaker (IsFreshSeat lines.mails.now owner.id) (IsSeat lines.mails.now owner []) (λ seat s. record {
@@ -574,7 +585,7 @@ fresh_calling lines owner passes noted fresh =
         posting = λ d. posting_fresh owner (get_or lines.mails.now seat.place d).actor seat.pass.put s.put;
       }) passes.letters.items fresh.unused.letters;
       kills = fresh.unused.kills;
-      keeps = rw fresh.unused.taken (subst (λ (o : OwnerValue). IsKeeping lines.mails.now o [] passes.letters.items []) (sym fresh.owner_is) (keeps_opened lines.mails.now owner.id actors passes.letters.items));
+      keeps = rw fresh.unused.taken (subst (λ (o : OwnerValue). IsKeeping lines.mails.now o [] passes.letters.items []) (sym fresh.owner_is) (keeps_opened lines.mails.now owner.limits owner.id actors passes.letters.items));
       names = λ k s below d. subst (λ (l : List Asked). All (λ kill. kill.note ≡ record { caller = owner.id; actor = (get_or lines.controls.now (get_or passes.kills.items k s).place d).actor }) l) (sym (fresh.unused.asked k s below)) (λ i e inside. absurd (omega arith));
     }
 
@@ -589,6 +600,7 @@ pub driven_of : (lines : CallerLines) (plan : List Step) (starved : Bool) (start
     → HasDriven lines start.owner start.passes plan (record { owner = new.owner; starved = starved; passes = new.passes })
 driven_of lines plan starved start new calling stay done = record {
   id = stay.id;
+  limits = stay.limits;
   stay = stay.passes;
   letters = λ k s below d.
       let posting = (calling.letters k s below).posting d in

@@ -14,7 +14,7 @@ use Rattle.act_types.specs.declared.message.Notice.TheVariants.{Death}
 use Rattle.act_rules.specs.Submissions.{calls_to, copies_held}
 use Rattle.act_handles.specs.Handles.{copies_in, with_copy, without_copy}
 use Rattle.act_handles.proofs.Lookups.{copies-opened, copies-with_copy, copies-with_copy-other, copies-without_copy, copies-without_copy-other, copies-with_number}
-use Rattle.act_owner.specs.Owner.{OwnerValue, opened, packet_at, is_sent, with_handles, with_call, with_sent}
+use Rattle.act_owner.specs.Owner.{OwnerValue, opened_under, packet_at, is_sent, with_handles, with_call, with_sent}
 use Rattle.act_owner.specs.Life.{is_known_at}
 use Rattle.act_mailbox.specs.Mails.{MailValue}
 use Rattle.act_mailbox.specs.Passes.{PutterValue}
@@ -107,10 +107,10 @@ one_is_some : (listed : Bool) → if◌then◌else◌ {A = Option ℕ} listed (S
 one_is_some true is = cc is
 one_is_some false is = cc is
 
-pub keeps_opened : (mails : List MailValue) (id : ℕ) (actors : List ℕ) (seats : List (Seat (PutterValue Letter Unit))) → IsKeeping mails (opened id actors) [] seats []
-keeps_opened mails id actors seats = record { known = λ k is. absurd (cc is); due = due }
+pub keeps_opened : (mails : List MailValue) (limits : List (ℕ × Option ℕ)) (id : ℕ) (actors : List ℕ) (seats : List (Seat (PutterValue Letter Unit))) → IsKeeping mails (opened_under limits id actors) [] seats []
+keeps_opened mails limits id actors seats = record { known = λ k is. absurd (cc is); due = due }
   where
-    due : (letter : Letter) → IsDue (opened id actors) letter → Contains (posted_in seats ++ []) letter ⊎ IsIdle mails [] seats (actor_of letter)
+    due : (letter : Letter) → IsDue (opened_under limits id actors) letter → Contains (posted_in seats ++ []) letter ⊎ IsIdle mails [] seats (actor_of letter)
     due (Call packet) is = absurd (cc is.1)
     due (Note note) is = absurd (one_is_some _ (sym (copies-opened note.actor actors) ∙ is.1))
 

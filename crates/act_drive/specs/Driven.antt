@@ -7,7 +7,7 @@ use Rattle.act_rules.specs.declared.script.Step.TheVariants.{Kill}
 use Rattle.act_rules.specs.Plans.{planned, holds, done_by, nothing_done, is_refused, kills_to}
 use Rattle.act_rules.specs.Submissions.{calls_to, copies_held, kept_at}
 use Rattle.act_handles.specs.Handles.{copies_in, actors_in}
-use Rattle.act_owner.specs.Owner.{OwnerValue, opened, packet_at, is_sent}
+use Rattle.act_owner.specs.Owner.{OwnerValue, opened_under, packet_at, is_sent}
 use Rattle.act_owner.specs.Life.{is_known_at, Hears}
 use Rattle.act_mailbox.specs.Mails.{MailValue}
 use Rattle.act_mailbox.specs.Controls.{ControlValue}
@@ -133,9 +133,10 @@ pub record PassesStay (old new : CallerPasses) : Type 0 where
   pub kills : map bare_ask new.kills.items ≡ map bare_ask old.kills.items
   pub collects : new.collects ≡ record old.collects { taken = new.collects.taken }
 
--- it is the same caller, at the same lines
+-- it is the same caller, under the same limits, at the same lines
 pub record Stays (old new : Desk) : Type 0 where
   pub id : new.owner.id ≡ old.owner.id
+  pub limits : new.owner.limits ≡ old.owner.limits
   pub passes : PassesStay old.passes new.passes
 
 -- a turn submits, copies, releases and asks nothing, and forgets no notice
@@ -202,7 +203,7 @@ pub record IsUnused (mails : List MailValue) (controls : List ControlValue) (rep
 
 -- the owner and the passes are as opened
 pub record IsFresh (lines : CallerLines) (owner : OwnerValue) (passes : CallerPasses) : Type 0 where
-  pub owner_is : owner ≡ opened owner.id (actors_in owner.handles)
+  pub owner_is : owner ≡ opened_under owner.limits owner.id (actors_in owner.handles)
   pub unused : IsUnused lines.mails.now lines.controls.now lines.replies.now owner.id passes
 
 -- the note of the last handle of an actor among these was posted at a seat, or its death was collected
@@ -233,6 +234,7 @@ LettersStandAtTheirSeats = (mails : List MailValue) (owner : OwnerValue) (seats 
 -- what a caller's thread leaves, of the owner and the passes that it was given and its plan
 pub record HasDriven (lines : CallerLines) (owner : OwnerValue) (before : CallerPasses) (plan : List Step) (driven : Driven) : Type 0 where
   pub id : driven.owner.id ≡ owner.id
+  pub limits : driven.owner.limits ≡ owner.limits
   pub stay : PassesStay before driven.passes
   pub letters : All (HasPosted lines.mails.now driven.owner) driven.passes.letters.items
   pub hears : Hears driven.owner driven.passes.collects.taken

@@ -107,9 +107,10 @@ impl Desk {
     }
 }
 
-/// Does the steps of the plan in order, lets all handles go, and ends when all is answered. A caller
-/// that is refused memory asks the kill of each of its actors, and ends when each has told its death
-/// or needs nothing more of it.
+/// Does the steps of the plan in order, lets all handles go, and ends when all is answered. A call
+/// that its actor's limit would refuse is submitted once enough calls before it are answered. A
+/// caller that is refused memory asks the kill of each of its actors, and ends when each has told its
+/// death or needs nothing more of it.
 pub fn drive<R: Wait>(
     rt: &R,
     alloc: Global,

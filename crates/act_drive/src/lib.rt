@@ -4,6 +4,7 @@
 mod caller;
 mod desk;
 mod laws;
+mod room;
 mod starve;
 mod steps;
 #[cfg(test)]

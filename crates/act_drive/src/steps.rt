@@ -1,10 +1,11 @@
 //! The steps of a plan.
 
-ghost use Rattle.std.specs.Prelude.{◌≡◌, ◌<◌, length, true, false, is_some, All, Some, IfSome, IfNone, OnOk};
+ghost use Rattle.std.specs.Prelude.{◌≡◌, ◌≢◌, ◌<◌, length, true, false, is_some, All, Some, IfSome, IfNone, OnOk};
 ghost use Rattle.act_rules.specs.declared.script.Step.TheVariants.{Submit, Copy, Release, Kill, Await};
 ghost use Rattle.act_rules.specs.Submissions.{kept_at};
 ghost use Rattle.act_handles.specs.Handles.{copies_in, without_copy};
-ghost use Rattle.act_owner.specs.Owner.{release_note};
+ghost use Rattle.act_rules.specs.declared.outcome.SubmitRefusal.TheVariants.{PendingLimit};
+ghost use Rattle.act_owner.specs.Owner.{release_note, submission_refusal};
 ghost use Rattle.act_mailbox.specs.declared.mail.Letter.TheVariants.{Note};
 ghost use Rattle.act_drive.specs.declared.desk.CallerLines.{CallerLines};
 ghost use Rattle.act_drive.specs.Driven.{IsCalling, FollowsBy, IsAtKillSeat, IsElsewhere, AsksMore, Stays, Waits, Winds};
@@ -33,8 +34,14 @@ fn kill_seat(controls: &[Control], seats: &[Seat<ControlCaller>], actor: ActorId
 }
 
 impl Desk {
-    /// Submits a call. A refusal is a want of memory, where the plan fits.
-    fn submit(&mut self, a: ActorId, method: Method, args: ListOf<Arg>) -> Result<(), NoMemory>
+    /// Submits a call that no limit refuses. A refusal is a want of memory, where the plan fits.
+    fn submit_in_room(
+        &mut self,
+        a: ActorId,
+        method: Method,
+        args: ListOf<Arg>,
+    ) -> Result<(), NoMemory>
+        requires room { submission_refusal self.old.owner a args ≢ Some PendingLimit }
         ensures calling { (lines : CallerLines) → IsCalling lines self.old → IsCalling lines self.new }
         ensures stays { Stays self.old self.new }
         ensures follows { OnOk result ((lines : CallerLines) → FollowsBy lines (Submit a method args) self.old self.new) }
@@ -43,6 +50,25 @@ impl Desk {
             Ok(_) => Ok(()),
             Err(_) => Err(NoMemory),
         }
+    }
+
+    /// Submits a call, once its actor's limit leaves room for it.
+    fn submit<R: Wait>(
+        &mut self,
+        rt: &R,
+        alloc: Global,
+        lines: &Lines,
+        a: ActorId,
+        method: Method,
+        args: ListOf<Arg>,
+    ) -> Result<(), NoMemory>
+        requires calling { IsCalling lines.now self.old }
+        ensures calling { IsCalling lines.now self.new }
+        ensures stays { Stays self.old self.new }
+        ensures follows { OnOk result (FollowsBy lines.now (Submit a method args) self.old self.new) }
+    {
+        self.wait_for_room(rt, alloc, lines, a, &args)?;
+        self.submit_in_room(a, method, args)
     }
 
     /// Copies a handle, which nothing refuses where the plan fits.
@@ -187,7 +213,7 @@ impl Desk {
         ensures follows { OnOk result (FollowsBy lines.now step self.old self.new) }
     {
         match step {
-            Step::Submit(a, method, args) => self.submit(a, method, args),
+            Step::Submit(a, method, args) => self.submit(rt, alloc, lines, a, method, args),
             Step::Copy(a) => self.copy(a),
             Step::Release(a) => self.release(rt, lines, a),
             Step::Kill(a) => self.kill(rt, alloc, lines, a),

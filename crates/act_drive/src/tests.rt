@@ -7,7 +7,7 @@ ghost use Rattle.act_types.specs.declared.call.Arg.TheVariants.{Plain};
 ghost use Rattle.act_types.specs.declared.call.Method.TheVariants.{Add};
 ghost use Rattle.act_rules.specs.declared.script.Step.TheVariants.{Submit};
 ghost use Rattle.act_rules.specs.Plans.{first_bad};
-ghost use Rattle.act_owner.specs.Owner.{opened as opened_owner};
+ghost use Rattle.act_owner.specs.Owner.{opened_under};
 ghost use Rattle.act_mailbox.specs.Notices.{new_exec};
 ghost use Rattle.act_drive.specs.Driven.{IsUnused};
 
@@ -37,12 +37,13 @@ enum Said {
     Other,
 }
 
-/// What a caller leaves: the answers of its first two futures.
+/// What a caller leaves: the answers of its first three futures.
 #[derive(Clone, Copy, Debug, PartialEq, Eq)]
 struct Told {
     is_starved: bool,
     first: Said,
     second: Said,
+    third: Said,
 }
 
 fn answer_of(owner: &Owner, k: u32) -> Said {
@@ -72,6 +73,16 @@ fn two_calls(alloc: Global) -> Result<Plan, NoMemory>
     Ok(plan)
 }
 
+fn three_calls(alloc: Global) -> Result<Plan, NoMemory>
+    ensures { IfOk result (λ plan. first_bad (1 ∷ []) plan.items ≡ None) }
+{
+    let mut plan = Vec::new(alloc);
+    plan.push(add(alloc, actor())?)?;
+    plan.push(add(alloc, actor())?)?;
+    plan.push(add(alloc, actor())?)?;
+    Ok(plan)
+}
+
 fn call_and_kill(alloc: Global) -> Result<Plan, NoMemory>
     ensures { IfOk result (λ plan. first_bad (1 ∷ []) plan.items ≡ None) }
 {
@@ -91,7 +102,7 @@ fn driven<R: Wait>(
     lines: &CallerLines,
     passes: CallerPasses,
 ) -> Told
-    requires owner { owner ≡ opened_owner 1 (1 ∷ []) }
+    requires owner { owner ≡ opened_under owner.limits 1 (1 ∷ []) }
     requires fits { first_bad (1 ∷ []) plan.items ≡ None }
     requires unused { IsUnused lines.now.mails.now lines.now.controls.now lines.now.replies.now 1 passes }
 {
@@ -100,6 +111,7 @@ fn driven<R: Wait>(
         is_starved: driven.starved,
         first: answer_of(&driven.owner, 0),
         second: answer_of(&driven.owner, 1),
+        third: answer_of(&driven.owner, 2),
     }
 }
 
@@ -113,7 +125,7 @@ fn beside<R: Threads + Wait + Sync>(
     way: Way,
 ) -> (Told, Result<bool, NoMemory>)
     requires sync { IsSync R.row }
-    requires owner { caller.0 ≡ opened_owner 1 (1 ∷ []) }
+    requires owner { caller.0 ≡ opened_under caller.0.limits 1 (1 ∷ []) }
     requires fits { first_bad (1 ∷ []) caller.1.items ≡ None }
     requires unused { IsUnused lines.0.now.mails.now lines.0.now.controls.now lines.0.now.replies.now 1 caller.2 }
     requires letters { exec.letters.line ≡ lines.1.now.mail.now.line }
@@ -125,7 +137,7 @@ fn beside<R: Threads + Wait + Sync>(
     thread::join(
         rt,
         move || -> Told
-            requires { (owner ≡ opened_owner 1 (1 ∷ [])) × (first_bad (1 ∷ []) plan.items ≡ None) × IsUnused lines.now.mails.now lines.now.controls.now lines.now.replies.now 1 passes }
+            requires { (owner ≡ opened_under owner.limits 1 (1 ∷ [])) × (first_bad (1 ∷ []) plan.items ≡ None) × IsUnused lines.now.mails.now lines.now.controls.now lines.now.replies.now 1 passes }
         { driven(rt, alloc, owner, plan, lines, passes) },
         move || -> Result<bool, NoMemory>
             requires { (exec.letters.line ≡ exec_lines.now.mail.now.line) × (exec.kills.line ≡ exec_lines.now.control.now.line) × (exec.kills.actor ≡ 1) × (exec.gives ≡ new_exec exec_lines.now.replies.now.line 1) }
@@ -133,18 +145,33 @@ fn beside<R: Threads + Wait + Sync>(
     )
 }
 
+/// The actor's caller, with no limit.
+fn unlimited(alloc: Global) -> Result<Owner, NoMemory>
+    ensures { IfOk result (λ owner. owner ≡ opened_under owner.limits 1 (1 ∷ [])) }
+{
+    Owner::open(alloc, caller(), &[actor()])
+}
+
+/// The actor's caller, of which one call may have no answer.
+fn limited(alloc: Global) -> Result<Owner, NoMemory>
+    ensures { IfOk result (λ owner. owner ≡ opened_under owner.limits 1 (1 ∷ [])) }
+{
+    Owner::open_with(alloc, caller(), &[(actor(), Some(1))])
+}
+
 /// Drives a plan against an executor. What the caller keeps, and whether the executor saw all as it
 /// should be.
 fn joined<R: Threads + Wait + Sync>(
     rt: &R,
     alloc: Global,
+    owner: Owner,
     plan: Plan,
     way: Way,
 ) -> Result<(Told, bool), NoMemory>
     requires sync { IsSync R.row }
+    requires owner { owner ≡ opened_under owner.limits 1 (1 ∷ []) }
     requires fits { first_bad (1 ∷ []) plan.items ≡ None }
 {
-    let owner = Owner::open(alloc, caller(), &[actor()])?;
     let (station, passes, exec) = opened(alloc)?;
     let Station {
         mail,
@@ -170,11 +197,18 @@ fn joined<R: Threads + Wait + Sync>(
 #[test]
 fn await_holds(rt: HostRuntime) -> Result<(), Fail> {
     let alloc = rt.alloc();
-    let told = joined(&rt, alloc, call_and_kill(alloc)?, Way::Holds)?;
+    let told = joined(
+        &rt,
+        alloc,
+        unlimited(alloc)?,
+        call_and_kill(alloc)?,
+        Way::Holds,
+    )?;
     let wanted = Told {
         is_starved: false,
         first: Said::Number(1),
         second: Said::Nothing,
+        third: Said::Nothing,
     };
     assert_eq!(rt; told, (wanted, true));
     Ok(())
@@ -183,11 +217,18 @@ fn await_holds(rt: HostRuntime) -> Result<(), Fail> {
 #[test]
 fn repeated_reply(rt: HostRuntime) -> Result<(), Fail> {
     let alloc = rt.alloc();
-    let told = joined(&rt, alloc, two_calls(alloc)?, Way::Repeats)?;
+    let told = joined(
+        &rt,
+        alloc,
+        unlimited(alloc)?,
+        two_calls(alloc)?,
+        Way::Repeats,
+    )?;
     let wanted = Told {
         is_starved: false,
         first: Said::Number(1),
         second: Said::Died,
+        third: Said::Nothing,
     };
     assert_eq!(rt; told, (wanted, true));
     Ok(())
@@ -197,11 +238,49 @@ fn repeated_reply(rt: HostRuntime) -> Result<(), Fail> {
 #[test]
 fn ends_with_all_answered(rt: HostRuntime) -> Result<(), Fail> {
     let alloc = rt.alloc();
-    let told = joined(&rt, alloc, two_calls(alloc)?, Way::Retires)?;
+    let told = joined(
+        &rt,
+        alloc,
+        unlimited(alloc)?,
+        two_calls(alloc)?,
+        Way::Retires,
+    )?;
     let wanted = Told {
         is_starved: false,
         first: Said::Number(1),
         second: Said::Number(2),
+        third: Said::Nothing,
+    };
+    assert_eq!(rt; told, (wanted, true));
+    Ok(())
+}
+
+/// The actor takes no call before it gave the reply of the one before, and a limit of 1 lets none be
+/// submitted before that reply is collected: none is refused for it.
+#[test]
+fn limit_waits_for_answers(rt: HostRuntime) -> Result<(), Fail> {
+    let alloc = rt.alloc();
+    let told = joined(&rt, alloc, limited(alloc)?, three_calls(alloc)?, Way::Paces)?;
+    let wanted = Told {
+        is_starved: false,
+        first: Said::Number(1),
+        second: Said::Number(2),
+        third: Said::Number(3),
+    };
+    assert_eq!(rt; told, (wanted, true));
+    Ok(())
+}
+
+/// The death of the actor answers the call before, and makes room for the next.
+#[test]
+fn limit_ends_with_the_actor(rt: HostRuntime) -> Result<(), Fail> {
+    let alloc = rt.alloc();
+    let told = joined(&rt, alloc, limited(alloc)?, two_calls(alloc)?, Way::Leaves)?;
+    let wanted = Told {
+        is_starved: false,
+        first: Said::Died,
+        second: Said::Died,
+        third: Said::Nothing,
     };
     assert_eq!(rt; told, (wanted, true));
     Ok(())

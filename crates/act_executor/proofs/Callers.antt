@@ -6,7 +6,7 @@ use Rattle.act_rules.specs.Consistent.{IsFront}
 use Rattle.act_rules.specs.Plans.{planned}
 use Rattle.act_rules.proofs.Unique.{map-slice_get}
 use Rattle.act_handles.specs.Handles.{actors_in}
-use Rattle.act_owner.specs.Owner.{opened}
+use Rattle.act_owner.specs.Owner.{opened_under}
 use Rattle.act_mailbox.specs.declared.mail.Letter.{Letter}
 use Rattle.act_mailbox.specs.declared.control.Asked.{Asked}
 use Rattle.act_mailbox.specs.Lines.{items_of}
@@ -49,7 +49,7 @@ module _ (lines : Lines) (part : Part) (caller : Seat CallerPasses) (d : Driven)
   is_driven actors plan known steps fed =
       let has = driven.driven_is in
       let done = has.done fed in
-      let own : actors_in (opened part.caller part.actors.items).handles ≡ actors = own_actors part.caller part.actors.items ∙ known in
+      let own : actors_in (opened_under part.limits.items part.caller part.actors.items).handles ≡ actors = own_actors part.limits.items part.caller part.actors.items ∙ known in
       record {
         letters = subst (λ (l : List MailValue). All (HasPosted l d.owner) d.passes.letters.items) driven.mails has.letters;
         hears = has.hears;

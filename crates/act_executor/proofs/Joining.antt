@@ -32,8 +32,8 @@ use Rattle.act_drive.specs.declared.caller.Driven.{Driven}
 use Rattle.act_plans.specs.declared.part.Part.{Part}
 use Rattle.act_plans.specs.declared.rising.Prepared.{Prepared}
 use Rattle.act_plans.specs.Prepared.{part_seen, part_of, callers_named_by, by_rising_actor, HasNumbers}
-use Rattle.act_plans.specs.Runs.{callers_of, actors_of, cast_at, plan_of}
-use Rattle.act_plans.proofs.Castings.{parts_seen, plans_are, actors_are, actors_seen, each_cast_seen}
+use Rattle.act_plans.specs.Runs.{limits_naming, callers_of, actors_of, cast_at, plan_of}
+use Rattle.act_plans.proofs.Castings.{parts_seen, plans_are, actors_are, limits_are, actors_seen, each_cast_seen}
 use Rattle.act_lines.proofs.Places.{as_long, at_other, all_at}
 use Rattle.act_joint.specs.Joined.{IsJoined, is_starved}
 use Rattle.act_joint.specs.Left.{ServedSeen, IsServed, IsDriven, AreAudited, AreCasts, AreJoined}
@@ -172,6 +172,14 @@ module _ {K : Type 0} (state : K → KindState) (casts : List (Cast K)) (plans :
       is_driven lines one.part one.caller d one.is drove (actors_naming d.owner.id seen) (plan_of d.owner.id (map plan_seen plans))
       (known ∙ ap (λ (n : ℕ). actors_naming n seen) (sym id)) (steps ∙ ap (λ (n : ℕ). plan_of n (map plan_seen plans)) (sym id)) fed)
 
+  -- each caller keeps the limits of the casts
+  limits : All (λ (d : Driven). d.owner.limits ≡ limits_naming d.owner.id seen) callers
+  limits = all_by_places (λ (d : Driven). d.owner.limits ≡ limits_naming d.owner.id seen) callers (λ i d at.
+      let one = at_caller i d at in
+      let drove = run.driven.each i one.part one.caller d one.at_part one.at_caller at in
+      let known = all_at (λ (part : Part). part.limits.items ≡ limits_naming part.caller seen) parts i one.part (limits_are state casts plans parts parts_are) one.at_part in
+      drove.driven_is.limits ∙ known ∙ ap (λ (n : ℕ). limits_naming n seen) (sym (caller_is lines one.part one.caller d one.is drove)))
+
   -- ---- the audits
 
   mail_of : (j : ℕ) (cast : Cast K) → slice_get now j ≡ Some cast → (m : MailValue) → (get_or lines.mails.items j m).actor ≡ cast.actor
@@ -240,7 +248,7 @@ module _ {K : Type 0} (state : K → KindState) (casts : List (Cast K)) (plans :
       ap (λ (x : ServedSeen). is_starved x.end) e.s_is ∙ ap (λ (l : Left K). is_starved (end_seen state l.ended)) e.same ∙ not_starved state e.a.ended no_want)
 
   are_joined : AreJoined lines.mails.items lines.controls.items lines.replies.items seen (map plan_seen plans) callers (map (served_seen state) last)
-  are_joined = record { casts_are = casts_are; callers = owners_are; actors = ends_are; all_served = all_served; all_driven = all_driven; audited = audited; starter = unasked; fed = fed }
+  are_joined = record { casts_are = casts_are; callers = owners_are; actors = ends_are; all_served = all_served; all_driven = all_driven; limits = limits; audited = audited; starter = unasked; fed = fed }
 
   pub is_joined : IsJoined seen (map plan_seen plans) joined.owners.items (map (λ (f : Finished K). end_seen state f.ended) last)
   is_joined =

@@ -2,7 +2,7 @@
 use Rattle.std.specs.Prelude.{◌≡◌, ℕ, Bool, true, false, List, length, map, slice_get, Some, All}
 use Rattle.std.specs.List.{range_with_len}
 use Rattle.act_types.specs.KindState.{KindState}
-use Rattle.act_owner.specs.Owner.{opened}
+use Rattle.act_owner.specs.Owner.{opened_under}
 use Rattle.act_actor.specs.declared.cast.Cast.{Cast}
 use Rattle.act_mailbox.specs.declared.control.Asked.{Asked}
 use Rattle.act_mailbox.specs.Passes.{PutterValue}
@@ -41,7 +41,7 @@ pub record IsDrivenAt (lines : Lines) (part : Part) (caller : Seat CallerPasses)
   pub at : CallerLines
   pub mails : at.mails.now ≡ lines.mails.items
   pub controls : at.controls.now ≡ lines.controls.items
-  pub driven_is : HasDriven at (opened part.caller part.actors.items) caller.pass part.plan.items driven
+  pub driven_is : HasDriven at (opened_under part.limits.items part.caller part.actors.items) caller.pass part.plan.items driven
 
 -- each part's caller was driven, with its passes
 pub record AreDriven (lines : Lines) (parts : List Part) (callers : List (Seat CallerPasses)) (driven : List Driven) : Type 0 where

@@ -4,7 +4,7 @@ use Rattle.act_types.specs.KindState.{KindState}
 use Rattle.act_rules.specs.declared.script.Step.{Step}
 use Rattle.act_rules.specs.Plans.{first_bad}
 use Rattle.act_handles.specs.Handles.{actors_in}
-use Rattle.act_owner.specs.Owner.{OwnerValue, opened}
+use Rattle.act_owner.specs.Owner.{OwnerValue, opened_under}
 use Rattle.act_actor.specs.Seen.{live_seen}
 use Rattle.act_actor.specs.declared.cast.Cast.{Cast}
 use Rattle.act_mailbox.specs.declared.control.Asked.{Asked}
@@ -66,7 +66,7 @@ abbrev pub driving_start : Driving → CallerStart
 driving_start driving = record { owner = driving.owner; plan = driving.plan.items; passes = driving.passes; mails = driving.lines.mails.now; controls = driving.lines.controls.now }
 
 abbrev pub part_start : Lines → Part × Seat CallerPasses → CallerStart
-part_start lines given = record { owner = opened given.0.caller given.0.actors.items; plan = given.0.plan.items; passes = given.1.pass; mails = lines.mails.items; controls = lines.controls.items }
+part_start lines given = record { owner = opened_under given.0.limits.items given.0.caller given.0.actors.items; plan = given.0.plan.items; passes = given.1.pass; mails = lines.mails.items; controls = lines.controls.items }
 
 -- the starter's pass at its place of the control lines, with which nothing was asked
 pub record IsUnusedStarter (controls : List ControlValue) (seat : Seat (PutterValue Asked ℕ)) : Type 0 where

@@ -8,7 +8,7 @@ ghost use Rattle.act_mailbox.specs.Passes.{new_putter};
 ghost use Rattle.act_mailbox.specs.Controls.{starter};
 ghost use Rattle.act_tasks.specs.Each.{Each, EachReady};
 ghost use Rattle.act_serve.specs.Served.{end_seen};
-ghost use Rattle.act_plans.specs.Parts.{PlansFit, AreMatched};
+ghost use Rattle.act_plans.specs.Parts.{PlansFit, AreMatched, HasLimits};
 ghost use Rattle.act_plans.specs.Runs.{first_bad_plan};
 ghost use Rattle.act_lines.specs.Opened.{IsExec, IsCaller};
 ghost use Rattle.act_joint.specs.Joined.{IsJoined};
@@ -114,6 +114,7 @@ fn run_threads<R: Threads + Wait + Sync, K: Actor + Send, G: Gate>(
     gate: &G,
 ) -> Result<Ends<K>, RunFault>
     requires matched { AreMatched prepared.casts.items prepared.parts.items }
+    requires limits { All HasLimits prepared.parts.items }
     requires fits { All (λ part. first_bad part.actors.items part.plan.items ≡ None) prepared.parts.items }
     requires exec_places { All (λ exec. (exec.place < length lines.now.mails.items) × (exec.place < length lines.now.controls.items)) passes.execs.items }
     requires execs { Each (IsExec lines.now) prepared.casts.items passes.execs.items }
@@ -150,6 +151,7 @@ fn run_prepared<R: Threads + Wait + Sync, K: Actor + Send, G: Gate>(
     gate: &G,
 ) -> Result<Joined<K>, RunFault>
     requires matched { AreMatched prepared.casts.items prepared.parts.items }
+    requires limits { All HasLimits prepared.parts.items }
     requires fits { All (λ part. first_bad part.actors.items part.plan.items ≡ None) prepared.parts.items }
     ensures joined { IfOk result (HasRun K.state prepared) }
     ensures fault { IfErr result IsThreadFault }

@@ -2,6 +2,7 @@
 
 mod gates;
 mod kills;
+mod limits;
 mod many;
 mod scene;
 mod terminates;

@@ -4,6 +4,7 @@ ghost use Rattle.std.specs.Prelude.{◌≡◌, ◌<◌, length, map, zip, All, N
 ghost use Rattle.act_rules.specs.Plans.{first_bad};
 ghost use Rattle.act_actor.specs.Cast.{CallersDiffer};
 ghost use Rattle.act_tasks.specs.Each.{Each, EachReady};
+ghost use Rattle.act_plans.specs.Parts.{HasLimits};
 ghost use Rattle.act_lines.specs.Opened.{IsExec, IsCaller};
 ghost use Rattle.act_executor.specs.Work.{IsReady, IsServedBy, CanDrive, IsDrivenBy, serving_start, cast_start, driving_start, part_start};
 
@@ -100,6 +101,7 @@ fn one_serving<'a, K: Actor, G>(
         actor,
         callers,
         kind,
+        ..
     } = cast;
     let Seat { place, pass } = exec;
     let live = Live::open(alloc, actor, callers.as_slice(), kind)?;
@@ -145,6 +147,7 @@ fn one_driving<'a>(
     caller: Seat<CallerPasses>,
 ) -> Result<Driving<'a>, NoMemory>
     requires actors { CallersDiffer part.actors.items }
+    requires limits { HasLimits part }
     requires place { caller.place < length lines.now.replies.items }
     requires caller { IsCaller lines.now part caller }
     requires fits { first_bad part.actors.items part.plan.items ≡ None }
@@ -153,11 +156,12 @@ fn one_driving<'a>(
 {
     let Part {
         caller: id,
-        actors,
+        limits,
         plan,
+        ..
     } = part;
     let Seat { place, pass } = caller;
-    let owner = Owner::open(alloc, id, actors.as_slice())?;
+    let owner = Owner::open_with(alloc, id, limits.as_slice())?;
     let lines = CallerLines {
         mails: lines.mails.as_slice(),
         controls: lines.controls.as_slice(),
@@ -180,6 +184,7 @@ pub(crate) fn drivings<'a>(
     callers: Vec<Seat<CallerPasses>>,
 ) -> Result<Vec<Driving<'a>>, NoMemory>
     requires actors { All (λ part. CallersDiffer part.actors.items) parts.items }
+    requires limits { All HasLimits parts.items }
     requires places { All (λ caller. caller.place < length lines.now.replies.items) callers.items }
     requires callers { Each (IsCaller lines.now) parts.items callers.items }
     requires fits { All (λ part. first_bad part.actors.items part.plan.items ≡ None) parts.items }

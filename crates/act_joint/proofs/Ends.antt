@@ -5,6 +5,7 @@ use Rattle.std.specs.Option.{option_or}
 use Rattle.std.proofs.lemmas.Bool.{eq-eqb, eqb-true, and_parts}
 use Rattle.std.proofs.lemmas.Simd.{map-map}
 use Rattle.std.proofs.lemmas.List.{length-map}
+use Rattle.std.proofs.lemmas.List.Elements.{All-map}
 use Rattle.std.proofs.lemmas.List.FromFn.{length-enumerate_from}
 use Rattle.act_types.specs.declared.message.Notice.{Notice}
 use Rattle.act_types.specs.declared.message.ReleaseNote.{ReleaseNote}
@@ -30,7 +31,7 @@ use Rattle.act_serve.specs.declared.seat.ExecPasses.{ExecPasses}
 use Rattle.act_serve.specs.Served.{EndSeen, Killed, Retired, Starved, id_of, log_of, IfRetired, note_in, first_note, IsTakenAt, KillsOfDead, KillsTaken}
 use Rattle.act_drive.specs.declared.caller.Driven.{Driven}
 use Rattle.act_drive.specs.Driven.{IsSent, AreAsked, HasAsked}
-use Rattle.act_plans.specs.Runs.{plan_of}
+use Rattle.act_plans.specs.Runs.{limits_naming, plan_of}
 use Rattle.act_joint.specs.Joined.{is_killed, is_starved, owner_of, calls_of_owner, kept_of_owner, log_of_end, is_killed_end, calls_in, kept_in, log_in, killed_in, RanAll, IsJoined}
 use Rattle.act_joint.specs.Left.{ServedSeen, AreJoined}
 use Rattle.act_joint.proofs.Elements.{IsIn, in_from_contains, all_in, in_filter, in_front, all_by_places, is_contained, empty_by_places, whole_by_length, enumerated, in_none, in_first, some_long}
@@ -253,12 +254,18 @@ module _ {mails : List MailValue} {controls : List ControlValue} {replies : List
       let found = map-slice_get (λ (s : ServedSeen). s.end) served k end at in
       subst (λ (e : EndSeen). IfRetired e (RanAll casts owners)) found.2 (retired_end found.0.end found.0.passes (record { place = k; at = found.1 })))
 
+  -- ---- the limits
+
+  limits : All (λ (owner : OwnerValue). owner.limits ≡ limits_naming owner.id casts) owners
+  limits = All-map (λ (owner : OwnerValue). owner.limits ≡ limits_naming owner.id casts) (λ (d : Driven). d.owner) driven j.limits
+
   -- ---- the whole
 
   pub joined : IsJoined casts plans owners ends
   joined = record {
     callers = map-map (λ (owner : OwnerValue). owner.id) (λ (d : Driven). d.owner) driven ∙ j.callers;
     actors = map-map id_of (λ (s : ServedSeen). s.end) served ∙ j.actors;
+    limits = limits;
     submitted = submitted;
     answered = answered;
     consistent = fits _ _ _ _ _ (all_fit j);

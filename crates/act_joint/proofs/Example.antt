@@ -33,7 +33,7 @@ use Rattle.act_seats.specs.declared.seat.Seat.{Seat}
 use Rattle.act_serve.specs.Served.{Retired, id_of, packet_of, first_note, replies_to, deaths, caller_at}
 use Rattle.act_drive.specs.declared.caller.Driven.{Driven}
 use Rattle.act_drive.specs.Driven.{HasPosted, HasAsked, IsSent}
-use Rattle.act_plans.specs.Runs.{cast_at, plan_of}
+use Rattle.act_plans.specs.Runs.{limits_naming, cast_at, plan_of}
 use Rattle.act_joint.specs.Joined.{is_starved}
 use Rattle.act_joint.specs.Left.{ServedSeen, IsServed, IsDriven, AreAudited, AreCasts, AreJoined}
 use Rattle.act_joint.proofs.Elements.{all_by_places, contains_is}
@@ -71,7 +71,7 @@ only ptr alloc x = record { ptr = ptr; len = 1; cap = 1; alloc = alloc; items = 
 -- ---- the cast and the lines
 
 abbrev pub casts : List Casting
-casts = record { actor = 1; callers = 1 ∷ []; opening = CounterAt (pos 0) } ∷ []
+casts = record { actor = 1; callers = 1 ∷ []; opening = CounterAt (pos 0); pending = Some 2 } ∷ []
 
 pub casts_are : AreCasts casts
 casts_are = record {
@@ -117,7 +117,7 @@ abbrev notices : List Notice
 notices = Answered (record { actor = 1; caller = 1; future = 0; place = 0; answer = answer }) ∷ []
 
 abbrev owner : OwnerValue
-owner = record { id = 1; handles = record { actor = 1; copies = 0; given = 1 } ∷ []; calls = call ∷ []; sent = true ∷ []; kept = Some answer ∷ []; dead = [] }
+owner = record { id = 1; handles = record { actor = 1; copies = 0; given = 1 } ∷ []; calls = call ∷ []; sent = true ∷ []; kept = Some answer ∷ []; dead = []; limits = (1, Some 2) ∷ [] }
 
 abbrev plan : List Step
 plan = step.Submit 1 method.Get [] ∷ []
@@ -217,6 +217,7 @@ module _ (mail control reply : TableId) (ptr : Ptr) (alloc : Global) where
     actors = refl;
     all_served = all_one (λ (x : ServedSeen). (cast : Casting) → cast_at (id_of x.end) casts ≡ Some cast → IsServed (replies reply) cast x) s serves;
     all_driven = all_one (λ (x : Driven). IsDriven (mails mail) (controls control) (actors_naming x.owner.id casts) (plan_of x.owner.id plans) x) d drives;
+    limits = all_one (λ (x : Driven). x.owner.limits ≡ limits_naming x.owner.id casts) d refl;
     audited = λ i k x y cast at at' of names. subst (λ (z : Driven). AreAudited (mails mail) (controls control) (replies reply) (id_of y.end) z.owner.id z y) (one_at d x i at)
         (subst (λ (z : ServedSeen). AreAudited (mails mail) (controls control) (replies reply) (id_of z.end) 1 d z) (one_at s y k at') audits);
     starter = all_one (λ (x : ServedSeen). items_put asker_of starter x.passes.kills.taken ≡ []) s refl;

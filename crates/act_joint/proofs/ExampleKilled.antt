@@ -27,7 +27,7 @@ use Rattle.act_seats.specs.declared.seat.Seat.{Seat}
 use Rattle.act_serve.specs.Served.{Killed, id_of, packet_of, replies_to, deaths, caller_at}
 use Rattle.act_drive.specs.declared.caller.Driven.{Driven}
 use Rattle.act_drive.specs.Driven.{HasPosted, HasAsked, IsSent}
-use Rattle.act_plans.specs.Runs.{cast_at, plan_of}
+use Rattle.act_plans.specs.Runs.{limits_naming, cast_at, plan_of}
 use Rattle.act_joint.specs.Joined.{is_starved}
 use Rattle.act_joint.specs.Left.{ServedSeen, IsServed, IsDriven, AreAudited, AreJoined}
 use Rattle.act_joint.proofs.Example.{one_at, all_one, all_none, pairs_one, only, casts, casts_are, mails, controls, replies, letter_seat, kill_seat, notice_seat, call, item}
@@ -42,7 +42,7 @@ abbrev kills : List Asked
 kills = record { asker = 1; note = record { caller = 1; actor = 1 } } ∷ []
 
 abbrev owner : OwnerValue
-owner = record { id = 1; handles = record { actor = 1; copies = 1; given = 1 } ∷ []; calls = call ∷ []; sent = true ∷ []; kept = Some (Err ActorDied) ∷ []; dead = false ∷ true ∷ [] }
+owner = record { id = 1; handles = record { actor = 1; copies = 1; given = 1 } ∷ []; calls = call ∷ []; sent = true ∷ []; kept = Some (Err ActorDied) ∷ []; dead = false ∷ true ∷ []; limits = (1, Some 2) ∷ [] }
 
 abbrev plan : List Step
 plan = step.Submit 1 method.Get [] ∷ step.Kill 1 ∷ []
@@ -126,6 +126,7 @@ module _ (mail control reply : TableId) (ptr : Ptr) (alloc : Global) where
     actors = refl;
     all_served = all_one (λ (x : ServedSeen). (cast : Casting) → cast_at (id_of x.end) casts ≡ Some cast → IsServed (replies reply) cast x) s serves;
     all_driven = all_one (λ (x : Driven). IsDriven (mails mail) (controls control) (actors_naming x.owner.id casts) (plan_of x.owner.id plans) x) d drives;
+    limits = all_one (λ (x : Driven). x.owner.limits ≡ limits_naming x.owner.id casts) d refl;
     audited = λ i k x y cast at at' of names. subst (λ (z : Driven). AreAudited (mails mail) (controls control) (replies reply) (id_of y.end) z.owner.id z y) (one_at d x i at)
         (subst (λ (z : ServedSeen). AreAudited (mails mail) (controls control) (replies reply) (id_of z.end) 1 d z) (one_at s y k at') audits);
     starter = all_one (λ (x : ServedSeen). items_put asker_of starter x.passes.kills.taken ≡ []) s refl;

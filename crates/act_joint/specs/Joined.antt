@@ -11,7 +11,7 @@ use Rattle.act_rules.specs.Plans.{planned, kills_to}
 use Rattle.act_owner.specs.Owner.{OwnerValue}
 use Rattle.act_actor.specs.Value.{RetiredSeen}
 use Rattle.act_serve.specs.Served.{EndSeen, Killed, Retired, Starved, id_of, log_of, IfRetired}
-use Rattle.act_plans.specs.Runs.{callers_of, actors_of, cast_at, plan_of}
+use Rattle.act_plans.specs.Runs.{limits_naming, callers_of, actors_of, cast_at, plan_of}
 
 -- ---- what the callers and the actors leave, by number
 
@@ -70,10 +70,11 @@ pub record RanAll (casts : List Casting) (owners : List OwnerValue) (retired : R
   pub at : cast_at retired.id casts ≡ Some cast
   pub state : retired.state ≡ state_after cast.opening retired.log
 
--- the plans were run with these casts: each caller is left, and each actor, by rising number; each caller submitted what was planned and all is answered; calls, logs and answers fit one another as in any run of the rules; an actor is dead that ran a `terminate`, after which it ran nothing, and any other only where some plan asks for its kill; one that retired ran all; nobody was refused memory
+-- the plans were run with these casts: each caller is left, and each actor, by rising number; each caller was opened with the limits of the casts; each submitted what was planned and all is answered; calls, logs and answers fit one another as in any run of the rules; an actor is dead that ran a `terminate`, after which it ran nothing, and any other only where some plan asks for its kill; one that retired ran all; nobody was refused memory
 pub record IsJoined (casts : List Casting) (plans : List (ℕ × List Step)) (owners : List OwnerValue) (ends : List EndSeen) : Type 0 where
   pub callers : map (λ owner. owner.id) owners ≡ callers_of casts
   pub actors : map id_of ends ≡ actors_of casts
+  pub limits : All (λ owner. owner.limits ≡ limits_naming owner.id casts) owners
   pub submitted : (c : ℕ) → calls_in owners c ≡ planned (actors_naming c casts) (plan_of c plans)
   pub answered : (c k : ℕ) → k < length (calls_in owners c) → is_some (kept_at (kept_in owners c) k) ≡ true
   pub consistent : Consistent (λ a. opening_of a (opening casts)) (calls_in owners) (log_in ends) (kept_in owners) (killed_in ends)

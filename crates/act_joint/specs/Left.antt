@@ -21,7 +21,7 @@ use Rattle.act_serve.specs.declared.seat.ExecPasses.{ExecPasses}
 use Rattle.act_serve.specs.Served.{EndSeen, id_of, log_of, IsLogOf, replies_to, deaths, caller_at, KillsTaken, HasDrained, IfRetired}
 use Rattle.act_drive.specs.declared.caller.Driven.{Driven}
 use Rattle.act_drive.specs.Driven.{HasPosted, HasAsked}
-use Rattle.act_plans.specs.Runs.{callers_of, actors_of, cast_at, plan_of}
+use Rattle.act_plans.specs.Runs.{limits_naming, callers_of, actors_of, cast_at, plan_of}
 use Rattle.act_joint.specs.Joined.{IsJoined, is_starved}
 
 -- an actor at its end, with its executor's passes
@@ -81,13 +81,14 @@ pub record AreCasts (casts : List Casting) : Type 0 where
   pub actors : All (λ cast. Contains (one_to MOST_ACTORS) cast.actor) casts
   pub callers : All (λ cast. All (λ c. Contains (one_to MOST_CALLERS) c) cast.callers) casts
 
--- each thread did its part, the lines of each pair of an actor and a caller of its cast were audited, and those of the starter, which asked nothing
+-- each thread did its part, each caller with the limits of the casts; the lines of each pair of an actor and a caller of its cast were audited, and those of the starter, which asked nothing
 pub record AreJoined (mails : List MailValue) (controls : List ControlValue) (replies : List RepliesValue) (casts : List Casting) (plans : List (ℕ × List Step)) (driven : List Driven) (served : List ServedSeen) : Type 0 where
   pub casts_are : AreCasts casts
   pub callers : map (λ d. d.owner.id) driven ≡ callers_of casts
   pub actors : map (λ s. id_of s.end) served ≡ actors_of casts
   pub all_served : All (λ s. (cast : Casting) → cast_at (id_of s.end) casts ≡ Some cast → IsServed replies cast s) served
   pub all_driven : All (λ d. IsDriven mails controls (actors_naming d.owner.id casts) (plan_of d.owner.id plans) d) driven
+  pub limits : All (λ d. d.owner.limits ≡ limits_naming d.owner.id casts) driven
   pub audited : (i j : ℕ) (d : Driven) (s : ServedSeen) (cast : Casting) → slice_get driven i ≡ Some d → slice_get served j ≡ Some s → cast_at (id_of s.end) casts ≡ Some cast → contains d.owner.id cast.callers ≡ true → AreAudited mails controls replies (id_of s.end) d.owner.id d s
   pub starter : All (λ s. items_of asker_of starter s.passes.kills.taken ≡ []) served
   pub fed : All (λ s. is_starved s.end ≡ false) served

@@ -1,4 +1,4 @@
-// What the rules say of a run of threads, over the definitions alone.
+//! What the rules say of a run of threads, over the definitions alone.
 
 ghost use Rattle.act_joint.specs.Left.{JoinedRunsAreConsistent};
 

@@ -40,10 +40,11 @@ fn cast(
         actor,
         callers,
         kind: (),
+        pending: None,
     })
 }
 
-/// A part with an empty plan.
+/// A part without limits and with an empty plan.
 fn part(alloc: Global, caller: CallerId, actors: Vec<ActorId>) -> Part
     ensures caller { result.caller ≡ caller }
     ensures actors { result.actors.items ≡ actors.items }
@@ -51,6 +52,7 @@ fn part(alloc: Global, caller: CallerId, actors: Vec<ActorId>) -> Part
     Part {
         caller,
         actors,
+        limits: Vec::new(alloc),
         plan: Vec::new(alloc),
     }
 }

@@ -1,8 +1,9 @@
 -- The prepared casts and parts, told of the castings and the plans of a run.
 use Rattle.std.proofs.Common.{◌≡◌, ℕ, ◌==◌, Bool, true, false, ◌||◌, if◌then◌else◌, List, [], ◌∷◌, map, Option, Some, None, refl, sym, ◌∙◌, ap, All}
-use Rattle.std.specs.Prelude.{find, filter_map, slice_get, option_map}
+use Rattle.std.specs.Prelude.{find, filter, filter_map, slice_get, option_map}
 use Rattle.std.specs.List.{list_any, cons_option}
 use Rattle.std.specs.Global.{Vec}
+use Rattle.std.proofs.lemmas.Simd.{map-map}
 use Rattle.std.proofs.lemmas.List.Elements.{All-weaker, filter_agree}
 use Rattle.act_types.specs.KindState.{KindState}
 use Rattle.act_rules.specs.declared.script.Step.{Step}
@@ -10,11 +11,11 @@ use Rattle.act_rules.specs.History.{Casting, contains, actors_naming as naming_s
 use Rattle.act_rules.specs.Plans.{first_bad}
 use Rattle.act_rules.specs.Report.{one_to}
 use Rattle.act_actor.specs.declared.cast.Cast.{Cast}
-use Rattle.act_actor.specs.Casts.{casting, actors_naming}
+use Rattle.act_actor.specs.Casts.{casting, actors_naming, limits_naming}
 use Rattle.act_actor.proofs.Castings.{actors_naming-casting}
 use Rattle.act_plans.specs.declared.part.Part.{Part}
 use Rattle.act_plans.specs.Prepared.{Role, part_seen, part_of, plan_in, items_of, bad_of_part, by_rising_actor, callers_named_by, HasNumbers}
-use Rattle.act_plans.specs.Runs.{callers_of, actors_of, cast_at, steps_of, plan_of, bad_step_of, first_bad_plan}
+use Rattle.act_plans.specs.Runs.{limits_naming as limits_seen, callers_of, actors_of, cast_at, steps_of, plan_of, bad_step_of, first_bad_plan}
 use Rattle.act_plans.proofs.Keys.{each_first}
 use Rattle.act_plans.proofs.Matching.{actors_rising, found_rising, callers_are, roles_are}
 
@@ -31,6 +32,14 @@ find_step f x o found false is = is
 find_map : {X Y : Type 0} (p : Y → Bool) (f : X → Y) (xs : List X) → find p (map f xs) ≡ option_map f (find (λ x. p (f x)) xs)
 find_map p f [] = refl
 find_map p f (x ∷ xs) = find_step f x (find (λ x. p (f x)) xs) (find p (map f xs)) (p (f x)) (find_map p f xs)
+
+kept_step : {X Y : Type 0} (f : X → Y) (x : X) (rest : List X) (kept : List Y) (b : Bool) → kept ≡ map f rest → (if b then f x ∷ kept else kept) ≡ map f (if b then x ∷ rest else rest)
+kept_step f x rest kept true is = ap (λ l. f x ∷ l) is
+kept_step f x rest kept false is = is
+
+filter_mapped : {X Y : Type 0} (p : Y → Bool) (f : X → Y) (xs : List X) → filter p (map f xs) ≡ map f (filter (λ x. p (f x)) xs)
+filter_mapped p f [] = refl
+filter_mapped p f (x ∷ xs) = kept_step f x (filter (λ x. p (f x)) xs) (filter p (map f xs)) (p (f x)) (filter_mapped p f xs)
 
 filter_map_map : {X Y Z : Type 0} (h : Y → Option Z) (f : X → Y) (xs : List X) → filter_map h (map f xs) ≡ filter_map (λ x. h (f x)) xs
 filter_map_map h f [] = refl
@@ -49,6 +58,12 @@ module _ {K : Type 0} (state : K → KindState) (casts : List (Cast K)) where
   -- the same actors of a caller
   pub actors_naming_seen : (c : ℕ) → naming_seen c (map (casting state) casts) ≡ actors_naming c casts
   actors_naming_seen c = sym (actors_naming-casting state c casts)
+
+  -- with the same limits
+  pub limits_naming_seen : (c : ℕ) → limits_seen c (map (casting state) casts) ≡ limits_naming c casts
+  limits_naming_seen c =
+      ap (map (λ (cast : Casting). (cast.actor, cast.pending))) (filter_mapped (λ (cast : Casting). contains c cast.callers) (casting state) casts)
+      ∙ map-map (λ (cast : Casting). (cast.actor, cast.pending)) (casting state) (filter (λ (cast : Cast K). contains c cast.callers) casts)
 
   -- the same actors, by rising number
   pub actors_seen : map (λ (cast : Cast K). cast.actor) (by_rising_actor casts) ≡ actors_of (map (casting state) casts)
@@ -104,6 +119,11 @@ module _ {K : Type 0} (state : K → KindState) (casts : List (Cast K)) (plans :
   pub actors_are : All (λ (part : Part). part.actors.items ≡ naming_seen part.caller (map (casting state) casts)) parts
   actors_are = All-weaker (λ part. part_of casts plans part.caller ≡ part_seen part) (λ (part : Part). part.actors.items ≡ naming_seen part.caller (map (casting state) casts))
       (λ part role. sym (ap (λ (r : Role). r.actors) role) ∙ sym (actors_naming_seen state casts part.caller)) parts (roles_are casts plans parts is)
+
+  -- with their limits
+  pub limits_are : All (λ (part : Part). part.limits.items ≡ limits_seen part.caller (map (casting state) casts)) parts
+  limits_are = All-weaker (λ part. part_of casts plans part.caller ≡ part_seen part) (λ (part : Part). part.limits.items ≡ limits_seen part.caller (map (casting state) casts))
+      (λ part role. sym (ap (λ (r : Role). r.limits) role) ∙ sym (limits_naming_seen state casts part.caller)) parts (roles_are casts plans parts is)
 
   bad_same : (c : ℕ) → bad_step_of (map (casting state) casts) (map plan_seen plans) c ≡ bad_of_role (part_of casts plans c)
   unfolding bad_of_role

@@ -1,5 +1,5 @@
 -- The parts of the callers in a run, and the casts that they fit.
-use Rattle.std.specs.Prelude.{◌≡◌, ◌≢◌, ℕ, ◌<◌, ◌==◌, ◌&&◌, true, List, length, map, All, AllPairs, Contains}
+use Rattle.std.specs.Prelude.{◌≡◌, ◌≢◌, ℕ, ◌<◌, ◌==◌, ◌&&◌, true, List, length, map, Some, All, AllPairs, Contains}
 use Rattle.std.specs.List.{list_any}
 use Rattle.std.specs.Global.{Vec}
 use Rattle.act_rules.specs.declared.script.Step.{Step}
@@ -17,6 +17,11 @@ pub record PlansFit {K : Type 0} (casts : List (Cast K)) (plans : List (ℕ × V
   pub differ : AllPairs (λ one other. one.0 ≢ other.0) plans
   pub named : All (λ plan. list_any (λ cast. contains plan.0 cast.callers) casts ≡ true) plans
   pub short : All (λ plan. length plan.1.items < most_steps) plans
+
+-- a part's limits are of its actors, in their order, and none refuses every call
+pub record HasLimits (part : Part) : Type 0 where
+  pub names : map (λ limit. limit.0) part.limits.items ≡ part.actors.items
+  pub above : All (λ limit. limit.1 ≢ Some 0) part.limits.items
 
 -- each caller that a cast names has one part, which knows the actors whose casts name it
 pub record AreMatched {K : Type 0} (casts : List (Cast K)) (parts : List Part) : Type 0 where

@@ -1,5 +1,5 @@
 -- Who takes part in a run of threads, and which plan would be refused.
-use Rattle.std.specs.Prelude.{ℕ, ◌==◌, List, [], filter, filter_map, find, slice_get, Option, Some, None, option_map}
+use Rattle.std.specs.Prelude.{ℕ, ◌==◌, List, [], map, filter, filter_map, find, slice_get, Option, Some, None, option_map}
 use Rattle.std.specs.List.{list_any}
 use Rattle.act_types.specs.declared.limits.TheConstants.{MOST_ACTORS, MOST_CALLERS}
 use Rattle.act_rules.specs.declared.script.Step.{Step}
@@ -18,6 +18,10 @@ actors_of casts = filter (λ a. list_any (λ cast. cast.actor == a) casts) (one_
 -- the cast of an actor
 abbrev pub cast_at : ℕ → List Casting → Option Casting
 cast_at a casts = find (λ cast. cast.actor == a) casts
+
+-- the actors whose casts name the caller, each with its limit
+abbrev pub limits_naming : ℕ → List Casting → List (ℕ × Option ℕ)
+limits_naming c casts = map (λ cast. (cast.actor, cast.pending)) (filter (λ cast. contains c cast.callers) casts)
 
 -- the steps of a plan that is there, and else none
 abbrev pub steps_of : Option (ℕ × List Step) → List Step

@@ -6,10 +6,11 @@ use act_types::{ActorId, CallerId};
 /// What a caller's thread does, in order.
 pub type Plan = Vec<Step>;
 
-/// A caller, the actors whose casts name it, and its plan.
+/// A caller, the actors whose casts name it, each of them with its limit, and its plan.
 #[derive(Drop)]
 pub struct Part {
     pub caller: CallerId,
     pub actors: Vec<ActorId>,
+    pub limits: Vec<(ActorId, Option<u32>)>,
     pub plan: Plan,
 }

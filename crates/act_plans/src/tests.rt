@@ -23,6 +23,7 @@ fn casts_of(alloc: Global, roles: &[Role]) -> Result<Vec<Cast<Counter>>, NoMemor
             actor: *actor,
             callers,
             kind: Counter::open(),
+            pending: None,
         })?;
     }
     Ok(casts)

@@ -27,6 +27,11 @@ pub(super) enum Way {
     Repeats,
     /// It takes two calls and the note, and retires.
     Retires,
+    /// It takes a call when it gave the reply of the one before, three times, then the note, and
+    /// retires.
+    Paces,
+    /// It takes a call, and ends without an answer.
+    Leaves,
 }
 
 /// The lines of an executor with one caller.
@@ -217,6 +222,44 @@ fn retire<R: Wait, K: Actor>(
     Ok(live.retire().is_ok())
 }
 
+/// An executor of the way `Paces`. Whether the actor retired.
+fn pace<R: Wait, K: Actor>(
+    rt: &R,
+    alloc: Global,
+    mut live: Live<K>,
+    lines: &ExecLines,
+    mut passes: ExecPasses,
+) -> Result<bool, NoMemory>
+    requires live { ((live_seen K.state live).id ≡ 1) × ((live_seen K.state live).log ≡ []) }
+    requires letters { passes.letters.line ≡ lines.now.mail.now.line }
+    requires gives { passes.gives ≡ new_exec lines.now.replies.now.line 1 }
+{
+    for _ in 0..3u32 {
+        take_one(rt, lines.mail, &mut passes.letters, &mut live);
+        run_one(rt, alloc, &mut live, lines.replies, &mut passes.gives, 1)?;
+    }
+    take_one(rt, lines.mail, &mut passes.letters, &mut live);
+    Ok(live.retire().is_ok())
+}
+
+/// An executor of the way `Leaves`. Whether it ran no call.
+fn leave<R: Wait, K: Actor>(
+    rt: &R,
+    mut live: Live<K>,
+    lines: &ExecLines,
+    mut passes: ExecPasses,
+) -> bool
+    requires live { ((live_seen K.state live).id ≡ 1) × ((live_seen K.state live).log ≡ []) }
+    requires letters { passes.letters.line ≡ lines.now.mail.now.line }
+    requires gives { passes.gives ≡ new_exec lines.now.replies.now.line 1 }
+{
+    take_one(rt, lines.mail, &mut passes.letters, &mut live);
+    let _ = lines
+        .replies
+        .give(rt, &mut passes.gives, live.log(), Notice::Death(actor()));
+    live.log().is_empty()
+}
+
 /// A counter's executor. Whether all was as it should be.
 pub(super) fn serve_counter<R: Wait>(
     rt: &R,
@@ -234,5 +277,7 @@ pub(super) fn serve_counter<R: Wait>(
         Way::Holds => hold(rt, alloc, live, lines, passes),
         Way::Repeats => repeat(rt, alloc, live, lines, passes),
         Way::Retires => retire(rt, alloc, live, lines, passes),
+        Way::Paces => pace(rt, alloc, live, lines, passes),
+        Way::Leaves => Ok(leave(rt, live, lines, passes)),
     }
 }

@@ -121,7 +121,14 @@ fn cast_of<K: Drop>(alloc: Global, role: Role<K>) -> Result<Cast<K>, NoMemory> {
         actor,
         callers,
         kind,
+        pending: None,
     })
+}
+
+pub(super) fn one_cast<K: Drop>(alloc: Global, role: Role<K>) -> Result<Vec<Cast<K>>, NoMemory> {
+    let mut casts = Vec::new(alloc);
+    casts.push(cast_of(alloc, role)?)?;
+    Ok(casts)
 }
 
 pub(super) fn two_casts<K: Drop>(
@@ -146,6 +153,14 @@ pub(super) fn counters(
         casts.push(cast_of(alloc, (*actor, callers, Counter::open()))?)?;
     }
     Ok(casts)
+}
+
+/// These casts, each with this limit.
+pub(super) fn limited<K>(mut casts: Vec<Cast<K>>, limit: u32) -> Vec<Cast<K>> {
+    for place in 0..casts.len() {
+        casts[place].pending = Some(limit);
+    }
+    casts
 }
 
 pub(super) fn all_actors(alloc: Global) -> Result<Vec<ActorId>, NoMemory> {

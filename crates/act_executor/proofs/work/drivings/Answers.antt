@@ -8,6 +8,7 @@ use Rattle.act_drive.specs.declared.desk.CallerPasses.{CallerPasses}
 use Rattle.act_actor.specs.Cast.{CallersDiffer}
 use Rattle.act_tasks.specs.Each.{Each}
 use Rattle.act_plans.specs.declared.part.Part.{Part}
+use Rattle.act_plans.specs.Parts.{HasLimits}
 use Rattle.act_lines.specs.Opened.{IsCaller}
 use Rattle.act_executor.specs.Work.{CanDrive, driving_start, part_start}
 use Rattle.act_executor.proofs.Lists.{all_head, all_tail, each_pop, map_over, nothing_zips}
@@ -24,6 +25,7 @@ loop-part-init c =
       first_long = search rules;
       second_long = search rules;
       actors = subst (λ (l : List Part). All (λ (part : Part). CallersDiffer part.actors.items) l) (sym first) c.requires.actors;
+      limits = subst (λ (l : List Part). All HasLimits l) (sym first) c.requires.limits;
       places = subst (λ (l : List (Seat CallerPasses)). All (λ (caller : Seat CallerPasses). caller.place < length c.args.lines.now.replies.items) l) (sym second) c.requires.places;
       callers = subst At (λ i. (sym first i, sym second i)) c.requires.callers;
       fits = subst (λ (l : List Part). All (λ (part : Part). first_bad part.actors.items part.plan.items ≡ None) l) (sym first) c.requires.fits;
@@ -36,6 +38,9 @@ one_driving-requires-clause-caller c = (each_pop (IsCaller c.args.lines.now) _ _
 
 pub one_driving-requires-clause-actors : goal.one_driving-requires-clause-actors
 one_driving-requires-clause-actors c = all_head (λ (part : Part). CallersDiffer part.actors.items) _ _ (subst (λ (l : List Part). All (λ (part : Part). CallersDiffer part.actors.items) l) c.in-Some.ensures.steps.0.0 c.loop-part.invariant.actors)
+
+pub one_driving-requires-clause-limits : goal.one_driving-requires-clause-limits
+one_driving-requires-clause-limits c = all_head HasLimits _ _ (subst (λ (l : List Part). All HasLimits l) c.in-Some.ensures.steps.0.0 c.loop-part.invariant.limits)
 
 pub loop-part-preserved : goal.loop-part-preserved
 loop-part-preserved c =
@@ -55,6 +60,7 @@ loop-part-preserved c =
       first_long = search (rules, first);
       second_long = search (rules, second);
       actors = all_tail Q _ _ (subst (λ (l : List Part). All Q l) first inv.actors);
+      limits = all_tail HasLimits _ _ (subst (λ (l : List Part). All HasLimits l) first inv.limits);
       places = all_tail P _ _ (subst (λ (l : List (Seat CallerPasses)). All P l) second inv.places);
       callers = (each_pop (IsCaller lines) _ _ _ _ _ _ first second inv.callers).1;
       fits = all_tail F _ _ (subst (λ (l : List Part). All F l) first inv.fits);

@@ -3,6 +3,7 @@ use Rattle.std.specs.Vec.Iter.{into_iter_items, into_iter_len}
 use Rattle.act_rules.specs.Plans.{first_bad}
 use Rattle.act_actor.specs.Cast.{CallersDiffer}
 use Rattle.act_tasks.specs.Each.{Each}
+use Rattle.act_plans.specs.Parts.{HasLimits}
 use Rattle.act_lines.specs.Opened.{IsCaller}
 use Rattle.act_executor.specs.Work.{CanDrive, driving_start, part_start}
 use Rattle.act_executor.proofs.work.drivings.Given as goal
@@ -12,6 +13,7 @@ invariant-loop-part l = record {
   first_long : into_iter_len l.part-iterator.a ≡ length (into_iter_items l.part-iterator.a);
   second_long : into_iter_len l.part-iterator.b ≡ length (into_iter_items l.part-iterator.b);
   actors : All (λ part. CallersDiffer part.actors.items) (into_iter_items l.part-iterator.a);
+  limits : All HasLimits (into_iter_items l.part-iterator.a);
   places : All (λ caller. caller.place < length l.lines.replies.items) (into_iter_items l.part-iterator.b);
   callers : Each (IsCaller l.lines) (into_iter_items l.part-iterator.a) (into_iter_items l.part-iterator.b);
   fits : All (λ part. first_bad part.actors.items part.plan.items ≡ None) (into_iter_items l.part-iterator.a);

@@ -1,0 +1,54 @@
+//! The waiting for room where an actor has a limit of calls without an answer.
+
+ghost use Rattle.std.specs.Prelude.{◌≡◌, ◌≢◌, true, false, Some, OnOk};
+ghost use Rattle.act_rules.specs.declared.outcome.SubmitRefusal.TheVariants.{PendingLimit};
+ghost use Rattle.act_owner.specs.Owner.{submission_refusal};
+ghost use Rattle.act_drive.specs.Driven.{IsCalling, Waits};
+
+use crate::desk::{CallerLines, Desk};
+use act_rules::SubmitRefusal;
+use act_seats::Patience;
+use act_types::{ActorId, Arg, ListOf, NoMemory};
+use std::alloc::Global;
+use std::sync::Wait;
+
+impl Desk {
+    /// Whether the actor's limit doesn't refuse the call. It doesn't where something else does.
+    fn has_room(&self, a: ActorId, args: &ListOf<Arg>) -> bool
+        ensures room { result ≡ true → submission_refusal self.now.owner a args.now ≢ Some PendingLimit }
+        ensures full { result ≡ false → submission_refusal self.now.owner a args.now ≡ Some PendingLimit }
+    {
+        // Without a limit the arguments need no look.
+        if self.owner.limit(a).is_none() {
+            return true;
+        }
+        match self.owner.submission_refusal(a, args) {
+            Some(SubmitRefusal::PendingLimit) => false,
+            _ => true,
+        }
+    }
+
+    /// Goes on when the actor's limit doesn't refuse the call.
+    pub(crate) fn wait_for_room<R: Wait>(
+        &mut self,
+        rt: &R,
+        alloc: Global,
+        lines: &CallerLines,
+        a: ActorId,
+        args: &ListOf<Arg>,
+    ) -> Result<(), NoMemory>
+        requires calling { IsCalling lines.now self.old }
+        ensures calling { IsCalling lines.now self.new }
+        ensures waits { Waits self.old self.new }
+        ensures room { OnOk result (submission_refusal self.new.owner a args.now ≢ Some PendingLimit) }
+    {
+        let mut patience = Patience::new();
+        for _ in rt.forever() {
+            if self.has_room(a, args) {
+                return Ok(());
+            }
+            self.wait_turn(rt, alloc, lines, &mut patience)?;
+        }
+        unreachable!()
+    }
+}
