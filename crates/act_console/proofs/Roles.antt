@@ -4,6 +4,7 @@ use Rattle.std.proofs.lemmas.List.{get_or-map, length-map}
 use Rattle.act_types.specs.KindState.{KindState}
 use Rattle.act_rules.specs.declared.script.Role.{Role}
 use Rattle.act_rules.specs.History.{Casting}
+use Rattle.act_rules.specs.Submissions.{IsLimit}
 use Rattle.act_rules.specs.Scripts.{casting as role_casting}
 use Rattle.act_actor.specs.declared.cast.Cast.{Cast}
 use Rattle.act_actor.specs.Cast.{CallersDiffer, IsFitting}
@@ -23,4 +24,8 @@ casts_fit state casts roles same fit =
           let inside : k < length (map (casting state) casts) = subst (λ n. k < n) (sym (length-map casts (casting state))) within in
           subst (λ (cast : Casting). CallersDiffer cast.callers) (get_or-map (casting state) casts k d (casting state d) within)
           (fits.callers k (casting state d) inside);
+      limits = λ k d within.
+          let inside : k < length (map (casting state) casts) = subst (λ n. k < n) (sym (length-map casts (casting state))) within in
+          subst (λ (cast : Casting). IsLimit cast.pending) (get_or-map (casting state) casts k d (casting state d) within)
+          (fits.limits k (casting state d) inside);
     }

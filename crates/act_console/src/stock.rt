@@ -69,6 +69,7 @@ fn cast_for<K: Actor>(stock: &mut Stock<K>, role: Role) -> Option<Cast<K>>
         actor,
         callers,
         kind: name,
+        pending,
     } = role;
     let Some(kind) = kind_for(stock, name) else {
         return None;
@@ -77,6 +78,7 @@ fn cast_for<K: Actor>(stock: &mut Stock<K>, role: Role) -> Option<Cast<K>>
         actor,
         callers,
         kind,
+        pending,
     })
 }
 

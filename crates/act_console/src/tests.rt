@@ -14,7 +14,7 @@ use act_kinds::{Account, Boxed, Counter, ListKind, Table};
 use act_rules::Mode;
 use act_types::MOST_ACTORS;
 use fakes::{FakeReader, FakeWriter};
-use rows::{ROWS, Row};
+use rows::Row;
 use std::process::Abort;
 use std::sync::Wait;
 use std::test::Fail;
@@ -82,13 +82,17 @@ fn assert_told<Rt: AllocGlobal + Threads + Wait + Sync + Abort>(rt: &Rt, mode: M
 
 #[test]
 fn scripts_are_played(rt: HostRuntime) -> Result<(), Fail> {
-    assert_told(&rt, Mode::Play, &ROWS);
+    for rows in rows::tables() {
+        assert_told(&rt, Mode::Play, rows);
+    }
     Ok(())
 }
 
 #[test]
 fn plans_are_run(rt: HostRuntime) -> Result<(), Fail> {
-    assert_told(&rt, Mode::Threads, &thread_rows::ROWS);
+    for rows in thread_rows::tables() {
+        assert_told(&rt, Mode::Threads, rows);
+    }
     Ok(())
 }
 
@@ -113,8 +117,12 @@ fn assert_reads_fail<Rt: AllocGlobal + Threads + Wait + Sync + Abort>(
 
 #[test]
 fn each_read_fails_in_turn(rt: HostRuntime) -> Result<(), Fail> {
-    assert_reads_fail(&rt, Mode::Play, &ROWS);
-    assert_reads_fail(&rt, Mode::Threads, &thread_rows::ROWS);
+    for rows in rows::tables() {
+        assert_reads_fail(&rt, Mode::Play, rows);
+    }
+    for rows in thread_rows::tables() {
+        assert_reads_fail(&rt, Mode::Threads, rows);
+    }
     Ok(())
 }
 
@@ -143,8 +151,12 @@ fn assert_writes_fail<Rt: AllocGlobal + Threads + Wait + Sync + Abort>(
 
 #[test]
 fn each_write_fails_in_turn(rt: HostRuntime) -> Result<(), Fail> {
-    assert_writes_fail(&rt, Mode::Play, &ROWS);
-    assert_writes_fail(&rt, Mode::Threads, &thread_rows::ROWS);
+    for rows in rows::tables() {
+        assert_writes_fail(&rt, Mode::Play, rows);
+    }
+    for rows in thread_rows::tables() {
+        assert_writes_fail(&rt, Mode::Threads, rows);
+    }
     Ok(())
 }
 

@@ -17,6 +17,7 @@ use Rattle.act_rules.specs.declared.script.Role.{Role}
 use Rattle.act_rules.specs.History.{Casting}
 use Rattle.act_rules.specs.declared.script.Wrong.TheVariants.{LateActor, TwiceActor, TwiceCaller}
 use Rattle.act_rules.specs.Grammar.{Script, has_twice, role_fault}
+use Rattle.act_rules.specs.Submissions.{IsLimit}
 use Rattle.act_rules.specs.Scripts.{casting as role_casting}
 use Rattle.act_scripts.specs.Roles.{AreFitting, AreSound}
 
@@ -47,7 +48,7 @@ few_actors casts sound =
     omega arith
 
 pub sound_fit : (casts : List Casting) → AreSound casts → AreFitting casts
-sound_fit casts sound = record { actors = sound.actors; callers = sound.callers; few = few_actors casts sound }
+sound_fit casts sound = record { actors = sound.actors; callers = sound.callers; few = few_actors casts sound; limits = sound.limits }
 
 -- ---- one role more
 
@@ -68,7 +69,7 @@ unrefused script role none = go (not (length script.events == 0) || not (length 
 
 -- no roles
 pub none_sound : AreSound []
-none_sound = record { actors = λ i j d before within. absurd (omega arith); callers = λ k d within. absurd (omega arith); valid = λ k d within. absurd (omega arith) }
+none_sound = record { actors = λ i j d before within. absurd (omega arith); callers = λ k d within. absurd (omega arith); valid = λ k d within. absurd (omega arith); limits = λ k d within. absurd (omega arith) }
 
 -- callers of whom none stands twice
 differ : (callers : List ℕ) → has_twice callers ≡ false → AllPairs (λ one other. one ≢ other) callers
@@ -84,13 +85,14 @@ no_other (role ∷ roles) a k d none within = λ same.
     let inside : k < length all = subst (λ n. k < n) (length-map all role_casting) within in
     true≢false (sym (list_any_at (λ other. other.actor == a) all k role inside (eq-eqb _ _ (ap (λ (cast : Casting). cast.actor) (sym (get_or-map role_casting all k role d inside)) ∙ same))) ∙ none)
 
-pub one_role_more : (roles : List Role) (role : Role) → list_any (λ other. other.actor == role.actor) roles ≡ false → has_twice role.callers ≡ false → (1 ≤ role.actor) × (role.actor ≤ 8)
+pub one_role_more : (roles : List Role) (role : Role) → list_any (λ other. other.actor == role.actor) roles ≡ false → has_twice role.callers ≡ false → (1 ≤ role.actor) × (role.actor ≤ 8) → IsLimit role.pending
     → AreSound (map role_casting roles) → AreSound (map role_casting (roles ++ role ∷ []))
-one_role_more roles role none once valid sound =
+one_role_more roles role none once valid limit sound =
     let castings = map role_casting roles in
     subst AreSound (sym (map-append role_casting roles (role ∷ [])))
     (record {
       actors = all_pairs_push (λ one other. one.actor ≢ other.actor) castings (role_casting role) sound.actors (λ k d within. no_other roles role.actor k d none within);
       callers = All-push (λ cast. AllPairs (λ one other. one ≢ other) cast.callers) castings (role_casting role) sound.callers (differ role.callers once);
       valid = All-push (λ cast. (1 ≤ cast.actor) × (cast.actor ≤ 8)) castings (role_casting role) sound.valid valid;
+      limits = All-push (λ cast. IsLimit cast.pending) castings (role_casting role) sound.limits limit;
     })

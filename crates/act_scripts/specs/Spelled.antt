@@ -8,6 +8,7 @@ use Rattle.act_rules.specs.declared.script.Mode.{Mode}
 use Rattle.act_rules.specs.declared.script.Mode.TheVariants.{Play, Threads}
 use Rattle.act_rules.specs.declared.script.Wrong.{Wrong}
 use Rattle.act_rules.specs.Grammar.{Script as Spelled}
+use Rattle.act_rules.specs.Submissions.{IsLimit}
 use Rattle.act_scripts.specs.declared.line.LineFault.{LineFault}
 use Rattle.act_scripts.specs.declared.line.LineFault.TheVariants as of_lines
 use Rattle.act_scripts.specs.declared.line.ScriptFault.{ScriptFault}
@@ -17,9 +18,9 @@ use Rattle.act_scripts.specs.declared.script.Items.TheVariants.{Events, Steps}
 use Rattle.act_scripts.specs.declared.script.Script.{Script}
 use Rattle.act_scripts.specs.Gives.{Fails}
 
--- a script of this mode may have the line: a role stands in both, an event in a play, a step in threads
+-- a script of this mode may have the line: a role whose limit is good stands in both, an event in a play, a step in threads
 abbrev pub IsLineOf : Mode → Line → Type 0
-IsLineOf mode (RoleLine role) = Unit {0}
+IsLineOf mode (RoleLine role) = IsLimit role.pending
 IsLineOf mode (EventLine event) = mode ≡ Play
 IsLineOf mode (StepLine caller step) = mode ≡ Threads
 

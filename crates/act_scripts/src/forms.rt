@@ -2,13 +2,14 @@
 
 ghost use Rattle.std.specs.Prelude.{◌≡◌, ℕ, List, map, IfOk};
 ghost use Rattle.act_scripts.specs.Gives.{Gives};
+ghost use Rattle.act_rules.specs.Submissions.{IsLimit};
 ghost use Rattle.act_scripts.specs.Spelled.{IsLineOf};
 ghost use Rattle.act_rules.specs.declared.script.Mode.TheVariants.{Play, Threads};
 ghost use Rattle.act_rules.specs.Words.{all_kinds, caller_at, actor_at, number_at};
-ghost use Rattle.act_rules.specs.Grammar.{args_at, callers_at, role_at, submit_at, one_at, two_at, play_forms, thread_forms, forms_of, form_at};
+ghost use Rattle.act_rules.specs.Grammar.{args_at, callers_at, some_callers_at, limited_at, naming_at, role_at, submit_at, one_at, two_at, play_forms, thread_forms, forms_of, form_at};
 
 use crate::line::{BAD_LINE, LineFault};
-use crate::words::{actor_of, arg_of, caller_of, kind_of, method_of, number_of};
+use crate::words::{actor_of, arg_of, caller_of, kind_of, limit_of, method_of, number_of};
 use act_rules::{Event, Line, Mode, Role, Step};
 use act_types::{ActorId, Arg, CallerId, FutureId, ListOf, Method};
 use std::alloc::Global;
@@ -35,20 +36,63 @@ fn callers_of(alloc: Global, words: &[&str]) -> Result<ListOf<CallerId>, LineFau
     Ok(callers)
 }
 
+/// The callers that one or more words spell.
+fn some_callers_of(alloc: Global, words: &[&str]) -> Result<ListOf<CallerId>, LineFault>
+    ensures { Gives (λ x. x) result (some_callers_at (map (λ w. w.now) words.now)) }
+{
+    if words.is_empty() {
+        return Err(BAD_LINE);
+    }
+    callers_of(alloc, words)
+}
+
+/// A limit and the callers, from the words after `max`.
+fn limited_of(alloc: Global, words: &[&str]) -> Result<(Option<u32>, ListOf<CallerId>), LineFault>
+    ensures said { Gives (λ x. x) result (limited_at (map (λ w. w.now) words.now)) }
+    ensures limit { IfOk result (λ naming. IsLimit naming.0) }
+{
+    match words {
+        [number, callers @ ..] => {
+            let limit = limit_of(number)?;
+            let callers = some_callers_of(alloc, callers)?;
+            Ok((Some(limit), callers))
+        }
+        _ => Err(BAD_LINE),
+    }
+}
+
+/// The limit, if there is one, and the callers, from the words after an actor's kind.
+#[tactic(auto, unfolding(act_rules::specs::Grammar::naming_at))]
+fn naming_of(alloc: Global, words: &[&str]) -> Result<(Option<u32>, ListOf<CallerId>), LineFault>
+    ensures said { Gives (λ x. x) result (naming_at (map (λ w. w.now) words.now)) }
+    ensures limit { IfOk result (λ naming. IsLimit naming.0) }
+{
+    let [head, rest @ ..] = words else {
+        return Err(BAD_LINE);
+    };
+    if *head == "max" {
+        return limited_of(alloc, rest);
+    }
+    let callers = some_callers_of(alloc, words)?;
+    Ok((None, callers))
+}
+
 /// A role, from the words after `actor`.
 #[tactic(auto, unfolding(act_rules::specs::Grammar::role_at))]
 fn role_of(alloc: Global, words: &[&str]) -> Result<Role, LineFault>
-    ensures { Gives (λ x. x) result (role_at all_kinds (map (λ w. w.now) words.now)) }
+    ensures said { Gives (λ x. x) result (role_at all_kinds (map (λ w. w.now) words.now)) }
+    ensures limit { IfOk result (λ role. IsLimit role.pending) }
 {
     match words {
-        [actor, kind, callers @ ..] if !callers.is_empty() => {
+        [actor, kind, naming @ ..] => {
             let actor = actor_of(actor)?;
             let kind = kind_of(kind)?;
-            let callers = callers_of(alloc, callers)?;
+            let (pending, callers) = naming_of(alloc, naming)?;
             Ok(Role {
                 actor,
                 callers,
                 kind,
+                pending,
             })
         }
         _ => Err(BAD_LINE),

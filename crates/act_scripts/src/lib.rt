@@ -4,6 +4,8 @@
 mod forms;
 mod line;
 mod script;
+#[cfg(test)]
+mod tests;
 mod words;
 
 pub use line::ScriptFault;

@@ -4,6 +4,7 @@ ghost use Rattle.std.specs.Prelude.{◌≡◌, ◌==◌, ◌≤◌, ◌<◌, ◌
 ghost use Rattle.std.specs.List.{list_all, list_any};
 ghost use Rattle.act_scripts.specs.Gives.{Gives};
 ghost use Rattle.act_scripts.specs.Spelled.{IsLineOf, Leaves, GivesScript, mode_of, count_of, spelled_script, numbered};
+ghost use Rattle.act_rules.specs.Submissions.{IsLimit};
 ghost use Rattle.act_rules.specs.Scripts.{casting};
 ghost use Rattle.act_scripts.specs.Roles.{AreFitting, AreSound};
 ghost use Rattle.act_rules.specs.declared.script.Mode.TheVariants.{Play, Threads};
@@ -158,6 +159,7 @@ fn empty(alloc: Global, mode: Mode) -> Script
 
 /// Adds a role, unless something refuses it.
 fn add_role(script: &mut Script, role: Role) -> Result<(), LineFault>
+    requires { IsLimit role.pending }
     ensures sound { AreSound (map casting script.old.casts) → AreSound (map casting script.new.casts) }
     ensures read { (n : ℕ) → Leaves result script.new (added (spelled_script script.old) n (Line.Role role)) }
     ensures items { script.new.items ≡ script.old.items }
@@ -273,7 +275,7 @@ pub fn read_script(alloc: Global, bytes: &[u8], mode: Mode) -> Result<Script, Sc
     ensures spelled { GivesScript spelled_script result (spelled mode bytes.now) }
     // The items are those of the mode: events of a play, steps in threads.
     ensures mode { IfOk result (λ script. mode_of script.items ≡ mode) }
-    // The roles can be opened: their actors are distinct, and the callers of each.
+    // The roles can be opened: their actors are distinct, and the callers of each; the limits are good.
     ensures roles { IfOk result (λ script. AreFitting (map casting script.casts)) }
     ensures few { IfOk result (λ script. count_of script.items < 2 ^ 32) }
 {

@@ -1,15 +1,17 @@
 //! The words of a line.
 
-ghost use Rattle.std.specs.Prelude.{◌≡◌, ◌<◌};
+ghost use Rattle.std.specs.Prelude.{◌≡◌, ◌<◌, Some, IfOk};
 ghost use Rattle.std.specs.List.{list_all};
 ghost use Rattle.std.specs.Char.{is_ascii_digit};
 ghost use Rattle.act_scripts.specs.Gives.{Gives};
-ghost use Rattle.act_rules.specs.Words.{named_by, kind_text, all_kinds, method_at, number_at, is_numeral, is_integer, int_at, marked_at, closed_at, caller_at, actor_at, text_at, value_at, arg_at};
+ghost use Rattle.act_rules.specs.Submissions.{IsLimit};
+ghost use Rattle.act_rules.specs.Words.{named_by, kind_text, all_kinds, method_at, number_at, limit_at, is_numeral, is_integer, int_at, marked_at, closed_at, caller_at, actor_at, text_at, value_at, arg_at};
 
 use crate::line::{BAD_LINE, LineFault};
 use act_rules::KindName;
 use act_types::{
-    ActorId, Arg, CallerId, FutureId, MOST_ACTORS, MOST_CALLERS, Method, Text, Value, is_good_text,
+    ActorId, Arg, CallerId, FutureId, MOST_ACTORS, MOST_CALLERS, MOST_CALLS, Method, Text, Value,
+    is_good_text,
 };
 use std::alloc::Global;
 
@@ -81,6 +83,19 @@ pub(crate) fn number_of(word: &str) -> Result<u32, LineFault>
         Ok(number) => Ok(number),
         Err(_) => Err(BAD_LINE),
     }
+}
+
+/// The limit that a word spells: a number from 1 to 65,536.
+#[tactic(auto, unfolding(act_rules::specs::Words::limit_at))]
+pub(crate) fn limit_of(word: &str) -> Result<u32, LineFault>
+    ensures said { Gives (λ x. x) result (limit_at word.now) }
+    ensures limit { IfOk result (λ limit. IsLimit (Some limit)) }
+{
+    let number = number_of(word)?;
+    if number < 1 || number > MOST_CALLS {
+        return Err(BAD_LINE);
+    }
+    Ok(number)
 }
 
 /// Whether this is a numeral, or a `-` and one that does not begin with 0.

@@ -10,4 +10,4 @@ pub returns-clause-sound : goal.returns-clause-sound
 returns-clause-sound c = λ sound.
     let fine = unrefused (spelled_script c.args.script.now) c.args.role (sym c.fault_of.ensures ∙ c.in_default.is) in
     subst (λ (roles : List Role). AreSound (map casting roles)) (sym c.in_ok-push.ensures.ok)
-    (one_role_more c.args.script.now.casts c.args.role fine.0 fine.1 c.number.ensures.valid sound)
+    (one_role_more c.args.script.now.casts c.args.role fine.0 fine.1 c.number.ensures.valid c.requires sound)
