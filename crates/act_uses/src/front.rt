@@ -1,0 +1,96 @@
+//! What an actor has run of a caller's calls, read off a world after any events.
+
+ghost use Rattle.std.specs.Prelude.{◌≡◌, ℕ, List, map, OnOk, IfOk, ◌++◌, ◌∷◌, []};
+ghost use Rattle.act_rules.specs.History.{Casting};
+ghost use Rattle.act_rules.specs.Consistent.{IsFront};
+ghost use Rattle.act_rules.specs.declared.event.Event.{Event as Happening};
+ghost use Rattle.act_actor.specs.Cast.{IsFitting};
+ghost use Rattle.act_actor.specs.Casts.{casting};
+ghost use Rattle.act_world.specs.Headline.{log_of};
+ghost use Rattle.act_world.specs.Stands.{Stands};
+ghost use Rattle.act_world.specs.Value.{stage_seen, world_seen};
+ghost use Rattle.act_uses.specs.Fronts.{ran_in, submitted_in};
+
+use act_kinds::Actor;
+use act_rules::RunItem;
+use act_types::{ActorId, CallerId, FutureId, NoMemory};
+use act_world::{Cast, Event, Stage, World, is_memory};
+use std::alloc::Global;
+
+/// Does one event where there is room for it. A refused event is one that happened, too.
+fn step<K: Actor>(world: &mut World<K>, event: &Event) -> Result<(), NoMemory>
+    ensures { OnOk result ((casts : List Casting) (before : List Happening) → Stands casts before (world_seen K.state world.old) → Stands casts (before ++ event.now ∷ []) (world_seen K.state world.new)) }
+{
+    if !world.has_room(1) {
+        return Err(NoMemory);
+    }
+    let told = world.apply(event);
+    if is_memory(&told) {
+        return Err(NoMemory);
+    }
+    Ok(())
+}
+
+/// Opens a world and does these events in it.
+pub fn world_after<K: Actor>(
+    alloc: Global,
+    casts: Vec<Cast<K>>,
+    events: &[Event],
+) -> Result<World<K>, NoMemory>
+    requires fit { IsFitting casts.items }
+    ensures { IfOk result (λ world. Stands (map (casting K.state) casts.items) events.now (world_seen K.state world)) }
+{
+    let mut world = World::open(alloc, casts)?;
+    for event in events {
+        step(&mut world, event)?;
+    }
+    Ok(world)
+}
+
+/// What an actor ran, whatever state it is in.
+fn log_of<'a, K: Actor>(stage: Stage<'a, K>) -> &'a [RunItem]
+    ensures { result.now ≡ log_of (stage_seen K.state stage.entry) }
+{
+    match stage {
+        Stage::Live(live) => live.log(),
+        Stage::Dead(dead) => dead.log(),
+        Stage::Retired(retired) => retired.log(),
+    }
+}
+
+/// The caller's calls that the actor ran, in the order in which it ran them.
+fn listed<K: Actor>(
+    alloc: Global,
+    world: &World<K>,
+    a: ActorId,
+    c: CallerId,
+) -> Result<Vec<(u32, FutureId)>, NoMemory>
+    ensures { IfOk result (λ ran. ran.items ≡ ran_in (world_seen K.state world.now) a c) }
+{
+    let Some(stage) = world.stage(a) else {
+        return Ok(Vec::new(alloc));
+    };
+    let ran = log_of(stage)
+        .iter()
+        .filter(|item| item.caller == c)
+        .map(|item| (item.number, item.future))
+        .collect(alloc)?;
+    Ok(ran)
+}
+
+/// The caller's calls that the actor ran, in the order in which it ran them, each by its number
+/// among the caller's calls to this actor and by its future.
+pub fn ran_of<K: Actor>(
+    alloc: Global,
+    world: &World<K>,
+    a: ActorId,
+    c: CallerId,
+) -> Result<Vec<(u32, FutureId)>, NoMemory>
+    ensures ran { IfOk result (λ ran. ran.items ≡ ran_in (world_seen K.state world.now) a c) }
+    // They are a front of those that the caller submitted: in order, with no gap, and each once.
+    ensures front { IfOk result (λ ran. (casts : List Casting) (events : List Happening) → Stands casts events (world_seen K.state world.now) → IsFront ran.items (submitted_in (world_seen K.state world.now) a c)) }
+{
+    world.consistent();
+    let ran = listed(alloc, world, a, c)?;
+    Ok(ran)
+}

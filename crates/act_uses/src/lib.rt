@@ -1,0 +1,14 @@
+//! Small callers of the service, each with a contract of its own.
+#![tactic(auto)]
+
+mod front;
+mod one_call;
+mod patient;
+mod played;
+#[cfg(test)]
+mod tests;
+
+pub use front::{ran_of, world_after};
+pub use one_call::{Heard, ask_once};
+pub use patient::play_patiently;
+pub use played::{PartFault, play_part};

@@ -1,0 +1,79 @@
+//! A script that is read, and of which a part is played.
+
+ghost use Rattle.std.specs.Prelude.{◌≡◌, take, IfOk, OnOk, IfErr, Ok};
+ghost use Rattle.act_rules.specs.Grammar.{spelled, Script as Spelled};
+ghost use Rattle.act_rules.specs.declared.script.Mode.TheVariants.{Play};
+ghost use Rattle.act_scripts.specs.Spelled.{FailsAt};
+ghost use Rattle.act_world.specs.Stands.{Played};
+ghost use Rattle.act_world.specs.Value.{world_seen};
+ghost use Rattle.act_uses.specs.Scripts.{IsFaultOf, PlayedBefore};
+
+use act_kinds::Actor;
+use act_rules::Mode;
+use act_scripts::{Items, Script, ScriptFault, read_script};
+use act_types::ListOf;
+use act_world::{Event, Outcome, World};
+use std::alloc::Global;
+
+/// Why a script was not played as far as was asked.
+#[derive(Clone, Copy, Debug, PartialEq, Eq)]
+pub enum PartFault {
+    /// The bytes spell no script of events, or memory was refused while they were read.
+    Script(ScriptFault),
+    /// The world has no room for so many events.
+    NoRoom,
+    /// Memory was refused at the event of this place.
+    Stopped(u32),
+}
+
+/// The events that bytes spell.
+fn events_in(alloc: Global, bytes: &[u8]) -> Result<ListOf<Event>, ScriptFault>
+    ensures events { IfOk result (λ events. (script : Spelled) → spelled Play bytes.now ≡ Ok script → events ≡ script.events) }
+    ensures fault { IfErr result (λ fault. FailsAt fault (spelled Play bytes.now)) }
+{
+    let script = read_script(alloc, bytes, Mode::Play)?;
+    let Script { items, .. } = script;
+    let Items::Events(events) = items else {
+        unreachable!()
+    };
+    Ok(events)
+}
+
+/// The first events, or all where there are no more.
+fn first(events: &[Event], count: usize) -> &[Event]
+    ensures { result.now ≡ take count events.now }
+{
+    if count < events.len() {
+        &events[..count]
+    } else {
+        events
+    }
+}
+
+/// Reads a script of events, and plays the first of them.
+pub fn play_part<K: Actor>(
+    alloc: Global,
+    world: &mut World<K>,
+    bytes: &[u8],
+    count: usize,
+    told: &mut Vec<Outcome>,
+) -> Result<(), PartFault>
+    ensures ok { OnOk result ((script : Spelled) → spelled Play bytes.now ≡ Ok script → Played (take count script.events) (world_seen K.state world.old) (world_seen K.state world.new) told.old.items told.new.items) }
+    // A stop at a place has played the events before it, and any other `Err` none.
+    ensures err { IfErr result (λ fault. PlayedBefore fault (spelled Play bytes.now) count (world_seen K.state world.old) (world_seen K.state world.new) told.old.items told.new.items) }
+    // A fault with its line is the script's first one.
+    ensures fault { IfErr result (λ fault. IsFaultOf fault (spelled Play bytes.now)) }
+{
+    let events = match events_in(alloc, bytes) {
+        Ok(events) => events,
+        Err(fault) => return Err(PartFault::Script(fault)),
+    };
+    let part = first(events.as_slice(), count);
+    if !world.has_room(part.len()) {
+        return Err(PartFault::NoRoom);
+    }
+    match world.play(part, told) {
+        Ok(()) => Ok(()),
+        Err(place) => Err(PartFault::Stopped(place)),
+    }
+}

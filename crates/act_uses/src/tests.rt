@@ -1,0 +1,92 @@
+//! Each caller once, where memory is there.
+
+use crate::{ask_once, play_part, play_patiently, ran_of, world_after};
+use act_actor::cast_fits;
+use act_kinds::{Account, Counter};
+use act_types::{ActorId, Arg, CallerId, FutureId, ListOf, Method, NoMemory, Value};
+use act_world::{Cast, Event, World};
+use std::alloc::Global;
+use std::test::Fail;
+
+/// A caller deposits 10, and hears of it.
+fn deposit(alloc: Global, a: ActorId, c: CallerId) -> Result<Vec<Event>, NoMemory> {
+    let mut args = ListOf::new(alloc);
+    args.push(Arg::Plain(Value::Int(10)))?;
+    let mut events = Vec::new(alloc);
+    events.push(Event::Submit(c, a, Method::Deposit, args))?;
+    events.push(Event::Send(c, FutureId::new(0)))?;
+    events.push(Event::Deliver(0))?;
+    events.push(Event::Run(a, c))?;
+    events.push(Event::Collect(0))?;
+    Ok(events)
+}
+
+/// An account that one caller may pay into.
+fn account(alloc: Global, a: ActorId, c: CallerId) -> Result<Vec<Cast<Account>>, NoMemory> {
+    let mut callers = ListOf::new(alloc);
+    callers.push(c)?;
+    let kind = Account::open();
+    let mut casts = Vec::new(alloc);
+    casts.push(Cast {
+        actor: a,
+        callers,
+        kind,
+        pending: Some(1),
+    })?;
+    Ok(casts)
+}
+
+#[test]
+fn one_call_is_heard(rt: HostRuntime) -> Result<(), Fail> {
+    let heard = ask_once(rt.alloc(), Counter::open(), Method::Add, Value::Int(5))?;
+    let answer = heard.owner.answer(FutureId::new(0));
+    assert!(rt; matches!(answer, Some(Ok(Value::Int(5)))));
+    Ok(())
+}
+
+#[test]
+fn a_front_is_read_off(rt: HostRuntime) -> Result<(), Fail> {
+    let alloc = rt.alloc();
+    let a1 = ActorId::new(1).unwrap();
+    let c1 = CallerId::new(1).unwrap();
+    let casts = account(alloc, a1, c1)?;
+    assert!(rt; cast_fits(casts.as_slice()));
+    let events = deposit(alloc, a1, c1)?;
+    let world = world_after(alloc, casts, events.as_slice())?;
+    let ran = ran_of(alloc, &world, a1, c1)?;
+    assert_eq!(rt; ran.as_slice(), [(0, FutureId::new(0))].as_slice());
+    Ok(())
+}
+
+#[test]
+fn a_play_goes_to_its_end(rt: HostRuntime) -> Result<(), Fail> {
+    let alloc = rt.alloc();
+    let a1 = ActorId::new(1).unwrap();
+    let c1 = CallerId::new(1).unwrap();
+    let casts = account(alloc, a1, c1)?;
+    assert!(rt; cast_fits(casts.as_slice()));
+    let mut world = World::open(alloc, casts)?;
+    let events = deposit(alloc, a1, c1)?;
+    let mut told = Vec::new(alloc);
+    assert_eq!(rt;
+        play_patiently(&mut world, events.as_slice(), &mut told, 3),
+        Ok(())
+    );
+    assert_eq!(rt; told.len(), 5);
+    Ok(())
+}
+
+#[test]
+fn a_part_of_a_script_is_played(rt: HostRuntime) -> Result<(), Fail> {
+    let alloc = rt.alloc();
+    let a1 = ActorId::new(1).unwrap();
+    let c1 = CallerId::new(1).unwrap();
+    let casts = account(alloc, a1, c1)?;
+    assert!(rt; cast_fits(casts.as_slice()));
+    let mut world = World::open(alloc, casts)?;
+    let script = b"actor a1 account c1\nsubmit c1 a1 deposit 10\nsend c1 0\ndeliver 0\n";
+    let mut told = Vec::new(alloc);
+    assert_eq!(rt; play_part(alloc, &mut world, script, 2, &mut told), Ok(()));
+    assert_eq!(rt; told.len(), 2);
+    Ok(())
+}
