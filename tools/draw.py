@@ -21,8 +21,9 @@ lane along its row, slants between the two sides, and arrives along the row of t
 A run is a box on its actor's lane: its place in the run list, and its call with its arguments as they
 were settled; an actor that hadn't the caller's next call shows `gap`. A lane is cut by a bar where its
 actor dies or retires, and dotted after it. A refused event is grey, with the refusal behind its line.
-Under each lane stands how it ends. Long words are cut, and a pointer held over them shows them whole;
-over a line it shows the letter or the notice, and where it began and ended.
+Over each lane stands its name, an actor's with its kind and its limit, and under it how it ends. Long
+words are cut, and a pointer held over them shows them whole; over a line it shows the letter or the
+notice, and where it began and ended.
 
 Statuses: 0; 1 for a script fault, of which there is nothing to draw; 2 for wrong words, for a file that
 can't be read, and for a report that isn't one of the script; else that of `./run`.
@@ -77,6 +78,15 @@ def read_script(data):
     """The roles and the events of a script, as words. Whether they are good the report says."""
     lines = [line.split(" ") for line in lines_of(data) if line and not line.startswith("#")]
     return [words for words in lines if words[0] == "actor"], [words for words in lines if words[0] != "actor"]
+
+
+def has_limit(role):
+    """Whether the words of a role have a limit behind the kind."""
+    return role[3:4] == ["max"]
+
+
+def callers_of(role):
+    return role[5:] if has_limit(role) else role[3:]
 
 
 def read_summary(run, line):
@@ -160,7 +170,8 @@ class Story:
         self.known_dead = set()
         self.calls = {}  # of each future its actor
         self.kinds = {words[1]: words[2] for words in run.roles}
-        self.callers = sorted({word for words in run.roles for word in words[3:]}, key=lambda name: int(name[1:]))
+        self.limits = {words[1]: words[4] for words in run.roles if has_limit(words)}
+        self.callers = sorted({word for words in run.roles for word in callers_of(words)}, key=lambda name: int(name[1:]))
         self.actors = sorted(self.kinds, key=lambda name: int(name[1:]))
         for event in run.events:
             self.tell(event)
@@ -374,7 +385,10 @@ class Picture:
         return self.heading(lane), cut(self.story.end_of(lane), MOST_LETTERS[side])
 
     def heading(self, lane):
-        return f"{lane} {self.story.kinds[lane]}" if lane in self.story.kinds else lane
+        if lane not in self.story.kinds:
+            return lane
+        limit = f" max {self.story.limits[lane]}" if lane in self.story.limits else ""
+        return f"{lane} {self.story.kinds[lane]}{limit}"
 
     def line_of(self, event):
         line = cut(" ".join(event.words), MOST_LETTERS["line"])

@@ -13,6 +13,7 @@ import collections
 import concurrent.futures
 import pathlib
 import random
+import re
 import subprocess
 import sys
 import tempfile
@@ -35,12 +36,15 @@ NEARLY = {
     "a": ["a0", "a9", "a8", "a10", "a01", "A1", "a", "a1 "],
     '"': ['"', '""', '"x', 'x"', '"%s"' % ("x" * 64), '"%s"' % ("x" * 65), '"""', '"a"b"', '"\x7f"', '"x y"', "'x'"],
     "@": ["@", "@00", "@01", "@-1", "@+1", "@4294967295", "@4294967296", "@@0", "@c1.0", "@ 0"],
-    "0": ["05", "00", "-0", "+1", "-", "1.0", "0x1", "1_0", "4294967295", "4294967296", "-1", "-01"],
+    "0": ["05", "00", "-0", "+1", "-", "1.0", "0x1", "1_0", "4294967295", "4294967296", "-1", "-01", "0", "65536", "65537"],
     "9": ["9223372036854775807", "9223372036854775808", "-9223372036854775808", "-9223372036854775809", "unit", "Unit", "9" * 400],
+    "m": ["Max", "ma", "maxx", "min", "max=", "c2"],
     "w": ["await", "terminate", "terminat", "unit", "counters", "Get", "ge", "list", "#", "actor", "take"],
 }
 COMMENT_BYTES = "\0\x08\t\r\x1f ~\x7f\x80\xff#"
 FOREIGN = ["await c1 0", "submit c1 a1 Terminate", "actor a1 counter", "actor", "run", "retire a1 ", " take a1", "take a1 a2"]
+GOOD_LIMITS = [1, 1, 1, 2, 2, 3, 65_535, 65_536]
+BAD_LIMITS = ["0", "65537", "01", "-1", "+1", "4294967296", "9" * 400, "", "unit", "@1", '"1"', "1 1", "1 max 1"]
 ODD_BYTES = b" \n\t\r\0\x1f\x7e\x7f\x80\xff#\"@-+.019ac"
 
 # Each event: how often it is tried, and what follows its word: a caller, an actor or a number.
@@ -56,6 +60,7 @@ class Author:
     def __init__(self, chance):
         self.chance = chance
         self.lines = []
+        self.limits = chance.choice([0, 0, 0.5, 1])
         self.pool = chance.sample(range(1, 17), chance.choice([1, 1, 2, 2, 3, 5]))
         actors = chance.sample(range(1, 9), chance.choice([1, 1, 2, 2, 3, 5]))
         self.world = reading.World([self.role(actor) for actor in actors])
@@ -68,8 +73,10 @@ class Author:
     def role(self, actor):
         kind = self.chance.choice(sorted(reading.KINDS))
         callers = self.chance.sample(self.pool, self.chance.randint(1, len(self.pool)))
-        self.lines.append(" ".join(["actor", f"a{actor}", kind, *(f"c{caller}" for caller in callers)]))
-        return actor, kind, callers
+        limit = self.chance.choice(GOOD_LIMITS) if self.chance.random() < self.limits else None
+        told = [] if limit is None else ["max", str(limit)]
+        self.lines.append(" ".join(["actor", f"a{actor}", kind, *told, *(f"c{caller}" for caller in callers)]))
+        return actor, kind, limit, callers
 
     def write(self, line):
         self.lines.append(line)
@@ -260,6 +267,8 @@ def sorts_of(word, place):
     first = word[:1]
     if first.isdigit() or first == "-":
         return ["0", "9"]
+    if word == "max":
+        return ["m"]
     of_its_own = first in NEARLY and (first in '"@' or word[1:].isdigit())
     return [first] if place and of_its_own else ["w"]
 
@@ -283,11 +292,30 @@ def pad(chance, words):
     words[:] = [LONG_CALL[:length] if chance.random() < 0.5 else ("#" + "x" * 600)[:length]]
 
 
+def callers_of_role(words):
+    """Where the callers begin in the words of a role."""
+    return 5 if words[3:4] == ["max"] else 3
+
+
 def double_caller(chance, lines):
     """A caller twice in the first role."""
     words = lines[0].split(" ")
-    words.insert(chance.randint(3, len(words)) if len(words) > 3 else 0, words[-1])
+    begin = callers_of_role(words)
+    words.insert(chance.randint(begin, len(words)) if len(words) > begin else 0, words[-1])
     return [" ".join(words), *lines[1:]]
+
+
+def bad_limit(chance, lines):
+    """A limit that is none, or one at a place that has none, in one of the roles."""
+    place = chance.choice([place for place, line in enumerate(lines) if line.startswith("actor ")] or [0])
+    words = lines[place].split(" ")
+    begin = callers_of_role(words)
+    limits = [["max", chance.choice(BAD_LIMITS)], ["max", chance.choice(BAD_LIMITS)], ["max"], [str(chance.choice(GOOD_LIMITS))]]
+    if chance.random() < 0.8:
+        words = words[:3] + chance.choice(limits) + words[begin:]
+    else:
+        words = words[:3] + words[begin:] + ["max", "1"]
+    return lines[:place] + [" ".join(words)] + lines[place + 1 :]
 
 
 def double_line(chance, lines):
@@ -307,7 +335,8 @@ def another_role(chance, lines):
     """A role late, or beside the others: often of an actor that has one, with callers that may stand twice."""
     role = lines[0].split(" ")[:2] if chance.random() < 0.6 else ["actor", f"a{chance.randint(1, 8)}"]
     callers = [f"c{chance.randint(1, 16)}" for _ in range(chance.choice([1, 2, 6]))]
-    line = " ".join([*role, chance.choice(sorted(reading.KINDS)), *callers, *callers[: chance.randint(0, 1)]])
+    limit = chance.choice([[], [], ["max", str(chance.choice(GOOD_LIMITS))]])
+    line = " ".join([*role, chance.choice(sorted(reading.KINDS)), *limit, *callers, *callers[: chance.randint(0, 1)]])
     at = chance.choice([1, chance.randint(0, len(lines))])
     return lines[:at] + [line] + lines[at:]
 
@@ -341,7 +370,7 @@ def cut(chance, data):
 
 TO_WORDS = [swap_words, drop_word, near_word, near_word, near_word, near_word, double_word, add_space, pad]
 DAMAGE_TO_LINES = [changed_words(change) for change in TO_WORDS]
-DAMAGE_TO_LINES += [double_caller, odd_comment, odd_end, double_line, swap_lines, another_role, another_role, foreign_line]
+DAMAGE_TO_LINES += [double_caller, bad_limit, odd_comment, odd_end, double_line, swap_lines, another_role, another_role, foreign_line]
 DAMAGE_TO_BYTES = [change_byte, change_byte, cut]
 
 
@@ -363,8 +392,11 @@ def random_script(seed, place):
 
 EVERY_FORM = """actor a1 counter c1
 actor a2 table c1 c2
+actor a3 list max 1 c1 c2
 submit c1 a1 add 5
 submit c1 a2 put "k" @0
+submit c1 a3 len
+submit c1 a3 len
 submit c1 a1 terminate
 copy c1 a1
 release c1 a1
@@ -406,15 +438,18 @@ FLOORS = {
     "BadLine": 90, "LateActor": 3, "TwiceActor": 2, "TwiceCaller": 6,
     "refused NoCaller": 120, "refused NoActor": 100, "refused NoHandle": 25, "refused TooManyArgs": 50, "refused BadFuture": 35,
     "refused NoFuture": 60, "refused NotReady": 60, "refused Answered": 15, "refused NoMail": 80, "refused ActorEnded": 40,
-    "refused NoReply": 80, "refused NoKill": 20, "refused NotDead": 40, "refused NotDrained": 30,
+    "refused NoReply": 80, "refused NoKill": 20, "refused NotDead": 40, "refused NotDrained": 30, "refused PendingLimit": 80,
     "answer NoMethod": 20, "answer BadArgs": 50, "answer Overflow": 3, "answer NoKey": 20, "answer BadAmount": 15,
     "answer Insufficient": 8, "answer NoItems": 10, "answer NoItem": 12, "answer Dependency": 10, "answer ActorDied": 30, "answer unit": 30,
-    "an end": 30, "an end with an argument": 15,
+    "an end": 30, "an end with an argument": 15, "BadLine of a limit": 8,
 }  # fmt: skip
 
 
-def reached(report):
-    """The sorts of lines in a report."""
+def reached(script, report):
+    """The sorts of lines in a report; and whether its fault is that of a line with a limit."""
+    fault = re.fullmatch(rb"line ([0-9]+): BadLine\n", report)
+    if fault and b" max" in script.split(b"\n")[int(fault[1]) - 1]:
+        yield "BadLine of a limit"
     for line in report.decode().splitlines():
         head, _, rest = line.partition(": ")
         if rest:
@@ -426,12 +461,12 @@ def reached(report):
             yield "an end" if line.endswith(reading.END) else "an end with an argument"
 
 
-def too_seldom(reports):
-    """What fewer of the reports tell than should."""
-    tallies = collections.Counter(sort for report in reports for sort in set(reached(report)))
+def too_seldom(scripts):
+    """What fewer of the scripts come to than should."""
+    tallies = collections.Counter(sort for script in scripts for sort in set(reached(script, reading.play(script)[0])))
     for sort, floor in FLOORS.items():
-        if tallies[sort] < floor * len(reports) // 1000:
-            yield f"only {tallies[sort]} of {len(reports)} scripts came to '{sort}'"
+        if tallies[sort] < floor * len(scripts) // 1000:
+            yield f"only {tallies[sort]} of {len(scripts)} scripts came to '{sort}'"
 
 
 # The comparison.
@@ -498,7 +533,7 @@ def main():
     whole = CUT.read_bytes()
     cuts = {f"{CUT.name} cut after {length} bytes": whole[:length] for length in range(len(whole) + 1)}
     misses = dict(near_misses())
-    failures += too_seldom([reading.play(script)[0] for script in random_scripts.values()])
+    failures += too_seldom(random_scripts.values())
     print("".join(f"{failure}\n" for failure in failures), end="")
     failed = len(failures) + differences(chosen.program.resolve(), random_scripts | misses | cuts)
     passed = rows + len(FLOORS) + len(random_scripts) + len(misses) + len(cuts) - failed

@@ -17,6 +17,7 @@ LONGEST_LINE = 512
 MOST_ARGUMENTS = 4
 MOST_CALLS = 65_536
 MOST_COPIES = 65_535
+LARGEST_LIMIT = 65_536
 MOST_KEYS = 1_024
 MOST_ITEMS = 4_096
 LEAST_INT, LARGEST_INT = -(2**63), 2**63 - 1
@@ -239,6 +240,13 @@ def read_value(word):
     raise BadWord
 
 
+def read_limit(word):
+    limit = read_number(word)
+    if not 1 <= limit <= LARGEST_LIMIT:
+        raise BadWord
+    return limit
+
+
 def read_argument(word):
     return Future(read_number(word[1:])) if word.startswith("@") else read_value(word)
 
@@ -246,7 +254,27 @@ def read_argument(word):
 read_caller = read_id("c", 16)
 read_actor = read_id("a", 8)
 
-# Each form of line: its first word, the words after it, and for two of them what may follow, at least so often.
+
+def read_callers(words):
+    if not words:
+        raise BadWord
+    return [read_caller(word) for word in words]
+
+
+def read_naming(words):
+    """A limit, or none, and the callers."""
+    if words[:1] != ["max"]:
+        return [None, read_callers(words)]
+    if len(words) < 2:
+        raise BadWord
+    return [read_limit(words[1]), read_callers(words[2:])]
+
+
+def read_arguments(words):
+    return [[read_argument(word) for word in words]]
+
+
+# Each form of line: its first word, the words after it, and for two of them how what may follow is read.
 COMMON_FORMS = {
     "actor": [read_actor, read_name(KINDS)],
     "submit": [read_caller, read_actor, read_name(METHODS)],
@@ -264,7 +292,7 @@ PLAY_FORMS = COMMON_FORMS | {
     "retire": [read_actor],
 }
 THREAD_FORMS = COMMON_FORMS | {"await": [read_caller, read_number]}
-FOLLOWED = {"actor": (read_caller, 1), "submit": (read_argument, 0)}
+FOLLOWED = {"actor": read_naming, "submit": read_arguments}
 
 
 def read_words(words, forms=PLAY_FORMS):
@@ -278,10 +306,7 @@ def read_words(words, forms=PLAY_FORMS):
         raise BadWord
     spelt = [read(word) for read, word in zip(readers, fixed)]
     if verb in FOLLOWED:
-        read, least = FOLLOWED[verb]
-        if len(more) < least:
-            raise BadWord
-        spelt.append([read(word) for word in more])
+        spelt += FOLLOWED[verb](more)
     elif more:
         raise BadWord
     return verb, spelt
@@ -297,7 +322,7 @@ class ScriptFault(Exception):
 
 @dataclass
 class Script:
-    roles: list = field(default_factory=list)  # actor, kind, callers
+    roles: list = field(default_factory=list)  # actor, kind, limit or None, callers
     events: list = field(default_factory=list)  # first word of the line, and what its other words spell
     lines: list = field(default_factory=list)  # for each event the number of its line
 
@@ -307,10 +332,10 @@ class Script:
             self.events.append((verb, spelt))
             self.lines.append(number)
             return None
-        actor, _, callers = spelt
+        actor, _, _, callers = spelt
         if self.events:
             return "LateActor"
-        if any(actor == earlier for earlier, _, _ in self.roles):
+        if any(actor == earlier for earlier, *_ in self.roles):
             return "TwiceActor"
         if len(set(callers)) < len(callers):
             return "TwiceCaller"
@@ -373,6 +398,10 @@ class Caller:
     def calls_to(self, actor):
         return [call for call in self.calls if call.actor == actor]
 
+    def pending(self, actor):
+        """How many of the calls to that actor have no answer, whether they ran or not."""
+        return sum(call.kept is None for call in self.calls_to(actor))
+
     def settled(self, call):
         """Each argument as its value, or as its future where that is kept as a fault."""
         for argument in call.arguments:
@@ -401,6 +430,7 @@ class Item:
 class Actor:
     kind: object
     callers: list
+    limit: int = None  # how many calls of each caller may be pending
     stage: str = "live"
     kill_asked: bool = False
     arrived: dict = field(default_factory=dict)  # by caller and number: that call
@@ -443,8 +473,8 @@ class World:
         self.callers = {}
         self.mail = []  # calls and notes
         self.notices = []  # items that ran, and deaths
-        for name, kind, callers in roles:
-            self.actors[name] = Actor(KINDS[kind](), callers)
+        for name, kind, limit, callers in roles:
+            self.actors[name] = Actor(KINDS[kind](), callers, limit)
             for caller in callers:
                 self.callers.setdefault(caller, Caller()).copies[name] = 1
 
@@ -482,7 +512,7 @@ class World:
     # A caller's events.
 
     def submit(self, caller, actor, method, arguments):
-        submitter, _ = self.with_handle(caller, actor)
+        submitter, called = self.with_handle(caller, actor)
         future = len(submitter.calls)
         if len(arguments) > MOST_ARGUMENTS:
             raise Refused("TooManyArgs")
@@ -490,11 +520,17 @@ class World:
             raise Refused("BadFuture")
         if future == MOST_CALLS:
             raise Refused("TooManyCalls")
+        if called.limit is not None and submitter.pending(actor) >= called.limit:
+            self.meet_limit()
         call = Call(caller, future, actor, len(submitter.calls_to(actor)), method, arguments)
         if actor in submitter.known_dead:
             call.kept = Fault("ActorDied")
         submitter.calls.append(call)
         return f"future {call.spelled_future()}"
+
+    def meet_limit(self):
+        """What becomes of a submission that only a limit refuses."""
+        raise Refused("PendingLimit")
 
     def copy(self, caller, actor):
         holder, _ = self.with_handle(caller, actor)
@@ -634,7 +670,7 @@ def play(data):
     return "".join(line + "\n" for line in lines).encode(), 0
 
 
-# Scripts for threads. What a plan submits depends on no schedule, so a world without letters tells it.
+# Scripts for threads. What a plan submits depends on no schedule and on no limit, so a world without letters tells it.
 
 
 class Planned(World):
@@ -647,6 +683,9 @@ class Planned(World):
     def step(self, verb, spelt):
         """Does a step, or raises Refused."""
         return self.await_answer(*spelt) if verb == "await" else getattr(self, verb)(*spelt)
+
+    def meet_limit(self):
+        """The step waits until the limit lets it through, so it's never refused for that."""
 
     def kill(self, caller, actor):
         super().kill(caller, actor)

@@ -21,8 +21,18 @@ PROGRAMS = [OUT / "ray_actors", OUT / "ray_actors.by-rattle"]
 LONGEST = 1_048_576
 MOST_COPIES = 65_535
 MOST_ITEMS = 4_096
+LARGE_LIMIT = 60_000
 USAGE = b"usage: ray_actors play|threads\n"
 ROLE = b"actor a1 counter c1\n"
+
+
+def full_limit():
+    """A script with one submission more than its limit takes, and its output."""
+    script = b"actor a1 counter max %d c1\n" % LARGE_LIMIT + b"submit c1 a1 get\n" * (LARGE_LIMIT + 1)
+    report = b"".join(b"%d: future c1.%d\n" % (place, place) for place in range(LARGE_LIMIT))
+    report += b"%d: refused PendingLimit\n" % LARGE_LIMIT
+    report += b"".join(b"c1.%d a1 ?\n" % place for place in range(LARGE_LIMIT))
+    return script, report + b"a1 live counter 0\n"
 
 
 def large_scripts():
@@ -34,16 +44,17 @@ def large_scripts():
     report = b"".join(b"%d: refused NoMail\n" % place for place in range(deliveries))
     yield "a megabyte of deliveries", script, report + b"a1 live counter 0\n", 0
     yield "a fault after a megabyte", ROLE + b"#\n" * 524_000 + b"run", b"line 524002: BadLine\n", 1
+    yield "a large limit", *full_limit(), 0
 
 
-def full_list():
-    """A script with one push more than a list takes, and its output."""
+def full_list(limit):
+    """A script with one push more than a list takes, and its output, which is the same under any limit."""
     places = range(MOST_ITEMS + 1)
     answers = [b"%d" % (place + 1) for place in range(MOST_ITEMS)] + [b"KindFull"]
     report = b"".join(b"c1.%d a1 = %s\n" % answer for answer in enumerate(answers))
     report += b"a1 retired list" + b" 1" * MOST_ITEMS + b"\n"
     report += b"".join(b"a1.%d c1.%d push 1\n" % (place, place) for place in places)
-    return b"actor a1 list c1\n" + b"submit c1 a1 push 1\n" * len(places), report
+    return b"actor a1 list" + limit + b" c1\n" + b"submit c1 a1 push 1\n" * len(places), report
 
 
 def large_thread_scripts():
@@ -55,7 +66,8 @@ def large_thread_scripts():
     yield "one copy too many", copies + b"copy c1 a1\n", b"line %d: BadPlan\n" % (MOST_COPIES + 1), 1
     yield "a fault after a megabyte", ROLE + b"#\n" * 524_000 + b"take a1", b"line 524002: BadLine\n", 1
     yield "a stranger after a megabyte", ROLE + b"#\n" * 524_000 + b"kill c2 a1", b"line 524002: BadPlan\n", 1
-    yield "a full list", *full_list(), 0
+    yield "a full list", *full_list(b""), 0
+    yield "a full list under a limit of one", *full_list(b" max 1"), 0
 
 
 def rows_in(folder):
@@ -124,4 +136,5 @@ def main():
     sys.exit(1 if failed or not passed else 0)
 
 
-main()
+if __name__ == "__main__":
+    main()

@@ -2,8 +2,10 @@
 """Writes the worked scripts beside the program into the tables that act_console's tests run.
 
 The scripts of events make one table, and those for threads another, but for those whose report depends
-on the schedule. The scripts of an end that waits its turn are left to tools/rows.py: with them the
-table is more than the check of one declaration can read. `--check` writes nothing, and ends with status 1 where a table is not that of the scripts.
+on the schedule. Each table is written as functions of a few rows: the check of one function reads all
+of its rows, and takes far longer the more there are, up to what it may read at all; and the tests that
+call them are checked without the rows. `--check` writes nothing, and ends with status 1 where a table
+is not that of the scripts.
 """
 import pathlib
 import sys
@@ -30,6 +32,8 @@ use super::rows::Row;
 use crate::fault::ConsoleFault;
 
 """
+# So many rows stand in one function.
+ROWS_AT_ONCE = 8
 TABLES = {TESTS / "rows.rt": (HEAD, ROWS), TESTS / "thread_rows.rt": (THREAD_HEAD, THREAD_ROWS)}
 
 
@@ -45,14 +49,28 @@ def row(path):
     fault = status.exists() and int(status.read_text()) == 1
     answer = "Err(ConsoleFault::Script)" if fault else "Ok(())"
     script, output = literal(path.read_bytes()), literal(path.with_suffix(".report").read_bytes())
-    return f"    // {path.stem}\n    Row {{\n        script: {script},\n        output: {output},\n        answer: {answer},\n    }},\n"
+    return f"        // {path.stem}\n        Row {{\n            script: {script},\n            output: {output},\n            answer: {answer},\n        }},\n"
+
+
+def all_rows(count):
+    """The function that gives the rows of all functions."""
+    calls = [f"rows_{number}()" for number in range(1, count + 1)]
+    line = f"[{', '.join(calls)}]"
+    # As rt fmt lays out an array: on one line where it is short.
+    array = line if len(line) <= 62 else "[\n" + "".join(f"        {call},\n" for call in calls) + "    ]"
+    return f"/// All of the scripts.\npub fn tables() -> [&'static [Row]; {count}] {{\n    {array}\n}}\n"
+
+
+def rows(number, paths):
+    """A function that gives some of the rows."""
+    return f"\nfn rows_{number}() -> &'static [Row] {{\n    &[\n{''.join(map(row, paths))}    ]\n}}\n"
 
 
 def table(head, folder):
     """The whole file of the scripts in a folder; in threads of those with a fixed report."""
     paths = sorted(path for path in folder.glob("*.actors") if folder == ROWS or path.with_suffix(".report").exists())
-    paths = [path for path in paths if not path.stem.startswith("terminate_")]
-    return head + f"pub const ROWS: [Row; {len(paths)}] = [\n" + "".join(map(row, paths)) + "];\n"
+    parts = [paths[at : at + ROWS_AT_ONCE] for at in range(0, len(paths), ROWS_AT_ONCE)]
+    return head + all_rows(len(parts)) + "".join(rows(number, part) for number, part in enumerate(parts, 1))
 
 
 def is_told(path, text):

@@ -21,8 +21,9 @@ PROGRAM = TOP / "crates/ray_actors/out/ray_actors"
 ROWS = TOP / "crates/ray_actors/rows"
 THREAD_ROWS = TOP / "crates/ray_actors/thread_rows"
 SCRIPTS = ["one_call", "another_caller_passes", "one_packet_for_good", "release_and_retire", "table_script", "fault_late_actor"]
-SCRIPTS += ["terminate_waits_its_turn"]
+SCRIPTS += ["terminate_waits_its_turn", "limit_counts_each_caller_alone"]
 SCRIPTS_FOR_THREADS = ["a_table_and_an_account", "kill", "terminate_of_two_callers", "bad_step_of_a_lower_caller"]
+SCRIPTS_FOR_THREADS += ["limit_and_a_chain_over_two_actors"]
 NO_MEMORY = (3, b"", b"no memory\n")
 NO_THREAD = (3, b"", b"no thread\n")
 

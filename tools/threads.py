@@ -1,16 +1,17 @@
 #!/usr/bin/env python3
 """Runs random plans in threads by the proved program, and judges each report by a second reading of the rules.
 
-    tools/threads.py [--seed N] [--count N] [--kills N] [--ends N] [--program PATH]
+    tools/threads.py [--seed N] [--count N] [--kills N] [--ends N] [--limits N] [--program PATH]
 
 A seed gives the same scripts each time. Most of them are plans of up to 16 callers and 8 actors, without a
 bad step; some have one, or a fault of the script. The judge (tools/reading_of_rules.py) says whether the rules
 allow the report, and is tried itself: it must allow the worked reports, and refuse every report that was
 tampered with. A run of more than 60 seconds is a failure. So are three things that the rules leave open: an actor
-of which a kill was asked and that retired, an answer of an actor after its death was collected, and a call that
-ran before the answers that it needed. Fails also where the scripts came too seldom to what they should try. The
-worked script of a kill is run many times, and the shares of its outcomes are printed; and so is that of an end that
-waits its turn, which must always leave the same.
+of which a kill was asked and that retired, an answer of an actor after its death was collected, and a call or a kill that
+came before the answers for which it had to wait, as an argument, by an `await`, or at a limit. Fails also where the
+scripts came too seldom to what they should try. The worked script of a kill is run many times, and the shares of its
+outcomes are printed. So are those of an end that waits its turn and of a limit on pending calls: but for one, where
+a kill waits at the limit, they must always leave the same.
 """
 import argparse
 import collections
@@ -31,6 +32,7 @@ ROWS = TOP / "crates/ray_actors/thread_rows"
 EXAMPLES = TOP / "examples"
 KILL = ROWS / "kill.actors"
 END = ROWS / "terminate_waits_its_turn.actors"
+LIMITS = [ROWS / f"limit_{name}.actors" for name in ["of_one", "and_a_chain_over_two_actors", "before_a_kill"]]
 PROGRAM = TOP / "crates/ray_actors/out/ray_actors"
 
 AT_ONCE = 4
@@ -48,6 +50,7 @@ class Author(fuzz.Author):
     def __init__(self, chance):
         self.chance = chance
         self.lines = []
+        self.limits = chance.choice([0, 0, 0.5, 1])
         self.pool = chance.sample(range(1, 17), chance.choice([1, 2, 2, 3, 5, 8, 16, 16]))
         actors = chance.sample(range(1, 9), chance.choice([1, 1, 2, 2, 3, 5, 8]))
         self.world = reading.Planned([self.role(actor) for actor in actors])
@@ -116,6 +119,7 @@ def random_script(seed, place):
 FLOORS = {
     "submit": 400, "await": 250, "copy": 200, "release": 200, "kill": 90, "a future as an argument": 200,
     "no step": 40, "100 steps": 80, "16 callers": 10, "8 actors": 50, "retired": 350, "dead": 60,
+    "a step that may wait": 90, "a wait for a call with a future": 50, "a wait and a kill": 20, "a wait for an end": 20,
     "retired after a call": 300, "dead after a call": 10,
     "BadLine": 15, "LateActor": 5, "TwiceActor": 5, "TwiceCaller": 5, "BadPlan": 50, "refused a stranger": 5,
     "refused NoActor": 5, "refused NoHandle": 5, "refused TooManyArgs": 5, "refused BadFuture": 5, "refused NoFuture": 10,
@@ -151,6 +155,32 @@ def sorts_of_fault(script):
             yield f"refused {fault.__cause__ or 'a stranger'}"
 
 
+def waits(world):
+    """Each call that a limit may hold back, after the call to the same actor that must have an answer then: the actor
+    answers a caller's calls in order."""
+    for caller in world.callers.values():
+        for name in caller.copies:
+            calls = caller.calls_to(name)
+            limit = world.actors[name].limit
+            yield from zip(calls, calls[limit:]) if limit else []
+
+
+def sorts_of_wait(script):
+    """Where a limit may hold back a step of good plans, and what may come in between."""
+    try:
+        world = reading.read_plans(script)
+    except reading.ScriptFault:
+        return
+    for before, call in waits(world):
+        yield "a step that may wait"
+        if any(isinstance(each, reading.Future) for each in before.arguments):
+            yield "a wait for a call with a future"
+        if call.actor in world.to_be_killed:
+            yield "a wait and a kill"
+        if before.method == reading.END:
+            yield "a wait for an end"
+
+
 def sorts_of_report(report):
     """The ends and the answers in a report."""
     lines = report.decode("latin-1").split("\n")
@@ -170,7 +200,7 @@ def too_seldom(gots):
     """What fewer of the scripts came to than should."""
     tallies = collections.Counter()
     for script, (report, _) in gots.items():
-        tallies.update({*sorts_of_script(script), *sorts_of_fault(script), *sorts_of_report(report)})
+        tallies.update({*sorts_of_script(script), *sorts_of_fault(script), *sorts_of_wait(script), *sorts_of_report(report)})
     for sort, floor in FLOORS.items():
         if tallies[sort] < floor * len(gots) // 1000:
             yield f"only {tallies[sort]} of {len(gots)} scripts came to '{sort}'"
@@ -212,25 +242,45 @@ def answers_after_deaths(world):
                     yield f"{call.spelled_future()} has an answer, and {before.spelled_future()} was answered by a death"
 
 
+def answered(world, caller, future):
+    """What gave a call its answer: its run, or its actor's death. A run is told by its call's caller and future."""
+    call = world.callers[caller].calls[future]
+    return (call.actor, "death") if reading.fault_of(call) == "ActorDied" else (caller, future)
+
+
+def deaths(world, kills):
+    """For the death of each dead actor what came before it: its last run, and the kill where one caller alone asked for
+    it. By actor and caller `kills` has the caller's last wait before it asked."""
+    for name, actor in world.actors.items():
+        if actor.stage == "dead":
+            last = {(item.call.caller, item.call.future) for item in actor.ran[-1:]}
+            asked = [wait for (victim, _), wait in kills.items() if victim == name]
+            by_kill = len(asked) == 1 and not any(item.ends_actor() for item in actor.ran)
+            yield (name, "death"), last | set(asked if by_kill else [])
+
+
 def befores(script, world):
-    """For each call that ran, and for each await, what came before it: the calls whose answers it needed, the awaits
-    before its submission, and the call before it in the run list. A call is told by its caller and its future."""
-    ran = {(item.call.caller, item.call.future): item for actor in world.actors.values() for item in actor.ran}
-    before = {each: set() for each in ran}
-    submitted, awaited = collections.Counter(), collections.Counter()
+    """For each call, each death, and each wait of a caller, what came before it: the answers that it needed, the waits
+    before its submission, and the call before it in the run list. A caller waits at an `await`, and where a limit may
+    hold back its submission."""
+    before, kills, submitted, waited = collections.defaultdict(set), {}, collections.Counter(), collections.Counter()
+    held = {(call.caller, call.future): before.future for before, call in waits(world)}
     for verb, (caller, *rest) in reading.read_script(script, reading.THREAD_FORMS).events:
-        last_await = (caller, "await", awaited[caller])
-        if verb == "await":
-            awaited[caller] += 1
-            before[(caller, "await", awaited[caller])] = {last_await} | ran.keys() & {(caller, rest[0])}
+        future = (caller, submitted[caller])
+        if verb == "await" or verb == "submit" and future in held:
+            needed = rest[0] if verb == "await" else held[future]
+            before[(caller, "wait", waited[caller] + 1)] |= {(caller, "wait", waited[caller]), answered(world, caller, needed)}
+            waited[caller] += 1
         if verb == "submit":
-            needed = {(caller, each.number) for each in rest[2] if isinstance(each, reading.Future)}
-            before.get((caller, submitted[caller]), set()).update({last_await} | ran.keys() & needed)
+            needed = {answered(world, caller, each.number) for each in rest[2] if isinstance(each, reading.Future)}
+            before[future] |= {(caller, "wait", waited[caller])} | needed
             submitted[caller] += 1
+        if verb == "kill":
+            kills.setdefault((rest[0], caller), (caller, "wait", waited[caller]))
     for actor in world.actors.values():
         for one, item in zip(actor.ran, actor.ran[1:]):
             before[(item.call.caller, item.call.future)].add((one.call.caller, one.call.future))
-    return before
+    return before | dict(deaths(world, kills))
 
 
 def circles(script, world):
@@ -238,7 +288,7 @@ def circles(script, world):
     try:
         graphlib.TopologicalSorter(befores(script, world)).prepare()
     except graphlib.CycleError as circle:
-        yield f"each of these ran before the next, in a circle: {circle.args[1]}"
+        yield f"each of these came before the next, in a circle: {circle.args[1]}"
 
 
 def complaint(script, report, status):
@@ -522,24 +572,52 @@ ALSO_ALLOWED = [SECOND + RAN_TWO, BOTH + RETIRED]
 NOT_ALLOWED = [FIRST + RAN_NONE, SECOND + RAN_NONE, BOTH + RAN_NONE, SECOND + RAN_ONE, BOTH + RAN_ONE, DIED + RAN_OTHER]
 NOT_ALLOWED += [DIED + RETIRED, FIRST + RETIRED, SECOND + RETIRED, RAN_NONE, DIED, DIED + RAN_NONE + RAN_NONE]
 
-# Two callers, each of which adds the answer of the one counter to the other; and runs of it, and of one with an await in
-# the place of the argument, in which each answer is needed before it is there.
+# Two callers, each of which adds the answer of the one counter to the other; and runs of it, of one with an await in
+# the place of the argument, and of one with a limit, in which each answer is needed before it is there.
 CROSSED = "actor a1 counter c1 c2\nactor a2 counter c1 c2\nsubmit c1 a2 get\n{}submit c2 a1 get\n{}"
 WITH_ARGUMENTS = CROSSED.format("submit c1 a1 add @0\n", "submit c2 a2 add @0\n")
 WITH_AWAITS = CROSSED.format("await c1 0\nsubmit c1 a1 add 0\n", "await c2 0\nsubmit c2 a2 add 0\n")
+WITH_LIMITS = CROSSED.format("submit c1 a2 get\nsubmit c1 a1 add 0\n", "submit c2 a1 get\nsubmit c2 a2 add 0\n")
+WITH_LIMITS = WITH_LIMITS.replace("counter", "counter max 1")
 ANSWERS_CROSSED = "c1.0 a2 = 0\nc1.1 a1 = 0\nc2.0 a1 = 0\nc2.1 a2 = 0\n"
 IN_ORDER = "a1 retired counter 0\na1.0 c2.0 get\na1.1 c1.1 add 0\na2 retired counter 0\na2.0 c1.0 get\na2.1 c2.1 add 0\n"
 HALF_ORDER = "a1 retired counter 0\na1.0 c1.1 add 0\na1.1 c2.0 get\na2 retired counter 0\na2.0 c1.0 get\na2.1 c2.1 add 0\n"
 NO_ORDER = "a1 retired counter 0\na1.0 c1.1 add 0\na1.1 c2.0 get\na2 retired counter 0\na2.0 c2.1 add 0\na2.1 c1.0 get\n"
+LIMITED_ANSWERS = "c1.0 a2 = 0\nc1.1 a2 = 0\nc1.2 a1 = 0\nc2.0 a1 = 0\nc2.1 a1 = 0\nc2.2 a2 = 0\n"
+LIMITED = LIMITED_ANSWERS + "a1 retired counter 0\n{}a2 retired counter 0\n{}"
+LATE_AT_A1 = "a1.0 c2.0 get\na1.1 c2.1 get\na1.2 c1.2 add 0\n"
+EARLY_AT_A1 = "a1.0 c1.2 add 0\na1.1 c2.0 get\na1.2 c2.1 get\n"
+LATE_AT_A2 = "a2.0 c1.0 get\na2.1 c1.1 get\na2.2 c2.2 add 0\n"
+EARLY_AT_A2 = "a2.0 c2.2 add 0\na2.1 c1.0 get\na2.2 c1.1 get\n"
+
+# Each is killed by the one caller that waits for its first answer, so that no death is that answer.
+KILL_AFTER = "actor a1 counter{} c1\nsubmit c1 a1 add 1\n{}kill c1 a1\n"
+AFTER_AN_AWAIT = KILL_AFTER.format("", "submit c1 a1 add 2\nawait c1 0\n")
+AFTER_A_LIMIT = KILL_AFTER.format(" max 1", "submit c1 a1 add 2\n")
+AFTER_NOTHING = KILL_AFTER.format(" max 2", "submit c1 a1 add 2\n")
 
 
-def trial_by_circles():
-    """Whether a run is found in which no call could be the first."""
+def runs_with_a_schedule():
+    """Scripts and reports that the rules allow, and whether a schedule leads there."""
     for script in WITH_ARGUMENTS, WITH_AWAITS:
         for run_lists, is_well in (IN_ORDER, True), (HALF_ORDER, True), (NO_ORDER, False):
-            told = script.encode(), (ANSWERS_CROSSED + run_lists).encode(), 0
-            yield f"the rules allow {told!r}", reading.judge(*told) is None
-            yield f"this {'had' if is_well else 'had no'} schedule: {told!r}", (complaint(*told) is None) == is_well
+            yield script, ANSWERS_CROSSED + run_lists, is_well
+    yield WITH_LIMITS, LIMITED.format(LATE_AT_A1, LATE_AT_A2), True
+    yield WITH_LIMITS, LIMITED.format(EARLY_AT_A1, LATE_AT_A2), True
+    yield WITH_LIMITS, LIMITED.format(EARLY_AT_A1, EARLY_AT_A2), False
+    for script, is_early in (AFTER_AN_AWAIT, False), (AFTER_A_LIMIT, False), (AFTER_NOTHING, True):
+        yield script, FIRST + RAN_ONE, True
+        yield script, BOTH + RAN_TWO, True
+        yield script, DIED + RAN_NONE, is_early
+        yield script, DIED + RAN_TWO, is_early
+
+
+def trial_by_schedules():
+    """Whether a run is found in which something needs what comes after it."""
+    for script, report, is_well in runs_with_a_schedule():
+        told = script.encode(), report.encode(), 0
+        yield f"the rules allow {told!r}", reading.judge(*told) is None
+        yield f"this {'had' if is_well else 'had no'} schedule: {told!r}", (complaint(*told) is None) == is_well
 
 
 def trial_by_rows():
@@ -617,14 +695,15 @@ def judge_kills(program, count):
     return sum(wrong.values())
 
 
-def judge_ends(program, count):
-    """How many runs of the worked end leave something else than they must."""
-    wanted = END.with_suffix(".report").read_bytes(), 0
-    tallies = collections.Counter(runs(program, [END.read_bytes()] * count))
-    for got, number in tallies.items():
-        if got != wanted:
-            print(f"{number} of {count} ends left {got!r:.600}")
-    return count - tallies[wanted]
+def judge_often(program, path, count):
+    """How many runs of a worked script go wrong: they leave another report than it has, or one of no schedule."""
+    script, report = path.read_bytes(), path.with_suffix(".report")
+    wanted = (report.read_bytes(), 0) if report.exists() else None
+    tallies = collections.Counter(runs(program, [script] * count))
+    wrong = {got: number for got, number in tallies.items() if (got != wanted if wanted else complaint(script, *got))}
+    for got, number in wrong.items():
+        print(f"{number} of {count} runs of {path.name} left {got!r:.600}")
+    return sum(wrong.values())
 
 
 def tell_trial(checks):
@@ -643,6 +722,7 @@ def chosen_options():
     options.add_argument("--count", type=int, default=200, help="how many random scripts")
     options.add_argument("--kills", type=int, default=50, help="how many runs of the worked kill")
     options.add_argument("--ends", type=int, default=200, help="how many runs of the worked end that waits its turn")
+    options.add_argument("--limits", type=int, default=200, help="how many runs of each worked limit")
     options.add_argument("--program", type=pathlib.Path, default=PROGRAM)
     chosen = options.parse_args()
     if chosen.count < 100:
@@ -659,10 +739,12 @@ def main():
     right, wrong = judge_scripts(program, scripts)
     seldom = list(too_seldom(right))
     print("".join(f"{failure}\n" for failure in seldom), end="")
-    passed, failed = tell_trial([*trial_by_rows(), *trial_by_circles(), *trial_by_tampering(chosen.seed, right)])
-    wrong_kills, wrong_ends = judge_kills(program, chosen.kills), judge_ends(program, chosen.ends)
-    passed += len(scripts) - wrong + len(FLOORS) - len(seldom) + chosen.kills - wrong_kills + chosen.ends - wrong_ends
-    failed += wrong + len(seldom) + wrong_kills + wrong_ends
+    passed, failed = tell_trial([*trial_by_rows(), *trial_by_schedules(), *trial_by_tampering(chosen.seed, right)])
+    wrong_kills = judge_kills(program, chosen.kills)
+    often = {END: chosen.ends} | {path: chosen.limits for path in LIMITS}
+    wrong_often = sum(judge_often(program, path, count) for path, count in often.items())
+    passed += len(scripts) - wrong + len(FLOORS) - len(seldom) + chosen.kills - wrong_kills + sum(often.values()) - wrong_often
+    failed += wrong + len(seldom) + wrong_kills + wrong_often
     print(f"threads: {passed} passed, {failed} failed")
     sys.exit(1 if failed else 0)
 

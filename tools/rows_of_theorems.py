@@ -1,0 +1,95 @@
+#!/usr/bin/env python3
+"""Compares the worked scripts beside the program with the theorems of the rules.
+
+Each theorem of act_rules that says what a script writes, line by line, must have a script of the same
+bytes in crates/ray_actors/rows, with the same report. So what the gate proves of the definitions is
+what the tests and the tools ask of the program. Theorems whose lines are computed (long lines, and
+bytes that don't print) are left to the other scripts. `--list` names the script of each theorem. Ends
+with status 1 where one is missing or differs.
+"""
+import pathlib
+import re
+import sys
+
+TOP = pathlib.Path(__file__).resolve().parent.parent
+SPECS = TOP / "crates/act_rules/specs"
+ROWS = TOP / "crates/ray_actors/rows"
+FILES = ["ScriptRows", "FurtherRows", "EndRows", "PendingRows", "LineRows"]
+HEADER = "actor a1 counter c1"
+STRING = re.compile(r'codes "((?:[^"\\]|\\.)*)"')
+REPORT = re.compile(r"^abbrev pub (\w+_report) : List \(List ℕ\)\n\1 =\n(.*?)\n\n", re.S | re.M)
+THEOREM = re.compile(r"(?:abbrev pub (\w+) : Type 0\n\w+ =|^  pub (\w+) :) (Writes|IsFaulty|LineWrites) (.*?)(?=\n\n|\n  pub |\n  -- |\Z)", re.S | re.M)
+
+
+def lines_of(text):
+    """The lines of a list of texts."""
+    return [line.replace('\\"', '"').replace("\\\\", "\\") for line in STRING.findall(text)]
+
+
+def arguments(text):
+    """The arguments of a word: what stands in brackets on the outside, and bare words."""
+    found, depth, start, in_text = [], 0, 0, False
+    for place, letter in enumerate(text):
+        if letter == '"' and text[place - 1] != "\\":
+            in_text = not in_text
+        elif not in_text and letter == "(":
+            start, depth = (place if depth == 0 else start), depth + 1
+        elif not in_text and letter == ")":
+            depth -= 1
+            if depth == 0:
+                found.append(text[start : place + 1])
+    bare = re.sub(r"\s+", " ", text).rsplit(" ", 1)[-1]
+    return found + [bare] if bare.endswith("_report") else found
+
+
+def reports():
+    """The reports that the theorems of events name."""
+    return {name: lines_of(text) for name, text in REPORT.findall((SPECS / "Rows.antt").read_text())}
+
+
+def theorem(kind, text, named):
+    """The script's lines and the report's, of a theorem; nothing where its lines are computed."""
+    if "replicate" in text or "++" in text or "comment" in text:
+        return None
+    parts = [named.get(part) if part in named else lines_of(part) for part in arguments(text)]
+    if kind == "IsFaulty":
+        return [HEADER] + parts[0], ["line 2: BadLine"]
+    if kind == "LineWrites":
+        return ([HEADER] + parts[0], parts[1]) if len(parts) == 2 else None
+    return tuple(parts) if len(parts) == 2 else None
+
+
+def theorems():
+    """Each theorem that says what a script writes, with its name."""
+    named = reports()
+    for file in FILES:
+        for top, field, kind, text in THEOREM.findall((SPECS / f"{file}.antt").read_text()):
+            told = theorem(kind, text, named)
+            if told is not None:
+                yield f"{file}.{top or field}", told
+
+
+def bytes_of(lines):
+    return "".join(line + "\n" for line in lines).encode("ascii")
+
+
+def main():
+    rows = {path.read_bytes(): path for path in sorted(ROWS.glob("*.actors"))}
+    wrong, count = [], 0
+    for name, (script, report) in theorems():
+        path = rows.get(bytes_of(script))
+        count += 1
+        if path is None:
+            wrong.append(f"{name}: no script of these bytes")
+        elif path.with_suffix(".report").read_bytes() != bytes_of(report):
+            wrong.append(f"{name}: another report in {path.stem}")
+        elif "--list" in sys.argv[1:]:
+            print(f"{name}: {path.stem}")
+    for line in wrong:
+        print(f"rows_of_theorems: {line}", file=sys.stderr)
+    print(f"rows_of_theorems: {count - len(wrong)} passed, {len(wrong)} failed")
+    sys.exit(1 if wrong else 0)
+
+
+if __name__ == "__main__":
+    main()
