@@ -15,8 +15,11 @@ TOP = pathlib.Path(__file__).resolve().parent.parent
 SPECS = TOP / "crates/act_rules/specs"
 ROWS = TOP / "crates/ray_actors/rows"
 FILES = ["ScriptRows", "FurtherRows", "EndRows", "PendingRows", "LineRows"]
+# How many uses of these words in a file are definitions of others.
+DEFINED = {"LineRows": 2}
 HEADER = "actor a1 counter c1"
 STRING = re.compile(r'codes "((?:[^"\\]|\\.)*)"')
+USE = re.compile(r"(?:=|:) (?:Writes|IsFaulty|LineWrites) ")
 REPORT = re.compile(r"^abbrev pub (\w+_report) : List \(List ℕ\)\n\1 =\n(.*?)\n\n", re.S | re.M)
 THEOREM = re.compile(r"(?:abbrev pub (\w+) : Type 0\n\w+ =|^  pub (\w+) :) (Writes|IsFaulty|LineWrites) (.*?)(?=\n\n|\n  pub |\n  -- |\Z)", re.S | re.M)
 
@@ -63,7 +66,12 @@ def theorems():
     """Each theorem that says what a script writes, with its name."""
     named = reports()
     for file in FILES:
-        for top, field, kind, text in THEOREM.findall((SPECS / f"{file}.antt").read_text()):
+        source = (SPECS / f"{file}.antt").read_text()
+        found = THEOREM.findall(source)
+        # A theorem of a form that is not known here would else be passed over.
+        if len(found) != len(USE.findall(source)) - DEFINED.get(file, 0):
+            sys.exit(f"rows_of_theorems: a theorem of {file}.antt is not read")
+        for top, field, kind, text in found:
             told = theorem(kind, text, named)
             if told is not None:
                 yield f"{file}.{top or field}", told

@@ -70,8 +70,8 @@ pub enum SubmitRefusal {
     BadFuture,
     /// The caller has submitted 65,536 calls.
     TooManyCalls,
-    /// As many of the caller's calls to the actor as its limit allows have no answer yet. This is
-    /// after `max_pending_calls` of Ray's actors, for each of which the caller gets an exception.
+    /// As many of the caller's calls to the actor as its limit allows have no answer yet. It is
+    /// after Ray's option `max_pending_calls`, which raises `PendingCallsLimitExceeded`.
     PendingLimit,
     NoMemory,
 }
