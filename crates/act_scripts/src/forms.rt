@@ -18,7 +18,7 @@ use std::alloc::Global;
 fn args_of(alloc: Global, words: &[&str]) -> Result<ListOf<Arg>, LineFault>
     ensures { Gives (λ x. x) result (args_at (map (λ w. w.now) words.now)) }
 {
-    let mut args = ListOf::new(alloc);
+    let mut args = ListOf::with_capacity(alloc, words.len())?;
     for word in words {
         args.push(arg_of(alloc, word)?)?;
     }
@@ -29,7 +29,7 @@ fn args_of(alloc: Global, words: &[&str]) -> Result<ListOf<Arg>, LineFault>
 fn callers_of(alloc: Global, words: &[&str]) -> Result<ListOf<CallerId>, LineFault>
     ensures { Gives (λ x. x) result (callers_at (map (λ w. w.now) words.now)) }
 {
-    let mut callers = ListOf::new(alloc);
+    let mut callers = ListOf::with_capacity(alloc, words.len())?;
     for word in words {
         callers.push(caller_of(word)?)?;
     }

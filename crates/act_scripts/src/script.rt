@@ -1,6 +1,6 @@
 //! Lines and scripts.
 
-ghost use Rattle.std.specs.Prelude.{◌≡◌, ◌==◌, ◌≤◌, ◌<◌, ◌^◌, ◌+◌, ℕ, map, IfOk, IfSome, length};
+ghost use Rattle.std.specs.Prelude.{◌≡◌, ◌==◌, ◌≤◌, ◌<◌, ◌^◌, ◌+◌, ℕ, map, IfOk, OnOk, IfSome, length};
 ghost use Rattle.std.specs.List.{list_all, list_any};
 ghost use Rattle.act_scripts.specs.Gives.{Gives};
 ghost use Rattle.act_scripts.specs.Spelled.{IsLineOf, Leaves, GivesScript, mode_of, count_of, spelled_script, numbered};
@@ -79,16 +79,23 @@ fn plain(line: &[u8]) -> Result<&str, LineFault>
     }
 }
 
-/// The words of a line, which single spaces part.
-fn words_of(alloc: Global, line: &str) -> Result<Vec<&str>, AllocError>
-    ensures { IfOk result (λ words. map (λ w. w.now) words.items ≡ words_in line.now) }
+/// Puts the words of a line, which single spaces part, in the place of those of the line before.
+/// All lines share one vector, so that a line asks for no memory of its own.
+fn split_words<'a>(words: &mut Vec<&'a str>, line: &'a str) -> Result<(), AllocError>
+    ensures { OnOk result (map (λ w. w.now) words.new.items ≡ words_in line.now) }
 {
-    line.split(' ').collect(alloc)
+    words.clear();
+    words.extend(line.split(' '))
 }
 
 /// What a line says, and nothing for one that is skipped.
 #[tactic(auto, unfolding(act_rules::specs::Grammar::line_at))]
-fn line_of(alloc: Global, mode: Mode, line: &[u8]) -> Result<Option<Line>, LineFault>
+fn line_of<'a>(
+    alloc: Global,
+    mode: Mode,
+    words: &mut Vec<&'a str>,
+    line: &'a [u8],
+) -> Result<Option<Line>, LineFault>
     ensures said { Gives (λ x. x) result (line_at (forms_of mode) line.now) }
     ensures of_mode { IfOk result (λ said. IfSome said (IsLineOf mode)) }
 {
@@ -96,8 +103,8 @@ fn line_of(alloc: Global, mode: Mode, line: &[u8]) -> Result<Option<Line>, LineF
     match text.as_bytes() {
         [] | [b'#', ..] => Ok(None),
         _ => {
-            let words = words_of(alloc, text)?;
-            Ok(Some(form_of(alloc, mode, &words)?))
+            split_words(words, text)?;
+            Ok(Some(form_of(alloc, mode, words.as_slice())?))
         }
     }
 }
@@ -219,11 +226,12 @@ fn add(script: &mut Script, line: Line, number: u32) -> Result<(), LineFault>
 }
 
 /// Adds what the line of this number says, if it isn't skipped.
-fn add_line(
+fn add_line<'a>(
     alloc: Global,
     mode: Mode,
     script: &mut Script,
-    line: &[u8],
+    words: &mut Vec<&'a str>,
+    line: &'a [u8],
     number: u32,
 ) -> Result<(), LineFault>
     requires { mode_of script.old.items ≡ mode }
@@ -232,7 +240,7 @@ fn add_line(
     ensures read { Leaves result script.new (line_added (forms_of mode) (spelled_script script.old) number line.now) }
     ensures few { count_of script.new.items ≤ count_of script.old.items + 1 }
 {
-    match line_of(alloc, mode, line)? {
+    match line_of(alloc, mode, words, line)? {
         None => Ok(()),
         Some(line) => add(script, line, number),
     }
@@ -257,10 +265,11 @@ fn read_lines(alloc: Global, bytes: &[u8], mode: Mode) -> Result<Script, ScriptF
     ensures few { IfOk result (λ script. count_of script.items < 2 ^ 32) }
 {
     let mut script = empty(alloc, mode);
+    let mut words = Vec::new(alloc);
     let mut number = 0;
     for line in bytes.split(|byte| *byte == b'\n') {
         number += 1;
-        match add_line(alloc, mode, &mut script, line, number) {
+        match add_line(alloc, mode, &mut script, &mut words, line, number) {
             Ok(()) => {}
             Err(fault) => return Err(fault_in(number, fault)),
         }

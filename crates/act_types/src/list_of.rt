@@ -1,6 +1,6 @@
 //! A list of items, which contracts see as a list.
 
-ghost use Rattle.std.specs.Prelude.{◌≡◌, List, [], ◌∷◌, ◌++◌, IfOk, IfErr, OnOk, OnErr, length};
+ghost use Rattle.std.specs.Prelude.{◌≡◌, List, [], ◌∷◌, ◌++◌, IfOk, IfErr, OnOk, OnErr, IsOk, length};
 ghost use Rattle.std.specs.Cmp.Lexicographic.{pointwise, lists_per, lists_equiv};
 
 use crate::{CopyOf, NoMemory};
@@ -27,6 +27,16 @@ impl<T> ListOf<T> {
         ListOf {
             vec: Vec::new(alloc),
         }
+    }
+
+    /// No items, with room for so many. For none it takes no memory.
+    pub fn with_capacity(alloc: Global, capacity: usize) -> Result<ListOf<T>, NoMemory>
+        ensures none { IfOk result (λ list. list ≡ []) }
+        ensures free { capacity ≡ 0 → IsOk result }
+    {
+        Ok(ListOf {
+            vec: Vec::with_capacity(alloc, capacity)?,
+        })
     }
 
     /// The items of a vector.
@@ -70,7 +80,7 @@ impl<T> ListOf<T> {
 
 impl<T: CopyOf> CopyOf for ListOf<T> {
     fn copy_of(&self, alloc: Global) -> Result<ListOf<T>, NoMemory> {
-        let mut copies = ListOf::new(alloc);
+        let mut copies = ListOf::with_capacity(alloc, self.len())?;
         for item in self.vec.as_slice() {
             copies.push(item.copy_of(alloc)?)?;
         }

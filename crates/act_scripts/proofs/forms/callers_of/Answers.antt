@@ -9,7 +9,7 @@ loop-word-preserved c =
 
 pub returns-in_err-caller_of : goal.returns-in_err-caller_of
 returns-in_err-caller_of c =
-    let p = err_from_is_err_and c.from_residual.result c.from_residual.ensures.1 in
+    let p = err_from_is_err_and c.from_residual-in_err-caller_of.result c.from_residual-in_err-caller_of.ensures.1 in
     rw (p.1, p.2) (ends caller_at c.in_err-caller_of.field-0.0 c.loop-word.callers c.args.words.now c.loop-word.word-index _ _ c.loop-word-test.true c.in_err-caller_of.ensures c.loop-word.invariant)
 
 pub returns : goal.returns
