@@ -72,6 +72,18 @@ impl ReplyTable {
         Ok(())
     }
 
+    /// Makes room for so many futures more, unless there is as much.
+    pub fn reserve(&mut self, count: usize) -> Result<(), NoMemory>
+        ensures room { OnOk result (count ≤ self.new.spare) }
+        ensures enough { count ≤ self.old.spare → IsOk result }
+        ensures rows { self.new.rows ≡ self.old.rows }
+        ensures spare { self.old.spare ≤ self.new.spare }
+    {
+        self.rows.reserve(count)?;
+        self.waiting.reserve(count)?;
+        Ok(())
+    }
+
     /// Adds a future of this actor, which has no answer yet. Where there is room it can't fail.
     pub fn enter(&mut self, actor: ActorId) -> Result<FutureId, NoMemory>
         requires { length self.old.rows < MOST_CALLS }

@@ -12,6 +12,7 @@ fn the_first_answer_stays(rt: HostRuntime) -> Result<(), Fail> {
     let a2 = ActorId::new(2).unwrap();
     let mut table = ReplyTable::new(rt.alloc());
     table.reserve_one()?;
+    table.reserve(3)?;
     table.enter(a1)?;
     table.enter(a2)?;
     table.enter(a1)?;

@@ -99,6 +99,17 @@ impl Waiting {
         Ok(())
     }
 
+    /// Makes room for so many futures more, unless there is as much.
+    pub(crate) fn reserve(&mut self, count: usize) -> Result<(), NoMemory>
+        ensures room { OnOk result (count ≤ self.new.spare) }
+        ensures enough { count ≤ self.old.spare → IsOk result }
+        ensures actors { self.new.actors ≡ self.old.actors }
+        ensures spare { self.old.spare ≤ self.new.spare }
+    {
+        self.links.reserve(count)?;
+        Ok(())
+    }
+
     /// Adds a future that waits for this actor.
     pub(crate) fn push(&mut self, actor: ActorId)
         requires room { 1 ≤ self.old.spare }

@@ -1,3 +1,3 @@
 pub mod Chains
 pub mod Counting
-pub mod Tournament
+pub mod Levels

@@ -1,4 +1,5 @@
 pub mod Counts
 pub mod Least
+pub mod Levels
 pub mod Resolver
 pub mod Waiters

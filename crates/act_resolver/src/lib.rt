@@ -4,6 +4,7 @@
 
 mod futures;
 mod least;
+mod level;
 mod resolver;
 #[cfg(test)]
 mod tests;

@@ -83,6 +83,21 @@ impl Resolver {
         Ok(())
     }
 
+    /// Makes room for so many calls more, each with as many futures as it may name. Where there is as
+    /// much room it takes no memory.
+    pub fn reserve(&mut self, count: usize) -> Result<(), NoMemory>
+        ensures calls { self.new.calls ≡ self.old.calls }
+        ensures ok { OnOk result (count ≤ self.new.spare) }
+        ensures room { count ≤ self.old.spare → IsOk result }
+        ensures spare { self.old.spare ≤ self.new.spare }
+    {
+        self.calls.reserve(count)?;
+        self.untold.reserve(count)?;
+        self.waiters.reserve(count)?;
+        self.ready.make_room(self.calls.len() + count)?;
+        Ok(())
+    }
+
     /// Enters call `k`, the next, with the futures among its arguments. It waits for those that
     /// weren't told yet. Where there is room it takes no memory.
     pub fn enter(&mut self, k: FutureId, futures: &[FutureId]) -> Result<(), NoMemory>
@@ -109,8 +124,8 @@ impl Resolver {
         Ok(())
     }
 
-    /// Call `k` is answered, so it is never ready again, and no call waits for it. It costs the places
-    /// that waited for it, and a logarithm of the calls for each call that gets ready.
+    /// Call `k` is answered, so it is never ready again, and no call waits for it. It costs a few steps
+    /// for each place that waited for it.
     pub fn told(&mut self, k: FutureId)
         requires { k < length self.old.calls }
         ensures calls { self.new.calls ≡ with_told self.old.calls k }

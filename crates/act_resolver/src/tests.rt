@@ -3,6 +3,7 @@
 
 ghost use Rattle.std.specs.Prelude.{◌≡◌, ◌<◌, ◌≤◌, [], length, IfOk, OnErr};
 
+use crate::least::LeastSet;
 use crate::{Futures, Resolver};
 use act_types::{FutureId, MOST_ARGS, MOST_CALLS, NoMemory};
 use std::alloc::Global;
@@ -12,7 +13,7 @@ use std::test::Fail;
 /// A change of the calls.
 #[derive(Clone, Copy)]
 enum Step<'a> {
-    Reserve,
+    Reserve(usize),
     Enter(&'a [FutureId]),
     Told(FutureId),
     Sent(FutureId),
@@ -31,8 +32,8 @@ fn take(
     ensures err { OnErr result (entered ≡ length resolver.new.calls) }
 {
     match *step {
-        Step::Reserve => {
-            resolver.reserve_one()?;
+        Step::Reserve(count) => {
+            resolver.reserve(count)?;
             Ok(entered)
         }
         Step::Enter(futures) => {
@@ -85,18 +86,18 @@ fn calls_wait_for_answers(rt: HostRuntime) -> Result<(), Fail> {
     let [c0, c1, c2, c3, c4] = [0, 1, 2, 3, 4].map(FutureId::new);
     let mut resolver = Resolver::new(rt.alloc());
     let rows: [(Step, Option<FutureId>); 14] = [
-        (Step::Reserve, None),
+        (Step::Reserve(1), None),
         (Step::Enter(&[]), Some(c0)),
         (Step::Sent(c0), None),
-        (Step::Reserve, None),
+        (Step::Reserve(1), None),
         (Step::Enter(&[c0, c0]), None),
-        (Step::Reserve, None),
+        (Step::Reserve(1), None),
         (Step::Enter(&[c0, c1]), None),
         (Step::Told(c0), Some(c1)),
         (Step::Told(c0), Some(c1)),
         (Step::Told(c1), Some(c2)),
         (Step::Sent(c2), None),
-        (Step::Reserve, None),
+        (Step::Reserve(1), None),
         (Step::Enter(&[c2, c0]), None),
         (Step::Told(c2), Some(c3)),
     ];
@@ -119,7 +120,7 @@ fn refused_memory_changes_nothing(rt: HostRuntime) -> Result<(), Fail> {
     let [c0, c1, c5, c9] = [0, 1, 5, 9].map(FutureId::new);
     let mut resolver = Resolver::new(rt.alloc());
     let rows: [(Step, Option<FutureId>); 14] = [
-        (Step::Reserve, None),
+        (Step::Reserve(2), None),
         (Step::Enter(&[]), Some(c0)),
         (Step::Sent(c0), None),
         (Step::Enter(&[c0]), None),
@@ -129,7 +130,7 @@ fn refused_memory_changes_nothing(rt: HostRuntime) -> Result<(), Fail> {
         (Step::Enter(&[]), Some(c5)),
         (Step::Enter(&[c5]), Some(c5)),
         (Step::Enter(&[]), Some(c5)),
-        (Step::Reserve, Some(c5)),
+        (Step::Reserve(9), Some(c5)),
         (Step::Enter(&[c0]), Some(c5)),
         (Step::Told(c0), Some(c1)),
         (Step::Sent(c1), Some(FutureId::new(4))),
@@ -146,19 +147,25 @@ fn refused_memory_changes_nothing(rt: HostRuntime) -> Result<(), Fail> {
     Ok(())
 }
 
+/// So many calls are past the numbers of a word, and past those of a word of words.
 #[test]
-fn a_thousand_calls_wait_for_one(rt: HostRuntime) -> Result<(), Fail> {
+fn five_thousand_calls_wait_for_one(rt: HostRuntime) -> Result<(), Fail> {
     let c0 = FutureId::new(0);
     let mut resolver = Resolver::new(rt.alloc());
     resolver.reserve_one()?;
     let mut entered = take(&rt, &mut resolver, 0, &Step::Enter(&[]))?;
-    for _ in 0..1000 {
+    for _ in 0..5000 {
         resolver.reserve_one()?;
         entered = take(&rt, &mut resolver, entered, &Step::Enter(&[c0]))?;
     }
     assert_eq!(rt; resolver.ready(), Some(c0));
-    take(&rt, &mut resolver, entered, &Step::Told(c0))?;
-    assert_eq!(rt; resolver.ready(), Some(FutureId::new(1)));
+    entered = take(&rt, &mut resolver, entered, &Step::Told(c0))?;
+    for number in 1..5001 {
+        let k = FutureId::new(number);
+        assert_eq!(rt; resolver.ready(), Some(k));
+        entered = take(&rt, &mut resolver, entered, &Step::Sent(k))?;
+    }
+    assert_eq!(rt; resolver.ready(), None);
     Ok(())
 }
 
@@ -201,7 +208,7 @@ fn first_ready(calls: &[Scanned]) -> Option<FutureId>
 /// Takes the step as `take` does.
 fn scan_step(rt: &impl Abort, calls: &mut Vec<Scanned>, step: &Step) -> Result<(), NoMemory> {
     match *step {
-        Step::Reserve => {}
+        Step::Reserve(_) => {}
         Step::Enter(futures) => {
             assert!(rt; futures.len() <= MOST_ARGS);
             calls.push(Scanned {
@@ -278,6 +285,57 @@ fn random_step<'a>(
         2 => Step::Sent(ready.unwrap_or(k)),
         _ => Step::Enter(&futures[..random.below(5) as usize]),
     }
+}
+
+/// Asks each number in turn.
+fn first_member(members: &[bool]) -> Option<usize> {
+    members.iter().position(|is_member| *is_member)
+}
+
+/// Random changes of a set of numbers and of plain members. The least goes out as often as another
+/// number comes in.
+fn random_changes(
+    rt: &impl Abort,
+    alloc: Global,
+    random: &mut Random,
+    bound: u32,
+    changes: u32,
+) -> Result<(), NoMemory>
+    requires { 0 < bound }
+{
+    let mut set = LeastSet::new(alloc);
+    set.make_room(bound as usize)?;
+    let mut members = vec![in alloc; false; bound as usize]?;
+    for _ in 0..changes {
+        let k = random.below(bound);
+        let k = match random.below(3) {
+            0 => set.least().unwrap_or(k),
+            _ => k,
+        };
+        assert!(rt; k < bound);
+        let is_member = !members[k as usize];
+        set.set(k as usize, is_member);
+        members[k as usize] = is_member;
+        assert_eq!(rt; set.least().map(|k| k as usize), first_member(&members));
+    }
+    Ok(())
+}
+
+/// Up to the numbers of a word, of a word of words, and of more than one word at the top.
+#[test]
+fn random_changes_agree_with_a_plain_scan(rt: HostRuntime) -> Result<(), Fail> {
+    let mut random = Random { state: 64 };
+    for (bound, changes) in [
+        (1, 10),
+        (64, 500),
+        (65, 500),
+        (4096, 500),
+        (4097, 500),
+        (300_000, 50),
+    ] {
+        random_changes(&rt, rt.alloc(), &mut random, bound, changes)?;
+    }
+    Ok(())
 }
 
 /// Random steps of a resolver and of the plain calls.

@@ -67,6 +67,25 @@ impl Waiters {
         Ok(())
     }
 
+    /// Makes room for so many futures more, and for the places of as many calls, whose numbers are
+    /// below 2^32.
+    pub fn reserve(&mut self, count: usize) -> Result<(), NoMemory>
+        ensures lists { self.new.lists ≡ self.old.lists }
+        ensures future_room { OnOk result (count ≤ self.new.future_room) }
+        ensures place_room { OnOk result (MOST_ARGS * count ≤ self.new.place_room) }
+        ensures room { count ≤ self.old.future_room → MOST_ARGS * count ≤ self.old.place_room → IsOk result }
+        ensures future_room_stays { self.old.future_room ≤ self.new.future_room }
+        ensures place_room_stays { self.old.place_room ≤ self.new.place_room }
+    {
+        let places_left = (u32::MAX as usize).saturating_sub(self.places.len());
+        if count > places_left / MOST_ARGS {
+            return Err(NoMemory);
+        }
+        self.firsts.reserve(count)?;
+        self.places.reserve(MOST_ARGS * count)?;
+        Ok(())
+    }
+
     /// Adds the next future, for which no call waits.
     pub fn add_future(&mut self)
         requires { 1 ≤ self.old.future_room }

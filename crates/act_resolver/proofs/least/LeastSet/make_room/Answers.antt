@@ -1,17 +1,43 @@
-use Rattle.std.proofs.Common.{◌≡◌, ◌^◌, ◌≤◌, length, false, slice_index_or, ◌∙◌, ap, arith}
-use Rattle.act_resolver.proofs.Tournament.{tournament_after, raised_members}
+use Rattle.std.proofs.Common.{◌∙◌, length, get_or, false, sym, ap, arith}
+use Rattle.std.proofs.lemmas.Result.{on_ok_weaker}
+use Rattle.act_resolver.proofs.Levels.{above_grown, get_or-bits_of, has_bit-same, length-bits_of}
 use Rattle.act_resolver.proofs.least.LeastSet.make_room.Goals as goal
 
+pub returns-then-bound-count-clause-ok : goal.returns-then-bound-count-clause-ok
+returns-then-bound-count-clause-ok c = let size = ap length (sym c.self.view_is) ∙ length-bits_of c.self.inside.leaves in omega (arith, size)
+
+pub returns-then-bound-gt-HIGHEST_BOUND-clause-room : goal.returns-then-bound-gt-HIGHEST_BOUND-clause-room
+returns-then-bound-gt-HIGHEST_BOUND-clause-room c le = let size = ap length (sym c.self.view_is) ∙ length-bits_of c.self.inside.leaves in absurd (omega (arith, size, le))
+
+pub returns-in_err-grow-clause-room : goal.returns-in_err-grow-clause-room
+returns-in_err-grow-clause-room c le = let size = ap length (sym c.self.view_is) ∙ length-bits_of c.self.inside.leaves in absurd (omega (arith, size, le))
+
+pub returns-in_err-grow-2-clause-room : goal.returns-in_err-grow-2-clause-room
+returns-in_err-grow-2-clause-room c le = let size = ap length (sym c.self.view_is) ∙ length-bits_of c.self.inside.leaves in absurd (omega (arith, size, le))
+
 pub invariant_of-self-2 : goal.invariant_of-self-2
-invariant_of-self-2 c =
-    let members = c.resize-2.new.self.items in
-    let winners = c.resize.new.self.items in
-    let long : length c.play_all.new.winners ≡ length winners = c.play_all.auto.winners ∙ ap length c.deref_mut.ensures.value in
-    let places : length members ≤ length winners = omega (arith, c.in_ok-resize.ensures.len, c.in_ok-resize-2.ensures.len) in
-    let few : length members ≤ 2 ^ 32 = omega (arith, c.in_ok-resize-2.ensures.len) in
-    tournament_after members c.deref.result.now winners c.play_all.new.winners c.resize.new.self.len c.resize.new.self.ok.0 c.deref.ensures.value long places few c.play_all.ensures
+invariant_of-self-2 c = (
+  above_grown c.self.inside.inner c.grow-2.new.self c.self.inside.leaves c.grow-3.new.self c.self.invariant.0 c.grow-2.ensures.words c.grow-3.ensures.words (omega (arith, c.self.invariant.0.room, c.in_ok-grow-2.ensures.ok, c.grow-3.ensures.at_most, c.div_ceil-inner.ensures)),
+  above_grown c.self.inside.top c.grow.new.self c.self.inside.inner c.grow-2.new.self c.self.invariant.1 c.grow.ensures.words c.grow-2.ensures.words (omega (arith, c.self.invariant.1.room, c.in_ok-grow.ensures.ok, c.grow-2.ensures.at_most, c.div_ceil.ensures)),
+)
+
+pub returns-clause-ok : goal.returns-clause-ok
+returns-clause-ok c =
+    let size = length-bits_of c.grow-3.new.self in
+    on_ok_weaker c.grow-3.result (λ grown. omega (arith, size, grown, c.div_ceil-leaves.ensures)) c.grow-3.ensures.ok
+
+pub returns-clause-room : goal.returns-clause-room
+returns-clause-room c le = let size = ap length (sym c.self.view_is) ∙ length-bits_of c.self.inside.leaves in absurd (omega (arith, size, le))
+
+pub returns-clause-grows : goal.returns-clause-grows
+returns-clause-grows c =
+    let size = ap length (sym c.self.view_is) ∙ length-bits_of c.self.inside.leaves in
+    let after = length-bits_of c.grow-3.new.self in
+    omega (arith, size, after, c.grow-3.ensures.grows)
 
 pub returns-clause-members : goal.returns-clause-members
 returns-clause-members c k =
-    raised_members c.self.inside.members.items c.resize-2.new.self.items c.min-raised.result c.self.inside.members.len c.in_ok-resize-2.ensures.items c.self.inside.members.ok.0 (omega arith) k
-    ∙ ap (λ members. slice_index_or members k false) c.self.view_is
+    get_or-bits_of c.grow-3.new.self k
+    ∙ has_bit-same c.self.inside.leaves c.grow-3.new.self c.grow-3.ensures.words k
+    ∙ sym (get_or-bits_of c.self.inside.leaves k)
+    ∙ ap (λ members. get_or members k false) c.self.view_is

@@ -1,10 +1,34 @@
-use Rattle.std.proofs.Common.{◌≡◌, length, ◌∙◌, ap, arith}
-use Rattle.std.proofs.lemmas.List.{length-set}
-use Rattle.act_resolver.proofs.Tournament.{tournament_after}
+use Rattle.std.proofs.Common.{◌/◌, ◌∙◌, length, sym, ap, arith}
+use Rattle.std.specs.Prelude.{slice_set}
+use Rattle.act_resolver.proofs.Levels.{bits_of-set, length-bits_of, tells_after}
 use Rattle.act_resolver.proofs.least.LeastSet.set.Goals as goal
+
+pub set-has_leaf-requires : goal.set-has_leaf-requires
+set-has_leaf-requires c = let size = ap length (sym c.self.view_is) ∙ length-bits_of c.self.inside.leaves in omega (arith, size)
+
+pub set-has_inner-requires : goal.set-has_inner-requires
+set-has_inner-requires c = let size = ap length (sym c.self.view_is) ∙ length-bits_of c.self.inside.leaves in omega (arith, size, c.self.invariant.0.room)
+
+pub set-requires : goal.set-requires
+set-requires c = let size = ap length (sym c.self.view_is) ∙ length-bits_of c.self.inside.leaves in omega (arith, size, c.self.invariant.0.room, c.self.invariant.1.room)
 
 pub invariant_of-self : goal.invariant_of-self
 invariant_of-self c =
-    let same = length-set c.self.inside.members.items c.args.k c.args.is_member in
-    let long : length c.play_above.new.winners ≡ length c.self.inside.winners.items = c.play_above.auto.winners ∙ ap length c.deref_mut.ensures.value in
-    tournament_after _ c.deref.result.now _ c.play_above.new.winners _ c.self.inside.winners.ok.0 c.deref.ensures.value long (omega (arith, same, c.self.invariant.0)) (omega (arith, same, c.self.invariant.1)) c.play_above.ensures
+    let leaves = c.set-has_leaf.ensures in
+    let inner = c.set-has_inner.ensures in
+    let top = c.set.ensures in (
+      record {
+        room = omega (arith, c.self.invariant.0.room, leaves.count, inner.count);
+        tells = tells_after c.self.inside.inner c.set-has_inner.new.self c.self.inside.leaves c.set-has_leaf.new.self (c.args.k / 64) c.set-has_leaf.result c.self.invariant.0.tells leaves.any inner.same inner.others leaves.words;
+      },
+      record {
+        room = omega (arith, c.self.invariant.1.room, inner.count, top.count);
+        tells = tells_after c.self.inside.top c.set.new.self c.self.inside.inner c.set-has_inner.new.self (c.args.k / 64 / 64) c.set-has_inner.result c.self.invariant.1.tells inner.any top.same top.others inner.words;
+      },
+    )
+
+pub returns : goal.returns
+returns c =
+    let size = ap length (sym c.self.view_is) ∙ length-bits_of c.self.inside.leaves in
+    bits_of-set c.self.inside.leaves c.set-has_leaf.new.self c.args.k c.args.is_member c.set-has_leaf.ensures.count (omega (arith, size)) c.set-has_leaf.ensures.same c.set-has_leaf.ensures.others
+    ∙ ap (λ members. slice_set members c.args.k c.args.is_member) c.self.view_is
