@@ -7,8 +7,8 @@ use Rattle.act_types.specs.declared.message.Reply.{Reply}
 use Rattle.act_rules.specs.RunList.{after_item, state_after, has_terminated}
 use Rattle.act_rules.specs.declared.history.RunItem.{RunItem}
 use Rattle.act_rules.specs.declared.outcome.Arrival.{Arrival}
-use Rattle.act_rules.specs.declared.outcome.Arrival.TheVariants.{Stranger}
-use Rattle.act_inbox.specs.Inbox.{InboxValue, arrival_of, note_arrival, next_of, IsNextTaken, IsDrained}
+use Rattle.act_rules.specs.declared.outcome.Arrival.TheVariants.{New, Stranger}
+use Rattle.act_inbox.specs.Inbox.{InboxValue, arrival_of, note_arrival, handed_of, holding, next_of, HoldsNone, IsNextTaken, IsDrained}
 use Rattle.act_actor.specs.Value.{BookValue, ActorSeen}
 
 -- an actor with this beside its kind, and its kind in this state
@@ -45,6 +45,17 @@ reply_to actor packet = record {
   place = length actor.log;
   answer = (after_item actor.state (item_of packet)).1;
 }
+
+-- the actor did not terminate, it holds no call, and the packet is new to it and its caller's next call
+pub record RunsAtOnce (packet : Packet) (id : ℕ) (log : List RunItem) (inbox : InboxValue) : Type 0 where
+  pub lives : has_terminated log ≡ false
+  pub alone : HoldsNone inbox
+  pub is_new : arrival_at id inbox packet ≡ New
+  pub numbered : packet.number ≡ handed_of inbox packet.caller
+
+-- the actor after a new packet arrived
+abbrev pub with_call : Packet → ActorSeen → ActorSeen
+with_call packet actor = record actor { inbox = holding packet actor.inbox }
 
 -- the actor took the caller's packet, and it ran
 pub record HasRun (caller : ℕ) (packet : Packet) (old new : ActorSeen) : Type 0 where

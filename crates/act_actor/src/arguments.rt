@@ -14,7 +14,7 @@ pub(crate) fn values_of(
 ) -> Result<Result<Vec<Value>, FutureId>, NoMemory>
     ensures { IfOk result (λ given. MatchResult given (λ values. values_of args.now ≡ Ok values.items) (λ future. values_of args.now ≡ Err future)) }
 {
-    let mut values = Vec::new(alloc);
+    let mut values = Vec::with_capacity(alloc, args.len())?;
     for arg in args {
         match arg {
             Settled::Good(value) => values.push(value.copy_of(alloc)?)?,

@@ -1,13 +1,14 @@
 //! What an actor keeps beside its kind.
 
-ghost use Rattle.std.specs.Prelude.{◌≡◌, ◌≢◌, ◌≤◌, ◌*◌, ℕ, [], length, IfOk, OnOk, IfErr, OnErr, IfSome, IfNone, IsSome, is_some, option_copied};
+ghost use Rattle.std.specs.Prelude.{◌≡◌, ◌≢◌, ◌<◌, ◌≤◌, ◌*◌, ℕ, [], length, IfOk, OnOk, IfErr, OnErr, IfSome, IfNone, IsSome, is_some, option_copied};
 ghost use Rattle.std.specs.Bool.{Decides};
 ghost use Rattle.std.specs.Option.{option_map};
-ghost use Rattle.act_inbox.specs.Inbox.{IsOpened, note_of, waiting, note_after, waiting_after};
+ghost use Rattle.std.specs.Vec.{vec_len, vec_capacity};
+ghost use Rattle.act_inbox.specs.Inbox.{IsOpened, note_of, waiting, note_after, waiting_after, HoldsNone};
 ghost use Rattle.act_rules.specs.RunList.{after_item, has_terminated};
 ghost use Rattle.act_rules.specs.declared.outcome.Arrival.TheVariants.{New};
 ghost use Rattle.act_actor.specs.Cast.{CallersDiffer};
-ghost use Rattle.act_actor.specs.Actor.{seen, item_of, reply_to, arrival_at, note_arrival_at, next_call, MayRetire, HasRun};
+ghost use Rattle.act_actor.specs.Actor.{seen, item_of, reply_to, arrival_at, note_arrival_at, next_call, with_call, MayRetire, RunsAtOnce, HasRun};
 
 use crate::arguments::values_of;
 use crate::terminate::{is_end, terminated};
@@ -70,6 +71,32 @@ fn answer_of<K: Actor>(alloc: Global, kind: &mut K, packet: &Packet) -> Result<A
         },
         Err(future) => Ok(Err(Fault::Dependency(future))),
     }
+}
+
+/// Room in the log for a call, and the reply to it, which it gets there. The room comes first, and
+/// then the kind's answer.
+fn answered<K: Actor>(
+    log: &mut Vec<RunItem>,
+    id: ActorId,
+    kind: &mut K,
+    packet: &Packet,
+) -> Result<Reply, NoMemory>
+    requires few { length log.old.items ≤ MOST_CALLERS * MOST_CALLS }
+    ensures reply { IfOk result (λ reply. reply ≡ record { actor = id; caller = packet.now.caller; future = packet.now.future; place = length log.old.items; answer = (after_item (K.state kind.old) (item_of packet.now)).1 }) }
+    ensures room { OnOk result (vec_len log.new < vec_capacity log.new) }
+    ensures log { log.new.items ≡ log.old.items }
+    ensures moved { OnOk result (K.state kind.new ≡ (after_item (K.state kind.old) (item_of packet.now)).0) }
+    ensures err { OnErr result (K.state kind.new ≡ K.state kind.old) }
+{
+    log.reserve(1)?;
+    let answer = answer_of(*log.allocator(), kind, packet)?;
+    Ok(Reply {
+        actor: id,
+        caller: packet.caller,
+        future: packet.future,
+        place: log.len() as u32,
+        answer,
+    })
 }
 
 impl Book {
@@ -180,17 +207,49 @@ impl Book {
         let Some(packet) = self.inbox.peek(caller) else {
             return Ok(None);
         };
-        self.log.reserve(1)?;
-        let answer = answer_of(*self.log.allocator(), kind, packet)?;
+        let reply = answered(&mut self.log, self.id, kind, packet)?;
         let packet = self.inbox.next(caller).unwrap();
-        let reply = Reply {
-            actor: self.id,
-            caller: packet.caller,
-            future: packet.future,
-            place: self.log.len() as u32,
-            answer,
-        };
         self.log.push_reserved(item_of(packet));
         Ok(Some(reply))
+    }
+
+    /// Whether no call is held.
+    pub(crate) fn holds_none(&self) -> bool
+        ensures { Decides result (HoldsNone self.now.inbox) }
+    {
+        self.inbox.is_empty()
+    }
+
+    /// Whether the actor did not terminate, no call is held, and this one is its caller's next and
+    /// new.
+    pub(crate) fn runs_at_once(&self, packet: &Packet) -> bool
+        ensures { Decides result (RunsAtOnce packet.now self.now.id self.now.log self.now.inbox) }
+    {
+        if self.terminated() || !self.inbox.is_empty() {
+            return false;
+        }
+        if self.inbox.handed(packet.caller) != packet.number {
+            return false;
+        }
+        matches!(self.arrival(packet), Arrival::New)
+    }
+
+    /// Runs a call at once on the kind, as one that arrived and is run then. It never stands in the
+    /// inbox, and each growth comes before the kind is asked.
+    pub(crate) fn run_now<K: Actor>(
+        &mut self,
+        kind: &mut K,
+        call: Packet,
+    ) -> Result<Reply, NoMemory>
+        requires at_once { RunsAtOnce call self.old.id self.old.log self.old.inbox }
+        ensures reply { IfOk result (λ reply. reply ≡ reply_to (with_call call (seen self.old (K.state kind.old))) call) }
+        ensures ran { OnOk result (HasRun call.caller call (with_call call (seen self.old (K.state kind.old))) (seen self.new (K.state kind.new))) }
+        ensures alone { HoldsNone self.new.inbox }
+        ensures err { OnErr result (seen self.new (K.state kind.new) ≡ seen self.old (K.state kind.old)) }
+    {
+        let reply = answered(&mut self.log, self.id, kind, &call)?;
+        self.inbox.pass_by(&call);
+        self.log.push_reserved(item_of(call));
+        Ok(reply)
     }
 }

@@ -11,9 +11,9 @@ ghost use Rattle.act_types.specs.KindState.{KindState};
 ghost use Rattle.act_types.specs.Texts.{state_text};
 ghost use Rattle.act_rules.specs.RunList.{answer_at, has_terminated};
 ghost use Rattle.act_rules.specs.declared.outcome.Arrival.TheVariants.{New};
-ghost use Rattle.act_inbox.specs.Inbox.{IsOpened, note_of, waiting, note_after, waiting_after};
+ghost use Rattle.act_inbox.specs.Inbox.{IsOpened, note_of, waiting, note_after, waiting_after, HoldsNone};
 ghost use Rattle.act_actor.specs.Cast.{CallersDiffer};
-ghost use Rattle.act_actor.specs.Actor.{reply_to, arrival_at, note_arrival_at, next_call, MayRetire, HasRun, HasRunFrom};
+ghost use Rattle.act_actor.specs.Actor.{reply_to, arrival_at, note_arrival_at, next_call, with_call, MayRetire, RunsAtOnce, HasRun, HasRunFrom};
 ghost use Rattle.act_actor.specs.Seen.{live_seen, retired_seen};
 
 use crate::book::Book;
@@ -145,6 +145,33 @@ impl<K: Actor> Live<K> {
         ensures err { OnErr result (live_seen K.state self.new ≡ live_seen K.state self.old) }
     {
         self.book.run(&mut self.kind, caller)
+    }
+
+    /// Whether no call is held.
+    pub fn holds_none(&self) -> bool
+        ensures { Decides result (HoldsNone (live_seen K.state self.now).inbox) }
+    {
+        self.book.holds_none()
+    }
+
+    /// Whether the actor did not terminate, no call is held, and this one is its caller's next and
+    /// new: if it arrived, it would be the one call to run.
+    pub fn runs_at_once(&self, packet: &Packet) -> bool
+        ensures { let now = live_seen K.state self.now in Decides result (RunsAtOnce packet.now now.id now.log now.inbox) }
+    {
+        self.book.runs_at_once(packet)
+    }
+
+    /// Runs a call at once, as `arrive` and then `run` do. The packet is dropped where memory is
+    /// refused.
+    pub fn run_now(&mut self, packet: Packet) -> Result<Reply, NoMemory>
+        requires at_once { let before = live_seen K.state self.old in RunsAtOnce packet before.id before.log before.inbox }
+        ensures reply { IfOk result (λ reply. reply ≡ reply_to (with_call packet (live_seen K.state self.old)) packet) }
+        ensures ran { OnOk result (HasRun packet.caller packet (with_call packet (live_seen K.state self.old)) (live_seen K.state self.new)) }
+        ensures alone { HoldsNone (live_seen K.state self.new).inbox }
+        ensures err { OnErr result (live_seen K.state self.new ≡ live_seen K.state self.old) }
+    {
+        self.book.run_now(&mut self.kind, packet)
     }
 
     /// Ends the actor. Its kind and the calls that it holds are dropped.

@@ -77,6 +77,76 @@ fn play<K: Actor>(
     Ok(())
 }
 
+/// Runs a call at once where it may.
+fn run_at_once<K: Actor>(
+    alloc: Global,
+    live: &mut Live<K>,
+    row: &Row,
+) -> Result<Option<Reply>, NoMemory> {
+    let packet = packet_of(alloc, row)?;
+    if !live.runs_at_once(&packet) {
+        return Ok(None);
+    }
+    let reply = live.run_now(packet)?;
+    Ok(Some(reply))
+}
+
+/// A call that runs at once leaves what one leaves that arrives and runs: the reply, the log, the
+/// state, and what arrives and runs after it.
+#[test]
+fn at_once_as_arrived_and_run(rt: HostRuntime) -> Result<(), Fail> {
+    let alloc = rt.alloc();
+    let a1 = ActorId::new(1).unwrap();
+    let c1 = CallerId::new(1).unwrap();
+    let mut live = Live::open(alloc, a1, &[c1], Counter::open())?;
+    let mut other = Live::open(alloc, a1, &[c1], Counter::open())?;
+    let none: [Given; 0] = [];
+    let rows: [(Row, bool); 6] = [
+        ((1, Method::Get, &none, Ok(0)), false),
+        ((0, Method::Add, &[Given::Int(5)], Ok(5)), true),
+        ((0, Method::Add, &[Given::Int(5)], Ok(5)), false),
+        ((1, Method::Add, &[Given::Int(2)], Ok(7)), true),
+        ((65_536, Method::Get, &none, Ok(7)), false),
+        ((2, Method::Get, &none, Ok(7)), true),
+    ];
+    for (row, runs) in &rows {
+        let wanted = runs.then(|| reply_of(row));
+        assert_eq!(rt; run_at_once(alloc, &mut live, row)?, wanted);
+        if *runs {
+            assert_eq!(rt; other.arrive(packet_of(alloc, row)?), Ok(Arrival::New));
+            assert_eq!(rt; other.run(c1)?, wanted);
+        }
+        assert!(rt; live.holds_none());
+        assert_eq!(rt; live.log().len(), other.log().len());
+        assert_eq!(rt; text_of(&rt, alloc, &live)?, text_of(&rt, alloc, &other)?);
+    }
+    let held: Row = (4, Method::Get, &none, Ok(7));
+    let next: Row = (3, Method::Get, &none, Ok(7));
+    assert_eq!(rt; live.arrive(packet_of(alloc, &held)?), Ok(Arrival::New));
+    assert!(rt; !live.holds_none());
+    assert_eq!(rt; run_at_once(alloc, &mut live, &next)?, None);
+    assert_eq!(rt; live.arrive(packet_of(alloc, &next)?), Ok(Arrival::New));
+    assert_eq!(rt; live.run(c1)?, Some(reply_of(&next)));
+    Ok(())
+}
+
+/// A call doesn't run at once after a `terminate`, nor is one that was for another actor.
+#[test]
+fn not_at_once(rt: HostRuntime) -> Result<(), Fail> {
+    let alloc = rt.alloc();
+    let c1 = CallerId::new(1).unwrap();
+    let none: [Given; 0] = [];
+    let end: Row = (0, Method::Terminate, &none, Ok(0));
+    let after: Row = (1, Method::Get, &none, Ok(0));
+    let mut elsewhere = Live::open(alloc, ActorId::new(2).unwrap(), &[c1], Counter::open())?;
+    assert_eq!(rt; run_at_once(alloc, &mut elsewhere, &end)?, None);
+    let mut live = Live::open(alloc, ActorId::new(1).unwrap(), &[c1], Counter::open())?;
+    assert!(rt; run_at_once(alloc, &mut live, &end)?.is_some());
+    assert!(rt; live.terminated());
+    assert_eq!(rt; run_at_once(alloc, &mut live, &after)?, None);
+    Ok(())
+}
+
 #[test]
 fn failed_arguments(rt: HostRuntime) -> Result<(), Fail> {
     let alloc = rt.alloc();

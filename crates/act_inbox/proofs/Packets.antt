@@ -5,7 +5,7 @@ use Rattle.std.proofs.lemmas.Bool.Decides.{nat_tests}
 use Rattle.act_types.specs.declared.message.Packet.{Packet}
 use Rattle.act_rules.specs.declared.outcome.Arrival.TheVariants.{New, Repeat, Stranger}
 use Rattle.act_inbox.specs.declared.inbox.Lane.{Lane}
-use Rattle.act_inbox.specs.Inbox.{InboxValue, is_call, lane_of, is_listed, handed_of, was_handed, waiting, next_of, arrival_of, waiting_after}
+use Rattle.act_inbox.specs.Inbox.{InboxValue, is_call, lane_of, is_listed, handed_of, was_handed, waiting, next_of, came, arrival_of, waiting_after, holding}
 
 pub both_equal : (a b c d : ℕ) → ((a == b) && (c == d)) ≡ true → (a ≡ b) × (c ≡ d)
 both_equal a b c d e = grind (arith, nat_tests)
@@ -48,6 +48,14 @@ new_tells inbox packet e =
     let told = arrival_tells (is_listed inbox packet.caller) (nat_lt packet.number 65536) (was_handed inbox packet.caller packet.number) (find (is_call packet.caller packet.number) inbox.held) e in
     (ltb-true _ _ told.0, ltb-false _ _ told.1, told.2)
 
+listed_told : (listed small was : Bool) → (if listed && small then (if was then Repeat else New) else Stranger) ≡ New → listed ≡ true
+listed_told false small was e = absurd (cc)
+listed_told true small was e = refl
+
+-- its caller is listed
+pub new_listed : (inbox : InboxValue) (packet : Packet) → arrival_of inbox packet ≡ New → is_listed inbox packet.caller ≡ true
+new_listed inbox packet e = listed_told (is_listed inbox packet.caller) (nat_lt packet.number 65536) (came inbox packet.caller packet.number) e
+
 -- a packet that comes for the first time
 module _ (old new : InboxValue) (packet : Packet) (is_new : arrival_of old packet ≡ New) (lanes : new.lanes ≡ old.lanes)
     (held : (caller number : ℕ) → find (is_call caller number) new.held ≡ (if is_call caller number packet then Some packet else find (is_call caller number) old.held)) where
@@ -61,3 +69,7 @@ module _ (old new : InboxValue) (packet : Packet) (is_new : arrival_of old packe
 
   pub waits_then : (caller number : ℕ) → waiting new caller number ≡ waiting_after New packet old caller number
   waits_then caller number = waits_by caller number (is_call caller number packet) refl
+
+-- an inbox that holds a new packet more is the one that it comes to
+pub waits_holding : (inbox : InboxValue) (packet : Packet) → arrival_of inbox packet ≡ New → (caller number : ℕ) → waiting (holding packet inbox) caller number ≡ waiting_after New packet inbox caller number
+waits_holding inbox packet is_new caller number = waits_then inbox (holding packet inbox) packet is_new refl (λ _ _. refl) caller number

@@ -1,5 +1,10 @@
 -- What the slots of a slab tell of the list of its values.
-use Rattle.std.proofs.Common.{◌≡◌, ◌≢◌, ℕ, zero, suc, ◌<◌, List, [], ◌∷◌, length, Option, Some, None, Bool, true, false, cond, refl, ap, subst, arith, get_or, set, slice_get, find, filter_map, All}
+use Rattle.std.proofs.Common.{◌≡◌, ◌≢◌, ℕ, zero, suc, ◌<◌, List, [], ◌∷◌, length, Option, Some, None, Bool, true, false, cond, refl, ap, subst, arith, get_or, set, slice_get, find, filter_map, All, is_some, ◌==◌, sym, ◌∙◌, eq-eqb}
+use Rattle.std.specs.Prelude.{count_by}
+use Rattle.std.specs.Bool.{Decides}
+use Rattle.std.proofs.lemmas.Bool.{eqb-true}
+use Rattle.std.proofs.lemmas.List.{nil_from_length}
+use Rattle.slab.proofs.DrainLemmas.{length-values}
 use Rattle.std.proofs.lemmas.List.Elements.{All-nil, All-cons, All-head, All-tail}
 
 module _ {X : Type 0} where
@@ -50,3 +55,10 @@ module _ {X : Type 0} where
   slice_get-set_other (y ∷ xs) zero (suc other) x differs = refl
   slice_get-set_other (y ∷ xs) (suc place) zero x differs = refl
   slice_get-set_other (y ∷ xs) (suc place) (suc other) x differs = slice_get-set_other xs place other x (λ same. differs (ap suc same))
+
+  -- where no slot counts, there are no values
+  pub none_decides : (slots : List (Option X)) (empty : Bool) → empty ≡ (count_by is_some slots == 0) → Decides empty (filled slots ≡ [])
+  none_decides slots empty is = (
+    λ yes. nil_from_length (filled slots) (sym (length-values slots) ∙ eqb-true _ _ (sym is ∙ yes)),
+    λ none. is ∙ eq-eqb _ _ (length-values slots ∙ ap (λ (values : List X). length values) none),
+  )

@@ -1,18 +1,23 @@
 -- What handing out a caller's next call does.
-use Rattle.std.proofs.Common.{◌≡◌, ℕ, ◌+◌, ◌<◌, ◌≤◌, Option, Some, None, Bool, true, false, ◌==◌, if◌then◌else◌, refl, sym, ◌∙◌, ap, subst, arith, get_or, inl, inr, find, position, All}
-use Rattle.std.specs.Prelude.{slice_set}
+use Rattle.std.proofs.Common.{◌≡◌, ℕ, ◌∷◌, ◌+◌, ◌<◌, ◌≤◌, Option, Some, None, Bool, true, false, ◌==◌, if◌then◌else◌, refl, sym, ◌∙◌, ap, subst, arith, get_or, inl, inr, find, position, All, eq-eqb}
+use Rattle.std.specs.Prelude.{slice_set, is_some, IsSome}
 use Rattle.std.proofs.Math.Seq.{map-set_same}
 use Rattle.std.proofs.lemmas.Bool.{lt-ltb, ltb-true, ltb-false}
 use Rattle.std.proofs.lemmas.Bool.Decides.{eqb_tells}
 use Rattle.std.proofs.lemmas.List.{length-set}
-use Rattle.std.proofs.lemmas.List.Elements.{All-set}
+use Rattle.std.proofs.lemmas.List.Elements.{All-set, All-cons}
 use Rattle.act_types.specs.declared.message.Packet.{Packet}
 use Rattle.act_inbox.specs.declared.inbox.Lane.{Lane}
 use Rattle.act_inbox.specs.Value.{IsInbox}
-use Rattle.act_inbox.specs.Inbox.{InboxValue, is_lane_of, is_call, lane_of, is_listed, handed_of, was_handed, next_of, IsNextTaken}
+use Rattle.act_inbox.specs.Inbox.{InboxValue, is_lane_of, is_call, lane_of, is_listed, handed_of, was_handed, next_of, holding, IsNextToCome, IsNextTaken}
 use Rattle.act_inbox.proofs.Finding.{find-tells}
-use Rattle.act_inbox.proofs.Lanes.{one_more, lane_is, caller_at, same_lane, lane_written, lane_left, in_all_written, in_all_bound}
-use Rattle.act_inbox.proofs.Packets.{is_call_tells, listed_next}
+use Rattle.act_inbox.proofs.Lanes.{one_more, lane_is, caller_at, same_lane, listed_handed, lane_written, lane_left, in_all_written, in_all_bound}
+use Rattle.act_inbox.proofs.Packets.{is_call_tells, listed_next, new_tells}
+
+-- what is some is there
+pub is_there : {X : Type 0} (o : Option X) → is_some o ≡ true → IsSome o
+is_there None e = absurd (cc)
+is_there (Some x) e = refl
 
 if_masked : (b b' : Bool) (x y : Option Packet) → (b' ≡ true → b ≡ true) → (b ≡ false → x ≡ y) → (if b then None else x) ≡ (if b then None else (if b' then None else y))
 if_masked true b' x y low same = refl
@@ -102,3 +107,33 @@ module _ (old : InboxValue) (caller place : ℕ) (lane : Lane) (packet : Packet)
           (λ past. held_same other number (is_call other number packet) refl (ltb-false _ _ past));
       notes = λ other. rw notes refl;
     }
+
+-- a packet that comes and goes out at once
+module _ (inbox : InboxValue) (packet : Packet) (place : ℕ) (lane : Lane)
+    (at : position (is_lane_of packet.caller) inbox.lanes ≡ Some place) (lane_stands : lane ≡ get_or inbox.lanes place lane)
+    (next : IsNextToCome packet inbox) (sound : IsInbox inbox.lanes inbox.held) where
+  held_sound : IsInbox inbox.lanes (packet ∷ inbox.held)
+  held_sound = record {
+    distinct = sound.distinct;
+    few = sound.few;
+    counted = sound.counted;
+    numbered = All-cons (λ (each : Packet). each.number < 65536) packet inbox.held (new_tells inbox packet next.is_new).0 sound.numbered;
+  }
+
+  held_first : find (is_call packet.caller lane.handed) (packet ∷ inbox.held) ≡ Some packet
+  held_first =
+      let here : packet.number ≡ lane.handed = next.numbered ∙ sym (listed_handed inbox packet.caller lane (lane_is inbox packet.caller place at lane lane_stands)) in
+      rw (eq-eqb packet.caller packet.caller refl, eq-eqb packet.number lane.handed here) refl
+
+  abbrev passed : InboxValue
+  passed = record inbox { lanes = slice_set inbox.lanes place (one_more lane) }
+
+  pub sound_passed : IsInbox passed.lanes passed.held
+  sound_passed =
+      sound_then (holding packet inbox) packet.caller place lane packet at lane_stands held_first held_sound
+      passed lane lane_stands refl (λ other number is. rw is refl) sound.numbered refl
+
+  pub next_passed : IsNextTaken packet.caller packet (holding packet inbox) passed
+  next_passed =
+      next_taken (holding packet inbox) packet.caller place lane packet at lane_stands held_first held_sound
+      passed lane lane_stands refl (λ other number is. rw is refl) sound.numbered refl

@@ -1,5 +1,5 @@
 -- What an inbox holds, and what its calls do.
-use Rattle.std.specs.Prelude.{◌≡◌, ℕ, ◌+◌, ◌*◌, ◌≤◌, ◌==◌, ◌&&◌, ◌||◌, nat_lt, List, find, sum_by, Option, None, Some, is_some, Bool, true, if◌then◌else◌, slice_index_or}
+use Rattle.std.specs.Prelude.{◌≡◌, ℕ, ◌+◌, ◌*◌, ◌≤◌, ◌==◌, ◌&&◌, ◌||◌, nat_lt, List, [], ◌∷◌, find, sum_by, Option, None, Some, is_some, Bool, true, if◌then◌else◌, slice_index_or}
 use Rattle.std.specs.Option.{option_map_or}
 use Rattle.act_types.specs.declared.limits.TheConstants.{MOST_CALLERS, MOST_CALLS}
 use Rattle.act_types.specs.declared.message.Packet.{Packet}
@@ -77,6 +77,19 @@ abbrev pub waiting_after : Arrival → Packet → InboxValue → ℕ → ℕ →
 waiting_after New packet inbox caller number = if is_call caller number packet then Some packet else waiting inbox caller number
 waiting_after Repeat packet inbox caller number = waiting inbox caller number
 waiting_after Stranger packet inbox caller number = waiting inbox caller number
+
+-- the inbox that holds one more call
+abbrev pub holding : Packet → InboxValue → InboxValue
+holding packet inbox = record inbox { held = packet ∷ inbox.held }
+
+-- no call is held
+abbrev pub HoldsNone : InboxValue → Type 0
+HoldsNone inbox = inbox.held ≡ []
+
+-- the packet is new to the inbox, and its caller's next call
+pub record IsNextToCome (packet : Packet) (inbox : InboxValue) : Type 0 where
+  pub is_new : arrival_of inbox packet ≡ New
+  pub numbered : packet.number ≡ handed_of inbox packet.caller
 
 -- what a caller's release note tells after a note came
 abbrev pub note_after : Arrival → ReleaseNote → InboxValue → ℕ → Option ℕ

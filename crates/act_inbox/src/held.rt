@@ -2,6 +2,7 @@
 //! logarithm of how many of its caller's are held.
 
 ghost use Rattle.std.specs.Prelude.{◌≡◌, ℕ, ◌<◌, [], None, Some, All, find, length, IfOk, IfErr, OnOk, OnErr, IfSome, IfNone, if◌then◌else◌, false, option_copied};
+ghost use Rattle.std.specs.Bool.{Decides};
 ghost use Rattle.act_types.specs.declared.message.Packet.{Packet};
 ghost use Rattle.act_inbox.specs.Inbox.{is_call};
 
@@ -55,6 +56,13 @@ impl HeldCalls {
             packets: Slab::new(alloc),
             keys: no_keys(alloc)?,
         })
+    }
+
+    /// Whether no call is held.
+    pub(crate) fn is_empty(&self) -> bool
+        ensures { Decides result (self.now ≡ []) }
+    {
+        self.packets.is_empty()
     }
 
     /// The caller's call of this number, if it is held.

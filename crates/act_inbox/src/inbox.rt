@@ -3,7 +3,7 @@
 ghost use Rattle.std.specs.Prelude.{◌≡◌, ◌≢◌, ℕ, None, Some, slice_index_or, ◌≤◌, ◌==◌, All, AllPairs, map, position, is_some, IfOk, OnOk, IfErr, OnErr, IfSome, IfNone, option_copied};
 ghost use Rattle.act_rules.specs.declared.outcome.Arrival.TheVariants.{New};
 ghost use Rattle.std.specs.Bool.{Decides};
-ghost use Rattle.act_inbox.specs.Inbox.{InboxValue, is_lane_of, is_call, lane_at_first, is_listed, handed_of, note_of, waiting, next_of, arrival_of, note_arrival, waiting_after, note_after, IsOpened, IsNextTaken, IsDrained};
+ghost use Rattle.act_inbox.specs.Inbox.{InboxValue, is_lane_of, is_call, lane_at_first, is_listed, handed_of, note_of, waiting, next_of, arrival_of, note_arrival, waiting_after, note_after, holding, HoldsNone, IsNextToCome, IsOpened, IsNextTaken, IsDrained};
 
 use crate::held::{CALLER_NUMBERS, HeldCalls};
 use act_rules::Arrival;
@@ -177,6 +177,26 @@ impl Inbox {
         let packet = self.held.remove(caller, self.lanes[place].handed)?;
         self.lanes[place].handed += 1;
         Some(packet)
+    }
+
+    /// Whether no call is held.
+    pub fn is_empty(&self) -> bool
+        ensures { Decides result (HoldsNone self.now) }
+    {
+        self.held.is_empty()
+    }
+
+    /// Takes in the caller's next call and hands it out at once, as `arrive` and then `next` do,
+    /// where no other is held. The packet stays with whoever calls.
+    pub fn pass_by(&mut self, packet: &Packet)
+        requires empty { HoldsNone self.old }
+        requires next { IsNextToCome packet.now self.old }
+        ensures taken { IsNextTaken packet.now.caller packet.now (holding packet.now self.old) self.new }
+        ensures held { self.new.held ≡ self.old.held }
+    {
+        let place = place_of_lane(&self.lanes, packet.caller).unwrap();
+        let lane = &mut self.lanes[place];
+        lane.handed += 1;
     }
 
     /// How many calls of the caller were handed out.

@@ -213,6 +213,20 @@ fn word_after(word: u32) -> u32 {
     word ^ (word << 5)
 }
 
+/// Passes a call by where that may be done, and whether it was.
+fn passed_by(inbox: &mut Inbox, packet: &Packet) -> bool {
+    if !inbox.is_empty() || inbox.handed(packet.caller) != packet.number {
+        return false;
+    }
+    match inbox.arrival(packet) {
+        Arrival::New => {
+            inbox.pass_by(packet);
+            true
+        }
+        _ => false,
+    }
+}
+
 /// Steps of an inbox and of a plain one, each drawn from the row of random words.
 fn random_run(rt: &impl Abort, alloc: Global, word: &mut u32) -> Result<(), Fail> {
     let callers = [
@@ -243,7 +257,12 @@ fn random_run(rt: &impl Abort, alloc: Global, word: &mut u32) -> Result<(), Fail
             let arrival = plain.arrive(call)?;
             let packet = call.packet(alloc);
             assert_eq!(rt; inbox.arrival(&packet), arrival);
-            assert_eq!(rt; inbox.arrive(packet), Ok(arrival));
+            if *word / 72 % 2 == 0 && passed_by(&mut inbox, &packet) {
+                assert_eq!(rt; plain.next(caller), Some(call));
+            } else {
+                assert_eq!(rt; inbox.arrive(packet), Ok(arrival));
+            }
+            assert_eq!(rt; inbox.is_empty(), plain.held.is_empty());
         }
         assert!(rt;
             callers
@@ -251,6 +270,29 @@ fn random_run(rt: &impl Abort, alloc: Global, word: &mut u32) -> Result<(), Fail
                 .all(|caller| seen(&inbox, *caller) == plain.seen(*caller))
         );
     }
+    Ok(())
+}
+
+/// A call that is passed by leaves what one leaves that comes and goes out.
+#[test]
+fn passed_by_as_come_and_gone(rt: HostRuntime) -> Result<(), Fail> {
+    let alloc = rt.alloc();
+    let c1 = CallerId::new(1).unwrap();
+    let mut inbox = Inbox::open(alloc, &[c1])?;
+    for (number, passes) in [(1, false), (0, true), (0, false), (2, false), (1, true)] {
+        let packet = call_of(alloc, number)?;
+        assert_eq!(rt; passed_by(&mut inbox, &packet), passes);
+    }
+    assert_eq!(rt; (inbox.handed(c1), inbox.has_next(c1)), (2, false));
+    assert_eq!(rt; inbox.arrive(call_of(alloc, 1)?), Ok(Arrival::Repeat));
+    assert_eq!(rt; inbox.arrive(call_of(alloc, 3)?), Ok(Arrival::New));
+    assert_eq!(rt; inbox.is_empty(), false);
+    assert_eq!(rt; passed_by(&mut inbox, &call_of(alloc, 2)?), false);
+    assert_eq!(rt; inbox.arrive(call_of(alloc, 2)?), Ok(Arrival::New));
+    for wanted in [Some(2), Some(3), None] {
+        assert_eq!(rt; inbox.next(c1).map(|packet| packet.number), wanted);
+    }
+    assert_eq!(rt; inbox.is_empty(), true);
     Ok(())
 }
 
