@@ -100,6 +100,10 @@ numbered_call calls k call = record { actor = call.actor; number = number_of cal
 abbrev pub call_at : List Submission → ℕ → Option Call
 call_at calls k = option_map (numbered_call calls k) (slice_get calls k)
 
+-- the actor that call k goes to, and its number among the calls to that actor
+abbrev pub address_at : List Submission → ℕ → Option (ℕ × ℕ)
+address_at calls k = option_map (λ call. (call.actor, call.number)) (call_at calls k)
+
 -- why call k is not sent, memory apart
 abbrev pub sending_refusal : OwnerValue → ℕ → Option SendRefusal
 sending_refusal owner k = send_refusal owner.kept k (is_sent owner k) (slice_get owner.calls k)

@@ -47,7 +47,7 @@ pub(crate) fn all_settled(
 ) -> Result<ListOf<Settled>, NoMemory>
     ensures { IfOk result (λ sent. sent ≡ map (settled (answers_of table.now.rows)) args.now) }
 {
-    let mut sent = ListOf::new(alloc);
+    let mut sent = ListOf::with_capacity(alloc, args.len())?;
     for arg in args.as_slice() {
         sent.push(settled(alloc, arg, table)?)?;
     }

@@ -6,7 +6,7 @@ ghost use Rattle.act_rules.specs.declared.outcome.SubmitRefusal.TheVariants.{NoM
 ghost use Rattle.act_rules.specs.declared.outcome.SendRefusal.TheVariants.{NoMemory as NoRoomToSend};
 ghost use Rattle.act_rules.specs.Submissions.{calls_to, copies_held, handle_refusal, limit_refusal, kept_at};
 ghost use Rattle.act_handles.specs.Handles.{copies_in, given_in, copied, with_copy, without_copy};
-ghost use Rattle.act_owner.specs.Owner.{OwnerValue, opened, opened_under, opened_with, limit_of, pending, with_handles, release_told, kill_told, submission_refusal, with_call, call_at, is_sent, is_dead, sending_refusal, packet_at, with_sent, is_known_call, first_ready, is_to, is_death, is_of_call, collected_reply, after_reply, collected_death, after_death, collected, after_collect, waits_for, KnowsDeath};
+ghost use Rattle.act_owner.specs.Owner.{OwnerValue, opened, opened_under, opened_with, limit_of, pending, with_handles, release_told, kill_told, submission_refusal, with_call, call_at, is_sent, is_dead, sending_refusal, packet_at, address_at, with_sent, is_known_call, first_ready, is_to, is_death, is_of_call, collected_reply, after_reply, collected_death, after_death, collected, after_collect, waits_for, KnowsDeath};
 ghost use Rattle.act_types.specs.declared.message.Notice.TheVariants.{Death};
 
 use crate::args::{all_settled, are_earlier};
@@ -364,6 +364,15 @@ impl Owner {
         Ok(k)
     }
 
+    /// Makes room for so many calls more, so that memory is asked for once and not call by call.
+    pub fn reserve(&mut self, count: usize) -> Result<(), NoMemory>
+        ensures { self.new ≡ self.old }
+    {
+        self.calls.reserve(count)?;
+        self.resolver.reserve(count)?;
+        self.table.reserve(count)
+    }
+
     /// Takes a call and gives its future. An `Err` changes nothing.
     pub fn submit(
         &mut self,
@@ -402,8 +411,9 @@ impl Owner {
         None
     }
 
-    /// The packet of a call, memory permitting, or why it is not sent.
-    fn packet_of(&self, alloc: Global, k: FutureId) -> Result<Packet, SendRefusal>
+    /// The packet of a call, memory permitting, or why it is not sent. It marks nothing, so it serves
+    /// a call that was sent before, whose packet is the same each time.
+    pub fn packet_of(&self, alloc: Global, k: FutureId) -> Result<Packet, SendRefusal>
         ensures value { IfOk result (λ packet. packet_at self.now k ≡ Some packet) }
         ensures accepted { OnOk result (sending_refusal self.now k ≡ None) }
         ensures refusal { IfErr result (λ refusal. refusal ≡ unwrap_or (sending_refusal self.now k) NoRoomToSend) }
@@ -427,6 +437,21 @@ impl Owner {
         })
     }
 
+    /// The actor that a call goes to, and the call's number there, or why it is not sent.
+    fn address_of(&self, k: FutureId) -> Result<(ActorId, u32), SendRefusal>
+        ensures value { IfOk result (λ address. address_at self.now.calls k ≡ Some address) }
+        ensures accepted { OnOk result (sending_refusal self.now k ≡ None) }
+        ensures refusal { IfErr result (λ refusal. sending_refusal self.now k ≡ Some refusal) }
+    {
+        let Some(call) = self.call(k) else {
+            return Err(SendRefusal::NoFuture);
+        };
+        if let Some(refusal) = self.sending_refusal(k) {
+            return Err(refusal);
+        }
+        Ok((call.actor, call.number))
+    }
+
     /// The packet of a call, which is marked sent. It is the same each time. An `Err` changes
     /// nothing.
     pub fn packet(&mut self, alloc: Global, k: FutureId) -> Result<Packet, SendRefusal>
@@ -439,6 +464,20 @@ impl Owner {
         let packet = self.packet_of(alloc, k)?;
         self.resolver.mark_sent(k);
         Ok(packet)
+    }
+
+    /// Marks a call sent without its packet, and gives the actor that it goes to and its number
+    /// there. It takes no memory. An `Err` changes nothing.
+    pub fn send(&mut self, k: FutureId) -> Result<(ActorId, u32), SendRefusal>
+        ensures value { IfOk result (λ address. address_at self.old.calls k ≡ Some address) }
+        ensures accepted { OnOk result (sending_refusal self.old k ≡ None) }
+        ensures ok { OnOk result (self.new ≡ with_sent self.old k) }
+        ensures refusal { IfErr result (λ refusal. sending_refusal self.old k ≡ Some refusal) }
+        ensures err { OnErr result (self.new ≡ self.old) }
+    {
+        let address = self.address_of(k)?;
+        self.resolver.mark_sent(k);
+        Ok(address)
     }
 
     /// Whether the call's arguments all have their answers.
@@ -475,6 +514,37 @@ impl Owner {
             && self.is_to(reply.actor, reply.future)
             && self.is_sent(reply.future)
             && !is_death(&reply.answer)
+    }
+
+    fn collected_reply(&self, reply: &Reply) -> Collected
+        ensures { result ≡ collected_reply self.now reply.now }
+    {
+        if !self.is_of_call(reply) {
+            Collected::Stray
+        } else if self.is_answered(reply.future) {
+            Collected::Late(reply.future)
+        } else {
+            Collected::First(reply.future)
+        }
+    }
+
+    fn collected_death(&self, a: ActorId) -> Collected
+        ensures { result ≡ collected_death self.now a }
+    {
+        if !self.is_listed(a) {
+            return Collected::Stray;
+        }
+        Collected::Died(self.pending(a))
+    }
+
+    /// What a notice would become. It takes no memory.
+    pub fn collected(&self, notice: &Notice) -> Collected
+        ensures { result ≡ collected self.now notice.now }
+    {
+        match notice {
+            Notice::Answered(reply) => self.collected_reply(reply),
+            Notice::Death(a) => self.collected_death(*a),
+        }
     }
 
     fn collect_reply(&mut self, reply: Reply) -> Collected

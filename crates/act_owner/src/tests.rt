@@ -20,6 +20,8 @@ enum Ask {
     /// One argument, which is a future.
     SubmitFuture(ActorId, FutureId),
     Packet(FutureId),
+    /// A call is sent without its packet.
+    Send(FutureId),
     Reply(ActorId, FutureId, Result<i64, Fault>),
     Death(ActorId),
     Ready,
@@ -32,6 +34,8 @@ enum Told {
     NotSubmitted(SubmitRefusal),
     /// The number of the packet, and its first argument.
     Packet(u32, Option<i64>),
+    /// The actor that the call goes to, and its number there.
+    Sent(ActorId, u32),
     NotSent(SendRefusal),
     Collected(Collected),
     Ready(Option<FutureId>),
@@ -58,6 +62,13 @@ fn packet_told(alloc: Global, owner: &mut Owner, k: FutureId) -> Told {
             Some(Settled::Good(Value::Int(value))) => Told::Packet(packet.number, Some(*value)),
             _ => Told::Packet(packet.number, None),
         },
+        Err(refusal) => Told::NotSent(refusal),
+    }
+}
+
+fn sending_told(owner: &mut Owner, k: FutureId) -> Told {
+    match owner.send(k) {
+        Ok((a, number)) => Told::Sent(a, number),
         Err(refusal) => Told::NotSent(refusal),
     }
 }
@@ -94,6 +105,7 @@ fn asked(alloc: Global, owner: &mut Owner, ask: Ask) -> Result<Told, NoMemory> {
             Ok(submitted(owner, a, Method::Add, args))
         }
         Ask::Packet(k) => Ok(packet_told(alloc, owner, k)),
+        Ask::Send(k) => Ok(sending_told(owner, k)),
         Ask::Reply(a, k, answer) => {
             let notice = notice_of(a, owner.id(), k, answer);
             Ok(Told::Collected(owner.collect(notice)))
@@ -214,7 +226,35 @@ fn from_the_first_call_to_a_death(rt: HostRuntime) -> Result<(), Fail> {
     Ok(())
 }
 
-/// The same, under a limit of the first actor alone.
+fn calls_sent() -> [(Ask, Told); 8] {
+    let a1 = ActorId::new(1).unwrap();
+    let k0 = FutureId::new(0);
+    let k1 = FutureId::new(1);
+    let k2 = FutureId::new(2);
+    [
+        (Ask::Submit(a1, Method::Add, 1, 5), Told::Future(k0)),
+        (Ask::Submit(a1, Method::Get, 0, 0), Told::Future(k1)),
+        (Ask::Reply(a1, k1, Ok(5)), Told::Collected(Collected::Stray)),
+        (Ask::Send(k2), Told::NotSent(SendRefusal::NoFuture)),
+        (Ask::Send(k1), Told::Sent(a1, 1)),
+        (Ask::Send(k1), Told::Sent(a1, 1)),
+        (
+            Ask::Reply(a1, k1, Ok(5)),
+            Told::Collected(Collected::First(k1)),
+        ),
+        (Ask::Packet(k1), Told::Packet(1, None)),
+    ]
+}
+
+/// The reply of a call that was sent without its packet is kept.
+#[test]
+fn sent_without_their_packets(rt: HostRuntime) -> Result<(), Fail> {
+    let mut owner = opened(rt.alloc())?;
+    assert_told(&rt, rt.alloc(), &mut owner, &calls_sent());
+    Ok(())
+}
+
+/// Caller 1 with the same actors, under a limit of the first one alone.
 fn opened_with_a_limit(alloc: Global, limit: u32) -> Result<Owner, NoMemory>
     requires { limit ≢ 0 }
 {
