@@ -1,6 +1,6 @@
 -- A letter that is brought to its actor.
 use Rattle.std.proofs.Common.{◌≡◌, ◌≢◌, ℕ, suc, ◌<◌, ◌≤◌, Bool, true, false, cond, List, [], ◌∷◌, ◌++◌, length, map, get_or, Some, None, inl, inr, refl, ap, sym, ◌∙◌, subst, arith}
-use Rattle.std.specs.Prelude.{Option, Ok, Err, ◌==◌, ◌||◌, ◌&&◌, slice_get, slice_set, option_map, option_and_then, is_some, nat_lt, not, filter}
+use Rattle.std.specs.Prelude.{Option, Ok, Err, ◌==◌, ◌||◌, ◌&&◌, find, slice_get, slice_set, option_map, option_and_then, is_some, nat_lt, not, filter}
 use Rattle.std.specs.List.{enumerate_from}
 use Rattle.std.proofs.Math.Bool.{or-true, or-false}
 use Rattle.std.proofs.lemmas.Bool.{eqb-true, eq-eqb, ltb-true, lt-ltb, and_parts, and_from}
@@ -24,18 +24,20 @@ use Rattle.act_rules.specs.Rules.{Outcome, actor_of, deliver_refusal, refusal_of
 use Rattle.act_rules.proofs.Lists.{All_at}
 use Rattle.act_rules.proofs.Letters.{IsSoundLetter, letter_is, has_letter-sound}
 use Rattle.act_rules.proofs.Retired.{IsSoundNote}
+use Rattle.act_owner.specs.Owner.{OwnerValue}
 use Rattle.act_inbox.specs.Inbox.{is_call, handed_of, note_of, waiting, came, arrival_of, note_arrival, waiting_after, note_after}
 use Rattle.act_actor.specs.Value.{ActorSeen}
 use Rattle.act_actor.specs.Actor.{arrival_at, note_arrival_at}
 use Rattle.act_world.specs.declared.exchange.Mailed.{Mailed}
 use Rattle.act_world.specs.declared.exchange.Mailed.TheVariants.{Call as MailedCall, Note as MailedNote}
-use Rattle.act_world.specs.Exchange.{ExchangeValue, mailed_to}
+use Rattle.act_world.specs.Exchange.{ExchangeValue, is_owner, mailed_to}
 use Rattle.act_world.specs.Value.{SlotSeen, Runs, Died, Ended, Vacant, WorldSeen}
-use Rattle.act_world.specs.Slots.{is_live_seen, HasTaken, HasNoted, HasArrived, IsNewCall, IsBrought}
-use Rattle.act_world.specs.Ties.{packet_as, packet_of, mailed, held_packet, is_note, IsLive, IsStage, Ties}
+use Rattle.act_world.specs.Slots.{is_live_seen, HasTaken, HasTakenCall, HasNoted, HasArrived, IsNewCall, IsBrought}
+use Rattle.act_world.specs.Ties.{IsOwnerAt, packet_as, packet_of, note_as, mailed, held_packet, is_note, IsLive, IsStage, Ties}
 use Rattle.act_world.specs.Stands.{Follows, IsUnrefused}
 use Rattle.act_world.proofs.Lawful.{IsLawful, world_lawful, IsNamedLetter, has_letter-last, is_letter-same}
 use Rattle.act_world.proofs.Frames.{owners_stay}
+use Rattle.act_world.proofs.Making.{made_there}
 use Rattle.act_world.proofs.Changes.{refused_follows, accepted_follows, set-same, stages_change, has_ended, not_ended, named_cast, slot_there}
 
 -- ---- letters
@@ -88,8 +90,8 @@ letter_at h world i m lawful ties is = go (slice_get h.mail i) refl (sym (ties.m
 -- it is for the actor of what it carries
 carried_to : (h : History) (letter : Letter) (m : Mailed) → IsSoundLetter h letter → mailed h letter ≡ Some m → actor_of letter ≡ mailed_to m
 carried_to h (CallLetter c a n) m sound carries =
-    let some : Some (MailedCall (packet_as h c a n sound.0)) ≡ Some m = rw sound.1 at carries in
-    let same : MailedCall (packet_as h c a n sound.0) ≡ m = cc in
+    let some : Some (MailedCall (note_as c a n sound.0)) ≡ Some m = rw sound.1 at carries in
+    let same : MailedCall (note_as c a n sound.0) ≡ m = cc in
     ap mailed_to same
 carried_to h (NoteLetter c a n) m sound carries = let same : MailedNote (record { caller = c; actor = a; after = n }) ≡ m = cc in ap mailed_to same
 
@@ -287,17 +289,19 @@ pub record HasCome (h : History) (letter : Letter) (arrival : Arrival) (new : Ac
   pub told : arrival ≡ cond (has_letter letter h.arrived) Repeat New
   pub live : IsLive (brought h letter) (actor_of letter) new
 
-letter_came : (h : History) (letter : Letter) (m : Mailed) (arrival : Arrival) (live new : ActorSeen) → IsLawful h → IsSoundLetter h letter → IsNamedLetter h letter → IsSoundNote h letter
-    → mailed h letter ≡ Some m → IsLive h (actor_of letter) live → HasArrived m arrival live new → HasCome h letter arrival new
-letter_came h (CallLetter c a n) m arrival live new lawful sound named note carries is arrived =
-    let some : Some (MailedCall (packet_as h c a n sound.0)) ≡ Some m = rw sound.1 at carries in
-    let same : MailedCall (packet_as h c a n sound.0) ≡ m = cc in
-    let taken : HasTaken (packet_as h c a n sound.0) arrival live new = subst (λ (x : Mailed). HasArrived x arrival live new) (sym same) arrived in
+letter_came : (h : History) (owners : List OwnerValue) (letter : Letter) (m : Mailed) (arrival : Arrival) (live new : ActorSeen) → IsLawful h → ((c : ℕ) → IsOwnerAt h c (find (is_owner c) owners))
+    → IsSoundLetter h letter → IsNamedLetter h letter → IsSoundNote h letter
+    → mailed h letter ≡ Some m → IsLive h (actor_of letter) live → HasArrived owners m arrival live new → HasCome h letter arrival new
+letter_came h owners (CallLetter c a n) m arrival live new lawful all sound named note carries is arrived =
+    let some : Some (MailedCall (note_as c a n sound.0)) ≡ Some m = rw sound.1 at carries in
+    let same : MailedCall (note_as c a n sound.0) ≡ m = cc in
+    let took : HasTakenCall owners (note_as c a n sound.0) arrival live new = subst (λ (x : Mailed). HasArrived owners x arrival live new) (sym same) arrived in
+    let taken : HasTaken (packet_as h c a n sound.0) arrival live new = took (packet_as h c a n sound.0) (made_there h owners c a n sound.0 all named sound.1) in
     let told : arrival ≡ cond (has_letter (CallLetter c a n) h.arrived) Repeat New = taken.arrival_is ∙ call_arrival h c a n sound.0 live lawful is named sound.1 in
     record { told = told; live = live_taken h c a n sound.0 arrival live new lawful is sound.1 told taken }
-letter_came h (NoteLetter c a n) m arrival live new lawful sound named note carries is arrived =
+letter_came h owners (NoteLetter c a n) m arrival live new lawful all sound named note carries is arrived =
     let same : MailedNote (record { caller = c; actor = a; after = n }) ≡ m = cc in
-    let noted : HasNoted (record { caller = c; actor = a; after = n }) arrival live new = subst (λ (x : Mailed). HasArrived x arrival live new) (sym same) arrived in
+    let noted : HasNoted (record { caller = c; actor = a; after = n }) arrival live new = subst (λ (x : Mailed). HasArrived owners x arrival live new) (sym same) arrived in
     let told : arrival ≡ cond (has_letter (NoteLetter c a n) h.arrived) Repeat New = noted.arrival_is ∙ note_arrives h c a n live lawful is named note in
     record { told = told; live = live_noted h c a n arrival live new lawful is named note told noted }
 
@@ -332,7 +336,7 @@ deliver_ended h world i m slot lawful ties is at off =
 
 -- the letter was brought
 pub deliver_follows : (h : History) (old : WorldSeen) (i : ℕ) (m : Mailed) (slot new : SlotSeen) (told : Outcome) → IsLawful h → Ties h old → slice_get old.exchange.mail i ≡ Some m
-    → slice_get old.slots (mailed_to m) ≡ Some slot → IsBrought m slot new told
+    → slice_get old.slots (mailed_to m) ≡ Some slot → IsBrought old.exchange.owners m slot new told
     → (told ≡ outcome_of h (Deliver i)) × Ties (after h (Deliver i)) (record { exchange = old.exchange; slots = slice_set old.slots (mailed_to m) new })
 deliver_follows h old i m slot new told lawful ties is at went = go slot new told at went
   where
@@ -342,12 +346,12 @@ deliver_follows h old i m slot new told lawful ties is at went = go slot new tol
     to : actor_of here.letter ≡ mailed_to m
     to = carried_to h here.letter m here.sound here.carries
 
-    by_live : (live new : ActorSeen) (arrival : Arrival) → slice_get old.slots (mailed_to m) ≡ Some (Runs live) → HasArrived m arrival live new
+    by_live : (live new : ActorSeen) (arrival : Arrival) → slice_get old.slots (mailed_to m) ≡ Some (Runs live) → HasArrived old.exchange.owners m arrival live new
         → (Ok (Arrived arrival) ≡ outcome_of h (Deliver i)) × Ties (after h (Deliver i)) (record { exchange = old.exchange; slots = slice_set old.slots (mailed_to m) (Runs new) })
     by_live live new arrival at arrived =
         let there : slice_get old.slots (actor_of here.letter) ≡ Some (Runs live) = ap (slice_get old.slots) to ∙ at in
         let lives : IsLive h (actor_of here.letter) live = subst (IsStage h (actor_of here.letter)) there (ties.actors (actor_of here.letter)) in
-        let come = letter_came h here.letter m arrival live new lawful here.sound here.named here.note here.carries lives arrived in
+        let come = letter_came h old.exchange.owners here.letter m arrival live new lawful ties.owners here.sound here.named here.note here.carries lives arrived in
         let told : Arrived arrival ≡ did h (Deliver i) = ap (λ (x : Arrival). Arrived x) come.told ∙ ap (did_deliver h) (sym here.at) in
         let free : refusal_of h (Deliver i) ≡ None = ap (λ (o : Option Letter). deliver_refusal o h) here.at ∙ ap (λ (b : Bool). needs (not b) ActorEnded None) lives.runs in
         let after_it : Ties (brought h here.letter) (record { exchange = old.exchange; slots = slice_set old.slots (actor_of here.letter) (Runs new) }) = brought_ties h here.letter old (Runs live) (Runs new) ties there come.live in
@@ -362,7 +366,7 @@ deliver_follows h old i m slot new told lawful ties is at went = go slot new tol
         let stays : slice_set old.slots (mailed_to m) new ≡ old.slots = ap (slice_set old.slots (mailed_to m)) went.0 ∙ set-same old.slots (mailed_to m) slot at in
         (went.1 ∙ ended.0, subst (λ (slots : List SlotSeen). Ties (after h (Deliver i)) (record { exchange = old.exchange; slots = slots })) (sym stays) ended.1)
 
-    go : (slot new : SlotSeen) (told : Outcome) → slice_get old.slots (mailed_to m) ≡ Some slot → IsBrought m slot new told
+    go : (slot new : SlotSeen) (told : Outcome) → slice_get old.slots (mailed_to m) ≡ Some slot → IsBrought old.exchange.owners m slot new told
         → (told ≡ outcome_of h (Deliver i)) × Ties (after h (Deliver i)) (record { exchange = old.exchange; slots = slice_set old.slots (mailed_to m) new })
     go (Runs live) (Runs next) (Ok (Arrived arrival)) at went = by_live live next arrival at went
     go (Runs live) next told at went = absurd went
@@ -387,7 +391,7 @@ addressed_cast h world i m lawful ties is none =
 
 -- an actor that takes a new call in runs
 takes_lives : (letter : Mailed) (slot : SlotSeen) → IsNewCall letter slot → is_live_seen slot ≡ true
-takes_lives (MailedCall packet) (Runs live) is = refl
+takes_lives (MailedCall call) (Runs live) is = refl
 takes_lives letter slot is = absurd is
 
 module _ {S : Type 0} (f : S → SlotSeen) (exchange : ExchangeValue) (slots : List S) (i a : ℕ) (letter : Mailed) (x : S) (at : Some letter ≡ slice_get exchange.mail i) (to : a ≡ mailed_to letter) (is : x ≡ get_or slots a x) where
@@ -401,7 +405,7 @@ module _ {S : Type 0} (f : S → SlotSeen) (exchange : ExchangeValue) (slots : L
       let lawful = world_lawful casts before in
       deliver_free h (record { exchange = exchange; slots = map f slots }) i letter (f x) lawful ties (sym at) (at_slot h lawful ties) (takes_lives letter (f x) takes)
 
-  pub brought_follows : (y : S) (told : Outcome) → IsBrought letter (f x) (f y) told
+  pub brought_follows : (y : S) (told : Outcome) → IsBrought exchange.owners letter (f x) (f y) told
       → Follows (Deliver i) (record { exchange = exchange; slots = map f slots }) (record { exchange = exchange; slots = map f (slice_set slots a y) }) told
   brought_follows y told went casts before ties =
       let h = history casts before in

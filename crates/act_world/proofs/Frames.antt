@@ -31,7 +31,6 @@ use Rattle.act_inbox.proofs.Finding.{find-Some, find-None, position_or_len-Some}
 use Rattle.act_owner.specs.Owner.{OwnerValue}
 use Rattle.act_actor.specs.Value.{ActorSeen}
 use Rattle.act_world.specs.declared.exchange.Mailed.{Mailed}
-use Rattle.act_world.specs.declared.exchange.Mailed.TheVariants.{Call as MailedCall}
 use Rattle.act_world.specs.declared.exchange.Posted.{Posted}
 use Rattle.act_world.specs.Exchange.{is_owner}
 use Rattle.act_world.specs.Value.{SlotSeen, Runs, Died, Ended, Vacant}
@@ -133,7 +132,9 @@ packet_stays h g c a n lawful grows sound =
     rw (there, sound.1) (ap (λ (args : List Settled). Some (record { caller = c; actor = a; number = n; future = sound.0.0; method = sound.0.1.method; args = args })) same)
 
 pub mailed_stays : (h g : History) (letter : Letter) → IsLawful h → Grows h g → IsSoundLetter h letter → mailed g letter ≡ mailed h letter
-mailed_stays h g (CallLetter c a n) lawful grows sound = ap (option_map MailedCall) (packet_stays h g c a n lawful grows sound)
+mailed_stays h g (CallLetter c a n) lawful grows sound =
+    let there : slice_get (calls_to a (calls_of c g)) n ≡ Some sound.0 = slice_get_front (calls_to a (calls_of c h)) (calls_to a (calls_of c g)) n sound.0 (calls_to_grow a (calls_of c h) (calls_of c g) (calls_grow c h g grows)) sound.1 in
+    rw (there, sound.1) refl
 mailed_stays h g (NoteLetter c a n) lawful grows sound = refl
 
 mailed_at_stays : (h g : History) (i : ℕ) (found : Option Letter) → slice_get h.mail i ≡ found → IsLawful h → Grows h g → option_and_then (mailed g) found ≡ option_and_then (mailed h) found

@@ -7,7 +7,9 @@ use Rattle.std.proofs.lemmas.Bool.{eq-eqb, ne_eqb}
 use Rattle.std.proofs.lemmas.Bool.Decides.{eqb_tells}
 use Rattle.std.proofs.lemmas.List.{length-map}
 use Rattle.std.proofs.lemmas.List.Folds.{list_any-append}
-use Rattle.std.proofs.lemmas.Option.{slice_get_within}
+use Rattle.std.proofs.lemmas.List.Quantifiers.{position-Some}
+use Rattle.std.proofs.lemmas.Option.{slice_get_within, slice_get-get_or}
+use Rattle.act_types.specs.declared.message.Notice.{Notice}
 use Rattle.act_types.specs.declared.fault.Fault.TheVariants.{NoMethod, BadArgs, Overflow, NoKey, BadAmount, Insufficient, NoItems, NoItem, KindFull, Dependency, ActorDied}
 use Rattle.act_types.specs.declared.message.Reply.{Reply}
 use Rattle.act_types.specs.declared.message.Notice.TheVariants.{Answered, Death}
@@ -34,13 +36,13 @@ use Rattle.act_rules.proofs.Unique.{rank, held_call, held_submission, map-slice_
 use Rattle.act_rules.proofs.Table.{or_else, kept_of-collected}
 use Rattle.act_handles.specs.Handles.{copies_in}
 use Rattle.act_owner.specs.declared.owner.Collected.{Collected}
-use Rattle.act_owner.specs.declared.owner.Collected.TheVariants.{First, Late, Stray}
+use Rattle.act_owner.specs.declared.owner.Collected.TheVariants.{First, Late, Stray, Died}
 use Rattle.act_owner.specs.Owner.{OwnerValue, is_sent, is_dead as knows_dead, is_to, is_death, is_of_call, collected, collected_reply, after_collect, after_reply_that, with_death, waits_for, answer_after_death, KnowsDeath}
 use Rattle.act_world.specs.declared.exchange.Posted.{Posted}
 use Rattle.act_world.specs.Exchange.{ExchangeValue, is_owner, told_collected}
 use Rattle.act_world.specs.Value.{SlotSeen, WorldSeen}
 use Rattle.act_world.specs.Ties.{IsOwnerOf, is_death_to, reply_as, reply_at, posted, Ties}
-use Rattle.act_world.proofs.Changes.{accepted_follows, get_set-same, get_set-other}
+use Rattle.act_world.proofs.Changes.{accepted_follows, get_set-same, get_set-other, set-same}
 use Rattle.act_world.proofs.Lawful.{IsLawful, IsNamedPost, named_caller}
 use Rattle.act_world.proofs.Frames.{SameCaller, owners_change, owner_absent, mail_stays, replies_stay, stages_stay}
 use Rattle.act_world.proofs.Pending.{kept_long, unanswered_is}
@@ -263,7 +265,7 @@ place_is calls p x e = go (slice_get calls p) (sym (slice_get-enumerate_from 0 c
     go (Some y) e = let pair : ◌≡◌ {A = ℕ × Submission} (0 + p, y) x = cc in let z : p ≡ 0 + p = omega arith in z ∙ ap (λ (q : ℕ × Submission). q.0) pair
 
 -- a call has one number
-one_number : (a : ℕ) (calls : List Submission) (m i : ℕ) (x y : ℕ × Submission) → slice_get (calls_to a calls) m ≡ Some x → slice_get (calls_to a calls) i ≡ Some y → x.0 ≡ y.0 → m ≡ i
+pub one_number : (a : ℕ) (calls : List Submission) (m i : ℕ) (x y : ℕ × Submission) → slice_get (calls_to a calls) m ≡ Some x → slice_get (calls_to a calls) i ≡ Some y → x.0 ≡ y.0 → m ≡ i
 one_number a calls m i x y e f same =
     let one = filter_rank (λ (call : ℕ × Submission). call.1.actor == a) (enumerate_from 0 calls) m x e in
     let two = filter_rank (λ (call : ℕ × Submission). call.1.actor == a) (enumerate_from 0 calls) i y f in
@@ -482,6 +484,33 @@ pub collect_follows : (h : History) (exchange : ExchangeValue) (slots : List Slo
 collect_follows h exchange slots j notice lawful ties e =
     let found = has_post h exchange slots j notice ties e in
     by_post h exchange slots j notice found.post lawful ties found.at found.is
+
+-- ---- an answer that comes late
+
+-- it leaves its caller as it was
+late_same : (owner : OwnerValue) (notice : Notice) (k : ℕ) → collected owner notice ≡ Late k → (after_collect owner notice ≡ owner) × KnowsDeath notice owner owner
+late_same owner (Answered reply) k e = (ap (λ (told : Collected). after_reply_that told owner reply) e, tt)
+late_same owner (Death a) k e = go (is_some (copies_in a owner.handles)) e
+  where
+    go : (listed : Bool) → cond listed (Died (count_by (waits_for a) (zip owner.calls owner.kept))) Stray ≡ Late k → (after_collect owner (Death a) ≡ owner) × KnowsDeath (Death a) owner owner
+    go true e = cc
+    go false e = cc
+
+pub late_follows : (h : History) (exchange : ExchangeValue) (slots : List SlotSeen) (j : ℕ) (notice : Posted) (place k : ℕ) (owner : OwnerValue) → IsLawful h → Ties h (record { exchange = exchange; slots = slots }) → slice_get exchange.replies j ≡ Some notice
+    → SeesOwner exchange notice.caller place owner → collected owner notice.notice ≡ Late k → (Ok (DidLate notice.caller k) ≡ outcome_of h (Collect j)) × Ties (after h (Collect j)) (record { exchange = exchange; slots = slots })
+late_follows h exchange slots j notice place k owner lawful ties e sees late =
+    let same = late_same owner notice.notice k late in
+    let follows = collect_follows h exchange slots j notice lawful ties e place owner owner (Ok (DidLate notice.caller k)) sees (sym (ap (told_collected notice.caller) late)) (sym same.0) same.1 in
+    (follows.0, subst (λ (owners : List OwnerValue). Ties (after h (Collect j)) (record { exchange = record exchange { owners = owners }; slots = slots })) stays follows.1)
+  where
+    within : place < length exchange.owners
+    within = (position-Some (is_owner notice.caller) exchange.owners place owner sees.place_is).0
+
+    here : slice_get exchange.owners place ≡ Some owner
+    here = slice_get-get_or exchange.owners place owner within ∙ ap (λ (o : OwnerValue). Some o) (sym sees.owner_is)
+
+    stays : slice_set exchange.owners place owner ≡ exchange.owners
+    stays = set-same exchange.owners place owner here
 
 -- ---- a notice is for a caller
 

@@ -13,6 +13,7 @@ pub mod Sending
 pub mod Telling
 pub mod Changes
 pub mod Seeing
+pub mod Making
 pub mod Delivering
 pub mod Running
 pub mod Retiring

@@ -1,11 +1,10 @@
 -- A call that its caller sends.
-use Rattle.std.proofs.Common.{◌≡◌, ◌≢◌, ℕ, ◌+◌, ◌<◌, Bool, true, false, List, [], ◌∷◌, ◌++◌, length, map, Some, None, inl, inr, refl, ap, sym, ◌∙◌, subst, arith, Ok, Err, length-append, length-set, get_or}
+use Rattle.std.proofs.Common.{◌≡◌, ◌≢◌, ℕ, ◌+◌, ◌<◌, Bool, true, false, List, [], ◌∷◌, ◌++◌, length, Some, None, inl, inr, refl, ap, sym, ◌∙◌, subst, arith, Ok, Err, length-append, length-set, get_or}
 use Rattle.std.specs.Prelude.{Option, ◌==◌, ◌||◌, slice_get, slice_set, position, option_map, unwrap_or}
 use Rattle.std.proofs.Math.Bool.{or-true, or-false}
 use Rattle.std.proofs.lemmas.Bool.{eq-eqb, ne_eqb}
 use Rattle.std.proofs.lemmas.Bool.Decides.{eqb_tells}
 use Rattle.std.proofs.lemmas.Option.{slice_get_within, slice_get-get_or}
-use Rattle.act_types.specs.declared.message.Packet.{Packet}
 use Rattle.act_rules.specs.declared.event.Event.TheVariants.{Send}
 use Rattle.act_rules.specs.declared.history.Submission.{Submission}
 use Rattle.act_rules.specs.declared.history.Letter.{Letter}
@@ -14,18 +13,20 @@ use Rattle.act_rules.specs.declared.outcome.Did.TheVariants.{Mail}
 use Rattle.act_rules.specs.declared.outcome.SendRefusal.{SendRefusal}
 use Rattle.act_rules.specs.declared.outcome.WorldRefusal.TheVariants.{NoCaller, Sending}
 use Rattle.act_rules.specs.RunList.{Answer}
-use Rattle.act_rules.specs.Submissions.{calls_to, number_of, settled, send_refusal}
+use Rattle.act_rules.specs.Submissions.{calls_to, number_of, send_refusal}
 use Rattle.act_rules.specs.History.{History, is_caller, calls_of, kept_of, has_letter, is_letter}
 use Rattle.act_rules.specs.Rules.{did, refusal_of, outcome_of, added, after, and_also, call_letter, was_sent}
 use Rattle.act_rules.proofs.Growth.{Grows, added_grows}
 use Rattle.act_rules.proofs.Letters.{calls_to-number, letter_is}
 use Rattle.act_rules.proofs.Table.{kept_of-same}
-use Rattle.act_owner.specs.Owner.{OwnerValue, is_sent, sending_refusal, packet_at, with_sent, packet_of as owner_packet}
+use Rattle.act_owner.specs.declared.owner.Call.{Call}
+use Rattle.act_owner.specs.Owner.{OwnerValue, is_sent, sending_refusal, numbered_call, address_at, with_sent}
+use Rattle.act_world.specs.declared.exchange.CallNote.{CallNote}
 use Rattle.act_world.specs.declared.exchange.Mailed.{Mailed}
 use Rattle.act_world.specs.declared.exchange.Mailed.TheVariants.{Call as MailedCall}
 use Rattle.act_world.specs.Exchange.{ExchangeValue, is_owner}
 use Rattle.act_world.specs.Value.{SlotSeen, WorldSeen}
-use Rattle.act_world.specs.Ties.{IsOwnerOf, mailed, packet_as, Ties}
+use Rattle.act_world.specs.Ties.{IsOwnerOf, mailed, Ties}
 use Rattle.act_world.proofs.Changes.{refused_follows, accepted_follows, get_set-same, get_set-other}
 use Rattle.act_world.proofs.Lawful.{IsLawful, has_letter-last, is_letter-same}
 use Rattle.act_world.proofs.Frames.{SameCaller, owners_change, owner_here, owner_absent, mail_stays, replies_stay, go_together, stages_stay}
@@ -146,37 +147,25 @@ others h c a n d lawful grows apart = record {
   deaths = λ b. refl;
 }
 
--- ---- the packet
+-- ---- the letter
 
-abbrev made : ℕ → ℕ → List Submission → List (Option Answer) → Submission → Packet
-made id k calls kept call = record { caller = id; actor = call.actor; number = number_of call.actor k calls; future = k; method = call.method; args = map (settled kept) call.args }
+-- what a letter carries of the call that has this actor and this number
+abbrev noted : ℕ → ℕ → ℕ × ℕ → CallNote
+noted c k address = record { caller = c; actor = address.0; number = address.1; future = k }
 
-carries : (h : History) (c k : ℕ) (call : Submission) (owner : OwnerValue) → IsLawful h → Grows h (sent_more h (call_letter c k call h)) → IsOwnerOf h c owner → slice_get (calls_of c h) k ≡ Some call
-    → mailed (sent_more h (call_letter c k call h)) (call_letter c k call h) ≡ Some (MailedCall (owner_packet owner k call))
-carries h c k call owner lawful grows is at =
-    ap (λ (o : Option (ℕ × Submission)). option_map MailedCall (option_map (packet_as g c call.actor (number_of call.actor k (calls_of c h))) o)) there
-    ∙ ap (λ (packet : Packet). Some (MailedCall packet)) same
-  where
-    g : History
-    g = sent_more h (call_letter c k call h)
+-- the actor and the number that the history has of a call
+abbrev address_in : History → ℕ → ℕ → Submission → ℕ × ℕ
+address_in h c k call = (call.actor, number_of call.actor k (calls_of c h))
 
-    there : slice_get (calls_to call.actor (calls_of c h)) (number_of call.actor k (calls_of c h)) ≡ Some (k, call)
-    there = calls_to-number call.actor (calls_of c h) k call at (eq-eqb call.actor call.actor refl)
-
-    kept : kept_of c (sent_more h (call_letter c k call h)) ≡ owner.kept
-    kept = kept_of-same h (sent_more h (call_letter c k call h)) c grows lawful.sound.posts refl refl ∙ sym is.kept
-
-    same : made c k (calls_of c h) (kept_of c (sent_more h (call_letter c k call h))) call ≡ made owner.id k owner.calls owner.kept call
-    same =
-        ap (λ (id : ℕ). made id k (calls_of c h) (kept_of c (sent_more h (call_letter c k call h))) call) (sym is.id)
-        ∙ ap (λ (calls : List Submission). made owner.id k calls (kept_of c (sent_more h (call_letter c k call h))) call) (sym is.calls)
-        ∙ ap (λ (answers : List (Option Answer)). made owner.id k owner.calls answers call) kept
+carries : (h : History) (c k : ℕ) (call : Submission) → slice_get (calls_of c h) k ≡ Some call
+    → mailed (sent_more h (call_letter c k call h)) (call_letter c k call h) ≡ Some (MailedCall (noted c k (address_in h c k call)))
+carries h c k call at = rw (calls_to-number call.actor (calls_of c h) k call at (eq-eqb call.actor call.actor refl)) refl
 
 -- ---- the world
 
 sent_ties : (h : History) (exchange : ExchangeValue) (slots : List SlotSeen) (c k place : ℕ) (owner : OwnerValue) (call : Submission) → IsLawful h → Grows h (sent_more h (call_letter c k call h)) → Ties h (record { exchange = exchange; slots = slots }) → SeesOwner exchange c place owner
     → slice_get (calls_of c h) k ≡ Some call
-    → Ties (sent_more h (call_letter c k call h)) (record { exchange = record exchange { owners = slice_set exchange.owners place (with_sent owner k); mail = exchange.mail ++ MailedCall (owner_packet owner k call) ∷ [] }; slots = slots })
+    → Ties (sent_more h (call_letter c k call h)) (record { exchange = record exchange { owners = slice_set exchange.owners place (with_sent owner k); mail = exchange.mail ++ MailedCall (noted c k (address_in h c k call)) ∷ [] }; slots = slots })
 sent_ties h exchange slots c k place owner call lawful grows ties sees at =
     let letter = call_letter c k call h in
     let g = sent_more h letter in
@@ -184,32 +173,34 @@ sent_ties h exchange slots c k place owner call lawful grows ties sees at =
     record {
       owners = owners_change h g exchange.owners c place (with_sent owner k) refl ties.owners sees.place_is (sender h c k call owner lawful grows is at) (λ d apart. others h c call.actor (number_of call.actor k (calls_of c h)) d lawful grows apart);
       actors = stages_stay h g slots lawful grows refl refl refl refl ties.actors;
-      mail = go_together (mailed g) exchange.mail h.mail (MailedCall (owner_packet owner k call)) letter (carries h c k call owner lawful grows is at) ties.mail_count (mail_stays h g exchange.mail lawful grows ties.mail);
-      mail_count = length-append exchange.mail (MailedCall (owner_packet owner k call) ∷ []) ∙ ap (λ (n : ℕ). n + 1) ties.mail_count ∙ sym (length-append h.mail (letter ∷ []));
+      mail = go_together (mailed g) exchange.mail h.mail (MailedCall (noted c k (address_in h c k call))) letter (carries h c k call at) ties.mail_count (mail_stays h g exchange.mail lawful grows ties.mail);
+      mail_count = length-append exchange.mail (MailedCall (noted c k (address_in h c k call)) ∷ []) ∙ ap (λ (n : ℕ). n + 1) ties.mail_count ∙ sym (length-append h.mail (letter ∷ []));
       replies = replies_stay h g exchange.replies lawful grows ties.replies;
       reply_count = ties.reply_count;
       asked = ties.asked;
     }
 
-pub send_follows : (h : History) (exchange : ExchangeValue) (slots : List SlotSeen) (c k place i : ℕ) (owner new : OwnerValue) (packet : Packet) (mail : List Mailed) → IsLawful h → Ties h (record { exchange = exchange; slots = slots }) → SeesOwner exchange c place owner
-    → sending_refusal owner k ≡ None → packet_at owner k ≡ Some packet → new ≡ with_sent owner k → i ≡ length exchange.mail → mail ≡ exchange.mail ++ MailedCall packet ∷ []
+pub send_follows : (h : History) (exchange : ExchangeValue) (slots : List SlotSeen) (c k place i : ℕ) (owner new : OwnerValue) (address : ℕ × ℕ) (mail : List Mailed) → IsLawful h → Ties h (record { exchange = exchange; slots = slots }) → SeesOwner exchange c place owner
+    → sending_refusal owner k ≡ None → address_at owner.calls k ≡ Some address → new ≡ with_sent owner k → i ≡ length exchange.mail → mail ≡ exchange.mail ++ MailedCall (noted c k address) ∷ []
     → (Ok (Mail i) ≡ outcome_of h (Send c k)) × Ties (after h (Send c k)) (record { exchange = record exchange { owners = slice_set exchange.owners place new; mail = mail }; slots = slots })
-send_follows h exchange slots c k place i owner new packet mail lawful ties sees unrefused packet_is new_is i_is mail_is =
-    rw (i_is ∙ ties.mail_count, new_is, mail_is) (accepted_follows h (Send c k) (did h (Send c k)) world (send_unrefused h exchange slots c k place owner ties sees unrefused) refl (go (slice_get (calls_of c h) k) refl (sym found ∙ packet_is)))
+send_follows h exchange slots c k place i owner new address mail lawful ties sees unrefused address_is new_is i_is mail_is =
+    rw (i_is ∙ ties.mail_count, new_is, mail_is) (accepted_follows h (Send c k) (did h (Send c k)) (world address) (send_unrefused h exchange slots c k place owner ties sees unrefused) refl (go (slice_get (calls_of c h) k) refl (sym found ∙ address_is)))
   where
-    found : packet_at owner k ≡ option_map (owner_packet owner k) (slice_get (calls_of c h) k)
-    found = ap (λ (calls : List Submission). option_map (owner_packet owner k) (slice_get calls k)) (seen_owner h exchange slots c place owner ties sees).1.calls
+    numbered : Option Submission → Option (ℕ × ℕ)
+    numbered found = option_map (λ (call : Call). (call.actor, call.number)) (option_map (numbered_call (calls_of c h) k) found)
 
-    world : WorldSeen
-    world = record { exchange = record exchange { owners = slice_set exchange.owners place (with_sent owner k); mail = exchange.mail ++ MailedCall packet ∷ [] }; slots = slots }
+    found : address_at owner.calls k ≡ address_at (calls_of c h) k
+    found = ap (λ (calls : List Submission). address_at calls k) (seen_owner h exchange slots c place owner ties sees).1.calls
 
-    go : (o : Option Submission) → slice_get (calls_of c h) k ≡ o → option_map (owner_packet owner k) o ≡ Some packet
-        → Ties (added h (Send c k)) (record { exchange = record exchange { owners = slice_set exchange.owners place (with_sent owner k); mail = exchange.mail ++ MailedCall packet ∷ [] }; slots = slots })
+    world : ℕ × ℕ → WorldSeen
+    world there = record { exchange = record exchange { owners = slice_set exchange.owners place (with_sent owner k); mail = exchange.mail ++ MailedCall (noted c k there) ∷ [] }; slots = slots }
+
+    go : (o : Option Submission) → slice_get (calls_of c h) k ≡ o → numbered o ≡ Some address → Ties (added h (Send c k)) (world address)
     go None at e = cc
     go (Some call) at e =
-        let same : owner_packet owner k call ≡ packet = cc in
+        let same : address_in h c k call ≡ address = cc in
         let more : added h (Send c k) ≡ sent_more h (call_letter c k call h) = ap (λ (o : Option Submission). record h { mail = and_also h.mail (option_map (λ (one : Submission). call_letter c k one h) o) }) at in
         let grows : Grows h (sent_more h (call_letter c k call h)) = subst (Grows h) more (added_grows h (Send c k)) in
-        subst (λ (g : History). Ties g (record { exchange = record exchange { owners = slice_set exchange.owners place (with_sent owner k); mail = exchange.mail ++ MailedCall packet ∷ [] }; slots = slots })) (sym more)
-        (subst (λ (p : Packet). Ties (sent_more h (call_letter c k call h)) (record { exchange = record exchange { owners = slice_set exchange.owners place (with_sent owner k); mail = exchange.mail ++ MailedCall p ∷ [] }; slots = slots })) same
+        subst (λ (g : History). Ties g (world address)) (sym more)
+        (subst (λ (there : ℕ × ℕ). Ties (sent_more h (call_letter c k call h)) (world there)) same
         (sent_ties h exchange slots c k place owner call lawful grows ties sees at))

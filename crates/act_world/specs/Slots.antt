@@ -1,7 +1,9 @@
 -- What happens to an actor in its slot.
-use Rattle.std.specs.Prelude.{◌≡◌, ℕ, List, slice_index_or, slice_set, Bool, true, false, if◌then◌else◌, Option, option_map, IfNone, IfSome, Result, Ok, Err}
+use Rattle.std.specs.Prelude.{◌≡◌, ℕ, List, slice_index_or, slice_set, Bool, true, false, if◌then◌else◌, Option, Some, option_map, IfNone, IfSome, Result, Ok, Err}
 use Rattle.act_types.specs.declared.message.Packet.{Packet}
 use Rattle.act_types.specs.declared.message.ReleaseNote.{ReleaseNote}
+use Rattle.act_owner.specs.Owner.{OwnerValue}
+use Rattle.act_world.specs.declared.exchange.CallNote.{CallNote}
 use Rattle.act_world.specs.declared.exchange.Mailed.{Mailed}
 use Rattle.act_world.specs.declared.exchange.Mailed.TheVariants.{Call as MailedCall, Note as MailedNote}
 use Rattle.act_types.specs.declared.message.Reply.{Reply}
@@ -16,6 +18,7 @@ use Rattle.act_rules.specs.Rules.{Outcome}
 use Rattle.act_inbox.specs.Inbox.{waiting, waiting_after, note_of, note_after}
 use Rattle.act_actor.specs.Value.{ActorSeen}
 use Rattle.act_actor.specs.Actor.{arrival_at, note_arrival_at, reply_to, next_call, MayRetire, HasRun}
+use Rattle.act_world.specs.Exchange.{head_of, packet_in}
 use Rattle.act_world.specs.Value.{SlotSeen, Runs, Died, Ended, Vacant}
 
 abbrev pub IsLiveSeen : SlotSeen → Type 0
@@ -38,6 +41,17 @@ pub record HasTaken (packet : Packet) (arrival : Arrival) (old new : ActorSeen) 
   pub notes : (c : ℕ) → note_of new.inbox c ≡ note_of old.inbox c
   pub waits : (c n : ℕ) → waiting new.inbox c n ≡ waiting_after arrival packet old.inbox c n
 
+-- the packet is what the call's caller makes of it, and is of the call that is named
+pub record IsPacketOf (owners : List OwnerValue) (call : CallNote) (packet : Packet) : Type 0 where
+  pub made : packet_in owners call ≡ Some packet
+  pub caller : packet.caller ≡ call.caller
+  pub actor : packet.actor ≡ call.actor
+  pub number : packet.number ≡ call.number
+
+-- the running actor took a call in, by the packet that its caller makes of it
+abbrev pub HasTakenCall : List OwnerValue → CallNote → Arrival → ActorSeen → ActorSeen → Type 0
+HasTakenCall owners call arrival old new = (packet : Packet) → IsPacketOf owners call packet → HasTaken packet arrival old new
+
 -- the running actor took a release note in
 pub record HasNoted (note : ReleaseNote) (arrival : Arrival) (old new : ActorSeen) : Type 0 where
   pub arrival_is : arrival ≡ note_arrival_at old.id old.inbox note
@@ -47,20 +61,20 @@ pub record HasNoted (note : ReleaseNote) (arrival : Arrival) (old new : ActorSee
   pub notes : (c : ℕ) → note_of new.inbox c ≡ note_after arrival note old.inbox c
 
 -- the running actor took a letter in
-abbrev pub HasArrived : Mailed → Arrival → ActorSeen → ActorSeen → Type 0
-HasArrived (MailedCall packet) arrival old new = HasTaken packet arrival old new
-HasArrived (MailedNote note) arrival old new = HasNoted note arrival old new
+abbrev pub HasArrived : List OwnerValue → Mailed → Arrival → ActorSeen → ActorSeen → Type 0
+HasArrived owners (MailedCall call) arrival old new = HasTakenCall owners call arrival old new
+HasArrived owners (MailedNote note) arrival old new = HasNoted note arrival old new
 
 -- the letter is a call that the running actor takes in
 abbrev pub IsNewCall : Mailed → SlotSeen → Type 0
-IsNewCall (MailedCall packet) (Runs live) = arrival_at live.id live.inbox packet ≡ New
+IsNewCall (MailedCall call) (Runs live) = arrival_at live.id live.inbox (head_of call) ≡ New
 IsNewCall letter slot = ⊥
 
 -- the letter came to a running actor, or its actor has ended
-abbrev pub IsBrought : Mailed → SlotSeen → SlotSeen → Outcome → Type 0
-IsBrought letter (Runs old) (Runs new) (Ok (Arrived arrival)) = HasArrived letter arrival old new
-IsBrought letter (Runs old) new told = ⊥
-IsBrought letter old new told = (new ≡ old) × (told ≡ Err ActorEnded)
+abbrev pub IsBrought : List OwnerValue → Mailed → SlotSeen → SlotSeen → Outcome → Type 0
+IsBrought owners letter (Runs old) (Runs new) (Ok (Arrived arrival)) = HasArrived owners letter arrival old new
+IsBrought owners letter (Runs old) new told = ⊥
+IsBrought owners letter old new told = (new ≡ old) × (told ≡ Err ActorEnded)
 
 -- the running actor ran the caller's next call, or it has not arrived
 pub record HasRunNext (c : ℕ) (reply : Option Reply) (old new : ActorSeen) : Type 0 where

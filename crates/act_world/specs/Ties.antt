@@ -19,6 +19,7 @@ use Rattle.act_handles.specs.Handles.{copies_in, given_in}
 use Rattle.act_inbox.specs.Inbox.{is_listed, handed_of, waiting, note_of}
 use Rattle.act_owner.specs.Owner.{OwnerValue, limit_of as limit_known, is_sent, is_dead as knows_dead}
 use Rattle.act_actor.specs.Value.{ActorSeen, DeadValue, RetiredSeen}
+use Rattle.act_world.specs.declared.exchange.CallNote.{CallNote}
 use Rattle.act_world.specs.declared.exchange.Mailed.{Mailed}
 use Rattle.act_world.specs.declared.exchange.Mailed.TheVariants.{Call as MailedCall, Note as MailedNote}
 use Rattle.act_world.specs.declared.exchange.Posted.{Posted}
@@ -60,9 +61,13 @@ packet_as h c a n call = record {
 abbrev pub packet_of : History → ℕ → ℕ → ℕ → Option Packet
 packet_of h c a n = option_map (packet_as h c a n) (slice_get (calls_to a (calls_of c h)) n)
 
+-- a call by its names
+abbrev pub note_as : ℕ → ℕ → ℕ → ℕ × Submission → CallNote
+note_as c a n call = record { caller = c; actor = a; number = n; future = call.0 }
+
 -- what a letter carries
 abbrev pub mailed : History → Letter → Option Mailed
-mailed h (CallLetter c a n) = option_map MailedCall (packet_of h c a n)
+mailed h (CallLetter c a n) = option_map (λ call. MailedCall (note_as c a n call)) (slice_get (calls_to a (calls_of c h)) n)
 mailed h (NoteLetter c a n) = Some (MailedNote (record { caller = c; actor = a; after = n }))
 
 -- the reply of the call at a place of the actor's run list

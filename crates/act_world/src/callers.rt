@@ -4,7 +4,7 @@ ghost use Rattle.std.specs.Prelude.{◌≡◌, IfOk, OnErr, false};
 ghost use Rattle.act_rules.specs.declared.event.Event.TheVariants as event;
 ghost use Rattle.act_world.specs.Stands.{HasRoom, FollowsThere, IsGrown, IsUnrefusedThere, is_memory};
 
-use crate::exchange::{Exchange, Mailed, place_of};
+use crate::exchange::{CallNote, Exchange, Mailed, place_of};
 use act_rules::{Did, Outcome, WorldRefusal};
 use act_types::{ActorId, Arg, CallerId, CopyOf, FutureId, ListOf, Method, NoMemory};
 
@@ -99,12 +99,15 @@ impl Exchange {
             return Ok(Err(WorldRefusal::Sending(refusal)));
         }
         self.mail.reserve(1)?;
-        let alloc = self.alloc();
-        let Ok(packet) = self.owners[place].packet(alloc, k) else {
-            return Err(NoMemory);
-        };
+        let (actor, number) = self.owners[place].send(k).unwrap();
         let i = self.mail.len() as u32;
-        self.mail.push_reserved(Mailed::Call(packet));
+        let call = CallNote {
+            caller: c,
+            actor,
+            number,
+            future: k,
+        };
+        self.mail.push_reserved(Mailed::Call(call));
         Ok(Ok(Did::Mail(i)))
     }
 

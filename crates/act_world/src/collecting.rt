@@ -37,10 +37,14 @@ impl Exchange {
             return Ok(Err(WorldRefusal::NoReply));
         };
         let caller = posted.caller;
-        let notice = posted.notice.copy_of(self.alloc())?;
         let Some(place) = place_of(&self.owners, caller) else {
             return Ok(Err(WorldRefusal::NoReply));
         };
+        // A notice that is collected over and over is copied once, where its answer is the first.
+        if let Collected::Late(k) = self.owners[place].collected(&posted.notice) {
+            return Ok(Ok(Did::Late(caller, k)));
+        }
+        let notice = posted.notice.copy_of(self.alloc())?;
         let collected = self.owners[place].collect(notice);
         Ok(told(caller, collected))
     }

@@ -1,18 +1,47 @@
 //! The callers, and what is on its way between them and the actors.
 
-ghost use Rattle.std.specs.Prelude.{◌≡◌, find, position, option_copied, slice_get, is_some, unwrap_or, false};
+ghost use Rattle.std.specs.Prelude.{◌≡◌, IfOk, Some, find, position, option_copied, slice_get, is_some, unwrap_or, false};
 ghost use Rattle.act_handles.specs.Handles.{copies_in};
-ghost use Rattle.act_world.specs.Exchange.{is_owner, mailed_to};
+ghost use Rattle.act_world.specs.Exchange.{is_owner, mailed_to, head_of, packet_in};
 
 use act_owner::{HandleRefusal, Owner};
-use act_types::{ActorId, CallerId, Notice, Packet, ReleaseNote};
+use act_types::{
+    ActorId, CallerId, FutureId, ListOf, Method, NoMemory, Notice, Packet, ReleaseNote,
+};
 use std::alloc::Global;
 use std::marker::Model;
 
-/// A letter of the mail, with what it carries.
+/// A call that was sent, by its names.
+#[derive(Clone, Copy)]
+pub(crate) struct CallNote {
+    pub(crate) caller: CallerId,
+    pub(crate) actor: ActorId,
+    pub(crate) number: u32,
+    pub(crate) future: FutureId,
+}
+
+impl CallNote {
+    /// Its packet without the arguments, which shows what the call is to its actor. It takes no
+    /// memory.
+    pub(crate) fn head(&self, alloc: Global) -> Packet
+        ensures { result ≡ head_of self.now }
+    {
+        Packet {
+            caller: self.caller,
+            actor: self.actor,
+            number: self.number,
+            future: self.future,
+            method: Method::Get,
+            args: ListOf::new(alloc),
+        }
+    }
+}
+
+/// A letter of the mail. A call's packet is the same whenever its caller makes it, so the letter
+/// only names the call: one that is sent over and over takes no room for its arguments.
 #[derive(Drop)]
 pub(crate) enum Mailed {
-    Call(Packet),
+    Call(CallNote),
     Note(ReleaseNote),
 }
 
@@ -22,7 +51,7 @@ impl Mailed {
         ensures { result ≡ mailed_to self.now }
     {
         match self {
-            Mailed::Call(packet) => packet.actor,
+            Mailed::Call(call) => call.actor,
             Mailed::Note(note) => note.actor,
         }
     }
@@ -96,6 +125,20 @@ impl Exchange {
         ensures { option_copied result ≡ slice_get self.now.mail i }
     {
         self.mail.get(i as usize)
+    }
+
+    /// The packet of a call that was sent. Its caller is one of these and refuses nothing, so only
+    /// memory is wanting where there is none.
+    pub(crate) fn packet_of(&self, call: &CallNote) -> Result<Packet, NoMemory>
+        ensures { IfOk result (λ packet. packet_in self.now.owners call.now ≡ Some packet) }
+    {
+        let Some(owner) = self.owner(call.caller) else {
+            return Err(NoMemory);
+        };
+        let Ok(packet) = owner.packet_of(self.alloc(), call.future) else {
+            return Err(NoMemory);
+        };
+        Ok(packet)
     }
 
     /// Whether a kill of the actor was asked.

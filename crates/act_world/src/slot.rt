@@ -5,15 +5,15 @@ ghost use Rattle.act_rules.specs.declared.outcome.Arrival.TheVariants.{New};
 ghost use Rattle.act_actor.specs.Actor.{arrival_at};
 ghost use Rattle.act_actor.specs.Seen.{live_seen};
 ghost use Rattle.act_world.specs.Value.{Runs, slot_seen};
+ghost use Rattle.act_world.specs.Exchange.{head_of};
 ghost use Rattle.act_world.specs.Stands.{is_memory};
-ghost use Rattle.act_world.specs.Slots.{IsLiveSeen, is_live_seen, is_dead_seen, HasTaken, HasArrived, IsNewCall, IsBrought, IsRun, IsRunAt, IsRetiredIn, buried, killed};
+ghost use Rattle.act_world.specs.Slots.{IsLiveSeen, is_live_seen, is_dead_seen, HasTakenCall, HasArrived, IsNewCall, IsBrought, IsRun, IsRunAt, IsRetiredIn, buried, killed};
 
-use crate::exchange::Mailed;
+use crate::exchange::{CallNote, Exchange, Mailed};
 use act_actor::{Dead, Live, Retired};
 use act_kinds::{Actor, Boxed};
 use act_rules::{Arrival, Did, HandleRefusal, Outcome, WorldRefusal};
-use act_types::{ActorId, CallerId, CopyOf, NoMemory, Packet, Reply};
-use std::alloc::Global;
+use act_types::{ActorId, CallerId, NoMemory, Reply};
 use std::mem;
 
 /// An actor in one of its states. A slot is vacant where there is no such actor, and while an actor
@@ -44,11 +44,11 @@ pub(crate) fn slot_of(a: ActorId) -> usize
 
 /// Brings a letter to the actor.
 pub(crate) fn bring<K: Actor>(
-    alloc: Global,
+    exchange: &Exchange,
     slot: &mut Slot<K>,
     letter: &Mailed,
 ) -> Result<Outcome, NoMemory>
-    ensures ok { IfOk result (IsBrought letter.now (slot_seen K.state slot.old) (slot_seen K.state slot.new)) }
+    ensures ok { IfOk result (IsBrought exchange.now.owners letter.now (slot_seen K.state slot.old) (slot_seen K.state slot.new)) }
     ensures told { IfOk result (λ told. is_memory told ≡ false) }
     ensures refused { IfOk result (λ told. OnErr told (slot_seen K.state slot.new ≡ slot_seen K.state slot.old)) }
     // Memory is asked for where the letter is a call that the actor takes in, and there alone.
@@ -58,37 +58,41 @@ pub(crate) fn bring<K: Actor>(
     let Slot::Live(live) = slot else {
         return Ok(Err(WorldRefusal::ActorEnded));
     };
-    let arrival = arrive(alloc, live, letter)?;
+    let arrival = arrive(exchange, live, letter)?;
     Ok(Ok(Did::Arrived(arrival)))
 }
 
 /// The actor takes a letter in.
-fn arrive<K: Actor>(alloc: Global, live: &mut Live<K>, letter: &Mailed) -> Result<Arrival, NoMemory>
-    ensures ok { IfOk result (λ arrival. HasArrived letter.now arrival (live_seen K.state live.old) (live_seen K.state live.new)) }
+fn arrive<K: Actor>(
+    exchange: &Exchange,
+    live: &mut Live<K>,
+    letter: &Mailed,
+) -> Result<Arrival, NoMemory>
+    ensures ok { IfOk result (λ arrival. HasArrived exchange.now.owners letter.now arrival (live_seen K.state live.old) (live_seen K.state live.new)) }
     ensures last { OnErr result (IsNewCall letter.now (Runs (live_seen K.state live.old))) }
     ensures err { OnErr result (live_seen K.state live.new ≡ live_seen K.state live.old) }
 {
     match letter {
-        Mailed::Call(packet) => take_in(alloc, live, packet),
+        Mailed::Call(call) => take_in(exchange, live, call),
         Mailed::Note(note) => Ok(live.released(*note)),
     }
 }
 
-/// The actor takes a call in. Its packet is copied only where it is new.
+/// The actor takes a call in. Its packet is made only where it is new.
 fn take_in<K: Actor>(
-    alloc: Global,
+    exchange: &Exchange,
     live: &mut Live<K>,
-    packet: &Packet,
+    call: &CallNote,
 ) -> Result<Arrival, NoMemory>
-    ensures ok { IfOk result (λ arrival. HasTaken packet.now arrival (live_seen K.state live.old) (live_seen K.state live.new)) }
-    ensures last { let before = live_seen K.state live.old in OnErr result (arrival_at before.id before.inbox packet.now ≡ New) }
+    ensures ok { IfOk result (λ arrival. HasTakenCall exchange.now.owners call.now arrival (live_seen K.state live.old) (live_seen K.state live.new)) }
+    ensures last { let before = live_seen K.state live.old in OnErr result (arrival_at before.id before.inbox (head_of call.now) ≡ New) }
     ensures err { OnErr result (live_seen K.state live.new ≡ live_seen K.state live.old) }
 {
-    let arrival = live.arrival(packet);
+    let arrival = live.arrival(&call.head(exchange.alloc()));
     let Arrival::New = arrival else {
         return Ok(arrival);
     };
-    let packet = packet.copy_of(alloc)?;
+    let packet = exchange.packet_of(call)?;
     let Ok(arrival) = live.arrive(packet) else {
         return Err(NoMemory);
     };

@@ -57,11 +57,7 @@ impl<K: Actor> World<K> {
         let Some(letter) = exchange.letter(i) else {
             return Ok(Err(WorldRefusal::NoMail));
         };
-        bring(
-            exchange.alloc(),
-            &mut slots[slot_of(letter.actor())],
-            letter,
-        )
+        bring(exchange, &mut slots[slot_of(letter.actor())], letter)
     }
 
     /// The actor runs the caller's next call, if it has arrived, and tells the caller. Where that

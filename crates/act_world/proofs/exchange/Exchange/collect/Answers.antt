@@ -10,7 +10,7 @@ use Rattle.act_world.specs.Exchange.{ExchangeValue, is_owner, told_collected}
 use Rattle.act_world.specs.Ties.{Ties}
 use Rattle.act_world.proofs.Lawful.{world_lawful}
 use Rattle.act_world.proofs.Sending.{SeesOwner}
-use Rattle.act_world.proofs.Hearing.{collect_follows, collect_owned}
+use Rattle.act_world.proofs.Hearing.{collect_follows, collect_owned, late_follows}
 use Rattle.act_world.proofs.exchange.Exchange.collect.Goals as goal
 
 pub returns-in_default-place_of-clause-ok : goal.returns-in_default-place_of-clause-ok
@@ -20,6 +20,18 @@ returns-in_default-place_of-clause-ok c slots casts before stands =
     let owners : c.deref.result.now ≡ c.args.self.now.owners = c.deref.ensures.value ∙ ap (λ (exchange : ExchangeValue). exchange.owners) c.self.view_is in
     let none : None ≡ position (is_owner notice.caller) c.args.self.now.owners = c.in_default-place_of.ensures ∙ ap (position (is_owner notice.caller)) owners in
     absurd (collect_owned (history casts before) c.args.self.now slots c.args.j notice (world_lawful casts before) stands here (sym none))
+
+pub returns-in-Late-clause-ok : goal.returns-in-Late-clause-ok
+returns-in-Late-clause-ok c slots casts before stands =
+    let notice : Posted = c.in-Some.posted.now in
+    let here : slice_get c.args.self.now.replies c.args.j ≡ Some notice = sym c.in-Some.ensures in
+    let owner : OwnerValue = c.index.result.now in
+    let owners : c.deref.result.now ≡ c.args.self.now.owners = c.deref.ensures.value ∙ ap (λ (exchange : ExchangeValue). exchange.owners) c.self.view_is in
+    let sees : SeesOwner c.args.self.now notice.caller c.in-Some-place_of.place owner = record {
+      place_is = sym (c.in-Some-place_of.ensures ∙ ap (position (is_owner notice.caller)) owners);
+      owner_is = c.index.ensures ∙ ap (λ (exchange : ExchangeValue). get_or exchange.owners c.in-Some-place_of.place owner) c.self.view_is;
+    } in
+    late_follows (history casts before) c.args.self.now slots c.args.j notice c.in-Some-place_of.place c.in-Late.k owner (world_lawful casts before) stands here sees (sym c.in-Late.ensures)
 
 pub returns-clause-ok : goal.returns-clause-ok
 returns-clause-ok c slots casts before stands =

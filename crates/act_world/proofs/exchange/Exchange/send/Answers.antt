@@ -1,11 +1,12 @@
-use Rattle.std.proofs.Common.{◌≡◌, ◌++◌, ◌∷◌, [], List, length, None, ap, sym, ◌∙◌, subst, arith, slice_set, get_or, Ok}
+use Rattle.std.proofs.Common.{◌≡◌, ◌++◌, ◌∷◌, [], List, length, None, Some, ap, sym, ◌∙◌, subst, arith, slice_set, get_or, Ok}
 use Rattle.std.specs.Prelude.{position}
 use Rattle.std.proofs.lemmas.Grind.{common_steps}
 use Rattle.act_rules.specs.declared.event.Event.TheVariants as event
 use Rattle.act_rules.specs.declared.outcome.Did.TheVariants as did
 use Rattle.act_rules.specs.Laws.{world as history}
 use Rattle.act_rules.specs.Rules.{outcome_of, after}
-use Rattle.act_owner.specs.Owner.{OwnerValue}
+use Rattle.act_owner.specs.Owner.{OwnerValue, sending_refusal, address_at, with_sent}
+use Rattle.act_world.specs.declared.exchange.CallNote.{CallNote}
 use Rattle.act_world.specs.declared.exchange.Mailed.{Mailed}
 use Rattle.act_world.specs.declared.exchange.Mailed.TheVariants.{Call as MailedCall}
 use Rattle.act_world.specs.Exchange.{ExchangeValue, is_owner}
@@ -43,16 +44,6 @@ returns-in_err-reserve-clause-last c =
     let last : IsUnrefusedThere (event.Send c.args.c c.args.k) c.args.self.now = λ slots casts before stands. send_unrefused (history casts before) c.args.self.now slots c.args.c c.args.k c.in-Some.place owner stands sees (sym c.in_default-sending_refusal.ensures) in
     on_err c.from_residual.result last
 
-pub returns-in_default-packet-clause-last : goal.returns-in_default-packet-clause-last
-returns-in_default-packet-clause-last c slots casts before stands =
-    let owner : OwnerValue = c.index.result.now in
-    let owners : c.deref.result.now ≡ c.args.self.now.owners = c.deref.ensures.value ∙ ap (λ (exchange : ExchangeValue). exchange.owners) c.self.view_is in
-    let sees : SeesOwner c.args.self.now c.args.c c.in-Some.place owner = record {
-      place_is = sym (c.in-Some.ensures ∙ ap (position (is_owner c.args.c)) owners);
-      owner_is = c.index.ensures ∙ ap (λ (exchange : ExchangeValue). get_or exchange.owners c.in-Some.place owner) c.self.view_is;
-    } in
-    send_unrefused (history casts before) c.args.self.now slots c.args.c c.args.k c.in-Some.place owner stands sees (sym c.in_default-sending_refusal.ensures)
-
 pub returns-clause-ok : goal.returns-clause-ok
 returns-clause-ok c slots casts before stands =
     let owner : OwnerValue = c.index_mut.result.now in
@@ -62,10 +53,16 @@ returns-clause-ok c slots casts before stands =
       owner_is = c.index_mut.ensures.value ∙ ap (λ (exchange : ExchangeValue). get_or exchange.owners c.in-Some.place owner) c.self.view_is;
     } in
     let mailed_there : c.reserve.new.self.items ≡ c.args.self.now.mail = c.in_ok-reserve.ensures.items ∙ ap (λ (exchange : ExchangeValue). exchange.mail) c.self.view_is in
-    let mail : c.push_reserved.new.self.items ≡ c.args.self.now.mail ++ MailedCall c.in-Ok.packet ∷ [] = c.push_reserved.ensures.items ∙ ap (λ (items : List Mailed). items ++ MailedCall c.in-Ok.packet ∷ []) mailed_there in
+    let address = c.unwrap-actor.result in
+    let call : CallNote = record { caller = c.args.c; actor = address.0; number = address.1; future = c.args.k } in
+    let mail : c.push_reserved.new.self.items ≡ c.args.self.now.mail ++ MailedCall call ∷ [] = c.push_reserved.ensures.items ∙ ap (λ (items : List Mailed). items ++ MailedCall call ∷ []) mailed_there in
+    let sent : c.send.result ≡ Ok address = c.unwrap-actor.ensures in
+    let value : address_at owner.calls c.args.k ≡ Some address = rw sent at c.send.ensures.value in
+    let free : sending_refusal owner c.args.k ≡ None = rw sent at c.send.ensures.accepted in
+    let marked : c.send.new.self ≡ with_sent owner c.args.k = rw sent at c.send.ensures.ok in
     let count : c.len-i.result ≡ length c.reserve.new.self.items = grind (arith, common_steps) in
     let counted : c.len-i.result ≡ length c.args.self.now.mail = count ∙ ap (λ (items : List Mailed). length items) mailed_there in
     let h = history casts before in
-    subst (λ (exchange : ExchangeValue). (Ok (did.Mail c.len-i.result) ≡ outcome_of h (event.Send c.args.c c.args.k)) × Ties (after h (event.Send c.args.c c.args.k)) (record { exchange = record exchange { owners = slice_set exchange.owners c.in-Some.place c.packet.new.self; mail = c.push_reserved.new.self.items }; slots = slots })) (sym c.self.view_is)
-    (send_follows h c.args.self.now slots c.args.c c.args.k c.in-Some.place c.len-i.result owner c.packet.new.self c.in-Ok.packet c.push_reserved.new.self.items (world_lawful casts before) stands sees
-    c.in-Ok.ensures.accepted c.in-Ok.ensures.value c.in-Ok.ensures.ok counted mail)
+    subst (λ (exchange : ExchangeValue). (Ok (did.Mail c.len-i.result) ≡ outcome_of h (event.Send c.args.c c.args.k)) × Ties (after h (event.Send c.args.c c.args.k)) (record { exchange = record exchange { owners = slice_set exchange.owners c.in-Some.place c.send.new.self; mail = c.push_reserved.new.self.items }; slots = slots })) (sym c.self.view_is)
+    (send_follows h c.args.self.now slots c.args.c c.args.k c.in-Some.place c.len-i.result owner c.send.new.self address c.push_reserved.new.self.items (world_lawful casts before) stands sees
+    free value marked counted mail)

@@ -9,7 +9,7 @@ use Rattle.act_world.proofs.world.World.deliver.Goals as goal
 
 pub returns-clause-ok : goal.returns-clause-ok
 returns-clause-ok g c = IfOk-weaker c.bring.result
-    (λ told. IsBrought c.in-Some.letter.now (slot_seen g.K.Actor.state c.index-slots-slot_of.result) (slot_seen g.K.Actor.state c.bring.new.slot) told) _
+    (λ told. IsBrought c.args.self.now.exchange.owners c.in-Some.letter.now (slot_seen g.K.Actor.state c.index-slots-slot_of.result) (slot_seen g.K.Actor.state c.bring.new.slot) told) _
     (λ told went. brought_follows (slot_seen g.K.Actor.state) c.args.self.now.exchange c.args.self.now.slots c.args.i c.slot_of.result c.in-Some.letter.now c.index-slots-slot_of.result
     c.in-Some.ensures (c.slot_of.ensures.value ∙ c.actor.ensures) c.index-slots-slot_of.is c.bring.new.slot told went)
     (rw c.index-slots-slot_of.is c.bring.ensures.ok)

@@ -1,0 +1,47 @@
+-- The packet that a caller makes of a call whose letter stands.
+use Rattle.std.proofs.Common.{◌≡◌, ℕ, true, List, Some, None, refl, ap, ◌∙◌}
+use Rattle.std.specs.Prelude.{Option, find, map, slice_get, option_map, option_and_then}
+use Rattle.std.proofs.lemmas.Bool.{eq-eqb}
+use Rattle.act_types.specs.declared.message.Packet.{Packet}
+use Rattle.act_rules.specs.declared.history.Submission.{Submission}
+use Rattle.act_rules.specs.RunList.{Answer}
+use Rattle.act_rules.specs.Submissions.{calls_to, number_of, settled}
+use Rattle.act_rules.specs.History.{History, cast_of, names, is_caller, calls_of, kept_of}
+use Rattle.act_rules.proofs.AsSubmitted.{IsCallTo, calls_to-at}
+use Rattle.act_rules.proofs.Letters.{calls_to-number}
+use Rattle.act_owner.specs.Owner.{OwnerValue, packet_at}
+use Rattle.act_world.specs.Exchange.{is_owner}
+use Rattle.act_world.specs.Slots.{IsPacketOf}
+use Rattle.act_world.specs.Ties.{IsOwnerOf, IsOwnerAt, note_as, packet_as}
+use Rattle.act_world.proofs.Lawful.{named_caller}
+use Rattle.act_world.proofs.Hearing.{one_number}
+
+abbrev made : ℕ → ℕ → ℕ → ℕ → List (Option Answer) → Submission → Packet
+made c a n k kept call = record { caller = c; actor = a; number = n; future = k; method = call.method; args = map (settled kept) call.args }
+
+abbrev made_at : ℕ → List Submission → List (Option Answer) → ℕ → Option Submission → Option Packet
+made_at id calls kept k found = option_map (λ (call : Submission). made id call.actor (number_of call.actor k calls) k kept call) found
+
+made_by : (h : History) (c a n : ℕ) (call : ℕ × Submission) (owner : OwnerValue) → IsOwnerOf h c owner → slice_get (calls_to a (calls_of c h)) n ≡ Some call → packet_at owner call.0 ≡ Some (packet_as h c a n call)
+made_by h c a n call owner is at =
+    ap (λ (id : ℕ). made_at id owner.calls owner.kept call.0 (slice_get owner.calls call.0)) is.id
+    ∙ ap (λ (calls : List Submission). made_at c calls owner.kept call.0 (slice_get calls call.0)) is.calls
+    ∙ ap (λ (kept : List (Option Answer)). made_at c (calls_of c h) kept call.0 (slice_get (calls_of c h) call.0)) is.kept
+    ∙ ap (λ (found : Option Submission). made_at c (calls_of c h) (kept_of c h) call.0 found) there.at
+    ∙ ap (λ (b : ℕ). Some (made c b (number_of b call.0 (calls_of c h)) call.0 (kept_of c h) call.1)) there.actor
+    ∙ ap (λ (m : ℕ). Some (made c a m call.0 (kept_of c h) call.1)) number
+  where
+    there : IsCallTo a (calls_of c h) call
+    there = calls_to-at a (calls_of c h) n call at
+
+    number : number_of a call.0 (calls_of c h) ≡ n
+    number = one_number a (calls_of c h) (number_of a call.0 (calls_of c h)) n call call (calls_to-number a (calls_of c h) call.0 call.1 there.at (eq-eqb call.1.actor a there.actor)) at refl
+
+-- the caller makes the packet that the history tells
+pub made_there : (h : History) (owners : List OwnerValue) (c a n : ℕ) (call : ℕ × Submission) → ((d : ℕ) → IsOwnerAt h d (find (is_owner d) owners)) → names c (cast_of a h) ≡ true → slice_get (calls_to a (calls_of c h)) n ≡ Some call
+    → IsPacketOf owners (note_as c a n call) (packet_as h c a n call)
+made_there h owners c a n call all named at = record { made = go (find (is_owner c) owners) (all c); caller = refl; actor = refl; number = refl }
+  where
+    go : (found : Option OwnerValue) → IsOwnerAt h c found → option_and_then (λ (owner : OwnerValue). packet_at owner call.0) found ≡ Some (packet_as h c a n call)
+    go None is = let caller : is_caller c h ≡ true = named_caller c a h named in cc
+    go (Some owner) is = made_by h c a n call owner is.1 at
