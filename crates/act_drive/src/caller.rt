@@ -4,7 +4,7 @@ ghost use Rattle.std.specs.Prelude.{◌≡◌, ℕ, List, [], None, OnOk, All, f
 ghost use Rattle.act_rules.specs.Plans.{first_bad};
 ghost use Rattle.act_rules.specs.Submissions.{copies_held};
 ghost use Rattle.act_handles.specs.Handles.{actors_in, copies_in};
-ghost use Rattle.act_drive.specs.Driven.{IsCalling, Follows, Stays, Winds, IsFresh, HasDone, HasDriven};
+ghost use Rattle.act_drive.specs.Driven.{IsCalling, Follows, Stays, Waits, Winds, IsFresh, HasDone, HasDriven};
 
 use crate::desk::{CallerLines, CallerPasses, Desk, NUMBERS};
 use act_owner::Owner;
@@ -12,6 +12,9 @@ use act_rules::Step;
 use act_types::{ActorId, NoMemory};
 use std::alloc::Global;
 use std::sync::Wait;
+
+/// How many steps are done from one turn to the next. A wait has its own turns.
+const STEPS_BETWEEN_TURNS: u32 = 64;
 
 /// What a caller's thread does, in order.
 pub type Plan = Vec<Step>;
@@ -24,8 +27,43 @@ pub struct Driven {
     pub passes: CallerPasses,
 }
 
+/// How many calls a plan submits.
+fn submissions(plan: &[Step]) -> usize {
+    plan.iter()
+        .filter(|step| matches!(step, Step::Submit(..)))
+        .count()
+}
+
 impl Desk {
-    /// Does the steps in order, with a turn after each.
+    /// Makes room for all calls of a plan at once, so that none of its submissions grows a table.
+    fn reserve(&mut self, plan: &[Step]) -> Result<(), NoMemory>
+        ensures { self.new ≡ self.old }
+    {
+        self.owner.reserve(submissions(plan))
+    }
+
+    /// A turn after each so many steps, where `since` counts them from one turn to the next.
+    fn turn_after<R: Wait>(
+        &mut self,
+        rt: &R,
+        alloc: Global,
+        lines: &CallerLines,
+        since: &mut u32,
+    ) -> Result<(), NoMemory>
+        requires calling { IsCalling lines.now self.old }
+        ensures calling { IsCalling lines.now self.new }
+        ensures waits { Waits self.old self.new }
+    {
+        if *since < STEPS_BETWEEN_TURNS - 1 {
+            *since += 1;
+            return Ok(());
+        }
+        *since = 0;
+        self.turn(rt, alloc, lines)?;
+        Ok(())
+    }
+
+    /// Does the steps in order, with a turn after each so many.
     fn steps<R: Wait>(
         &mut self,
         rt: &R,
@@ -38,9 +76,10 @@ impl Desk {
         ensures stays { Stays self.old self.new }
         ensures follows { OnOk result ((actors : List ℕ) → first_bad actors plan.items ≡ None → Follows lines.now actors [] self.old → Follows lines.now actors plan.items self.new) }
     {
+        let mut since = 0;
         for step in plan {
             self.step(rt, alloc, lines, step)?;
-            self.turn(rt, alloc, lines)?;
+            self.turn_after(rt, alloc, lines, &mut since)?;
         }
         Ok(())
     }
@@ -84,6 +123,7 @@ impl Desk {
         ensures stays { Stays self.old self.new }
         ensures done { OnOk result ((actors : List ℕ) → first_bad actors plan.items ≡ None → Follows lines.now actors [] self.old → HasDone lines.now actors plan.items self.new.owner self.new.passes) }
     {
+        self.reserve(plan.as_slice())?;
         self.steps(rt, alloc, lines, plan)?;
         self.close(rt, lines)?;
         self.finish(rt, alloc, lines)?;

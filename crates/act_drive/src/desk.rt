@@ -29,6 +29,10 @@ pub struct CallerPasses {
     pub collects: ReplyCaller,
 }
 
+/// How many letters are posted, and how many notices collected, in one turn at most. It is as many
+/// as a line holds, so that a turn can fill a line and empty one.
+const MOST_IN_A_TURN: u32 = 64;
+
 /// How many places a list by the actors' numbers has.
 pub(crate) const NUMBERS: usize = MOST_ACTORS as usize + 1;
 
@@ -91,13 +95,13 @@ pub(crate) fn rest(patience: &mut Patience, has_moved: bool) {
 
 impl Desk {
     /// Collects a notice, if there is one.
-    pub(crate) fn collect<R: Wait>(&mut self, rt: &R, lines: &CallerLines) -> bool
+    pub(crate) fn collect(&mut self, lines: &CallerLines) -> bool
         requires calling { IsCalling lines.now self.old }
         ensures calling { IsCalling lines.now self.new }
         ensures waits { Waits self.old self.new }
         ensures heard { IsHeard self.old self.new }
     {
-        match lines.replies.collect(rt, &mut self.passes.collects) {
+        match lines.replies.try_collect(&mut self.passes.collects) {
             None => false,
             Some(notice) => {
                 self.owner.collect(notice);
@@ -149,7 +153,56 @@ impl Desk {
         true
     }
 
-    /// Sends a letter and collects a notice, where there is one, and says whether there was.
+    /// Takes the letter of the next ready call in hand, if the hand is empty, and posts what is in
+    /// hand. Whether a letter went.
+    fn send_next<R: Wait>(
+        &mut self,
+        rt: &R,
+        alloc: Global,
+        lines: &CallerLines,
+    ) -> Result<bool, NoMemory>
+        requires calling { IsCalling lines.now self.old }
+        ensures calling { IsCalling lines.now self.new }
+        ensures waits { Waits self.old self.new }
+    {
+        self.take_up(alloc)?;
+        Ok(self.send(rt, lines))
+    }
+
+    /// Sends letters while there are some and their line has room. Whether any went.
+    fn send_some<R: Wait>(
+        &mut self,
+        rt: &R,
+        alloc: Global,
+        lines: &CallerLines,
+    ) -> Result<bool, NoMemory>
+        requires calling { IsCalling lines.now self.old }
+        ensures calling { IsCalling lines.now self.new }
+        ensures waits { Waits self.old self.new }
+    {
+        for sent in 0..MOST_IN_A_TURN {
+            if !self.send_next(rt, alloc, lines)? {
+                return Ok(sent > 0);
+            }
+        }
+        Ok(true)
+    }
+
+    /// Collects notices while there are some. Whether any came.
+    fn collect_some(&mut self, lines: &CallerLines) -> bool
+        requires calling { IsCalling lines.now self.old }
+        ensures calling { IsCalling lines.now self.new }
+        ensures waits { Waits self.old self.new }
+    {
+        for heard in 0..MOST_IN_A_TURN {
+            if !self.collect(lines) {
+                return heard > 0;
+            }
+        }
+        true
+    }
+
+    /// Sends letters and collects notices, where there are some, and says whether there were.
     pub(crate) fn turn<R: Wait>(
         &mut self,
         rt: &R,
@@ -160,13 +213,9 @@ impl Desk {
         ensures calling { IsCalling lines.now self.new }
         ensures waits { Waits self.old self.new }
     {
-        let taken = self.take_up(alloc);
-        let has_sent = self.send(rt, lines);
-        let has_heard = self.collect(rt, lines);
-        match taken {
-            Ok(()) => Ok(has_sent || has_heard),
-            Err(_) => Err(NoMemory),
-        }
+        let has_sent = self.send_some(rt, alloc, lines)?;
+        let has_heard = self.collect_some(lines);
+        Ok(has_sent || has_heard)
     }
 
     /// A turn of a loop that waits.
@@ -199,7 +248,7 @@ impl Desk {
                 return;
             }
             let has_sent = self.send(rt, lines);
-            let has_heard = self.collect(rt, lines);
+            let has_heard = self.collect(lines);
             rest(&mut patience, has_sent || has_heard);
         }
         unreachable!()

@@ -84,7 +84,7 @@ impl Desk {
             if self.end_all(rt, lines, &mut asked) {
                 return;
             }
-            let has_heard = self.collect(rt, lines);
+            let has_heard = self.collect(lines);
             rest(&mut patience, has_heard);
         }
         unreachable!()

@@ -123,6 +123,17 @@ impl<T: Item, N> Line<T, N> {
         self.queue.pop_as::<Takes<K>, R>(rt, &mut taker.pass)
     }
 
+    /// One attempt to take. `None` where the first item isn't there yet: also while the put of an
+    /// item before others isn't finished. It leaves alone the word that every put changes.
+    pub(crate) fn try_take<K: Noted<N>>(&self, taker: &mut Taker<T, N>) -> Option<T>
+        requires line { taker.old.line ≡ self.now }
+        ensures taken { IfSome result (λ item. taker.new ≡ record taker.old { taken = taker.old.taken ++ item ∷ []; note = K.note }) }
+        ensures none { IfNone result (taker.new ≡ taker.old) }
+        ensures known { IfSome result (λ item. Contains taker.old.putters (T.putter item)) }
+    {
+        self.queue.try_pop_as::<Takes<K>>(&mut taker.pass)
+    }
+
     /// The length of the line. The putter sees a copy of what was taken, so it learns that its own
     /// part of that begins what it put.
     pub(crate) fn audit<R: Wait>(

@@ -94,6 +94,17 @@ impl Mail {
         self.line.take::<Brand, R>(rt, pass)
     }
 
+    /// One attempt to take, which costs less than `take` where nothing is there. `None` where the
+    /// first letter isn't there yet: the line is empty, or the post of that letter isn't finished.
+    pub fn try_take(&self, pass: &mut MailExec) -> Option<Letter>
+        requires pass { pass.old.line ≡ self.now.line }
+        ensures taken { IfSome result (λ letter. pass.new ≡ record pass.old { taken = pass.old.taken ++ letter ∷ [] }) }
+        ensures none { IfNone result (pass.new ≡ pass.old) }
+        ensures known { IfSome result (λ letter. Contains pass.old.putters (caller_of letter)) }
+    {
+        self.line.try_take::<Brand>(pass)
+    }
+
     /// The line's length. The letters of the caller that were taken begin those that it posted.
     pub fn audit<R: Wait>(&self, rt: &R, caller: &mut MailCaller, executor: &mut MailExec) -> usize
         requires passes { (caller.old.line ≡ self.now.line) × (executor.old.line ≡ self.now.line) }

@@ -5,3 +5,4 @@ pub mod Answered
 pub mod Alone
 pub mod Nexts
 pub mod Pair
+pub mod AtOnce

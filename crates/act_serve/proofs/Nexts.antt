@@ -17,6 +17,7 @@ use Rattle.act_mailbox.specs.declared.mail.Letter.{Letter}
 use Rattle.act_mailbox.specs.Passes.{TakerValue}
 use Rattle.act_mailbox.specs.Notices.{RepliesValue, ReplyExecValue, NamesPlace}
 use Rattle.act_seats.specs.declared.seat.Seat.{Seat}
+use Rattle.act_serve.specs.declared.letter.Came.TheVariants.{Nothing}
 use Rattle.act_serve.specs.Turns.{HasReplied, HasCome, has_next, HasGone}
 use Rattle.act_serve.proofs.Logs.{Tells, same, other, tells}
 use Rattle.act_serve.proofs.Serving.{caller_here}
@@ -77,10 +78,11 @@ replied_place caller reply before after log ran shown =
     (subst (λ (r : Reply). NamesPlace (before.log ++ ran.item ∷ []) (Answered r)) (sym ran.reply_is) (ran.item, slice_get_last before.log ran.item, refl, refl))
 
 -- no letter came, and no call ran
-pub idle_turn : (lines : List RepliesValue) (seats : List (Seat ReplyExecValue)) (old new : TakerValue Letter (Unit {0})) (before between after : ActorSeen) (came ran : Bool)
-    → new ≡ record old { taken = new.taken } → HasCome came old.taken new.taken before between → HasGone ran lines seats between after
-    → came ≡ false → ran ≡ false → (new ≡ old) × HasGone false lines seats before after
-idle_turn lines seats old new before between after came ran letters arrived gone no_letter no_call =
-    let here : HasCome false old.taken new.taken before between = subst (λ b. HasCome b old.taken new.taken before between) no_letter arrived in
-    let there : HasGone false lines seats between after = subst (λ b. HasGone b lines seats between after) no_call gone in
-    (letters ∙ ap (λ (l : List Letter). record old { taken = l }) here.0, (there.0 ∙ here.1, subst (λ (s : ActorSeen). All (λ seat. has_next lines s seat ≡ false) seats) here.1 there.1))
+pub idle_turn : (lines : List RepliesValue) (seats given : List (Seat ReplyExecValue)) (old new : TakerValue Letter (Unit {0})) (before between after : ActorSeen)
+    → new ≡ record old { taken = new.taken } → HasCome Nothing old.taken new.taken seats given before between → HasGone false lines given between after
+    → (new ≡ old) × HasGone false lines seats before after
+idle_turn lines seats given old new before between after letters none still =
+    (letters ∙ ap (λ (l : List Letter). record old { taken = l }) none.0,
+    (still.0 ∙ none.2,
+    subst (λ (l : List (Seat ReplyExecValue)). All (λ seat. has_next lines before seat ≡ false) l) none.1
+    (subst (λ (s : ActorSeen). All (λ seat. has_next lines s seat ≡ false) given) none.2 still.1)))

@@ -1,22 +1,24 @@
 -- What the parts of an actor's turn stand on, and what they leave.
-use Rattle.std.specs.Prelude.{◌≡◌, ◌≢◌, ℕ, ◌+◌, ◌<◌, ◌≤◌, Bool, true, false, List, [], ◌∷◌, ◌++◌, length, slice_index_or, Some, is_some, All, AllPairs, Contains}
+use Rattle.std.specs.Prelude.{◌≡◌, ◌≢◌, ℕ, ◌+◌, ◌<◌, ◌≤◌, ◌==◌, Bool, true, false, List, [], ◌∷◌, ◌++◌, length, slice_index_or, Some, is_some, All, AllPairs, Contains}
 use Rattle.atomic_table.specs.Seated.{TableId}
 use Rattle.act_types.specs.KindState.{KindState}
 use Rattle.act_types.specs.declared.message.Packet.{Packet}
 use Rattle.act_types.specs.declared.message.Reply.{Reply}
-use Rattle.act_types.specs.declared.message.Notice.TheVariants.{Death}
+use Rattle.act_types.specs.declared.message.Notice.TheVariants.{Answered, Death}
 use Rattle.act_rules.specs.declared.history.RunItem.{RunItem}
 use Rattle.act_rules.specs.RunList.{after_item, items_of, has_terminated, NothingFollowsAnEnd}
 use Rattle.act_rules.specs.History.{contains}
 use Rattle.act_inbox.specs.Inbox.{is_listed, handed_of, waiting, waiting_after, note_of, note_after, IsOpened}
 use Rattle.act_actor.specs.Value.{ActorSeen}
-use Rattle.act_actor.specs.Actor.{HasRunFrom, arrival_at, note_arrival_at, next_call}
+use Rattle.act_actor.specs.Actor.{HasRunFrom, RunsAtOnce, arrival_at, note_arrival_at, next_call}
 use Rattle.act_mailbox.specs.declared.mail.Letter.{Letter}
 use Rattle.act_mailbox.specs.declared.mail.Letter.TheVariants.{Call, Note}
 use Rattle.act_rules.specs.Consistent.{IsFront}
 use Rattle.act_mailbox.specs.Controls.{ControlExecValue, looked_after}
 use Rattle.act_mailbox.specs.Notices.{RepliesValue, ReplyExecValue, IsReply}
 use Rattle.act_seats.specs.declared.seat.Seat.{Seat}
+use Rattle.act_serve.specs.declared.letter.Came.{Came}
+use Rattle.act_serve.specs.declared.letter.Came.TheVariants.{Nothing, Held, Ran}
 use Rattle.act_serve.specs.declared.seat.ExecLines.{ExecLines}
 use Rattle.act_serve.specs.declared.seat.ExecPasses.{ExecPasses}
 use Rattle.act_serve.specs.Served.{IsLogOf, first_note, replies_to, caller_at, callers_of, KillsOfDead}
@@ -71,10 +73,19 @@ abbrev pub IsIn : Letter → ActorSeen → ActorSeen → Type 0
 IsIn (Call packet) old new = (c n : ℕ) → waiting new.inbox c n ≡ waiting_after (arrival_at old.id old.inbox packet) packet old.inbox c n
 IsIn (Note note) old new = (c : ℕ) → note_of new.inbox c ≡ note_after (note_arrival_at old.id old.inbox note) note old.inbox c
 
--- a letter more was taken into the actor's inbox, or none came and nothing changed
-abbrev pub HasCome : Bool → List Letter → List Letter → ActorSeen → ActorSeen → Type 0
-HasCome true before after old new = (letter : Letter) × (after ≡ before ++ letter ∷ []) × IsIn letter old new
-HasCome false before after old new = (after ≡ before) × (new ≡ old)
+-- no letter came and nothing changed, one more was taken into the actor's inbox, or it was a call that ran at once
+abbrev pub HasCome : Came → List Letter → List Letter → List (Seat ReplyExecValue) → List (Seat ReplyExecValue) → ActorSeen → ActorSeen → Type 0
+HasCome Nothing before after seats given old new = (after ≡ before) × (given ≡ seats) × (new ≡ old)
+HasCome Held before after seats given old new = ((letter : Letter) × (after ≡ before ++ letter ∷ []) × IsIn letter old new) × (given ≡ seats) × (new ≡ record old { inbox = new.inbox })
+HasCome Ran before after seats given old new = ((packet : Packet) × (after ≡ before ++ Call packet ∷ []) × RunsAtOnce packet old.id old.log old.inbox) × (length new.log ≡ length old.log + 1)
+
+-- the seat is the caller's
+abbrev pub is_seat_of : List RepliesValue → ℕ → Seat ReplyExecValue → Bool
+is_seat_of lines caller seat = caller_at lines seat.place == caller
+
+-- the seat after a reply was given
+abbrev pub replied_to : List RunItem → Reply → Seat ReplyExecValue → Seat ReplyExecValue
+replied_to log reply seat = record seat { pass = record seat.pass { given = seat.pass.given ++ Answered reply ∷ []; seen = log } }
 
 -- whether the next call of the seat's caller came, at an actor that did not terminate
 abbrev pub has_next : List RepliesValue → ActorSeen → Seat ReplyExecValue → Bool

@@ -3,6 +3,7 @@
 
 mod gate;
 mod laws;
+mod letter;
 mod seat;
 #[cfg(test)]
 mod tests;

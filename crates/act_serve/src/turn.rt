@@ -1,21 +1,24 @@
 //! One turn of an actor.
 
-ghost use Rattle.std.specs.Prelude.{◌≡◌, ℕ, ◌+◌, ◌<◌, ◌≤◌, false, List, [], ◌∷◌, ◌++◌, length, map, position, is_some, All, IfOk, OnOk, OnErr, IfSome, IsSome, IfNone};
+ghost use Rattle.std.specs.Prelude.{◌≡◌, ℕ, ◌+◌, ◌<◌, ◌≤◌, false, List, [], ◌∷◌, ◌++◌, length, map, get_or, slice_set, position, is_some, All, IfOk, OnOk, OnErr, IfSome, IsSome, IfNone};
 ghost use Rattle.act_types.specs.KindState.{KindState};
 ghost use Rattle.act_mailbox.specs.declared.mail.Letter.{Letter};
 ghost use Rattle.act_actor.specs.Actor.{next_call};
 ghost use Rattle.act_actor.specs.Seen.{live_seen};
 ghost use Rattle.act_rules.specs.Consistent.{IsFront};
-ghost use Rattle.act_mailbox.specs.Notices.{actor_of, IsReply, NamesPlace};
-ghost use Rattle.act_serve.specs.Turns.{IsSeated, SeatsDiffer, PassesOf, HasReplied, GoesOn, IsFed, IsServing, IsFresh, HasCome, has_next, HasGone, HasLooked, told};
+ghost use Rattle.act_types.specs.declared.message.Notice.TheVariants.{Answered};
+ghost use Rattle.act_mailbox.specs.Notices.{ReplyExecValue, actor_of, IsReply, NamesPlace};
+ghost use Rattle.act_seats.specs.declared.seat.Seat.{Seat};
+ghost use Rattle.act_serve.specs.Turns.{IsSeated, SeatsDiffer, PassesOf, HasReplied, GoesOn, IsServing, IsFresh, has_next, HasGone, HasLooked, replied_to, told};
 ghost use Rattle.act_serve.specs.declared.turn.Turn.TheVariants.{Moved, Idle, Starved};
 ghost use Rattle.act_serve.specs.Served.{bare, end_seen, IsUntaken, HasServed};
 
 use crate::gate::Gate;
+use crate::letter::{Came, take_letter};
 use crate::seat::{Ended, ExecLines, ExecPasses, Finished};
 use act_actor::{Dead, Live, RunItem};
 use act_kinds::Actor;
-use act_mailbox::{Control, ControlExec, Letter, Mail, MailExec, Replies, ReplyExec};
+use act_mailbox::{Control, ControlExec, MailExec, Replies, ReplyExec};
 use act_seats::{Patience, Seat};
 use act_types::{ActorId, CallerId, NoMemory, Notice, Reply};
 use std::sync::Wait;
@@ -40,30 +43,29 @@ fn give<R: Wait>(rt: &R, line: &Replies, pass: &mut ReplyExec, log: &[RunItem], 
     unreachable!()
 }
 
-/// Takes a letter in, and whether there was one.
-fn take_in<R: Wait, K: Actor>(
+/// Gives the reply of a call that ran to the caller whose seat this is.
+pub(crate) fn give_reply<R: Wait, K: Actor>(
     rt: &R,
-    live: &mut Live<K>,
-    mail: &Mail,
-    pass: &mut MailExec,
-) -> Result<bool, NoMemory>
-    requires { pass.old.line ≡ mail.now.line }
-    ensures pass { pass.new ≡ record pass.old { taken = pass.new.taken } }
-    ensures same { let after = live_seen K.state live.new in after ≡ record (live_seen K.state live.old) { inbox = after.inbox } }
-    ensures fed { (callers : List ℕ) → IsFed callers pass.old.taken (live_seen K.state live.old) → IsFed callers pass.new.taken (live_seen K.state live.new) }
-    ensures came { IfOk result (λ came. HasCome came pass.old.taken pass.new.taken (live_seen K.state live.old) (live_seen K.state live.new)) }
+    live: &Live<K>,
+    replies: &[Replies],
+    notices: &mut Vec<Seat<ReplyExec>>,
+    at: usize,
+    reply: Reply,
+)
+    requires at { at < length notices.old.items }
+    requires seats { let now = live_seen K.state live.now in All (IsSeated replies.now now.id now.log) notices.old.items }
+    requires actor { reply.actor ≡ (live_seen K.state live.now).id }
+    requires place { NamesPlace (live_seen K.state live.now).log (Answered reply) }
+    ensures { (seat : Seat ReplyExecValue) → seat ≡ get_or notices.old.items at seat → notices.new.items ≡ slice_set notices.old.items at (replied_to (live_seen K.state live.now).log reply seat) }
 {
-    match mail.take(rt, pass) {
-        None => Ok(false),
-        Some(Letter::Call(packet)) => match live.arrive(packet) {
-            Ok(_) => Ok(true),
-            Err(_) => Err(NoMemory),
-        },
-        Some(Letter::Note(note)) => {
-            live.released(note);
-            Ok(true)
-        }
-    }
+    let seat = &mut notices[at];
+    give(
+        rt,
+        &replies[seat.place],
+        &mut seat.pass,
+        live.log(),
+        Notice::Answered(reply),
+    );
 }
 
 /// The first seat whose caller's next call came.
@@ -75,6 +77,9 @@ fn next_seat<K: Actor>(
     requires { All (λ seat. seat.place < length replies.now) notices.now }
     ensures { result ≡ position (has_next replies.now (live_seen K.state live.now)) notices.now }
 {
+    if live.holds_none() {
+        return None;
+    }
     for (at, seat) in notices.iter().enumerate() {
         if live.has_next(replies[seat.place].caller()) {
             return Some(at);
@@ -116,17 +121,10 @@ fn run_one<R: Wait, K: Actor, F: Fn(ActorId, u32)>(
         return Ok(false);
     };
     pass(live.id(), live.log().len() as u32);
-    let seat = &mut notices[at];
-    let line = &replies[seat.place];
-    match run_next(live, line.caller()) {
+    let place = notices[at].place;
+    match run_next(live, replies[place].caller()) {
         Ok(Some(reply)) => {
-            give(
-                rt,
-                line,
-                &mut seat.pass,
-                live.log(),
-                Notice::Answered(reply),
-            );
+            give_reply(rt, live, replies, notices, at, reply);
             Ok(true)
         }
         Ok(None) => Ok(false),
@@ -164,12 +162,17 @@ fn take_turn<R: Wait, K: Actor, F: Fn(ActorId, u32)>(
     ensures idle { result ≡ Idle → (letters.new ≡ letters.old) × HasGone false lines.now.replies.now notices.old.items (live_seen K.state live.old) (live_seen K.state live.new) }
     ensures serving { (opening : KindState) (callers : List ℕ) → IsServing opening callers lines.now.replies.now letters.old.taken (live_seen K.state live.old) notices.old.items → IsServing opening callers lines.now.replies.now letters.new.taken (live_seen K.state live.new) notices.new.items }
 {
-    let Ok(came) = take_in(rt, live, lines.mail, letters) else {
-        return Turn::Starved;
-    };
-    match run_one(rt, live, lines.replies, notices, pass) {
+    match take_letter(rt, live, lines, letters, notices, pass) {
         Err(_) => Turn::Starved,
-        Ok(ran) => { if came || ran { Turn::Moved } else { Turn::Idle } }
+        Ok(Came::Ran) => Turn::Moved,
+        Ok(Came::Held) => match run_one(rt, live, lines.replies, notices, pass) {
+            Err(_) => Turn::Starved,
+            Ok(_) => Turn::Moved,
+        },
+        Ok(Came::Nothing) => match run_one(rt, live, lines.replies, notices, pass) {
+            Err(_) => Turn::Starved,
+            Ok(ran) => { if ran { Turn::Moved } else { Turn::Idle } }
+        },
     }
 }
 

@@ -62,6 +62,14 @@ fn is_next<R: Wait>(rt: &R, mail: &Mail, pass: &mut MailExec, wanted: Option<Let
     mail.take(rt, pass) == wanted
 }
 
+/// The same, by an attempt. One thread alone is never before a put that isn't finished.
+fn is_next_at_once(mail: &Mail, pass: &mut MailExec, wanted: Option<Letter>) -> bool
+    requires { pass.old.line ≡ mail.now.line }
+    ensures { pass.new.line ≡ mail.now.line }
+{
+    mail.try_take(pass) == wanted
+}
+
 /// Whether the next letters are those of these numbers, in order.
 fn are_next<R: Wait>(
     rt: &R,
@@ -152,7 +160,10 @@ fn assert_fills_and_empties<R: Wait + Abort>(
     assert_next(rt, alloc, mail, pass, executor, caller, (0, 1), 63);
     assert!(rt; mail.post(rt, pass, letter(alloc, caller, 64)).is_ok());
     assert_next(rt, alloc, mail, pass, executor, caller, (1, 33), 32);
-    assert_next(rt, alloc, mail, pass, executor, caller, (33, 65), 0);
+    assert_next(rt, alloc, mail, pass, executor, caller, (33, 64), 1);
+    let last = letter(alloc, caller, 64);
+    assert!(rt; is_next_at_once(mail, executor, Some(last)));
+    assert!(rt; is_next_at_once(mail, executor, None));
     assert!(rt; is_next(rt, mail, executor, None));
     assert_next(rt, alloc, mail, pass, executor, caller, (65, 65), 0);
 }

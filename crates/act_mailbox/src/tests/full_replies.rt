@@ -62,6 +62,14 @@ fn is_next<R: Wait>(
     replies.collect(rt, pass) == wanted
 }
 
+/// The same, by an attempt. One thread alone is never before a notice that isn't given to its end.
+fn is_next_at_once(replies: &Replies, pass: &mut ReplyCaller, wanted: Option<Notice>) -> bool
+    requires { pass.old.line ≡ replies.now.line }
+    ensures { pass.new.line ≡ replies.now.line }
+{
+    replies.try_collect(pass) == wanted
+}
+
 /// Whether the next replies are those of these numbers, in order.
 fn are_next<R: Wait>(rt: &R, replies: &Replies, pass: &mut ReplyCaller, from: u32, end: u32) -> bool
     requires { pass.old.line ≡ replies.now.line }
@@ -164,7 +172,8 @@ fn assert_empties<R: Wait + Abort>(
     let death = Notice::Death(ActorId::new(8).unwrap());
     assert_next(rt, replies, pass, collector, (1, 33), 32);
     assert!(rt; are_next(rt, replies, collector, 33, 64));
-    assert!(rt; is_next(rt, replies, collector, Some(death)));
+    assert!(rt; is_next_at_once(replies, collector, Some(death)));
+    assert!(rt; is_next_at_once(replies, collector, None));
     assert!(rt; is_next(rt, replies, collector, None));
     assert_next(rt, replies, pass, collector, (64, 64), 0);
 }

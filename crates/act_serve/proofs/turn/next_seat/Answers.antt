@@ -1,8 +1,15 @@
-use Rattle.std.proofs.Common.{rules}
+use Rattle.std.proofs.Common.{rules, length, get_or, arith}
 use Rattle.act_actor.specs.Seen.{live_seen}
 use Rattle.act_serve.specs.Turns.{has_next}
 use Rattle.act_serve.proofs.Nexts.{none_more, position_here, position_nowhere, next_is}
+use Rattle.act_serve.proofs.AtOnce.{none_next}
 use Rattle.act_serve.proofs.turn.next_seat.Goals as goal
+
+pub returns-then-holds_none : goal.returns-then-holds_none
+returns-then-holds_none g c =
+    let actor = live_seen g.K.Actor.state c.args.live.now in
+    let none = c.holds_none.ensures.0 c.if-holds_none.true in
+    position_nowhere (has_next c.args.replies.now actor) c.args.notices.now (length c.args.notices.now) (omega arith) (λ k d lt. none_next c.args.replies.now actor (get_or c.args.notices.now k d) none)
 
 pub returns-then-has_next : goal.returns-then-has_next
 returns-then-has_next g c =

@@ -1,0 +1,8 @@
+use Rattle.act_drive.proofs.Desks.{waits_trans}
+use Rattle.act_drive.proofs.desk.Desk.collect_some.Goals as goal
+
+pub loop-heard-preserved : goal.loop-heard-preserved
+loop-heard-preserved c = record {
+  calling = c.collect.ensures.calling;
+  waits = waits_trans _ _ _ c.loop-heard.invariant.waits c.collect.ensures.waits;
+}

@@ -1,0 +1,164 @@
+-- A call that runs at once, seen as one that arrives and then runs.
+use Rattle.std.proofs.Common.{◌≡◌, ℕ, zero, suc, ◌+◌, ◌<◌, Bool, true, false, cond, List, [], ◌∷◌, ◌++◌, Option, Some, None, Result, Ok, Err, IfOk, OnOk, length, length-append, get_or, map, refl, ap, sym, ◌∙◌, subst, arith, eq-eqb, find, position, All}
+use Rattle.std.specs.Prelude.{◌==◌, set, is_some}
+use Rattle.std.proofs.lemmas.Bool.{le-ltb, eqb-true}
+use Rattle.std.proofs.lemmas.List.{get_or_default}
+use Rattle.std.proofs.lemmas.List.Elements.{All-set}
+use Rattle.std.proofs.lemmas.List.Quantifiers.{position-Some}
+use Rattle.std.proofs.Math.Seq.{map-set_same}
+use Rattle.act_types.specs.KindState.{KindState}
+use Rattle.act_types.specs.declared.message.Packet.{Packet}
+use Rattle.act_types.specs.declared.message.Reply.{Reply}
+use Rattle.act_types.specs.declared.message.Notice.TheVariants.{Answered}
+use Rattle.act_rules.specs.declared.history.RunItem.{RunItem}
+use Rattle.act_rules.specs.declared.outcome.Arrival.{Arrival}
+use Rattle.act_rules.specs.declared.outcome.Arrival.TheVariants.{New, Stranger}
+use Rattle.act_rules.specs.RunList.{has_terminated, NothingFollowsAnEnd}
+use Rattle.act_rules.proofs.Terminated.{nothing_follows-push}
+use Rattle.act_inbox.specs.Inbox.{is_call, is_listed, handed_of, was_handed, next_of, arrival_of, holding, HoldsNone}
+use Rattle.act_inbox.proofs.Packets.{new_listed, waits_holding}
+use Rattle.act_actor.specs.Value.{ActorSeen}
+use Rattle.act_actor.specs.Actor.{item_of, reply_to, with_call, RunsAtOnce, HasRun}
+use Rattle.act_mailbox.specs.declared.mail.Letter.{Letter}
+use Rattle.act_mailbox.specs.declared.mail.Letter.TheVariants.{Call}
+use Rattle.act_mailbox.specs.Notices.{RepliesValue, ReplyExecValue}
+use Rattle.act_seats.specs.declared.seat.Seat.{Seat}
+use Rattle.act_serve.specs.Served.{bare, caller_at}
+use Rattle.act_serve.specs.Turns.{IsFed, IsSeated, IsServing, SeatsDiffer, HasReplied, GoesOn, has_next, is_seat_of, replied_to}
+use Rattle.act_serve.proofs.Logs.{fed_arrive, fed_run}
+use Rattle.act_serve.proofs.Seats.{seat_on, seat_given}
+use Rattle.act_serve.proofs.Serving.{serving_run, caller_here}
+
+-- ---- an actor that holds no call
+
+under : (b c d : Bool) (o : Option Packet) → o ≡ None → cond b None (cond c (cond d None o) None) ≡ None
+under true c d o none = refl
+under false true true o none = refl
+under false true false o none = none
+under false false d o none = refl
+
+-- it has no next call
+pub none_next : (lines : List RepliesValue) (actor : ActorSeen) (seat : Seat ReplyExecValue) → HoldsNone actor.inbox → has_next lines actor seat ≡ false
+none_next lines actor seat none =
+    let caller = caller_at lines seat.place in
+    let count = handed_of actor.inbox caller in
+    ap is_some (under (has_terminated actor.log) (is_listed actor.inbox caller) (was_handed actor.inbox caller count) (find (is_call caller count) actor.inbox.held) (ap (find (is_call caller count)) none))
+
+-- ---- a call that runs at once
+
+at_actor : (b : Bool) (arrival : Arrival) → cond b arrival Stranger ≡ New → arrival ≡ New
+at_actor true arrival e = e
+at_actor false arrival e = absurd (cc)
+
+module _ (packet : Packet) (before : ActorSeen) (may : RunsAtOnce packet before.id before.log before.inbox) where
+  is_new : arrival_of before.inbox packet ≡ New
+  is_new = at_actor (packet.actor == before.id) (arrival_of before.inbox packet) may.is_new
+
+  -- once it arrived, it is its caller's next
+  next_held : next_of (holding packet before.inbox) packet.caller ≡ Some packet
+  next_held =
+      rw (new_listed before.inbox packet is_new, le-ltb (handed_of before.inbox packet.caller) (handed_of before.inbox packet.caller) (omega arith),
+      eq-eqb packet.caller packet.caller refl, eq-eqb packet.number (handed_of before.inbox packet.caller) may.numbered) refl
+
+  fed_held : (callers : List ℕ) (letters : List Letter) → IsFed callers letters before → IsFed callers (letters ++ Call packet ∷ []) (with_call packet before)
+  fed_held callers letters h =
+      fed_arrive callers letters packet before (holding packet before.inbox) (Ok New) refl (λ _. refl) (sym may.is_new)
+      (λ caller number. waits_holding before.inbox packet is_new caller number) tt h
+
+  pub serving_held : (opening : KindState) (callers : List ℕ) (lines : List RepliesValue) (letters : List Letter) (seats : List (Seat ReplyExecValue))
+      → IsServing opening callers lines letters before seats → IsServing opening callers lines (letters ++ Call packet ∷ []) (with_call packet before) seats
+  serving_held opening callers lines letters seats h = record { fed = fed_held callers letters h.fed; follows = h.follows; given = h.given }
+
+  pub replied_now : {E : Type 0} (after : ActorSeen) (result : Result Reply E) → IfOk result (λ reply. reply ≡ reply_to (with_call packet before) packet)
+      → OnOk result (HasRun packet.caller packet (with_call packet before) after) → IfOk result (λ reply. HasReplied packet.caller reply (with_call packet before) after)
+  replied_now after (Err error) is ran = tt
+  replied_now after (Ok reply) is ran = record {
+    lived = may.lives;
+    item = item_of packet;
+    log = ran.log;
+    id = ran.id;
+    of_caller = refl;
+    reply_is = is;
+    state = ran.state;
+    fed = fed_run packet.caller packet (with_call packet before) after next_held ran;
+  }
+
+-- a call for which memory was refused came, and waits no more
+pub serving_refused : (opening : KindState) (callers : List ℕ) (lines : List RepliesValue) (letters : List Letter) (packet : Packet) (before after : ActorSeen) (seats : List (Seat ReplyExecValue))
+    → after ≡ before → IsServing opening callers lines letters before seats → IsServing opening callers lines (letters ++ Call packet ∷ []) after seats
+serving_refused opening callers lines letters packet before after seats same h =
+    subst (λ (actor : ActorSeen). IsServing opening callers lines (letters ++ Call packet ∷ []) actor seats) (sym same) (record {
+      fed = fed_arrive callers letters packet before before.inbox (Err packet) refl (λ _. refl) tt tt refl h.fed;
+      follows = h.follows;
+      given = h.given;
+    })
+
+-- ---- an actor that replied
+
+pub goes_on : (caller : ℕ) (reply : Reply) (before after : ActorSeen) → HasReplied caller reply before after → GoesOn before after
+goes_on caller reply before after ran = record {
+  id = ran.id;
+  front = (ran.item ∷ [], sym ran.log);
+  long = let one : length after.log ≡ length before.log + 1 = ap (λ (l : List RunItem). length l) ran.log ∙ length-append before.log (ran.item ∷ []) in omega (arith, one);
+  last = λ before_it. subst NothingFollowsAnEnd (sym ran.log) (nothing_follows-push before.log ran.item before_it ran.lived);
+}
+
+pub one_longer : (caller : ℕ) (reply : Reply) (before after : ActorSeen) → HasReplied caller reply before after → length after.log ≡ length before.log + 1
+one_longer caller reply before after ran = ap (λ (l : List RunItem). length l) ran.log ∙ length-append before.log (ran.item ∷ [])
+
+pub seats_on : (lines : List RepliesValue) (caller : ℕ) (reply : Reply) (before after : ActorSeen) (seats : List (Seat ReplyExecValue)) → HasReplied caller reply before after
+    → All (IsSeated lines before.id before.log) seats → All (IsSeated lines after.id after.log) seats
+seats_on lines caller reply before after seats ran all k d lt = seat_on lines before.id after.id before.log after.log (get_or seats k d) ran.id (ran.item ∷ [], sym ran.log) (all k d lt)
+
+-- ---- a reply that was given
+
+module _ (lines : List RepliesValue) (seats : List (Seat ReplyExecValue)) (at : ℕ) (seat : Seat ReplyExecValue) (here : (d : Seat ReplyExecValue) → get_or seats at d ≡ seat) (reply : Reply) where
+  pub seats_given : (id : ℕ) (log : List RunItem) → All (IsSeated lines id log) seats → at < length seats → All (IsSeated lines id log) (set seats at (replied_to log reply seat))
+  seats_given id log all below =
+      All-set (IsSeated lines id log) seats at (replied_to log reply seat)
+      (seat_given lines id id log log seat.place seat.pass (replied_to log reply seat).pass (Answered reply) refl tt (subst (IsSeated lines id log) (here seat) (all at seat below)) refl) all
+
+  pub bare_given : (log : List RunItem) → map bare (set seats at (replied_to log reply seat)) ≡ map bare seats
+  bare_given log = map-set_same bare seats at (replied_to log reply seat) seat (ap bare (sym (here seat)))
+
+  pub serving_given : (opening : KindState) (callers : List ℕ) (letters : List Letter) (caller : ℕ) (before after : ActorSeen)
+      → HasReplied caller reply before after → at < length seats → caller ≡ caller_at lines seat.place → SeatsDiffer lines seats
+      → IsServing opening callers lines letters before seats → IsServing opening callers lines letters after (set seats at (replied_to after.log reply seat))
+  serving_given opening callers letters caller before after ran below mine differ h =
+      serving_run opening callers lines letters caller reply before after seats at seat (replied_to after.log reply seat).pass ran below here mine refl differ h
+
+-- ---- the caller's seat
+
+pub seat_is : (lines : List RepliesValue) (caller : ℕ) (seats : List (Seat ReplyExecValue)) (k : ℕ) (d seat : Seat ReplyExecValue) (line : RepliesValue) (named : ℕ) (b : Bool)
+    → k < length seats → seat ≡ get_or seats k seat → seat.place < length lines → line ≡ get_or lines seat.place line → named ≡ line.caller → (named == caller) ≡ b
+    → is_seat_of lines caller (get_or seats k d) ≡ b
+seat_is lines caller seats k d seat line named b lt here below is name so =
+    ap (is_seat_of lines caller) (get_or_default seats k d seat lt ∙ sym here)
+    ∙ ap (λ c. c == caller) (sym (name ∙ caller_here lines seat.place line below is))
+    ∙ so
+
+-- what stands at a place
+there : {X : Type 0} (xs : List X) (at : ℕ) → at < length xs → (x : X) × ((d : X) → get_or xs at d ≡ x)
+there [] at below = absurd (omega (arith, below))
+there (x ∷ xs) zero below = (x, λ d. refl)
+there (x ∷ xs) (suc at) below = there xs at (omega (arith, below))
+
+found_below : {X : Type 0} (p : X → Bool) (xs : List X) (at : ℕ) → position p xs ≡ Some at → at < length xs
+found_below p [] at found = absurd (cc)
+found_below p (x ∷ xs) at found = (position-Some p (x ∷ xs) at x found).0
+
+-- the caller's seat, where it was found
+pub record IsFound (lines : List RepliesValue) (caller at : ℕ) (seats : List (Seat ReplyExecValue)) : Type 0 where
+  pub seat : Seat ReplyExecValue
+  pub here : (d : Seat ReplyExecValue) → get_or seats at d ≡ seat
+  pub below : at < length seats
+  pub mine : caller ≡ caller_at lines seat.place
+
+pub found : (lines : List RepliesValue) (caller at : ℕ) (seats shown : List (Seat ReplyExecValue)) → shown ≡ seats → position (is_seat_of lines caller) shown ≡ Some at → IsFound lines caller at seats
+found lines caller at seats shown same is =
+    let at_it : position (is_seat_of lines caller) seats ≡ Some at = subst (λ l. position (is_seat_of lines caller) l ≡ Some at) same is in
+    let below = found_below (is_seat_of lines caller) seats at at_it in
+    let one = there seats at below in
+    let passes : is_seat_of lines caller (get_or seats at one.0) ≡ true = (position-Some (is_seat_of lines caller) seats at one.0 at_it).1 in
+    let mine : is_seat_of lines caller one.0 ≡ true = subst (λ seat. is_seat_of lines caller seat ≡ true) (one.1 one.0) passes in
+    record { seat = one.0; here = one.1; below = below; mine = sym (eqb-true _ _ mine) }
