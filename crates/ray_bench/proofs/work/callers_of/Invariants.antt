@@ -1,0 +1,9 @@
+use Rattle.std.proofs.Common.{◌≡◌}
+use Rattle.std.specs.Prelude.{filter}
+use Rattle.act_rules.specs.Report.{one_to}
+use Rattle.ray_bench.specs.Work.{actor_at, reaches}
+use Rattle.ray_bench.proofs.work.callers_of.Given as goal
+
+-- each caller so far that calls the actor
+abbrev pub invariant-loop-before : goal.invariant-loop-before
+invariant-loop-before l = l.callers.items ≡ filter (λ caller. reaches l.work.reach (actor_at l.work caller 0) l.actor) (one_to l.before)

@@ -1,0 +1,81 @@
+//! One run, and how long it took.
+
+ghost use Rattle.std.specs.Prelude.{◌≡◌, ◌==◌, ◌&&◌, IfOk, length, map, is_some};
+ghost use Rattle.std.specs.List.{list_all};
+ghost use Rattle.act_actor.specs.Cast.{IsFitting};
+ghost use Rattle.act_actor.specs.Casts.{casting};
+ghost use Rattle.act_serve.specs.Served.{end_seen};
+ghost use Rattle.act_plans.specs.Parts.{PlansFit};
+ghost use Rattle.act_joint.specs.Joined.{IsJoined};
+ghost use Rattle.act_executor.specs.Runs.{plan_seen};
+
+use crate::stop::Stop;
+use crate::work::{Work, casts_of, plans_of};
+use act_actor::{Cast, cast_fits};
+use act_executor::{Joined, NoGate, Plan, plans_fit, run_plans};
+use act_kinds::Actor;
+use act_owner::Owner;
+use act_types::CallerId;
+use std::alloc::Global;
+use std::rt::Clock;
+use std::sync::Wait;
+use std::thread::Threads;
+use std::time::Instant;
+
+/// Whether a caller made so many calls, and each was answered.
+fn is_served(owner: &Owner, calls: u32) -> bool
+    ensures { result ≡ (length owner.now.calls == calls) && list_all is_some owner.now.kept }
+{
+    owner.count() == calls && owner.all_answered()
+}
+
+/// Whether each caller made so many calls, and each was answered.
+fn are_served(owners: &[Owner], calls: u32) -> bool
+    ensures { result ≡ list_all (λ owner. (length owner.calls == calls) && list_all is_some owner.kept) owners.now }
+{
+    owners.iter().all(|owner| is_served(owner, calls))
+}
+
+/// What a run left, and how many microseconds it took.
+#[derive(Drop)]
+struct Measured<K> {
+    joined: Joined<K>,
+    micros: u64,
+}
+
+/// Runs the plans, and measures that alone.
+fn run_measured<R: Clock + Threads + Wait + Sync, K: Actor + Send>(
+    rt: &R,
+    alloc: Global,
+    casts: Vec<Cast<K>>,
+    plans: Vec<(CallerId, Plan)>,
+) -> Result<Measured<K>, Stop>
+    requires fit { IsFitting casts.items }
+    requires plans { PlansFit casts.items plans.items }
+    ensures { IfOk result (λ measured. IsJoined (map (casting K.state) casts.items) (map plan_seen plans.items) measured.joined.owners.items (map (λ actor. end_seen K.state actor.ended) measured.joined.actors.items)) }
+{
+    let begin = Instant::now(rt)?;
+    let joined = run_plans(rt, alloc, casts, plans, &NoGate)?;
+    let took = begin.elapsed(rt)?;
+    let micros = u64::try_from(took.as_micros()).unwrap_or(u64::MAX);
+    Ok(Measured { joined, micros })
+}
+
+/// Runs the work once, and tells how many microseconds the run took. Casts and plans are made before
+/// it, and what it left is looked at after.
+pub(crate) fn take_turn<R: Clock + Threads + Wait + Sync>(
+    rt: &R,
+    alloc: Global,
+    work: &Work,
+) -> Result<u64, Stop> {
+    let casts = casts_of(alloc, work)?;
+    let plans = plans_of(alloc, work)?;
+    if !cast_fits(casts.as_slice()) || !plans_fit(casts.as_slice(), plans.as_slice()) {
+        return Err(Stop::BadPlan);
+    }
+    let Measured { joined, micros } = run_measured(rt, alloc, casts, plans)?;
+    if !are_served(joined.owners.as_slice(), work.calls) {
+        return Err(Stop::Unanswered);
+    }
+    Ok(micros)
+}

@@ -1,0 +1,251 @@
+#!/usr/bin/env python3
+"""Measures runs of plans in threads beside other actor systems, which do the same work on the same machine.
+
+    tools/peers.py [--small] [--calls N] [--turns N] [--rounds N] [--program PATH]
+
+Callers add 1 to counters, in four styles: each waits for each answer before its next call, or sends all its
+calls and then takes their answers; and each calls one counter, or all in turns. ray_bench, the proved program, is
+measured with several numbers of callers and actors, and beside the peers, whose sources stand in tools/peers, with
+two callers and two actors. All programs run by turns in each round, and a figure is the median of all turns.
+
+A peer's clock begins when its counters stand and ends when its callers have ended. Ours takes in the whole of
+run_plans: it opens the lines, starts a thread for each actor and each caller, retires the actors and compares what
+all of them left. Its plans are made before, while a peer makes its calls as it goes. Each program looks at
+the counts after a turn, and fails where a call is missing.
+
+The peers are built into a temporary folder, offline, with what Debian has (erlang-base, libcaf-dev,
+librust-crossbeam-channel-dev). What can't be built is named, and the others are measured. It fails where
+ray_bench or a peer that was built does, or prints no figure. With --small each runs once, with few calls, to see
+that all works. Figures need a machine that does nothing else.
+"""
+import argparse
+import collections
+import concurrent.futures
+import itertools
+import os
+import pathlib
+import re
+import shutil
+import statistics
+import subprocess
+import sys
+import tempfile
+from dataclasses import dataclass
+
+TOP = pathlib.Path(__file__).resolve().parent.parent
+PROGRAM = TOP / "crates/ray_bench/out/ray_bench"
+SOURCES = TOP / "tools/peers"
+REGISTRY = "/usr/share/cargo/registry"  # Debian's crates
+
+CREWS = [(1, 1), (2, 2), (4, 4), (16, 8)]  # callers and actors
+CREW_OF_PEERS = (2, 2)
+STYLES = {
+    "each awaited, one actor": ["wait", "own"],
+    "each awaited, all actors": ["wait", "both"],
+    "all sent, one actor": ["future", "own"],
+    "all sent, all actors": ["future", "both"],
+}
+CALLS = 60_000  # of each caller
+TURNS = 3
+ROUNDS = 5
+SMALL_CALLS = 2_000
+MOST_SECONDS = 240
+FIGURE = re.compile(r"^(?:.*, )?(\d+) us\b", re.MULTILINE)
+
+
+class Failed(Exception):
+    """A program can't be built, or has no figures."""
+
+
+def run(command, **options):
+    """What the command writes to its standard output."""
+    try:
+        done = subprocess.run(command, stdin=subprocess.DEVNULL, capture_output=True, text=True, timeout=MOST_SECONDS, **options)
+    except FileNotFoundError:
+        raise Failed(f"{command[0]} is not there") from None
+    except subprocess.TimeoutExpired:
+        raise Failed(f"{command[0]} does not end in {MOST_SECONDS} seconds") from None
+    if done.returncode:
+        told = [line for line in done.stderr.splitlines() if "error" in line] or done.stderr.splitlines()
+        raise Failed(f"{command[0]} ends with {done.returncode}{': ' + told[0].strip() if told else ''}")
+    return done.stdout
+
+
+# The peers. Each builder takes a folder of the peer's own, and gives the command that runs what it built there.
+
+
+def build_std(folder):
+    run(["rustc", "-O", "--edition", "2021", "-o", folder / "add_calls", SOURCES / "add_calls.rs"])
+    return [folder / "add_calls"]
+
+
+def build_crossbeam(folder):
+    for name in ["Cargo.toml", "add_calls.rs"]:
+        shutil.copy(SOURCES / name, folder)
+    debian = ['source.crates-io.replace-with="debian"', f'source.debian.directory="{REGISTRY}"']
+    configs = itertools.chain.from_iterable(("--config", config) for config in debian)
+    target = ["--features", "crossbeam", "--target-dir", "built"]
+    run(["cargo", "build", "--release", "--offline", *target, *configs], cwd=folder)
+    return [folder / "built/release/add_calls"]
+
+
+def build_erlang(folder):
+    run(["erlc", "-o", folder, SOURCES / "add_calls.erl"])
+    main = "add_calls:main(init:get_plain_arguments()), halt(0)."
+    return ["erl", "-noshell", "-noinput", "-pa", folder, "-eval", main, "-extra"]
+
+
+def build_caf(folder):
+    run(["g++", "-O2", "-std=c++17", "-o", folder / "add_calls", SOURCES / "add_calls.cpp", "-lcaf_core", "-pthread"])
+    return [folder / "add_calls"]
+
+
+PEERS = {
+    "Rust, std": build_std,
+    "Rust, crossbeam": build_crossbeam,
+    "Erlang": build_erlang,
+    "CAF": build_caf,
+}
+
+
+def built_or_failed(name, top):
+    folder = pathlib.Path(top, name.replace(", ", "-").lower())
+    folder.mkdir()
+    try:
+        return PEERS[name](folder)
+    except Failed as failed:
+        return failed
+
+
+def build_peers(top):
+    """The commands of the peers that could be built, and why the others couldn't, by name."""
+    with concurrent.futures.ThreadPoolExecutor() as pool:
+        ended = dict(zip(PEERS, pool.map(lambda name: built_or_failed(name, top), PEERS)))
+    missing = {name: end for name, end in ended.items() if isinstance(end, Failed)}
+    return {name: end for name, end in ended.items() if name not in missing}, missing
+
+
+# The runs.
+
+
+@dataclass(frozen=True)
+class Contender:
+    """A program, with its numbers of callers and of actors."""
+
+    name: str
+    crew: tuple
+    command: tuple
+
+    def __str__(self):
+        return "{} ({} x {})".format(self.name, *self.crew)
+
+    def rates(self, style, calls, turns):
+        """How many thousand calls a second each turn had."""
+        words = [str(calls), *STYLES[style], str(turns)]
+        micros = [int(figure) for figure in FIGURE.findall(run([*self.command, *words]))]
+        if len(micros) != turns:
+            raise Failed(f"{len(micros)} figures for {turns} turns")
+        return [self.crew[0] * calls * 1_000 / max(each, 1) for each in micros]
+
+
+def contenders_of(program, peers):
+    ours = [Contender("ours", crew, (program, *map(str, crew))) for crew in CREWS]
+    return ours + [Contender(name, CREW_OF_PEERS, tuple(command)) for name, command in peers.items()]
+
+
+def measure(contenders, calls, turns, rounds):
+    """The rates of each contender in each style, and what went wrong. What failed isn't run again in that style."""
+    rates, wrong = collections.defaultdict(list), {}
+    for _, style, contender in itertools.product(range(rounds), STYLES, contenders):
+        if (contender, style) in wrong:
+            continue
+        try:
+            rates[contender, style] += contender.rates(style, calls, turns)
+        except Failed as failed:
+            wrong[contender, style] = f"{contender}, {style}: {failed}"
+    return rates, list(wrong.values())
+
+
+# What is told.
+
+
+def show_table(headings, rows):
+    cells = [["Style", *headings], ["---", *["---:"] * len(headings)], *rows]
+    print("".join(f"| {' | '.join(row)} |\n" for row in cells))
+
+
+def shown(rate):
+    return f"{rate:,.0f}" if rate else "-"
+
+
+def medians(rates, contenders, style):
+    return [statistics.median(rates[each, style]) if rates[each, style] else None for each in contenders]
+
+
+def show_crews(rates, ours):
+    rows = [[style, *map(shown, medians(rates, ours, style))] for style in STYLES]
+    show_table(["{} x {}".format(*each.crew) for each in ours], rows)
+
+
+def beside_best(own, others):
+    best = max(filter(None, others), default=None)
+    return f"{own / best:.2f}" if own and best else "-"
+
+
+def show_peers(rates, own, others):
+    rows = []
+    for style in STYLES:
+        first, *rest = medians(rates, [own, *others], style)
+        rows.append([style, *map(shown, [first, *rest]), beside_best(first, rest)])
+    show_table(["Ours", *(each.name for each in others), "Ours / best peer"], rows)
+
+
+def load():
+    return pathlib.Path("/proc/loadavg").read_text().split()[0]
+
+
+def show(rates, contenders, chosen, load_before):
+    taken = f"{chosen.rounds * chosen.turns} turns of {chosen.calls:,} calls a caller"
+    print(f"Thousands of calls a second, the median of {taken}, on {os.cpu_count()} cores. The load average was")
+    print(f"{load_before} before the first turn and {load()} after the last one.\n")
+    ours = [each for each in contenders if each.name == "ours"]
+    print("Ours, by callers x actors:\n")
+    show_crews(rates, ours)
+    print("Beside the peers, {} x {}:\n".format(*CREW_OF_PEERS))
+    own = next(each for each in ours if each.crew == CREW_OF_PEERS)
+    show_peers(rates, own, [each for each in contenders if each not in ours])
+
+
+def chosen_options():
+    options = argparse.ArgumentParser(description=__doc__.splitlines()[0])
+    options.add_argument("--small", action="store_true", help="one turn of each, with few calls")
+    options.add_argument("--calls", type=int, default=CALLS, help="calls of each caller")
+    options.add_argument("--turns", type=int, default=TURNS, help="turns of each program in a round")
+    options.add_argument("--rounds", type=int, default=ROUNDS)
+    options.add_argument("--program", type=pathlib.Path, default=PROGRAM)
+    chosen = options.parse_args()
+    if chosen.small:
+        chosen.calls, chosen.turns, chosen.rounds = SMALL_CALLS, 1, 1
+    if min(chosen.calls, chosen.turns, chosen.rounds) < 1:
+        options.error("calls, turns and rounds are 1 or more")
+    if not chosen.program.exists():
+        sys.exit(f"peers: {chosen.program} is not built: run `rt ci` first")
+    return chosen
+
+
+def main():
+    chosen = chosen_options()
+    with tempfile.TemporaryDirectory(prefix="peers-") as folder:
+        peers, missing = build_peers(folder)
+        contenders = contenders_of(chosen.program.resolve(), peers)
+        load_before = load()
+        rates, wrong = measure(contenders, chosen.calls, chosen.turns, chosen.rounds)
+        show(rates, contenders, chosen, load_before)
+    print("".join(f"Not built: {name}: {failed}\n" for name, failed in missing.items()), end="")
+    print("".join(f"{each}\n" for each in wrong), end="")
+    print(f"peers: {len(peers)} peers measured, {len(missing)} not built, {len(wrong)} failures")
+    sys.exit(1 if wrong else 0)
+
+
+if __name__ == "__main__":
+    main()

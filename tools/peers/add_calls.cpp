@@ -1,0 +1,87 @@
+// Two callers, each on a thread of its own, and two counters of the C++ Actor Framework, on its scheduler:
+// add_calls CALLS wait|future own|both TURNS. Prints the microseconds of each turn, from the callers' start to their end.
+#include <caf/all.hpp>
+
+#include <chrono>
+#include <cstdint>
+#include <cstdio>
+#include <cstdlib>
+#include <string>
+#include <thread>
+#include <vector>
+
+using namespace caf;
+
+using add_atom = atom_constant<atom("add")>;
+using get_atom = atom_constant<atom("get")>;
+
+behavior counter(stateful_actor<int64_t>* self) {
+  self->state = 0;
+  return {
+    [=](add_atom, int64_t number) { return self->state += number; },
+    [=](get_atom) { return self->state; },
+  };
+}
+
+auto add_one(scoped_actor& self, const actor& counter) {
+  return self->request(counter, infinite, add_atom::value, int64_t{1});
+}
+
+template <class Future>
+int64_t answer_of(Future&& future) {
+  int64_t answer = 0;
+  future.receive([&](int64_t total) { answer = total; }, [](const error&) { std::abort(); });
+  return answer;
+}
+
+// Calls the counters in turns.
+void call(actor_system& system, const std::vector<actor>& counters, size_t calls, bool waits) {
+  scoped_actor self{system};
+  if (waits) {
+    for (size_t place = 0; place < calls; ++place)
+      answer_of(add_one(self, counters[place % counters.size()]));
+    return;
+  }
+  std::vector<decltype(add_one(self, counters[0]))> futures;
+  futures.reserve(calls);
+  for (size_t place = 0; place < calls; ++place)
+    futures.push_back(add_one(self, counters[place % counters.size()]));
+  for (auto& future : futures)
+    answer_of(future);
+}
+
+int64_t total_of(actor_system& system, const actor& counter) {
+  scoped_actor self{system};
+  return answer_of(self->request(counter, infinite, get_atom::value));
+}
+
+void take_turn(actor_system& system, size_t calls, bool waits, bool own) {
+  using clock = std::chrono::steady_clock;
+  std::vector<actor> counters{system.spawn(counter), system.spawn(counter)};
+  auto begin = clock::now();
+  std::vector<std::thread> callers;
+  for (size_t caller = 0; caller < 2; ++caller) {
+    auto called = own ? std::vector<actor>{counters[caller]} : counters;
+    callers.emplace_back([&system, called, calls, waits] { call(system, called, calls, waits); });
+  }
+  for (auto& caller : callers)
+    caller.join();
+  auto took = std::chrono::duration_cast<std::chrono::microseconds>(clock::now() - begin).count();
+  int64_t total = 0;
+  for (auto& one : counters) {
+    total += total_of(system, one);
+    anon_send_exit(one, exit_reason::user_shutdown);
+  }
+  if (total != static_cast<int64_t>(2 * calls))
+    std::abort();
+  std::printf("%lld us\n", static_cast<long long>(took));
+}
+
+void caf_main(actor_system& system, const actor_system_config& config) {
+  const auto& words = config.remainder;
+  size_t calls = std::stoul(words.at(0)), turns = std::stoul(words.at(3));
+  for (size_t turn = 0; turn < turns; ++turn)
+    take_turn(system, calls, words.at(1) == "wait", words.at(2) == "own");
+}
+
+CAF_MAIN()
