@@ -127,7 +127,7 @@ pub(crate) fn casts_of(alloc: Global, work: &Work) -> Result<Vec<Cast<Counter>>,
 fn add_one(alloc: Global, actor: ActorId) -> Result<Step, NoMemory>
     ensures { IfOk result (λ step. step ≡ Submit actor Add (Plain (Int (pos 1)) ∷ [])) }
 {
-    let mut args = ListOf::new(alloc);
+    let mut args = ListOf::with_capacity(alloc, 1)?;
     args.push(Arg::Plain(Value::Int(1)))?;
     Ok(Step::Submit(actor, Method::Add, args))
 }
