@@ -57,8 +57,12 @@ module _ (packet : Packet) (before : ActorSeen) (may : RunsAtOnce packet before.
   -- once it arrived, it is its caller's next
   next_held : next_of (holding packet before.inbox) packet.caller ≡ Some packet
   next_held =
-      rw (new_listed before.inbox packet is_new, le-ltb (handed_of before.inbox packet.caller) (handed_of before.inbox packet.caller) (omega arith),
-      eq-eqb packet.caller packet.caller refl, eq-eqb packet.number (handed_of before.inbox packet.caller) may.numbered) refl
+      rw (
+        new_listed before.inbox packet is_new,
+        le-ltb (handed_of before.inbox packet.caller) (handed_of before.inbox packet.caller) (omega arith),
+        eq-eqb packet.caller packet.caller refl,
+        eq-eqb packet.number (handed_of before.inbox packet.caller) may.numbered,
+      ) refl
 
   fed_held : (callers : List ℕ) (letters : List Letter) → IsFed callers letters before → IsFed callers (letters ++ Call packet ∷ []) (with_call packet before)
   fed_held callers letters h =

@@ -81,8 +81,11 @@ replied_place caller reply before after log ran shown =
 pub idle_turn : (lines : List RepliesValue) (seats given : List (Seat ReplyExecValue)) (old new : TakerValue Letter (Unit {0})) (before between after : ActorSeen)
     → new ≡ record old { taken = new.taken } → HasCome Nothing old.taken new.taken seats given before between → HasGone false lines given between after
     → (new ≡ old) × HasGone false lines seats before after
-idle_turn lines seats given old new before between after letters none still =
-    (letters ∙ ap (λ (l : List Letter). record old { taken = l }) none.0,
-    (still.0 ∙ none.2,
+idle_turn lines seats given old new before between after letters none still = (
+  letters ∙ ap (λ (l : List Letter). record old { taken = l }) none.0,
+  (
+    still.0 ∙ none.2,
     subst (λ (l : List (Seat ReplyExecValue)). All (λ seat. has_next lines before seat ≡ false) l) none.1
-    (subst (λ (s : ActorSeen). All (λ seat. has_next lines s seat ≡ false) given) none.2 still.1)))
+        (subst (λ (s : ActorSeen). All (λ seat. has_next lines s seat ≡ false) given) none.2 still.1),
+  ),
+)

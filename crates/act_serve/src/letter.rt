@@ -65,7 +65,11 @@ fn seat_at_once<K: Actor>(
     ensures at_once { let now = live_seen K.state live.now in IfSome result (λ _. RunsAtOnce packet.now now.id now.log now.inbox) }
     ensures seat { IfSome result (λ at. position (is_seat_of replies.now packet.now.caller) notices.now ≡ Some at) }
 {
-    if live.runs_at_once(packet) { seat_of(replies, notices, packet.caller) } else { None }
+    if live.runs_at_once(packet) {
+        seat_of(replies, notices, packet.caller)
+    } else {
+        None
+    }
 }
 
 /// Runs a call at once.
