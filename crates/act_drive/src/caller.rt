@@ -125,6 +125,8 @@ impl Desk {
     {
         self.reserve(plan.as_slice())?;
         self.steps(rt, alloc, lines, plan)?;
+        // What is ready is posted before the notes of the last handles.
+        self.turn(rt, alloc, lines)?;
         self.close(rt, lines)?;
         self.finish(rt, alloc, lines)?;
         Ok(())
