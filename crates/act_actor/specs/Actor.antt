@@ -9,11 +9,7 @@ use Rattle.act_rules.specs.declared.history.RunItem.{RunItem}
 use Rattle.act_rules.specs.declared.outcome.Arrival.{Arrival}
 use Rattle.act_rules.specs.declared.outcome.Arrival.TheVariants.{New, Stranger}
 use Rattle.act_inbox.specs.Inbox.{InboxValue, arrival_of, note_arrival, handed_of, holding, next_of, HoldsNone, IsNextTaken, IsDrained}
-use Rattle.act_actor.specs.Value.{BookValue, ActorSeen}
-
--- an actor with this beside its kind, and its kind in this state
-abbrev pub seen : BookValue → KindState → ActorSeen
-seen book state = record { id = book.id; inbox = book.inbox; log = book.log; state = state }
+use Rattle.act_actor.specs.Value.{ActorSeen}
 
 -- what a packet is to an actor
 abbrev pub arrival_at : ℕ → InboxValue → Packet → Arrival

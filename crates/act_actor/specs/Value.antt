@@ -4,13 +4,14 @@ use Rattle.act_types.specs.KindState.{KindState}
 use Rattle.act_rules.specs.declared.history.RunItem.{RunItem}
 use Rattle.act_inbox.specs.Value.{InboxValue}
 
--- what stands beside the kind: a name, the calls that came, and those that ran
-pub record BookValue : Type 0 where
+-- an actor that runs: a name, the calls that came, those that ran, and its kind
+pub record LiveValue (K : Type 0) : Type 0 where
   pub id : ℕ
   pub inbox : InboxValue
   pub log : List RunItem
+  pub kind : K
 
--- an actor that runs: the same, and the state of its kind
+-- the same with the state that its kind is in
 pub record ActorSeen : Type 0 where
   pub id : ℕ
   pub inbox : InboxValue

@@ -1,8 +1,7 @@
 //! Who plays.
 
-ghost use Rattle.std.specs.Prelude.{◌≡◌, ◌==◌, IfOk};
+ghost use Rattle.std.specs.Prelude.{◌≡◌, ◌↔◌, ◌==◌, IfOk, IsTrue};
 ghost use Rattle.std.specs.List.{list_any};
-ghost use Rattle.std.specs.Bool.{Decides};
 ghost use Rattle.act_actor.specs.Cast.{CallersDiffer, ActorsDiffer, IsFitting};
 ghost use Rattle.act_rules.specs.History.{contains};
 ghost use Rattle.act_rules.specs.Submissions.{IsLimit};
@@ -24,7 +23,7 @@ pub struct Cast<K = Boxed> {
 
 /// Whether no caller stands twice.
 fn callers_differ(callers: &[CallerId]) -> bool
-    ensures { Decides result (CallersDiffer callers.now) }
+    ensures { IsTrue result ↔ CallersDiffer callers.now }
 {
     for (place, caller) in callers.iter().enumerate() {
         if callers[..place].contains(caller) {
@@ -43,7 +42,7 @@ fn names<K>(casts: &[Cast<K>], actor: ActorId) -> bool
 
 /// Whether no actor stands twice.
 fn actors_differ<K>(casts: &[Cast<K>]) -> bool
-    ensures { Decides result (ActorsDiffer casts.now) }
+    ensures { IsTrue result ↔ ActorsDiffer casts.now }
 {
     for (place, cast) in casts.iter().enumerate() {
         if names(&casts[..place], cast.actor) {
@@ -55,7 +54,7 @@ fn actors_differ<K>(casts: &[Cast<K>]) -> bool
 
 /// Whether a limit is one that a cast may have.
 fn is_limit(pending: Option<u32>) -> bool
-    ensures { Decides result (IsLimit pending) }
+    ensures { IsTrue result ↔ IsLimit pending }
 {
     match pending {
         None => true,
@@ -65,7 +64,7 @@ fn is_limit(pending: Option<u32>) -> bool
 
 /// Whether the actors are distinct, the callers of each are, and each limit is from 1 to 65,536.
 pub fn cast_fits<K>(casts: &[Cast<K>]) -> bool
-    ensures { Decides result (IsFitting casts.now) }
+    ensures { IsTrue result ↔ IsFitting casts.now }
 {
     actors_differ(casts)
         && casts.iter().all(|cast| callers_differ(cast.callers.as_slice())

@@ -2,7 +2,6 @@
 #![tactic(auto)]
 
 mod arguments;
-mod book;
 mod cast;
 mod dead;
 mod live;

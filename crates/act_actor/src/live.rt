@@ -3,33 +3,114 @@
 //! `K` is the kind, mostly a box. A clause names what is seen of an actor by `live_seen` at the
 //! kind's state.
 
-ghost use Rattle.std.specs.Prelude.{◌≡◌, ◌≢◌, ◌≤◌, ◌*◌, ◌↔◌, ◌++◌, ℕ, [], length, Some, IfOk, OnOk, IfErr, OnErr, IfSome, IfNone, IsOk, IsSome, is_some};
-ghost use Rattle.std.specs.Bool.{Decides};
+ghost use Rattle.std.specs.Prelude.{◌≡◌, ◌≢◌, ◌<◌, ◌≤◌, ◌*◌, ◌↔◌, ◌++◌, ℕ, [], length, Some, IfOk, OnOk, IfErr, OnErr, IfSome, IfNone, IsOk, IsSome, is_some, IsTrue};
 ghost use Rattle.std.specs.Option.{option_map};
 ghost use Rattle.std.specs.String.{string_bytes};
+ghost use Rattle.std.specs.Vec.{vec_len, vec_capacity};
 ghost use Rattle.act_types.specs.KindState.{KindState};
 ghost use Rattle.act_types.specs.Texts.{state_text};
-ghost use Rattle.act_rules.specs.RunList.{answer_at, has_terminated};
+ghost use Rattle.act_rules.specs.RunList.{after_item, answer_at, has_terminated};
 ghost use Rattle.act_rules.specs.declared.outcome.Arrival.TheVariants.{New};
-ghost use Rattle.act_inbox.specs.Inbox.{IsOpened, note_of, waiting, note_after, waiting_after, HoldsNone};
+ghost use Rattle.act_inbox.specs.Inbox.{IsOpened, note_of, waiting, note_after, waiting_after, IsTakenIn, HoldsNone};
 ghost use Rattle.act_actor.specs.Cast.{CallersDiffer};
-ghost use Rattle.act_actor.specs.Actor.{reply_to, arrival_at, note_arrival_at, next_call, with_call, MayRetire, RunsAtOnce, HasRun, HasRunFrom};
+ghost use Rattle.act_actor.specs.Actor.{item_of, reply_to, arrival_at, note_arrival_at, next_call, with_call, MayRetire, RunsAtOnce, HasRun, HasRunFrom};
 ghost use Rattle.act_actor.specs.Seen.{live_seen, retired_seen};
 
-use crate::book::Book;
+use crate::arguments::values_of;
+use crate::terminate::{is_end, terminated};
 use crate::{Dead, Retired};
+use act_inbox::Inbox;
 use act_kinds::{Actor, Boxed};
 use act_rules::{Arrival, RunItem};
 use act_types::{
-    ActorId, CallerId, MOST_CALLERS, MOST_CALLS, NoMemory, Packet, ReleaseNote, Reply,
+    ActorId, Answer, CallerId, Fault, MOST_CALLERS, MOST_CALLS, Method, NoMemory, Packet,
+    ReleaseNote, Reply,
 };
 use std::alloc::Global;
+use std::marker::Model;
 
-/// An actor that runs.
+/// An actor that runs: its name, the calls that it holds, those that it ran, and its kind.
 #[derive(Drop)]
 pub struct Live<K = Boxed> {
+    id: ActorId,
+    inbox: Inbox,
+    log: Vec<RunItem>,
     kind: K,
-    book: Book,
+}
+
+impl<K> Model for Live<K> {
+    ghost use Rattle.std.specs.Prelude.{◌≡◌, ◌≤◌, ◌*◌, length};
+    ghost use Rattle.act_types.specs.declared.limits.TheConstants.{MOST_CALLERS, MOST_CALLS};
+    ghost use Rattle.act_inbox.specs.Inbox.{handed_in_all};
+    ghost use Rattle.act_actor.specs.Value.{LiveValue};
+
+    ghost Value = { LiveValue K };
+
+    ghost view = { λ live. record { id = live.id; inbox = live.inbox; log = live.log.items; kind = live.kind } };
+
+    // Each call that was handed out stands in the log, and the inbox hands out no more than that.
+    ghost invariant = { λ live. (length live.log.items ≡ handed_in_all live.inbox) × (length live.log.items ≤ MOST_CALLERS * MOST_CALLS) };
+}
+
+/// The item that a packet becomes in the log.
+fn item_of(packet: Packet) -> RunItem
+    ensures { result ≡ item_of packet }
+{
+    RunItem {
+        caller: packet.caller,
+        number: packet.number,
+        future: packet.future,
+        method: packet.method,
+        args: packet.args,
+    }
+}
+
+/// Asks the kind, or answers without it: that an argument failed, or to a `terminate`. The copies
+/// of the values come first.
+fn answer_of<K: Actor>(alloc: Global, kind: &mut K, packet: &Packet) -> Result<Answer, NoMemory>
+    ensures answer { IfOk result (λ answer. answer ≡ (after_item (K.state kind.old) (item_of packet.now)).1) }
+    ensures moved { OnOk result (K.state kind.new ≡ (after_item (K.state kind.old) (item_of packet.now)).0) }
+    ensures err { OnErr result (K.state kind.new ≡ K.state kind.old) }
+{
+    match values_of(alloc, packet.args.as_slice())? {
+        Ok(values) => match packet.method {
+            Method::Terminate => Ok(terminated(values.as_slice())),
+            _ => kind.ask(&packet.method, values.as_slice()),
+        },
+        Err(future) => Ok(Err(Fault::Dependency(future))),
+    }
+}
+
+/// Room in the log for a call, and the reply to it, which it gets there. The room comes first, and
+/// then the kind's answer.
+fn answered<K: Actor>(
+    log: &mut Vec<RunItem>,
+    id: ActorId,
+    kind: &mut K,
+    packet: &Packet,
+) -> Result<Reply, NoMemory>
+    requires few { length log.old.items ≤ MOST_CALLERS * MOST_CALLS }
+    ensures reply { IfOk result (λ reply. reply ≡ record {
+      actor = id;
+      caller = packet.now.caller;
+      future = packet.now.future;
+      place = length log.old.items;
+      answer = (after_item (K.state kind.old) (item_of packet.now)).1;
+    }) }
+    ensures room { OnOk result (vec_len log.new < vec_capacity log.new) }
+    ensures log { log.new.items ≡ log.old.items }
+    ensures moved { OnOk result (K.state kind.new ≡ (after_item (K.state kind.old) (item_of packet.now)).0) }
+    ensures err { OnErr result (K.state kind.new ≡ K.state kind.old) }
+{
+    log.reserve(1)?;
+    let answer = answer_of(*log.allocator(), kind, packet)?;
+    Ok(Reply {
+        actor: id,
+        caller: packet.caller,
+        future: packet.future,
+        place: log.len() as u32,
+        answer,
+    })
 }
 
 impl<K: Actor> Live<K> {
@@ -47,8 +128,10 @@ impl<K: Actor> Live<K> {
         ensures state { IfOk result (λ live. (live_seen K.state live).state ≡ K.state kind) }
     {
         Ok(Live {
+            id,
+            inbox: Inbox::open(alloc, callers)?,
+            log: Vec::new(alloc),
             kind,
-            book: Book::open(alloc, id, callers)?,
         })
     }
 
@@ -56,7 +139,7 @@ impl<K: Actor> Live<K> {
     pub fn id(&self) -> ActorId
         ensures { result ≡ (live_seen K.state self.now).id }
     {
-        self.book.id
+        self.id
     }
 
     /// What it ran.
@@ -64,7 +147,7 @@ impl<K: Actor> Live<K> {
         ensures value { result.now ≡ (live_seen K.state self.now).log }
         ensures few { length result.now ≤ MOST_CALLERS * MOST_CALLS }
     {
-        self.book.log()
+        self.log.as_slice()
     }
 
     /// Appends the state's text, or leaves the text as it was.
@@ -77,36 +160,65 @@ impl<K: Actor> Live<K> {
 
     /// Takes in a packet. An `Err` hands it back for want of memory.
     pub fn arrive(&mut self, packet: Packet) -> Result<Arrival, Packet>
-        ensures arrival { let before = live_seen K.state self.old in IfOk result (λ arrival. arrival ≡ arrival_at before.id before.inbox packet) }
+        ensures arrival { let before = live_seen K.state self.old in
+            IfOk result (λ arrival. arrival ≡ arrival_at before.id before.inbox packet) }
         ensures same { let after = live_seen K.state self.new in after ≡ record (live_seen K.state self.old) { inbox = after.inbox } }
         ensures lanes { (live_seen K.state self.new).inbox.lanes ≡ (live_seen K.state self.old).inbox.lanes }
-        ensures notes { (caller : ℕ) → note_of (live_seen K.state self.new).inbox caller ≡ note_of (live_seen K.state self.old).inbox caller }
-        ensures waiting { IfOk result (λ arrival. (caller number : ℕ) → waiting (live_seen K.state self.new).inbox caller number ≡ waiting_after arrival packet (live_seen K.state self.old).inbox caller number) }
+        ensures notes { let before = (live_seen K.state self.old).inbox in
+            let after = (live_seen K.state self.new).inbox in
+            (caller : ℕ) → note_of after caller ≡ note_of before caller }
+        ensures waiting { let before = (live_seen K.state self.old).inbox in
+            let after = (live_seen K.state self.new).inbox in
+            IfOk result (λ arrival. (caller number : ℕ) → waiting after caller number ≡ waiting_after arrival packet before caller number) }
         ensures elsewhere { packet.actor ≢ (live_seen K.state self.old).id → live_seen K.state self.new ≡ live_seen K.state self.old }
         ensures unless_new { IfOk result (λ arrival. arrival ≢ New → live_seen K.state self.new ≡ live_seen K.state self.old) }
         ensures last { let before = live_seen K.state self.old in OnErr result (arrival_at before.id before.inbox packet ≡ New) }
         ensures back { IfErr result (λ back. back ≡ packet) }
         ensures err { OnErr result (live_seen K.state self.new ≡ live_seen K.state self.old) }
     {
-        self.book.arrive(packet)
+        if packet.actor != self.id {
+            return Ok(Arrival::Stranger);
+        }
+        self.inbox.arrive(packet)
+    }
+
+    /// Takes in a packet that is new to the actor. An `Err` hands it back for want of memory.
+    pub fn hold(&mut self, packet: Packet) -> Result<(), Packet>
+        requires is_new { let before = live_seen K.state self.old in arrival_at before.id before.inbox packet ≡ New }
+        ensures same { let after = live_seen K.state self.new in after ≡ record (live_seen K.state self.old) { inbox = after.inbox } }
+        ensures taken { OnOk result (IsTakenIn packet New (live_seen K.state self.old).inbox (live_seen K.state self.new).inbox) }
+        ensures back { IfErr result (λ back. back ≡ packet) }
+        ensures err { OnErr result (live_seen K.state self.new ≡ live_seen K.state self.old) }
+    {
+        self.inbox.hold(packet)
     }
 
     /// What a packet is to the actor, before it is taken in.
     pub fn arrival(&self, packet: &Packet) -> Arrival
         ensures value { let now = live_seen K.state self.now in result ≡ arrival_at now.id now.inbox packet.now }
     {
-        self.book.arrival(packet)
+        if packet.actor != self.id {
+            return Arrival::Stranger;
+        }
+        self.inbox.arrival(packet)
     }
 
     /// Takes in that a caller's last handle copy is gone. Only its first note counts.
     pub fn released(&mut self, note: ReleaseNote) -> Arrival
         ensures arrival { let before = live_seen K.state self.old in result ≡ note_arrival_at before.id before.inbox note }
         ensures same { let after = live_seen K.state self.new in after ≡ record (live_seen K.state self.old) { inbox = after.inbox } }
-        ensures calls { let before = (live_seen K.state self.old).inbox in let after = (live_seen K.state self.new).inbox in (after.lanes ≡ before.lanes) × (after.held ≡ before.held) }
-        ensures notes { (caller : ℕ) → note_of (live_seen K.state self.new).inbox caller ≡ note_after result note (live_seen K.state self.old).inbox caller }
+        ensures calls { let before = (live_seen K.state self.old).inbox in
+            let after = (live_seen K.state self.new).inbox in
+            (after.lanes ≡ before.lanes) × (after.held ≡ before.held) }
+        ensures notes { let before = (live_seen K.state self.old).inbox in
+            let after = (live_seen K.state self.new).inbox in
+            (caller : ℕ) → note_of after caller ≡ note_after result note before caller }
         ensures unless_new { result ≢ New → live_seen K.state self.new ≡ live_seen K.state self.old }
     {
-        self.book.released(note)
+        if note.actor != self.id {
+            return Arrival::Stranger;
+        }
+        self.inbox.released(note)
     }
 
     /// Whether the last call that ran was a `terminate` that ended the actor: one without
@@ -114,86 +226,127 @@ impl<K: Actor> Live<K> {
     pub fn terminated(&self) -> bool
         ensures { result ≡ has_terminated (live_seen K.state self.now).log }
     {
-        self.book.terminated()
+        self.log.last().is_some_and(is_end)
     }
 
     /// Whether it did not terminate, each caller's note came, and all calls of which it tells were
     /// run.
     pub fn drained(&self) -> bool
-        ensures { let now = live_seen K.state self.now in Decides result (MayRetire now.log now.inbox) }
+        ensures { let now = live_seen K.state self.now in IsTrue result ↔ MayRetire now.log now.inbox }
     {
-        self.book.drained()
+        !self.terminated() && self.inbox.drained()
     }
 
     /// Whether the caller's next call came, and the actor did not terminate.
     pub fn has_next(&self, caller: CallerId) -> bool
         ensures { let now = live_seen K.state self.now in result ≡ is_some (next_call now.log now.inbox caller) }
     {
-        self.book.has_next(caller)
+        !self.terminated() && self.inbox.has_next(caller)
+    }
+
+    /// Runs the caller's next call. Each growth comes before the kind is asked, and the call leaves
+    /// the inbox after it.
+    fn run_next(&mut self, caller: CallerId) -> Result<Option<Reply>, NoMemory>
+        ensures reply { let before = live_seen K.state self.old in
+            IfOk result (λ reply. reply ≡ option_map (reply_to before) (next_call before.log before.inbox caller)) }
+        ensures gap { IfOk result (λ reply. IfNone reply (live_seen K.state self.new ≡ live_seen K.state self.old)) }
+        ensures ran { let before = live_seen K.state self.old in
+            let after = live_seen K.state self.new in
+            OnOk result (IfSome (next_call before.log before.inbox caller) (λ packet. HasRun caller packet before after)) }
+        ensures last { let before = live_seen K.state self.old in OnErr result (IsSome (next_call before.log before.inbox caller)) }
+        ensures err { OnErr result (live_seen K.state self.new ≡ live_seen K.state self.old) }
+    {
+        if self.terminated() {
+            return Ok(None);
+        }
+        let Some(packet) = self.inbox.peek(caller) else {
+            return Ok(None);
+        };
+        let reply = answered(&mut self.log, self.id, &mut self.kind, packet)?;
+        let packet = self.inbox.next(caller).unwrap();
+        self.log.push_reserved(item_of(packet));
+        Ok(Some(reply))
     }
 
     /// Runs the caller's next call, if it came and the actor did not terminate.
     pub fn run(&mut self, caller: CallerId) -> Result<Option<Reply>, NoMemory>
-        ensures reply { let before = live_seen K.state self.old in IfOk result (λ reply. reply ≡ option_map (reply_to before) (next_call before.log before.inbox caller)) }
+        ensures reply { let before = live_seen K.state self.old in
+            IfOk result (λ reply. reply ≡ option_map (reply_to before) (next_call before.log before.inbox caller)) }
         ensures gap { IfOk result (λ reply. IfNone reply (live_seen K.state self.new ≡ live_seen K.state self.old)) }
-        ensures ran { let before = live_seen K.state self.old in OnOk result (IfSome (next_call before.log before.inbox caller) (λ packet. HasRun caller packet before (live_seen K.state self.new))) }
+        ensures ran { let before = live_seen K.state self.old in
+            let after = live_seen K.state self.new in
+            OnOk result (IfSome (next_call before.log before.inbox caller) (λ packet. HasRun caller packet before after)) }
 
         // The state is what the log leaves, whatever the kind was when it was opened.
-        ensures follows { OnOk result ((opening : KindState) → HasRunFrom opening (live_seen K.state self.old) → HasRunFrom opening (live_seen K.state self.new)) }
-        ensures answers { IfOk result (λ reply. IfSome reply (λ reply. (opening : KindState) → HasRunFrom opening (live_seen K.state self.old) → answer_at opening (live_seen K.state self.new).log reply.place ≡ Some reply.answer)) }
+        ensures follows { let before = live_seen K.state self.old in
+            let after = live_seen K.state self.new in
+            OnOk result ((opening : KindState) → HasRunFrom opening before → HasRunFrom opening after) }
+        ensures answers { let before = live_seen K.state self.old in
+            let after = live_seen K.state self.new in
+            IfOk result (λ reply. IfSome reply (λ reply.
+            (opening : KindState) → HasRunFrom opening before → answer_at opening after.log reply.place ≡ Some reply.answer)) }
         ensures last { let before = live_seen K.state self.old in OnErr result (IsSome (next_call before.log before.inbox caller)) }
         ensures err { OnErr result (live_seen K.state self.new ≡ live_seen K.state self.old) }
     {
-        self.book.run(&mut self.kind, caller)
+        self.run_next(caller)
     }
 
     /// Whether no call is held.
     pub fn holds_none(&self) -> bool
-        ensures { Decides result (HoldsNone (live_seen K.state self.now).inbox) }
+        ensures { IsTrue result ↔ HoldsNone (live_seen K.state self.now).inbox }
     {
-        self.book.holds_none()
+        self.inbox.is_empty()
     }
 
     /// Whether the actor did not terminate, no call is held, and this one is its caller's next and
     /// new: if it arrived, it would be the one call to run.
     pub fn runs_at_once(&self, packet: &Packet) -> bool
-        ensures { let now = live_seen K.state self.now in Decides result (RunsAtOnce packet.now now.id now.log now.inbox) }
+        ensures { let now = live_seen K.state self.now in IsTrue result ↔ RunsAtOnce packet.now now.id now.log now.inbox }
     {
-        self.book.runs_at_once(packet)
+        if self.terminated() || !self.inbox.is_empty() {
+            return false;
+        }
+        if self.inbox.handed(packet.caller) != packet.number {
+            return false;
+        }
+        matches!(self.arrival(packet), Arrival::New)
     }
 
-    /// Runs a call at once, as `arrive` and then `run` do. The packet is dropped where memory is
-    /// refused.
+    /// Runs a call at once, as `arrive` and then `run` do. It never stands in the inbox, each growth
+    /// comes before the kind is asked, and the packet is dropped where memory is refused.
     pub fn run_now(&mut self, packet: Packet) -> Result<Reply, NoMemory>
         requires at_once { let before = live_seen K.state self.old in RunsAtOnce packet before.id before.log before.inbox }
         ensures reply { IfOk result (λ reply. reply ≡ reply_to (with_call packet (live_seen K.state self.old)) packet) }
-        ensures ran { OnOk result (HasRun packet.caller packet (with_call packet (live_seen K.state self.old)) (live_seen K.state self.new)) }
+        ensures ran { let before = live_seen K.state self.old in
+            OnOk result (HasRun packet.caller packet (with_call packet before) (live_seen K.state self.new)) }
         ensures alone { HoldsNone (live_seen K.state self.new).inbox }
         ensures err { OnErr result (live_seen K.state self.new ≡ live_seen K.state self.old) }
     {
-        self.book.run_now(&mut self.kind, packet)
+        let reply = answered(&mut self.log, self.id, &mut self.kind, &packet)?;
+        self.inbox.pass_by(&packet);
+        self.log.push_reserved(item_of(packet));
+        Ok(reply)
     }
 
     /// Ends the actor. Its kind and the calls that it holds are dropped.
     pub fn kill(self) -> Dead
         ensures { result ≡ record { id = (live_seen K.state self).id; log = (live_seen K.state self).log } }
     {
-        let Live { book, .. } = self;
-        let Book { id, log, .. } = book;
+        let Live { id, log, .. } = self;
         Dead::new(id, log)
     }
 
     /// Ends the actor once it is drained; else an `Err` hands it back.
     pub fn retire(self) -> Result<Retired<K>, Live<K>>
         ensures when { let live = live_seen K.state self in IsOk result ↔ MayRetire live.log live.inbox }
-        ensures ok { let live = live_seen K.state self in IfOk result (λ retired. retired_seen K.state retired ≡ record { id = live.id; log = live.log; state = live.state }) }
+        ensures ok { let live = live_seen K.state self in
+            IfOk result (λ retired. retired_seen K.state retired ≡ record { id = live.id; log = live.log; state = live.state }) }
         ensures err { IfErr result (λ live. live_seen K.state live ≡ live_seen K.state self) }
     {
         if !self.drained() {
             return Err(self);
         }
-        let Live { kind, book } = self;
-        let Book { id, log, .. } = book;
+        let Live { id, log, kind, .. } = self;
         Ok(Retired::new(id, log, kind))
     }
 }

@@ -8,3 +8,4 @@ pub mod Shown
 pub mod Sorting
 pub mod PlansOf
 pub mod Joined
+pub mod Playing

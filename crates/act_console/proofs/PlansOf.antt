@@ -12,7 +12,7 @@ use Rattle.act_rules.specs.History.{Casting, contains, actors_naming}
 use Rattle.act_rules.specs.Grammar.{Script}
 use Rattle.act_rules.specs.Plans.{Progress, nothing_done, is_refused, stepped, first_bad, first_bad_from}
 use Rattle.act_rules.specs.Report.{one_to}
-use Rattle.act_rules.specs.Scripts.{casting, callers_of, actors_of, plan_of, bad_line, bad_lines}
+use Rattle.act_rules.specs.Scripts.{role_casting, callers_of, actors_of, plan_of, bad_line, bad_lines}
 use Rattle.act_plans.specs.Runs.{callers_of as callers_cast, plan_of as plan_among, bad_step_of, first_bad_plan, steps_of}
 use Rattle.act_console.specs.Threads.{plans_in}
 
@@ -60,18 +60,18 @@ all_contained P (n ∷ ns) each = (
 
 -- ---- the plans of a script, told as those of a run
 
-any_cast : (c : ℕ) (roles : List Role) → list_any (λ (cast : Casting). contains c cast.callers) (map casting roles) ≡ list_any (λ (role : Role). contains c role.callers) roles
+any_cast : (c : ℕ) (roles : List Role) → list_any (λ (cast : Casting). contains c cast.callers) (map role_casting roles) ≡ list_any (λ (role : Role). contains c role.callers) roles
 any_cast c [] = refl
 any_cast c (role ∷ roles) = ap (λ (b : Bool). contains c role.callers || b) (any_cast c roles)
 
-callers_same : (roles : List Role) → callers_cast (map casting roles) ≡ callers_of roles
-callers_same roles = filter_agree (λ c. list_any (λ (cast : Casting). contains c cast.callers) (map casting roles)) (λ c. list_any (λ (role : Role). contains c role.callers) roles) (λ c. any_cast c roles) (one_to 16)
+callers_same : (roles : List Role) → callers_cast (map role_casting roles) ≡ callers_of roles
+callers_same roles = filter_agree (λ c. list_any (λ (cast : Casting). contains c cast.callers) (map role_casting roles)) (λ c. list_any (λ (role : Role). contains c role.callers) roles) (λ c. any_cast c roles) (one_to 16)
 
-actors_step : (c : ℕ) (role : Role) (roles : List Role) (b : Bool) → contains c role.callers ≡ b → actors_naming c (map casting roles) ≡ actors_of c roles → actors_naming c (map casting (role ∷ roles)) ≡ actors_of c (role ∷ roles)
+actors_step : (c : ℕ) (role : Role) (roles : List Role) (b : Bool) → contains c role.callers ≡ b → actors_naming c (map role_casting roles) ≡ actors_of c roles → actors_naming c (map role_casting (role ∷ roles)) ≡ actors_of c (role ∷ roles)
 actors_step c role roles true is same = rw is (ap (λ (rest : List ℕ). role.actor ∷ rest) same)
 actors_step c role roles false is same = rw is same
 
-actors_same : (c : ℕ) (roles : List Role) → actors_naming c (map casting roles) ≡ actors_of c roles
+actors_same : (c : ℕ) (roles : List Role) → actors_naming c (map role_casting roles) ≡ actors_of c roles
 actors_same c [] = refl
 actors_same c (role ∷ roles) = actors_step c role roles (contains c role.callers) refl (actors_same c roles)
 
@@ -106,17 +106,17 @@ bad_place script c = first_bad (actors_of c script.roles) (map (λ (s : ℕ × S
 abbrev line_at : Script → ℕ → ℕ → Option ℕ
 line_at script c place = option_map (λ (s : ℕ × Step × ℕ). s.2) (slice_get (plan_of c script) place)
 
-bad_same : (script : Script) (c : ℕ) → contains c (callers_of script.roles) ≡ true → bad_step_of (map casting script.roles) (plans_in script) c ≡ with_caller c (bad_place script c)
+bad_same : (script : Script) (c : ℕ) → contains c (callers_of script.roles) ≡ true → bad_step_of (map role_casting script.roles) (plans_in script) c ≡ with_caller c (bad_place script c)
 bad_same script c has =
     ap (λ (actors : List ℕ). with_caller c (first_bad actors (plan_among c (plans_in script)))) (actors_same c script.roles)
     ∙ ap (λ (steps : List Step). with_caller c (first_bad (actors_of c script.roles) steps)) (plan_found script c has)
 
 -- all callers in a row
-rows_same : (script : Script) → filter_map (bad_step_of (map casting script.roles) (plans_in script)) (callers_cast (map casting script.roles)) ≡ filter_map (λ (c : ℕ). with_caller c (bad_place script c)) (callers_of script.roles)
+rows_same : (script : Script) → filter_map (bad_step_of (map role_casting script.roles) (plans_in script)) (callers_cast (map role_casting script.roles)) ≡ filter_map (λ (c : ℕ). with_caller c (bad_place script c)) (callers_of script.roles)
 rows_same script =
-    ap (filter_map (bad_step_of (map casting script.roles) (plans_in script))) (callers_same script.roles)
-    ∙ filter_map-same (bad_step_of (map casting script.roles) (plans_in script)) (λ (c : ℕ). with_caller c (bad_place script c)) (callers_of script.roles)
-    (all_contained (λ (c : ℕ). bad_step_of (map casting script.roles) (plans_in script) c ≡ with_caller c (bad_place script c)) (callers_of script.roles) (bad_same script))
+    ap (filter_map (bad_step_of (map role_casting script.roles) (plans_in script))) (callers_same script.roles)
+    ∙ filter_map-same (bad_step_of (map role_casting script.roles) (plans_in script)) (λ (c : ℕ). with_caller c (bad_place script c)) (callers_of script.roles)
+    (all_contained (λ (c : ℕ). bad_step_of (map role_casting script.roles) (plans_in script) c ≡ with_caller c (bad_place script c)) (callers_of script.roles) (bad_same script))
 
 has_line : (script : Script) (c place : ℕ) → bad_place script c ≡ Some place → (line : ℕ) × (line_at script c place ≡ Some line)
 has_line script c place is =
@@ -156,7 +156,7 @@ module _ (bad : ℕ → Option ℕ) (line : ℕ → ℕ → Option ℕ) (has : (
 
 -- ---- the line of the first bad plan
 
-pub bad_plan_line : (script : Script) (c place : ℕ) → first_bad_plan (map casting script.roles) (plans_in script) ≡ Some (c, place)
+pub bad_plan_line : (script : Script) (c place : ℕ) → first_bad_plan (map role_casting script.roles) (plans_in script) ≡ Some (c, place)
     → slice_get (map (λ (s : ℕ × Step × ℕ). s.2) (filter (λ (s : ℕ × Step × ℕ). not (contains s.0 (callers_of script.roles))) script.steps)) 0 ≡ None
     → (line : ℕ) × (slice_get (bad_lines script) 0 ≡ Some line) × (option_map (λ (s : ℕ × Step × ℕ). s.2) (slice_get (plan_of c script) place) ≡ Some line)
 unfolding line_of_bad
@@ -164,7 +164,7 @@ bad_plan_line script c place is known =
     let found = head_found (bad_place script) (line_at script) (has_line script) c place (callers_of script.roles) (ap (λ (l : List (ℕ × ℕ)). slice_get l 0) (sym (rows_same script)) ∙ is) in
     (found.0, after_none (map (λ (s : ℕ × Step × ℕ). s.2) (filter (λ (s : ℕ × Step × ℕ). not (contains s.0 (callers_of script.roles))) script.steps)) (filter_map (λ (c : ℕ). bad_line c script) (callers_of script.roles)) known ∙ found.1, found.2)
 
-pub no_bad_line : (script : Script) → first_bad_plan (map casting script.roles) (plans_in script) ≡ None
+pub no_bad_line : (script : Script) → first_bad_plan (map role_casting script.roles) (plans_in script) ≡ None
     → slice_get (map (λ (s : ℕ × Step × ℕ). s.2) (filter (λ (s : ℕ × Step × ℕ). not (contains s.0 (callers_of script.roles))) script.steps)) 0 ≡ None
     → slice_get (bad_lines script) 0 ≡ None
 unfolding line_of_bad

@@ -5,7 +5,7 @@ use Rattle.act_types.specs.KindState.{KindState}
 use Rattle.act_rules.specs.declared.script.Role.{Role}
 use Rattle.act_rules.specs.History.{Casting}
 use Rattle.act_rules.specs.Submissions.{IsLimit}
-use Rattle.act_rules.specs.Scripts.{casting as role_casting}
+use Rattle.act_rules.specs.Scripts.{role_casting}
 use Rattle.act_actor.specs.declared.cast.Cast.{Cast}
 use Rattle.act_actor.specs.Cast.{CallersDiffer, IsFitting}
 use Rattle.act_actor.specs.Casts.{casting}

@@ -12,7 +12,7 @@ use Rattle.act_rules.specs.declared.history.RunItem.{RunItem}
 use Rattle.act_rules.specs.declared.history.Submission.{Submission}
 use Rattle.act_rules.specs.RunList.{Answer, state_after}
 use Rattle.act_rules.specs.History.{Casting, History, opening, calls_of, kept_of, runs_of, cast_of, is_dead, is_retired}
-use Rattle.act_rules.specs.Laws.{world as history}
+use Rattle.act_rules.specs.Laws.{history}
 use Rattle.act_rules.specs.Report.{one_to, outcome_lines, placed, future_line, stage_of, stage_text, summary, summary_of, actor_lines, report}
 use Rattle.act_rules.specs.Rules.{Outcome, outcomes}
 use Rattle.act_owner.specs.Owner.{OwnerValue}

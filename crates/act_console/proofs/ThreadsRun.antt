@@ -17,7 +17,7 @@ use Rattle.act_rules.specs.History.{Casting, contains}
 use Rattle.act_rules.specs.Report.{one_to}
 use Rattle.act_rules.specs.declared.script.Mode.TheVariants.{Threads}
 use Rattle.act_rules.specs.Grammar.{Script as Spelled, spelled}
-use Rattle.act_rules.specs.Scripts.{casting as role_casting, callers_of, plan_of, is_too_many, bad_lines, or_fault, checked}
+use Rattle.act_rules.specs.Scripts.{role_casting, callers_of, plan_of, is_too_many, bad_lines, or_fault, checked}
 use Rattle.act_actor.specs.declared.cast.Cast.{Cast}
 use Rattle.act_actor.specs.Casts.{casting}
 use Rattle.act_owner.specs.Owner.{OwnerValue}

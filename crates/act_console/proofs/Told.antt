@@ -7,18 +7,18 @@ use Rattle.act_rules.specs.declared.script.Wrong.{Wrong}
 use Rattle.act_rules.specs.declared.script.Mode.TheVariants.{Play}
 use Rattle.act_rules.specs.Grammar.{Script, spelled}
 use Rattle.act_rules.specs.Scripts.{text_of}
-use Rattle.act_console.specs.declared.answer.Answer.{Answer}
-use Rattle.act_console.specs.declared.answer.Answer.TheVariants.{Report, Refusal}
+use Rattle.act_console.specs.declared.output.Output.{Output}
+use Rattle.act_console.specs.declared.output.Output.TheVariants.{Report, Refusal}
 use Rattle.act_console.specs.declared.fault.ConsoleFault.{ConsoleFault}
 use Rattle.act_console.specs.declared.fault.ConsoleFault.TheVariants as faults
 use Rattle.act_console.specs.Input.{IsWholeInput}
 use Rattle.act_console.specs.Output.{AppendsFront, Wrote}
-use Rattle.act_console.specs.Console.{Answers, Played}
-use Rattle.act_console.specs.Threads.{IsToldOf, ThreadsAnswer, Threaded, spelled_threads}
+use Rattle.act_console.specs.Console.{IsPlayOutput, ScriptPlayed}
+use Rattle.act_console.specs.Threads.{IsToldOf, IsThreadsOutput, Threaded, spelled_threads}
 
 module _ (had left old new : Option (List ℕ)) (bytes : List ℕ) (whole : IsWholeInput (MOST_SCRIPT_BYTES + 1) had left bytes) where
   -- an answer of a play was written
-  pub play_told : (answer : Answer) (result : Result (Unit {0}) ConsoleFault) → Answers answer (spelled Play bytes) → Wrote old new answer result → Played had left old new result
+  pub play_told : (answer : Output) (result : Result (Unit {0}) ConsoleFault) → IsPlayOutput answer (spelled Play bytes) → Wrote old new answer result → ScriptPlayed had left old new result
   play_told (Report text) (Ok done) is wrote = (bytes, whole, is.0, is.1, subst (Appends old new) is.2 wrote)
   play_told (Report text) (Err faults.Writing) is wrote = (bytes, whole, subst (AppendsFront old new) (is.2 ∙ sym (ap text_of is.1)) wrote)
   play_told (Report text) (Err faults.Script) is wrote = absurd wrote
@@ -33,7 +33,7 @@ module _ (had left old new : Option (List ℕ)) (bytes : List ℕ) (whole : IsWh
   play_told (Refusal text) (Err faults.Reading) is wrote = absurd wrote
 
   -- an answer of threads was written
-  pub told : (answer : Answer) (result : Result (Unit {0}) ConsoleFault) → ThreadsAnswer (Ok answer) (spelled_threads bytes) → Wrote old new answer result → Threaded had left old new result
+  pub told : (answer : Output) (result : Result (Unit {0}) ConsoleFault) → IsThreadsOutput (Ok answer) (spelled_threads bytes) → Wrote old new answer result → Threaded had left old new result
   told (Report text) (Ok done) is wrote = (bytes, whole, is.0, is.1, string_bytes text, is.2, wrote)
   told (Report text) (Err faults.Writing) is wrote = (bytes, whole, string_bytes text, subst (λ (read : Result Script (ℕ × Wrong)). IsToldOf read (string_bytes text)) (sym is.1) is.2, wrote)
   told (Report text) (Err faults.Script) is wrote = absurd wrote
@@ -53,7 +53,7 @@ keeps_itself (Some bytes) = refl
 
 module _ (had left old : Option (List ℕ)) (bytes : List ℕ) (whole : IsWholeInput (MOST_SCRIPT_BYTES + 1) had left bytes) where
   -- nothing was to be written
-  pub untold : (fault : ConsoleFault) → ThreadsAnswer (Err fault) (spelled_threads bytes) → Threaded had left old old (Err fault)
+  pub untold : (fault : ConsoleFault) → IsThreadsOutput (Err fault) (spelled_threads bytes) → Threaded had left old old (Err fault)
   untold faults.Memory is = keeps_itself old
   untold faults.Thread is = (bytes, whole, is.0, is.1, keeps_itself old)
   untold faults.Script is = absurd is

@@ -9,25 +9,25 @@ use Rattle.act_rules.specs.Grammar.{Script, spelled}
 use Rattle.act_rules.specs.Scripts.{opened, played}
 use Rattle.act_console.specs.declared.fault.ConsoleFault.{ConsoleFault}
 use Rattle.act_console.specs.declared.fault.ConsoleFault.TheVariants as faults
-use Rattle.act_console.specs.declared.answer.Answer.{Answer}
-use Rattle.act_console.specs.declared.answer.Answer.TheVariants as answers
+use Rattle.act_console.specs.declared.output.Output.{Output}
+use Rattle.act_console.specs.declared.output.Output.TheVariants as outputs
 use Rattle.act_console.specs.Input.{IsWholeInput}
 use Rattle.act_console.specs.Output.{AppendsFront}
 
 -- what is to be written of a script: its report, or the line of its first fault
-abbrev pub Answers : Answer → Result Script (ℕ × Wrong) → Type 0
-Answers (answers.Report text) read = (script : Script) × (read ≡ Ok script) × (string_bytes text ≡ report (opened script.roles) script.events)
-Answers (answers.Refusal text) read = (fault : ℕ × Wrong) × (read ≡ Err fault) × (string_bytes text ≡ fault_line fault)
+abbrev pub IsPlayOutput : Output → Result Script (ℕ × Wrong) → Type 0
+IsPlayOutput (outputs.Report text) read = (script : Script) × (read ≡ Ok script) × (string_bytes text ≡ report (opened script.roles) script.events)
+IsPlayOutput (outputs.Refusal text) read = (fault : ℕ × Wrong) × (read ≡ Err fault) × (string_bytes text ≡ fault_line fault)
 
 -- what a run read and wrote, by its answer
-abbrev pub Played : Option (List ℕ) → Option (List ℕ) → Option (List ℕ) → Option (List ℕ) → Result (Unit {0}) ConsoleFault → Type 0
-Played had left old new (Ok done) =
+abbrev pub ScriptPlayed : Option (List ℕ) → Option (List ℕ) → Option (List ℕ) → Option (List ℕ) → Result (Unit {0}) ConsoleFault → Type 0
+ScriptPlayed had left old new (Ok done) =
     (bytes : List ℕ) × IsWholeInput (MOST_SCRIPT_BYTES + 1) had left bytes
     × (script : Script) × (spelled Play bytes ≡ Ok script) × Appends old new (report (opened script.roles) script.events)
-Played had left old new (Err faults.Script) =
+ScriptPlayed had left old new (Err faults.Script) =
     (bytes : List ℕ) × IsWholeInput (MOST_SCRIPT_BYTES + 1) had left bytes
     × (fault : ℕ × Wrong) × (spelled Play bytes ≡ Err fault) × Appends old new (fault_line fault)
-Played had left old new (Err faults.Memory) = Keeps old new
-Played had left old new (Err faults.Thread) = ⊥
-Played had left old new (Err faults.Reading) = Keeps old new
-Played had left old new (Err faults.Writing) = (bytes : List ℕ) × IsWholeInput (MOST_SCRIPT_BYTES + 1) had left bytes × AppendsFront old new (played bytes)
+ScriptPlayed had left old new (Err faults.Memory) = Keeps old new
+ScriptPlayed had left old new (Err faults.Thread) = ⊥
+ScriptPlayed had left old new (Err faults.Reading) = Keeps old new
+ScriptPlayed had left old new (Err faults.Writing) = (bytes : List ℕ) × IsWholeInput (MOST_SCRIPT_BYTES + 1) had left bytes × AppendsFront old new (played bytes)

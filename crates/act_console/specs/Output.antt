@@ -1,8 +1,8 @@
 -- What a writer holds.
 use Rattle.std.specs.Prelude.{◌≡◌, ℕ, List, ◌++◌, Option, Some, None, Result, Ok, Err, string_bytes}
 use Rattle.std.specs.Io.KnownBytes.{Appends}
-use Rattle.act_console.specs.declared.answer.Answer.{Answer}
-use Rattle.act_console.specs.declared.answer.Answer.TheVariants.{Report, Refusal}
+use Rattle.act_console.specs.declared.output.Output.{Output}
+use Rattle.act_console.specs.declared.output.Output.TheVariants.{Report, Refusal}
 use Rattle.act_console.specs.declared.fault.ConsoleFault.{ConsoleFault}
 use Rattle.act_console.specs.declared.fault.ConsoleFault.TheVariants as faults
 
@@ -21,7 +21,7 @@ IsBeforeWriting faults.Reading = Unit {0}
 IsBeforeWriting faults.Writing = ⊥
 
 -- what was written of an answer: a report whole, and a refusal whole, which is then told as the script's fault; or a front of either
-abbrev pub Wrote : Option (List ℕ) → Option (List ℕ) → Answer → Result (Unit {0}) ConsoleFault → Type 0
+abbrev pub Wrote : Option (List ℕ) → Option (List ℕ) → Output → Result (Unit {0}) ConsoleFault → Type 0
 Wrote old new (Report text) (Ok done) = Appends old new (string_bytes text)
 Wrote old new (Report text) (Err faults.Writing) = AppendsFront old new (string_bytes text)
 Wrote old new (Report text) (Err faults.Script) = ⊥

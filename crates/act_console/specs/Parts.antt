@@ -1,13 +1,15 @@
 -- The parts of a report, as its text is made.
 
-use Rattle.std.specs.Prelude.{ℕ, List, [], ◌++◌, codes, decimal, slice_get, Option, option_map}
+use Rattle.std.specs.Prelude.{◌≡◌, ℕ, List, [], ◌++◌, codes, decimal, slice_get, Option, option_map}
 use Rattle.std.specs.Option.{option_map_or}
 use Rattle.act_types.specs.Texts.{space, actor_text, method_text, state_text}
 use Rattle.act_rules.specs.Report.{future_text, future_line, future_lines, actor_lines, outcome_lines, summary_of}
+use Rattle.act_rules.specs.declared.event.Event.{Event}
 use Rattle.act_rules.specs.Rules.{Outcome}
 use Rattle.act_rules.specs.declared.history.RunItem.{RunItem}
 use Rattle.act_owner.specs.Owner.{OwnerValue}
 use Rattle.act_world.specs.Value.{SlotSeen, Runs, Died, Ended, Vacant, WorldSeen, stage_in}
+use Rattle.act_world.specs.Stands.{Played}
 use Rattle.act_world.specs.Headline.{calls_in, kept_in, log_in}
 
 -- the front of the line of a call that an actor ran, without its arguments
@@ -48,3 +50,9 @@ world_summary world = summary_of (calls_in world) (kept_in world) (standing_in w
 -- the report of what was told of events, and of the world after them
 abbrev pub world_report : List Outcome → WorldSeen → List ℕ
 world_report told world = outcome_lines told ++ world_summary world
+
+-- the events were played, and the lines of what is told of them were added to the text
+pub record AreTold (events : List Event) (old new : WorldSeen) (before text : List ℕ) : Type 0 where
+  pub told : List Outcome
+  pub played : Played events old new [] told
+  pub written : text ≡ before ++ outcome_lines told

@@ -7,12 +7,12 @@ use Rattle.act_rules.specs.declared.script.Step.{Step}
 use Rattle.act_rules.specs.declared.script.Wrong.{Wrong}
 use Rattle.act_rules.specs.Report.{future_lines, actor_lines, summary_of, fault_line}
 use Rattle.act_rules.specs.Grammar.{Script}
-use Rattle.act_rules.specs.Scripts.{casting, callers_of, plan_of, spelled_plans}
+use Rattle.act_rules.specs.Scripts.{role_casting, callers_of, plan_of, spelled_plans}
 use Rattle.act_owner.specs.Owner.{OwnerValue}
 use Rattle.act_serve.specs.Served.{EndSeen, Killed, Retired, Starved}
 use Rattle.act_joint.specs.Joined.{IsJoined, end_of, calls_in, kept_in, log_in}
-use Rattle.act_console.specs.declared.answer.Answer.{Answer}
-use Rattle.act_console.specs.declared.answer.Answer.TheVariants as answers
+use Rattle.act_console.specs.declared.output.Output.{Output}
+use Rattle.act_console.specs.declared.output.Output.TheVariants as outputs
 use Rattle.act_console.specs.declared.fault.ConsoleFault.{ConsoleFault}
 use Rattle.act_console.specs.declared.fault.ConsoleFault.TheVariants as faults
 use Rattle.act_console.specs.Input.{IsWholeInput}
@@ -52,7 +52,7 @@ plans_in script = map (λ c. (c, map (λ s. s.1) (plan_of c script))) (callers_o
 pub record IsSummary (script : Script) (text : List ℕ) : Type 0 where
   pub owners : List OwnerValue
   pub ends : List EndSeen
-  pub joined : IsJoined (map casting script.roles) (plans_in script) owners ends
+  pub joined : IsJoined (map role_casting script.roles) (plans_in script) owners ends
   pub shown : text ≡ joined_summary owners ends
 
 -- what bytes spell for threads: a script with good plans, or the first fault
@@ -65,14 +65,14 @@ IsToldOf (Ok script) text = IsSummary script text
 IsToldOf (Err fault) text = text ≡ fault_line fault
 
 -- what is to be written of a script for threads, or why nothing is: a thread is missed only where the plans are good
-abbrev pub ThreadsAnswer : Result Answer ConsoleFault → Result Script (ℕ × Wrong) → Type 0
-ThreadsAnswer (Ok (answers.Report text)) read = (script : Script) × (read ≡ Ok script) × IsSummary script (string_bytes text)
-ThreadsAnswer (Ok (answers.Refusal text)) read = (fault : ℕ × Wrong) × (read ≡ Err fault) × (string_bytes text ≡ fault_line fault)
-ThreadsAnswer (Err faults.Memory) read = Unit {0}
-ThreadsAnswer (Err faults.Thread) read = (script : Script) × (read ≡ Ok script)
-ThreadsAnswer (Err faults.Script) read = ⊥
-ThreadsAnswer (Err faults.Reading) read = ⊥
-ThreadsAnswer (Err faults.Writing) read = ⊥
+abbrev pub IsThreadsOutput : Result Output ConsoleFault → Result Script (ℕ × Wrong) → Type 0
+IsThreadsOutput (Ok (outputs.Report text)) read = (script : Script) × (read ≡ Ok script) × IsSummary script (string_bytes text)
+IsThreadsOutput (Ok (outputs.Refusal text)) read = (fault : ℕ × Wrong) × (read ≡ Err fault) × (string_bytes text ≡ fault_line fault)
+IsThreadsOutput (Err faults.Memory) read = Unit {0}
+IsThreadsOutput (Err faults.Thread) read = (script : Script) × (read ≡ Ok script)
+IsThreadsOutput (Err faults.Script) read = ⊥
+IsThreadsOutput (Err faults.Reading) read = ⊥
+IsThreadsOutput (Err faults.Writing) read = ⊥
 
 -- what a run in threads read and wrote, by its answer
 abbrev pub Threaded : Option (List ℕ) → Option (List ℕ) → Option (List ℕ) → Option (List ℕ) → Result (Unit {0}) ConsoleFault → Type 0

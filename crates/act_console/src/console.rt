@@ -3,19 +3,19 @@
 ghost use Rattle.std.specs.Prelude.{◌≡◌, ◌<◌, ◌^◌, IfOk, length, map, string_bytes};
 ghost use Rattle.act_rules.specs.declared.script.Mode.TheVariants.{Play};
 ghost use Rattle.act_rules.specs.Report.{report};
-ghost use Rattle.act_rules.specs.Scripts.{opened, casting};
+ghost use Rattle.act_rules.specs.Scripts.{opened, role_casting};
 ghost use Rattle.act_rules.specs.Grammar.{spelled};
-ghost use Rattle.act_console.specs.Console.{Answers, Played};
+ghost use Rattle.act_console.specs.Console.{IsPlayOutput, ScriptPlayed};
 ghost use Rattle.act_scripts.specs.Roles.{AreFitting};
 ghost use Rattle.act_scripts.specs.Spelled.{mode_of, count_of, spelled_script};
 ghost use Rattle.act_console.specs.Stock.{IsReady};
 
-use crate::answer::{Answer, refusal_of};
 use crate::fault::ConsoleFault;
+use crate::output::{Output, refusal_of};
 use crate::reading::read_whole;
-use crate::report::report_of;
+use crate::report::play_and_report;
 use crate::stock::{Stock, casts_of};
-use crate::writing::write_answer;
+use crate::writing::write_output;
 use act_kinds::{Actor, Boxed};
 use act_rules::{Event, Mode, Role};
 use act_scripts::{Items, Script, ScriptFault, read_script};
@@ -32,20 +32,20 @@ fn report_on(
     events: ListOf<Event>,
 ) -> Result<String, NoMemory>
     requires ready { IsReady ⟦<Boxed as Actor>⟧.state stock }
-    requires roles { AreFitting (map casting roles) }
+    requires roles { AreFitting (map role_casting roles) }
     requires few { length events < 2 ^ 32 }
     ensures { IfOk result (λ text. string_bytes text ≡ report (opened roles) events) }
 {
     let casts = casts_of(alloc, stock, roles)?;
     let mut world = World::open(alloc, casts)?;
-    report_of(alloc, &mut world, events.as_slice())
+    play_and_report(alloc, &mut world, events)
 }
 
 /// The report of a script of events.
 fn report_of_script(alloc: Global, stock: Stock, script: Script) -> Result<String, NoMemory>
     requires ready { IsReady ⟦<Boxed as Actor>⟧.state stock }
     requires mode { mode_of script.items ≡ Play }
-    requires roles { AreFitting (map casting script.casts) }
+    requires roles { AreFitting (map role_casting script.casts) }
     requires few { count_of script.items < 2 ^ 32 }
     ensures { IfOk result (λ text. string_bytes text ≡ report (opened script.casts) (spelled_script script).events) }
 {
@@ -60,19 +60,19 @@ fn report_of_script(alloc: Global, stock: Stock, script: Script) -> Result<Strin
 }
 
 /// What there is to be written of the script that bytes spell.
-fn answer_of(alloc: Global, stock: Stock, bytes: &[u8]) -> Result<Answer, NoMemory>
+fn output_of(alloc: Global, stock: Stock, bytes: &[u8]) -> Result<Output, NoMemory>
     requires ready { IsReady ⟦<Boxed as Actor>⟧.state stock }
-    ensures { IfOk result (λ answer. Answers answer (spelled Play bytes.now)) }
+    ensures { IfOk result (λ answer. IsPlayOutput answer (spelled Play bytes.now)) }
 {
     match read_script(alloc, bytes, Mode::Play) {
         Ok(script) => {
             let text = report_of_script(alloc, stock, script)?;
-            Ok(Answer::Report(text))
+            Ok(Output::Report(text))
         }
         Err(ScriptFault::NoMemory) => Err(NoMemory),
         Err(ScriptFault::Line(line, wrong)) => {
             let text = refusal_of(alloc, line, wrong)?;
-            Ok(Answer::Refusal(text))
+            Ok(Output::Refusal(text))
         }
     }
 }
@@ -90,11 +90,11 @@ pub fn play_script<R: Read, W: Write>(
     writer: &mut W,
 ) -> Result<(), ConsoleFault>
     requires ready { IsReady ⟦<Boxed as Actor>⟧.state stock }
-    ensures { Played (R.remaining reader.old) (R.remaining reader.new) (W.contents writer.old) (W.contents writer.new) result }
+    ensures { ScriptPlayed (R.remaining reader.old) (R.remaining reader.new) (W.contents writer.old) (W.contents writer.new) result }
 {
     let bytes = read_whole(alloc, reader)?;
-    match answer_of(alloc, stock, &bytes) {
-        Ok(answer) => write_answer(writer, answer),
+    match output_of(alloc, stock, &bytes) {
+        Ok(answer) => write_output(writer, answer),
         Err(_) => Err(ConsoleFault::Memory),
     }
 }

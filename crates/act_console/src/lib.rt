@@ -2,9 +2,9 @@
 //! plan of its own.
 #![tactic(auto)]
 
-mod answer;
 mod console;
 mod fault;
+mod output;
 mod plans;
 mod reading;
 mod report;
@@ -13,6 +13,7 @@ mod summary;
 #[cfg(test)]
 mod tests;
 mod threads;
+mod words;
 mod writing;
 
 pub use act_executor::{Gate, NoGate};

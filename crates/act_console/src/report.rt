@@ -7,25 +7,35 @@ ghost use Rattle.act_rules.specs.Report.{line, placed, one_to, outcome_line, out
 ghost use Rattle.act_world.specs.Value.{world_seen, stage_seen};
 ghost use Rattle.act_world.specs.Headline.{log_of};
 ghost use Rattle.act_world.specs.Stands.{Stands, HasRoom};
-ghost use Rattle.act_console.specs.Parts.{item_head, owner_line, owner_lines, standing_text, caller_lines, stage_lines, world_report};
+ghost use Rattle.act_console.specs.Parts.{item_head, owner_line, owner_lines, standing_text, caller_lines, stage_lines, world_report, AreTold};
 
+use crate::words::{
+    method_word, push_actor_name, push_did, push_future_name, push_number, push_numbered,
+    push_settled, push_value,
+};
 use act_kinds::Actor;
 use act_owner::Owner;
 use act_rules::{Event, Outcome, RunItem};
 use act_types::{
-    ActorId, Answer, CallerId, FutureId, MOST_ACTORS, MOST_CALLERS, NoMemory, Settled,
+    ActorId, Answer, CallerId, FutureId, ListOf, MOST_ACTORS, MOST_CALLERS, NoMemory, Settled,
 };
-use act_world::{Stage, World};
+use act_world::{Stage, World, is_memory};
 use std::alloc::{AllocError, Global};
+
+/// Room for what a report tells of one event: its line, and mostly those of a future and of its run.
+const EVENT_BYTES: usize = 40;
 
 /// Adds the line of an outcome.
 fn push_outcome(text: &mut String, place: usize, outcome: &Outcome) -> Result<(), AllocError>
     ensures { OnOk result (string_bytes text.new ≡ string_bytes text.old ++ outcome_line place outcome.now) }
 {
+    push_number(text, place as u64)?;
+    text.push_str(": ")?;
     match outcome {
-        Ok(did) => writeln!(text, "{place}: {did}"),
-        Err(refusal) => writeln!(text, "{place}: refused {refusal}"),
+        Ok(did) => push_did(text, did)?,
+        Err(refusal) => write!(text, "refused {refusal}")?,
     }
+    text.push_str("\n")
 }
 
 /// Adds a line for each outcome.
@@ -43,8 +53,12 @@ fn push_kept(text: &mut String, kept: Option<&Answer>) -> Result<(), AllocError>
     ensures { OnOk result (string_bytes text.new ≡ string_bytes text.old ++ line (kept_text (option_copied kept.entry))) }
 {
     match kept {
-        None => writeln!(text, " ?"),
-        Some(Ok(value)) => writeln!(text, " = {value}"),
+        None => text.push_str(" ?\n"),
+        Some(Ok(value)) => {
+            text.push_str(" = ")?;
+            push_value(text, value)?;
+            text.push_str("\n")
+        }
         Some(Err(fault)) => writeln!(text, " = {fault}"),
     }
 }
@@ -57,9 +71,13 @@ fn push_line(
     actor: ActorId,
     kept: Option<&Answer>,
 ) -> Result<(), AllocError>
-    ensures { OnOk result (string_bytes text.new ≡ string_bytes text.old ++ line (future_text caller k ++ space ++ actor_text actor ++ kept_text (option_copied kept.entry))) }
+    ensures { OnOk result (string_bytes text.new ≡
+        string_bytes text.old ++ line
+        (future_text caller k ++ space ++ actor_text actor ++ kept_text (option_copied kept.entry))) }
 {
-    write!(text, "{caller}.{k} {actor}")?;
+    push_future_name(text, caller, k)?;
+    text.push_str(" ")?;
+    push_actor_name(text, actor)?;
     push_kept(text, kept)
 }
 
@@ -87,7 +105,8 @@ pub(crate) fn push_futures(text: &mut String, owner: &Owner) -> Result<(), Alloc
 fn push_arg(text: &mut String, arg: &Settled) -> Result<(), AllocError>
     ensures { OnOk result (string_bytes text.new ≡ string_bytes text.old ++ (space ++ settled_text arg.now)) }
 {
-    write!(text, " {arg}")
+    text.push_str(" ")?;
+    push_settled(text, arg)
 }
 
 /// Adds the arguments of a call, a space before each.
@@ -109,10 +128,12 @@ fn push_head(
 ) -> Result<(), AllocError>
     ensures { OnOk result (string_bytes text.new ≡ string_bytes text.old ++ item_head actor place item.now) }
 {
-    let caller = item.caller;
-    let future = item.future;
-    let method = item.method;
-    write!(text, "{actor}.{place} {caller}.{future} {method}")
+    push_actor_name(text, actor)?;
+    push_numbered(text, ".", place as u64)?;
+    text.push_str(" ")?;
+    push_future_name(text, item.caller, item.future)?;
+    text.push_str(" ")?;
+    text.push_str(method_word(item.method))
 }
 
 /// Adds the line of a call that an actor ran.
@@ -178,7 +199,8 @@ fn push_actor<K: Actor>(
     actor: ActorId,
     stage: &Stage<'_, K>,
 ) -> Result<(), NoMemory>
-    ensures { OnOk result (string_bytes text.new ≡ string_bytes text.old ++ line (actor_text actor ++ space ++ standing_text (stage_seen K.state stage.now))) }
+    ensures { OnOk result (string_bytes text.new ≡
+        string_bytes text.old ++ line (actor_text actor ++ space ++ standing_text (stage_seen K.state stage.now))) }
 {
     write!(text, "{actor} ")?;
     push_standing(text, stage)?;
@@ -203,7 +225,8 @@ fn push_caller<K: Actor>(text: &mut String, world: &World<K>, number: u8) -> Res
 
 /// Adds a line for each future, callers by rising number.
 fn push_callers<K: Actor>(text: &mut String, world: &World<K>) -> Result<(), NoMemory>
-    ensures { OnOk result (string_bytes text.new ≡ string_bytes text.old ++ flat_map (caller_lines (world_seen K.state world.now)) (one_to MOST_CALLERS)) }
+    ensures { OnOk result (string_bytes text.new ≡
+        string_bytes text.old ++ flat_map (caller_lines (world_seen K.state world.now)) (one_to MOST_CALLERS)) }
 {
     for before in 0..MOST_CALLERS {
         push_caller(text, world, before + 1)?;
@@ -229,7 +252,8 @@ fn push_stage<K: Actor>(text: &mut String, world: &World<K>, number: u8) -> Resu
 
 /// Adds the lines of each actor, by rising number.
 fn push_stages<K: Actor>(text: &mut String, world: &World<K>) -> Result<(), NoMemory>
-    ensures { OnOk result (string_bytes text.new ≡ string_bytes text.old ++ flat_map (stage_lines (world_seen K.state world.now)) (one_to MOST_ACTORS)) }
+    ensures { OnOk result (string_bytes text.new ≡
+        string_bytes text.old ++ flat_map (stage_lines (world_seen K.state world.now)) (one_to MOST_ACTORS)) }
 {
     for before in 0..MOST_ACTORS {
         push_stage(text, world, before + 1)?;
@@ -266,18 +290,43 @@ pub fn play_report<K: Actor>(
     Ok(())
 }
 
+/// Plays events in a world, and adds the line of each as it happens. An event is let go once it has
+/// happened.
+fn play_all<K: Actor>(
+    world: &mut World<K>,
+    events: ListOf<Event>,
+    text: &mut String,
+) -> Result<(), NoMemory>
+    requires room { HasRoom (length events) (world_seen K.state world.old).exchange }
+    ensures { OnOk result (AreTold events (world_seen K.state world.old) (world_seen K.state world.new)
+        (string_bytes text.old) (string_bytes text.new)) }
+{
+    let mut place = 0;
+    for event in events.into_vec() {
+        let outcome = world.apply(&event);
+        if is_memory(&outcome) {
+            return Err(NoMemory);
+        }
+        push_outcome(text, place, &outcome)?;
+        place += 1;
+    }
+    Ok(())
+}
+
 /// Plays events in a world, and gives the report of them and of the world after them.
-pub(crate) fn report_of<K: Actor>(
+pub(crate) fn play_and_report<K: Actor>(
     alloc: Global,
     world: &mut World<K>,
-    events: &[Event],
+    events: ListOf<Event>,
 ) -> Result<String, NoMemory>
-    requires room { HasRoom (length events.now) (world_seen K.state world.old).exchange }
-    ensures { IfOk result (λ text. (casts : List Casting) → Stands casts [] (world_seen K.state world.old) → string_bytes text ≡ report (opening casts) events.now) }
+    requires room { HasRoom (length events) (world_seen K.state world.old).exchange }
+    ensures { IfOk result (λ text.
+        (casts : List Casting) → Stands casts [] (world_seen K.state world.old) →
+        string_bytes text ≡ report (opening casts) events) }
 {
-    let mut told = Vec::new(alloc);
-    let Ok(()) = world.play(events, &mut told) else {
-        return Err(NoMemory);
-    };
-    text_of(alloc, world, &told)
+    let mut text = String::with_capacity(alloc, events.len() * EVENT_BYTES)?;
+    play_all(world, events, &mut text)?;
+    push_callers(&mut text, world)?;
+    push_stages(&mut text, world)?;
+    Ok(text)
 }

@@ -2,7 +2,7 @@
 
 ghost use Rattle.std.specs.Prelude.{◌≡◌, ◌+◌, ◌≤◌, ℕ, length, map, IfOk, OnOk, OnErr, IfSome, IsSome};
 ghost use Rattle.act_rules.specs.declared.script.KindName.TheVariants as kind;
-ghost use Rattle.act_rules.specs.Scripts.{opening_state, casting as role_casting};
+ghost use Rattle.act_rules.specs.Scripts.{opening_state, role_casting};
 ghost use Rattle.act_actor.specs.Casts.{casting};
 ghost use Rattle.act_console.specs.Stock.{HasEach, HasOneMore, HasSame, IsReady};
 

@@ -82,7 +82,8 @@ fn push_end<K: Actor>(text: &mut String, ended: &Ended<K>) -> Result<(), NoMemor
 
 /// Adds the line of an actor.
 fn push_actor<K: Actor>(text: &mut String, actor: ActorId, ended: &Ended<K>) -> Result<(), NoMemory>
-    ensures { OnOk result (string_bytes text.new ≡ string_bytes text.old ++ line (actor_text actor ++ space ++ end_text (end_seen K.state ended.now))) }
+    ensures { OnOk result (string_bytes text.new ≡
+        string_bytes text.old ++ line (actor_text actor ++ space ++ end_text (end_seen K.state ended.now))) }
 {
     write!(text, "{actor} ")?;
     push_end(text, ended)?;
@@ -120,7 +121,8 @@ fn push_ended<K: Actor>(
     number: u8,
 ) -> Result<(), NoMemory>
     requires { (1 ≤ number) × (number ≤ MOST_ACTORS) }
-    ensures { OnOk result (string_bytes text.new ≡ string_bytes text.old ++ end_lines_in (map (λ actor. end_seen K.state actor.ended) actors.now) number) }
+    ensures { OnOk result (string_bytes text.new ≡
+        string_bytes text.old ++ end_lines_in (map (λ actor. end_seen K.state actor.ended) actors.now) number) }
 {
     let actor = ActorId::new(number).unwrap();
     let Some(ended) = end_of(actors, actor) else {
@@ -133,7 +135,9 @@ fn push_ended<K: Actor>(
 
 /// Adds the lines of each actor, by rising number.
 fn push_ends<K: Actor>(text: &mut String, actors: &[Finished<K>]) -> Result<(), NoMemory>
-    ensures { OnOk result (string_bytes text.new ≡ string_bytes text.old ++ flat_map (end_lines_in (map (λ actor. end_seen K.state actor.ended) actors.now)) (one_to MOST_ACTORS)) }
+    ensures { OnOk result (string_bytes text.new ≡
+        string_bytes text.old ++ flat_map (end_lines_in (map (λ actor. end_seen K.state actor.ended) actors.now))
+        (one_to MOST_ACTORS)) }
 {
     for before in 0..MOST_ACTORS {
         push_ended(text, actors, before + 1)?;
@@ -143,7 +147,9 @@ fn push_ends<K: Actor>(text: &mut String, actors: &[Finished<K>]) -> Result<(), 
 
 /// The summary of a run.
 pub(crate) fn summary_of<K: Actor>(alloc: Global, joined: &Joined<K>) -> Result<String, NoMemory>
-    ensures { IfOk result (λ text. string_bytes text ≡ joined_summary joined.now.owners.items (map (λ actor. end_seen K.state actor.ended) joined.now.actors.items)) }
+    ensures { IfOk result (λ text.
+        string_bytes text ≡ joined_summary joined.now.owners.items
+        (map (λ actor. end_seen K.state actor.ended) joined.now.actors.items)) }
 {
     let mut text = String::new(alloc);
     push_owners(&mut text, joined.owners.as_slice())?;
@@ -158,7 +164,9 @@ pub fn joined_report<K: Actor>(
     joined: &Joined<K>,
     text: &mut String,
 ) -> Result<(), NoMemory>
-    ensures ok { OnOk result (string_bytes text.new ≡ string_bytes text.old ++ joined_summary joined.now.owners.items (map (λ actor. end_seen K.state actor.ended) joined.now.actors.items)) }
+    ensures ok { OnOk result (string_bytes text.new ≡
+        string_bytes text.old ++ joined_summary joined.now.owners.items
+        (map (λ actor. end_seen K.state actor.ended) joined.now.actors.items)) }
     ensures err { OnErr result (string_bytes text.new ≡ string_bytes text.old) }
 {
     let report = summary_of(alloc, joined)?;

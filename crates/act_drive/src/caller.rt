@@ -74,7 +74,8 @@ impl Desk {
         requires calling { IsCalling lines.now self.old }
         ensures calling { IsCalling lines.now self.new }
         ensures stays { Stays self.old self.new }
-        ensures follows { OnOk result ((actors : List ℕ) → first_bad actors plan.items ≡ None → Follows lines.now actors [] self.old → Follows lines.now actors plan.items self.new) }
+        ensures follows { OnOk result ((actors : List ℕ) → first_bad actors plan.items ≡ None →
+            Follows lines.now actors [] self.old → Follows lines.now actors plan.items self.new) }
     {
         let mut since = 0;
         for step in plan {
@@ -121,7 +122,8 @@ impl Desk {
         requires calling { IsCalling lines.now self.old }
         ensures calling { IsCalling lines.now self.new }
         ensures stays { Stays self.old self.new }
-        ensures done { OnOk result ((actors : List ℕ) → first_bad actors plan.items ≡ None → Follows lines.now actors [] self.old → HasDone lines.now actors plan.items self.new.owner self.new.passes) }
+        ensures done { OnOk result ((actors : List ℕ) → first_bad actors plan.items ≡ None →
+            Follows lines.now actors [] self.old → HasDone lines.now actors plan.items self.new.owner self.new.passes) }
     {
         self.reserve(plan.as_slice())?;
         self.steps(rt, alloc, lines, plan)?;
@@ -137,7 +139,8 @@ impl Desk {
         requires calling { IsCalling lines.now self.old }
         ensures calling { IsCalling lines.now self.new }
         ensures stays { Stays self.old self.new }
-        ensures done { result ≡ false → (actors : List ℕ) → first_bad actors plan.items ≡ None → Follows lines.now actors [] self.old → HasDone lines.now actors plan.items self.new.owner self.new.passes }
+        ensures done { result ≡ false → (actors : List ℕ) → first_bad actors plan.items ≡ None →
+            Follows lines.now actors [] self.old → HasDone lines.now actors plan.items self.new.owner self.new.passes }
     {
         match self.whole(rt, alloc, lines, plan) {
             Ok(()) => false,

@@ -93,7 +93,8 @@ impl Desk {
         requires calling { IsCalling lines.now self.old }
         ensures calling { IsCalling lines.now self.new }
         ensures follows { OnOk result (FollowsBy lines.now (Release a) self.old self.new) }
-        ensures noted { OnOk result (copies_in a self.old.owner.handles ≡ Some 1 → self.new.hand ≡ Some (Note (release_note self.old.owner a))) }
+        ensures noted { OnOk result (copies_in a self.old.owner.handles ≡ Some 1 →
+            self.new.hand ≡ Some (Note (release_note self.old.owner a))) }
         ensures winds { Winds self.old self.new }
         ensures handles { OnOk result (self.new.owner.handles ≡ without_copy a self.old.owner.handles) }
     {

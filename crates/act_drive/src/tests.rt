@@ -137,10 +137,13 @@ fn beside<R: Threads + Wait + Sync>(
     thread::join(
         rt,
         move || -> Told
-            requires { (owner ≡ opened_under owner.limits 1 (1 ∷ [])) × (first_bad (1 ∷ []) plan.items ≡ None) × IsUnused lines.now.mails.now lines.now.controls.now lines.now.replies.now 1 passes }
+            requires { (owner ≡ opened_under owner.limits 1 (1 ∷ [])) × (first_bad (1 ∷ []) plan.items ≡ None) ×
+                IsUnused lines.now.mails.now lines.now.controls.now lines.now.replies.now 1 passes }
         { driven(rt, alloc, owner, plan, lines, passes) },
         move || -> Result<bool, NoMemory>
-            requires { (exec.letters.line ≡ exec_lines.now.mail.now.line) × (exec.kills.line ≡ exec_lines.now.control.now.line) × (exec.kills.actor ≡ 1) × (exec.gives ≡ new_exec exec_lines.now.replies.now.line 1) }
+            requires { (exec.letters.line ≡ exec_lines.now.mail.now.line) ×
+                (exec.kills.line ≡ exec_lines.now.control.now.line) × (exec.kills.actor ≡ 1) ×
+                (exec.gives ≡ new_exec exec_lines.now.replies.now.line 1) }
         { serve_counter(rt, alloc, exec_lines, exec, way) },
     )
 }

@@ -116,7 +116,8 @@ fn run_threads<R: Threads + Wait + Sync, K: Actor + Send, G: Gate>(
     requires matched { AreMatched prepared.casts.items prepared.parts.items }
     requires limits { All HasLimits prepared.parts.items }
     requires fits { All (λ part. first_bad part.actors.items part.plan.items ≡ None) prepared.parts.items }
-    requires exec_places { All (λ exec. (exec.place < length lines.now.mails.items) × (exec.place < length lines.now.controls.items)) passes.execs.items }
+    requires exec_places { All (λ exec. (exec.place < length lines.now.mails.items) ×
+        (exec.place < length lines.now.controls.items)) passes.execs.items }
     requires execs { Each (IsExec lines.now) prepared.casts.items passes.execs.items }
     requires caller_places { All (λ caller. caller.place < length lines.now.replies.items) passes.callers.items }
     requires callers { Each (IsCaller lines.now) prepared.parts.items passes.callers.items }
@@ -185,7 +186,9 @@ pub fn run_plans<R: Threads + Wait + Sync, K: Actor + Send, G: Gate>(
 ) -> Result<Joined<K>, RunFault>
     requires fit { IsFitting casts.items }
     requires plans { PlansFit casts.items plans.items }
-    ensures joined { IfOk result (λ joined. IsJoined (map (casting K.state) casts.items) (map plan_seen plans.items) joined.owners.items (map (λ actor. end_seen K.state actor.ended) joined.actors.items)) }
+    ensures joined { IfOk result (λ joined.
+        IsJoined (map (casting K.state) casts.items) (map plan_seen plans.items) joined.owners.items
+        (map (λ actor. end_seen K.state actor.ended) joined.actors.items)) }
     ensures good { IfOk result (λ _. first_bad_plan (map (casting K.state) casts.items) (map plan_seen plans.items) ≡ None) }
     ensures fault { IfErr result (IsFault (map (casting K.state) casts.items) (map plan_seen plans.items)) }
 {

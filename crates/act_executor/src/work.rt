@@ -127,10 +127,13 @@ pub(crate) fn servings<'a, K: Actor, G>(
     gate: &'a G,
 ) -> Result<Vec<Serving<'a, K, G>>, NoMemory>
     requires callers { All (λ cast. CallersDiffer cast.callers) casts.items }
-    requires places { All (λ exec. (exec.place < length lines.now.mails.items) × (exec.place < length lines.now.controls.items)) execs.items }
+    requires places { All (λ exec. (exec.place < length lines.now.mails.items) ×
+        (exec.place < length lines.now.controls.items)) execs.items }
     requires execs { Each (IsExec lines.now) casts.items execs.items }
     ensures ready { IfOk result (λ servings. All (IsReady K.state) servings.items) }
-    ensures starts { IfOk result (λ servings. map (serving_start K.state) servings.items ≡ map (cast_start K.state lines.now.replies.items) (zip casts.items execs.items)) }
+    ensures starts { IfOk result (λ servings.
+        map (serving_start K.state) servings.items ≡
+        map (cast_start K.state lines.now.replies.items) (zip casts.items execs.items)) }
 {
     let mut servings = Vec::new(alloc);
     for (cast, exec) in casts.into_iter().zip(execs) {
@@ -189,7 +192,8 @@ pub(crate) fn drivings<'a>(
     requires callers { Each (IsCaller lines.now) parts.items callers.items }
     requires fits { All (λ part. first_bad part.actors.items part.plan.items ≡ None) parts.items }
     ensures ready { IfOk result (λ drivings. All CanDrive drivings.items) }
-    ensures starts { IfOk result (λ drivings. map driving_start drivings.items ≡ map (part_start lines.now) (zip parts.items callers.items)) }
+    ensures starts { IfOk result (λ drivings.
+        map driving_start drivings.items ≡ map (part_start lines.now) (zip parts.items callers.items)) }
 {
     let mut drivings = Vec::new(alloc);
     for (part, caller) in parts.into_iter().zip(callers) {

@@ -78,6 +78,12 @@ waiting_after New packet inbox caller number = if is_call caller number packet t
 waiting_after Repeat packet inbox caller number = waiting inbox caller number
 waiting_after Stranger packet inbox caller number = waiting inbox caller number
 
+-- the packet came, which was this to the inbox, and nothing else changed
+pub record IsTakenIn (packet : Packet) (arrival : Arrival) (old new : InboxValue) : Type 0 where
+  pub lanes : new.lanes ≡ old.lanes
+  pub notes : new.notes ≡ old.notes
+  pub waits : (caller number : ℕ) → waiting new caller number ≡ waiting_after arrival packet old caller number
+
 -- the inbox that holds one more call
 abbrev pub holding : Packet → InboxValue → InboxValue
 holding packet inbox = record inbox { held = packet ∷ inbox.held }
@@ -96,6 +102,12 @@ abbrev pub note_after : Arrival → ReleaseNote → InboxValue → ℕ → Optio
 note_after New note inbox caller = if caller == note.caller then Some note.after else note_of inbox caller
 note_after Repeat note inbox caller = note_of inbox caller
 note_after Stranger note inbox caller = note_of inbox caller
+
+-- the release note came, which was this to the inbox, and nothing else changed
+pub record IsNotedIn (note : ReleaseNote) (arrival : Arrival) (old new : InboxValue) : Type 0 where
+  pub lanes : new.lanes ≡ old.lanes
+  pub held : new.held ≡ old.held
+  pub notes : (caller : ℕ) → note_of new caller ≡ note_after arrival note old caller
 
 -- each caller's release note came, and as many of its calls were handed out as the note tells
 abbrev pub IsDrained : InboxValue → Type 0

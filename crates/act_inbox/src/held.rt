@@ -1,8 +1,7 @@
 //! The calls that came and were not handed out. One is found, held and let go at the cost of a
 //! logarithm of how many of its caller's are held.
 
-ghost use Rattle.std.specs.Prelude.{◌≡◌, ℕ, ◌<◌, [], None, Some, All, find, length, IfOk, IfErr, OnOk, OnErr, IfSome, IfNone, if◌then◌else◌, false, option_copied};
-ghost use Rattle.std.specs.Bool.{Decides};
+ghost use Rattle.std.specs.Prelude.{◌≡◌, ◌↔◌, ℕ, ◌<◌, [], None, Some, All, find, length, IfOk, IfErr, OnOk, OnErr, IfSome, IfNone, if◌then◌else◌, false, option_copied, IsTrue};
 ghost use Rattle.act_types.specs.declared.message.Packet.{Packet};
 ghost use Rattle.act_inbox.specs.Inbox.{is_call};
 
@@ -60,7 +59,7 @@ impl HeldCalls {
 
     /// Whether no call is held.
     pub(crate) fn is_empty(&self) -> bool
-        ensures { Decides result (self.now ≡ []) }
+        ensures { IsTrue result ↔ (self.now ≡ []) }
     {
         self.packets.is_empty()
     }
@@ -76,8 +75,11 @@ impl HeldCalls {
     /// Holds a call that is not held. An `Err` hands it back for want of memory.
     pub(crate) fn insert(&mut self, packet: Packet) -> Result<(), Packet>
         requires { find (is_call packet.caller packet.number) self.old ≡ None }
-        ensures found { OnOk result ((caller number : ℕ) → find (is_call caller number) self.new ≡ (if is_call caller number packet then Some packet else find (is_call caller number) self.old)) }
-        ensures numbered { packet.number < MOST_CALLS → All (λ each. each.number < MOST_CALLS) self.old → All (λ each. each.number < MOST_CALLS) self.new }
+        ensures found { OnOk result ((caller number : ℕ) → find (is_call caller number) self.new
+            ≡ (if is_call caller number packet then Some packet else find (is_call caller number) self.old)) }
+        ensures numbered { packet.number < MOST_CALLS
+            → All (λ each. each.number < MOST_CALLS) self.old
+            → All (λ each. each.number < MOST_CALLS) self.new }
         ensures back { IfErr result (λ back. back ≡ packet) }
         ensures err { OnErr result (self.new ≡ self.old) }
     {
@@ -96,7 +98,8 @@ impl HeldCalls {
     /// Lets go of the caller's call of this number, if it is held. It takes no memory.
     pub(crate) fn remove(&mut self, caller: CallerId, number: u32) -> Option<Packet>
         ensures value { result ≡ find (is_call caller number) self.old }
-        ensures others { IfSome result (λ packet. (other count : ℕ) → is_call other count packet ≡ false → find (is_call other count) self.new ≡ find (is_call other count) self.old) }
+        ensures others { IfSome result (λ packet. (other count : ℕ) → is_call other count packet ≡ false
+            → find (is_call other count) self.new ≡ find (is_call other count) self.old) }
         ensures numbered { All (λ each. each.number < MOST_CALLS) self.old → All (λ each. each.number < MOST_CALLS) self.new }
         ensures none { IfNone result (self.new ≡ self.old) }
     {

@@ -1,9 +1,8 @@
 //! The calls that an actor holds.
 
-ghost use Rattle.std.specs.Prelude.{◌≡◌, ◌≢◌, ℕ, None, Some, slice_index_or, ◌≤◌, ◌==◌, All, AllPairs, map, position, is_some, IfOk, OnOk, IfErr, OnErr, IfSome, IfNone, option_copied};
+ghost use Rattle.std.specs.Prelude.{◌≡◌, ◌↔◌, ◌≢◌, ℕ, None, Some, slice_index_or, ◌≤◌, ◌==◌, All, AllPairs, map, position, is_some, IfOk, OnOk, IfErr, OnErr, IfSome, IfNone, option_copied, IsTrue};
 ghost use Rattle.act_rules.specs.declared.outcome.Arrival.TheVariants.{New};
-ghost use Rattle.std.specs.Bool.{Decides};
-ghost use Rattle.act_inbox.specs.Inbox.{InboxValue, is_lane_of, is_call, lane_at_first, is_listed, handed_of, note_of, waiting, next_of, arrival_of, note_arrival, waiting_after, note_after, holding, HoldsNone, IsNextToCome, IsOpened, IsNextTaken, IsDrained};
+ghost use Rattle.act_inbox.specs.Inbox.{InboxValue, is_lane_of, is_call, lane_at_first, is_listed, handed_of, note_of, waiting, next_of, arrival_of, note_arrival, waiting_after, note_after, holding, HoldsNone, IsNextToCome, IsOpened, IsTakenIn, IsNextTaken, IsDrained};
 
 use crate::held::{CALLER_NUMBERS, HeldCalls};
 use act_rules::Arrival;
@@ -63,7 +62,7 @@ fn place_of_lane(lanes: &[Lane], caller: CallerId) -> Option<usize>
 
 /// Whether each lane's caller left a note of as many calls as were handed out.
 fn are_done(lanes: &[Lane], notes: &[Option<u32>; CALLER_NUMBERS]) -> bool
-    ensures { Decides result (All (λ lane. slice_index_or notes.now lane.caller None ≡ Some lane.handed) lanes.now) }
+    ensures { IsTrue result ↔ (All (λ lane. slice_index_or notes.now lane.caller None ≡ Some lane.handed) lanes.now) }
 {
     lanes.iter().all(|lane| notes[lane.caller.number() as usize] == Some(lane.handed))
 }
@@ -86,7 +85,8 @@ impl Inbox {
         ensures arrival { IfOk result (λ arrival. arrival ≡ arrival_of self.old packet) }
         ensures lanes { self.new.lanes ≡ self.old.lanes }
         ensures notes { self.new.notes ≡ self.old.notes }
-        ensures waiting { IfOk result (λ arrival. (caller number : ℕ) → waiting self.new caller number ≡ waiting_after arrival packet self.old caller number) }
+        ensures waiting { IfOk result (λ arrival.
+            (caller number : ℕ) → waiting self.new caller number ≡ waiting_after arrival packet self.old caller number) }
         ensures unless_new { IfOk result (λ arrival. arrival ≢ New → self.new ≡ self.old) }
         // Memory is asked for where the packet is new, and there alone.
         ensures last { OnErr result (arrival_of self.old packet ≡ New) }
@@ -97,8 +97,18 @@ impl Inbox {
         let Arrival::New = arrival else {
             return Ok(arrival);
         };
-        self.held.insert(packet)?;
+        self.hold(packet)?;
         Ok(arrival)
+    }
+
+    /// Takes in a packet that is new. An `Err` hands it back for want of memory.
+    pub fn hold(&mut self, packet: Packet) -> Result<(), Packet>
+        requires is_new { arrival_of self.old packet ≡ New }
+        ensures taken { OnOk result (IsTakenIn packet New self.old self.new) }
+        ensures back { IfErr result (λ back. back ≡ packet) }
+        ensures err { OnErr result (self.new ≡ self.old) }
+    {
+        self.held.insert(packet)
     }
 
     /// What a packet is to the inbox, before it is taken in. It takes no memory.
@@ -147,7 +157,7 @@ impl Inbox {
 
     /// Whether each caller's note came, and all calls of which it tells were handed out.
     pub fn drained(&self) -> bool
-        ensures { Decides result (IsDrained self.now) }
+        ensures { IsTrue result ↔ IsDrained self.now }
     {
         are_done(&self.lanes, &self.notes)
     }
@@ -181,7 +191,7 @@ impl Inbox {
 
     /// Whether no call is held.
     pub fn is_empty(&self) -> bool
-        ensures { Decides result (HoldsNone self.now) }
+        ensures { IsTrue result ↔ HoldsNone self.now }
     {
         self.held.is_empty()
     }

@@ -3,7 +3,7 @@
 
 use crate::{Arrival, Inbox};
 use act_types::{
-    ActorId, CallerId, FutureId, ListOf, Method, NoMemory, Packet, ReleaseNote, Settled, Value,
+    ActorId, CallerId, FewOf, FutureId, Method, NoMemory, Packet, ReleaseNote, Settled, Value,
 };
 use std::alloc::{AllocError, Global};
 use std::process::Abort;
@@ -30,7 +30,7 @@ fn first_arrivals_in_order(rt: HostRuntime) -> Result<(), Fail> {
             number,
             future: FutureId::new(number),
             method,
-            args: ListOf::new(alloc),
+            args: FewOf::new(alloc),
         };
         assert_eq!(rt; inbox.arrive(packet), Ok(arrival));
         assert_eq!(rt; inbox.has_next(c1), has_next);
@@ -59,7 +59,7 @@ fn first_arrivals_in_order(rt: HostRuntime) -> Result<(), Fail> {
 
 /// Caller 1's call of this number to actor 1, with an argument.
 fn call_of(alloc: Global, number: u32) -> Result<Packet, NoMemory> {
-    let mut args = ListOf::new(alloc);
+    let mut args = FewOf::new(alloc);
     args.push(Settled::Good(Value::Int(7)))?;
     Ok(Packet {
         caller: CallerId::new(1).unwrap(),
@@ -145,7 +145,7 @@ impl Call {
             number: self.number,
             future: self.future,
             method: Method::Get,
-            args: ListOf::new(alloc),
+            args: FewOf::new(alloc),
         }
     }
 }

@@ -55,7 +55,9 @@ impl ListKind {
 
     /// Puts a copy of a value at the end.
     fn push(&mut self, value: &Value) -> Result<Answer, NoMemory>
-        ensures ok { IfOk result (λ answer. (ItemsOf self.new, answer) ≡ replied (ItemsOf self.old) (reply_of (ItemsOf self.old) Push (value.now ∷ []))) }
+        ensures ok { IfOk result (λ answer.
+            (ItemsOf self.new, answer) ≡
+            replied (ItemsOf self.old) (reply_of (ItemsOf self.old) Push (value.now ∷ []))) }
         ensures err { OnErr result (self.new ≡ self.old) }
         ensures memory_last { OnErr result (IsOk (reply_of (ItemsOf self.old) Push (value.now ∷ []))) }
     {
@@ -78,7 +80,8 @@ impl ListKind {
 
     /// A copy of the item at a place.
     fn at(&self, place: i64) -> Result<Answer, NoMemory>
-        ensures ok { IfOk result (λ answer. (ItemsOf self.now, answer) ≡ replied (ItemsOf self.now) (reply_of (ItemsOf self.now) At (Int place ∷ []))) }
+        ensures ok { IfOk result (λ answer.
+            (ItemsOf self.now, answer) ≡ replied (ItemsOf self.now) (reply_of (ItemsOf self.now) At (Int place ∷ []))) }
         ensures memory_last { OnErr result (IsOk (reply_of (ItemsOf self.now) At (Int place ∷ []))) }
     {
         let Ok(place) = usize::try_from(place) else {

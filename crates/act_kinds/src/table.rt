@@ -59,7 +59,9 @@ impl Table {
     /// Puts copies of a key and a value.
     #[tactic(auto, using(crate::proofs::Pairs::lookup_is, crate::proofs::Pairs::insert_is))]
     fn put(&mut self, key: &Text, value: &Value) -> Result<Answer, NoMemory>
-        ensures ok { IfOk result (λ answer. (TableOf self.new, answer) ≡ replied (TableOf self.old) (reply_of (TableOf self.old) Put (TextValue key.now ∷ value.now ∷ []))) }
+        ensures ok { IfOk result (λ answer.
+            (TableOf self.new, answer) ≡
+            replied (TableOf self.old) (reply_of (TableOf self.old) Put (TextValue key.now ∷ value.now ∷ []))) }
         ensures err { OnErr result (self.new ≡ self.old) }
         ensures memory_last { OnErr result (IsOk (reply_of (TableOf self.old) Put (TextValue key.now ∷ value.now ∷ []))) }
     {
@@ -78,7 +80,9 @@ impl Table {
     /// A copy of a key's value.
     #[tactic(auto, using(crate::proofs::Pairs::lookup_is))]
     fn get(&self, key: &Text) -> Result<Answer, NoMemory>
-        ensures ok { IfOk result (λ answer. (TableOf self.now, answer) ≡ replied (TableOf self.now) (reply_of (TableOf self.now) Get (TextValue key.now ∷ []))) }
+        ensures ok { IfOk result (λ answer.
+            (TableOf self.now, answer) ≡
+            replied (TableOf self.now) (reply_of (TableOf self.now) Get (TextValue key.now ∷ []))) }
         ensures memory_last { OnErr result (IsOk (reply_of (TableOf self.now) Get (TextValue key.now ∷ []))) }
     {
         if !key.is_good() {

@@ -55,7 +55,9 @@ fn open_mails<K>(alloc: Global, casts: &[Cast<K>]) -> Result<Mails, NoMemory>
     ensures actors { IfOk result (λ opened. map (λ mail. mail.actor) opened.lines.items ≡ map (λ cast. cast.actor) casts.now) }
     ensures lines { IfOk result (λ opened. map (λ exec. exec.line) opened.execs.items ≡ map (λ mail. mail.line) opened.lines.items) }
     ensures unused { IfOk result (λ opened. All (λ exec. exec.taken ≡ []) opened.execs.items) }
-    ensures seats { IfOk result (λ opened. opened.seats.items ≡ seats_from new_putter 0 (map (λ mail. mail.line) opened.lines.items) (map (λ cast. cast.callers) casts.now)) }
+    ensures seats { IfOk result (λ opened.
+        opened.seats.items ≡
+        seats_from new_putter 0 (map (λ mail. mail.line) opened.lines.items) (map (λ cast. cast.callers) casts.now)) }
 {
     let mut lines = Vec::new(alloc);
     let mut execs = Vec::new(alloc);
@@ -82,7 +84,10 @@ fn open_controls<K>(alloc: Global, casts: &[Cast<K>]) -> Result<Controls, NoMemo
     ensures askers { IfOk result (λ opened. map (λ exec. exec.askers) opened.execs.items ≡ map (λ cast. starter ∷ cast.callers) casts.now) }
     ensures unused { IfOk result (λ opened. All (λ exec. (exec.taken ≡ []) × (exec.lengths ≡ [])) opened.execs.items) }
     ensures starters { IfOk result (λ opened. opened.starters.items ≡ map (λ control. new_putter control.line starter) opened.lines.items) }
-    ensures seats { IfOk result (λ opened. opened.seats.items ≡ seats_from new_putter 0 (map (λ control. control.line) opened.lines.items) (map (λ cast. cast.callers) casts.now)) }
+    ensures seats { IfOk result (λ opened.
+        opened.seats.items ≡
+        seats_from new_putter 0 (map (λ control. control.line) opened.lines.items)
+        (map (λ cast. cast.callers) casts.now)) }
 {
     let mut lines = Vec::new(alloc);
     let mut execs = Vec::new(alloc);
@@ -113,7 +118,10 @@ fn open_replies(alloc: Global, parts: &[Part]) -> Result<AllReplies, NoMemory>
     ensures names { IfOk result (λ opened. map (λ line. line.caller) opened.lines.items ≡ map (λ part. part.caller) parts.now) }
     ensures lines { IfOk result (λ opened. map (λ caller. caller.line) opened.callers.items ≡ map (λ line. line.line) opened.lines.items) }
     ensures unused { IfOk result (λ opened. All (λ caller. caller.taken ≡ []) opened.callers.items) }
-    ensures seats { IfOk result (λ opened. opened.seats.items ≡ seats_from new_exec 0 (map (λ line. line.line) opened.lines.items) (map (λ part. part.actors.items) parts.now)) }
+    ensures seats { IfOk result (λ opened.
+        opened.seats.items ≡
+        seats_from new_exec 0 (map (λ line. line.line) opened.lines.items)
+        (map (λ part. part.actors.items) parts.now)) }
 {
     let mut lines = Vec::new(alloc);
     let mut callers = Vec::new(alloc);

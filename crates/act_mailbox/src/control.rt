@@ -68,7 +68,15 @@ impl Control {
         ensures actor { IfOk result (λ opened. opened.0.actor ≡ actor) }
         ensures callers { IfOk result (λ opened. opened.1.items ≡ map (new_putter opened.0.line) callers.now) }
         ensures starter { IfOk result (λ opened. opened.2 ≡ new_putter opened.0.line starter) }
-        ensures executor { IfOk result (λ opened. opened.3 ≡ record { line = opened.0.line; actor = actor; askers = starter ∷ callers.now; taken = []; lengths = []; looked = 0 }) }
+        ensures executor { IfOk result (λ opened.
+            opened.3 ≡ record {
+              line = opened.0.line;
+              actor = actor;
+              askers = starter ∷ callers.now;
+              taken = [];
+              lengths = [];
+              looked = 0;
+            }) }
     {
         let (line, mut executor) = Line::open(alloc, CONTROL_CAPACITY)?;
         let starter = line.deal(&mut executor, STARTER);
@@ -130,7 +138,11 @@ impl Control {
     ) -> Option<Asked>
         requires pass { pass.old.line ≡ self.now.line }
         requires note { K.note ≡ pass.old.lengths ++ long ∷ [] }
-        ensures taken { IfSome result (λ kill. pass.new ≡ record pass.old { taken = pass.old.taken ++ kill ∷ []; lengths = pass.old.lengths ++ long ∷ [] }) }
+        ensures taken { IfSome result (λ kill.
+            pass.new ≡ record pass.old {
+              taken = pass.old.taken ++ kill ∷ [];
+              lengths = pass.old.lengths ++ long ∷ [];
+            }) }
         ensures none { IfNone result (pass.new ≡ pass.old) }
         ensures known { IfSome result (λ kill. Contains pass.old.askers kill.asker) }
     {

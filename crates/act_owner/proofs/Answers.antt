@@ -16,8 +16,8 @@ use Rattle.act_owner.specs.declared.owner.Call.{Call}
 use Rattle.act_types.specs.declared.message.Reply.{Reply}
 use Rattle.act_handles.specs.Handles.{copies_in}
 use Rattle.act_owner.specs.declared.owner.Collected.TheVariants.{First, Late, Stray, Died}
-use Rattle.act_owner.specs.Owner.{OwnerValue, is_of_call, with_answer as owner_with_answer, after_reply_that, after_reply, with_death, with_sent, collected_death, after_death, submission_of, answers_of, answered_row, waits_for, answer_after_death, IsTold, IsOwner}
-use Rattle.act_resolver.specs.Resolver.{Entered, with_told, with_sent as with_sent_entered}
+use Rattle.act_owner.specs.Owner.{OwnerValue, is_of_call, with_answer as owner_with_answer, after_reply_that, after_reply, with_death, with_sent, collected_death, after_death, submission_of, answers_of, answered_row, waits_for, answer_after_death, KnowsAnswers, IsOwner}
+use Rattle.act_resolver.specs.Resolver.{Entered, with_answered, with_sent as with_sent_entered}
 use Rattle.act_owner.proofs.Calls.{get_last, set_last}
 use Rattle.act_owner.proofs.Waiting.{seen, read_stays, read_set}
 
@@ -72,7 +72,7 @@ actors-after_death a (row ∷ rows) =
     ap (λ n. n ∷ map (λ (r : Row). r.actor) (rows_after_death a rows)) (elim (row_waits_for a row) as (λ b. (if b then with_answer (Err ActorDied) row else row).actor ≡ row.actor) [ true ↦ refl | false ↦ refl ])
     ∙ ap (λ rest. row.actor ∷ rest) (actors-after_death a rows)
 
-with_answers : (handles : List Handle) (calls : List Call) (rows new : List Row) (entered entered2 : List Entered) → IsOwner handles calls rows entered → map (λ row. row.actor) new ≡ map (λ row. row.actor) rows → map (λ call. call.futures) entered2 ≡ map (λ call. call.futures) entered → IsTold entered2 new → IsOwner handles calls new entered2
+with_answers : (handles : List Handle) (calls : List Call) (rows new : List Row) (entered entered2 : List Entered) → IsOwner handles calls rows entered → map (λ row. row.actor) new ≡ map (λ row. row.actor) rows → map (λ call. call.futures) entered2 ≡ map (λ call. call.futures) entered → KnowsAnswers entered2 new → IsOwner handles calls new entered2
 with_answers handles calls rows new entered entered2 fine same waits told = record {
   numbered = fine.numbered;
   actors = same ∙ fine.actors;
@@ -90,22 +90,22 @@ is_answered-map (row ∷ rows) = ap (λ rest. is_some row.answer ∷ rest) (is_a
 -- a caller after a call was sent
 pub sent_fine : (k : ℕ) (handles : List Handle) (calls : List Call) (rows : List Row) (entered entered2 : List Entered) → IsOwner handles calls rows entered → entered2 ≡ with_sent_entered entered k → IsOwner handles calls rows entered2
 sent_fine k handles calls rows entered entered2 fine is =
-    rw is (with_answers handles calls rows rows entered (with_sent_entered entered k) fine refl (read_stays (λ (call : Entered). call.futures) (λ (call : Entered). record call { sent = true }) (λ _. refl) entered k) (read_stays (λ (call : Entered). call.told) (λ (call : Entered). record call { sent = true }) (λ _. refl) entered k ∙ fine.told))
+    rw is (with_answers handles calls rows rows entered (with_sent_entered entered k) fine refl (read_stays (λ (call : Entered). call.futures) (λ (call : Entered). record call { sent = true }) (λ _. refl) entered k) (read_stays (λ (call : Entered). call.answered) (λ (call : Entered). record call { sent = true }) (λ _. refl) entered k ∙ fine.told))
 
 -- a caller after an answer
-pub kept_fine : (k : ℕ) (answer : Answer) (handles : List Handle) (calls : List Call) (rows new : List Row) (entered entered2 : List Entered) → IsOwner handles calls rows entered → is_some (kept_at (answers_of rows) k) ≡ false → new ≡ after_keep k answer rows → entered2 ≡ with_told entered k → IsOwner handles calls new entered2
+pub kept_fine : (k : ℕ) (answer : Answer) (handles : List Handle) (calls : List Call) (rows new : List Row) (entered entered2 : List Entered) → IsOwner handles calls rows entered → is_some (kept_at (answers_of rows) k) ≡ false → new ≡ after_keep k answer rows → entered2 ≡ with_answered entered k → IsOwner handles calls new entered2
 kept_fine k answer handles calls rows new entered entered2 fine none is told =
-    rw (is, told) (with_answers handles calls rows (after_keep k answer rows) entered (with_told entered k) fine
+    rw (is, told) (with_answers handles calls rows (after_keep k answer rows) entered (with_answered entered k) fine
     (actors-after_keep k answer rows)
-    (read_stays (λ (call : Entered). call.futures) (λ (call : Entered). record call { told = true }) (λ _. refl) entered k)
-    (read_set (λ (call : Entered). call.told) (λ (call : Entered). record call { told = true }) true (λ _. refl) entered k
+    (read_stays (λ (call : Entered). call.futures) (λ (call : Entered). record call { answered = true }) (λ _. refl) entered k)
+    (read_set (λ (call : Entered). call.answered) (λ (call : Entered). record call { answered = true }) true (λ _. refl) entered k
     ∙ ap (λ (flags : List Bool). slice_set flags k true) (fine.told ∙ is_answered-map rows)
     ∙ sym (map-set is_some (answers_of rows) k (Some answer))
     ∙ ap (map is_some) (sym (keep_open k answer rows none))
     ∙ sym (is_answered-map (after_keep k answer rows))))
 
 -- a caller after a death
-pub died_fine : (a : ℕ) (handles : List Handle) (calls : List Call) (rows new : List Row) (entered entered2 : List Entered) → IsOwner handles calls rows entered → new ≡ rows_after_death a rows → map (λ call. call.futures) entered2 ≡ map (λ call. call.futures) entered → IsTold entered2 (rows_after_death a rows) → IsOwner handles calls new entered2
+pub died_fine : (a : ℕ) (handles : List Handle) (calls : List Call) (rows new : List Row) (entered entered2 : List Entered) → IsOwner handles calls rows entered → new ≡ rows_after_death a rows → map (λ call. call.futures) entered2 ≡ map (λ call. call.futures) entered → KnowsAnswers entered2 (rows_after_death a rows) → IsOwner handles calls new entered2
 died_fine a handles calls rows new entered entered2 fine is waits told =
     rw is (with_answers handles calls rows (rows_after_death a rows) entered entered2 fine (actors-after_death a rows) waits told)
 
@@ -146,10 +146,10 @@ reply_cases true true owner reply m n = absurd (cc n)
 reply_cases false known owner reply m n = absurd (cc m)
 
 -- a caller after the first answer of a future
-pub reply_kept : (id : ℕ) (handles : List Handle) (calls : List Call) (rows new : List Row) (entered entered2 : List Entered) (dead : List Bool) (limits : List (ℕ × Option ℕ)) (now : OwnerValue) (reply : Reply) → seen id handles calls rows entered dead limits ≡ now → new ≡ after_keep reply.future reply.answer rows → entered2 ≡ with_told entered reply.future → is_of_call now reply ≡ true → is_some (kept_at now.kept reply.future) ≡ false → seen id handles calls new entered2 dead limits ≡ after_reply now reply
+pub reply_kept : (id : ℕ) (handles : List Handle) (calls : List Call) (rows new : List Row) (entered entered2 : List Entered) (dead : List Bool) (limits : List (ℕ × Option ℕ)) (now : OwnerValue) (reply : Reply) → seen id handles calls rows entered dead limits ≡ now → new ≡ after_keep reply.future reply.answer rows → entered2 ≡ with_answered entered reply.future → is_of_call now reply ≡ true → is_some (kept_at now.kept reply.future) ≡ false → seen id handles calls new entered2 dead limits ≡ after_reply now reply
 reply_kept id handles calls rows new entered entered2 dead limits now reply same is told mine unknown =
     let before : is_some (kept_at (answers_of rows) reply.future) ≡ false = ap (λ (owner : OwnerValue). is_some (kept_at owner.kept reply.future)) same ∙ unknown in
-    ap (λ (sent : List Bool). record (seen id handles calls new entered dead limits) { sent = sent }) (ap (map (λ (call : Entered). call.sent)) told ∙ read_stays (λ (call : Entered). call.sent) (λ (call : Entered). record call { told = true }) (λ _. refl) entered reply.future)
+    ap (λ (sent : List Bool). record (seen id handles calls new entered dead limits) { sent = sent }) (ap (map (λ (call : Entered). call.sent)) told ∙ read_stays (λ (call : Entered). call.sent) (λ (call : Entered). record call { answered = true }) (λ _. refl) entered reply.future)
     ∙ ap (λ (kept : List (Option Answer)). record (seen id handles calls rows entered dead limits) { kept = kept }) (ap answers_of is ∙ keep_open reply.future reply.answer rows before)
     ∙ ap (λ (owner : OwnerValue). owner_with_answer owner reply.future reply.answer) same
     ∙ reply_cases (is_of_call now reply) (is_some (kept_at now.kept reply.future)) now reply mine unknown

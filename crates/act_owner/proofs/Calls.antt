@@ -165,7 +165,7 @@ added_fine a n method args is_dead handles calls rows entered fine is counted =
       numbered = λ k. numbered_added calls call fine.numbered number k ∙ ap (λ (l : List Submission). call_at l k) (sym more);
       actors = map-append (λ (row : Row). row.actor) rows (answered_row a is_dead ∷ []) ∙ ap (λ (l : List ℕ). l ++ a ∷ []) fine.actors ∙ sym (map-append (λ (c : Call). c.actor) calls (call ∷ []));
       waits = map-append (λ (c : Entered). c.futures) entered (entered_call args is_dead ∷ []) ∙ ap (λ (l : List (List ℕ)). l ++ futures_of args ∷ []) fine.waits ∙ sym (map-append (λ (c : Call). futures_of c.args) calls (call ∷ []));
-      told = map-append (λ (c : Entered). c.told) entered (entered_call args is_dead ∷ []) ∙ ap (λ (l : List Bool). l ++ is_dead ∷ []) fine.told ∙ ap (λ b. map (λ (row : Row). is_some row.answer) rows ++ b ∷ []) (dead_answered is_dead) ∙ sym (map-append (λ (row : Row). is_some row.answer) rows (answered_row a is_dead ∷ []));
+      told = map-append (λ (c : Entered). c.answered) entered (entered_call args is_dead ∷ []) ∙ ap (λ (l : List Bool). l ++ is_dead ∷ []) fine.told ∙ ap (λ b. map (λ (row : Row). is_some row.answer) rows ++ b ∷ []) (dead_answered is_dead) ∙ sym (map-append (λ (row : Row). is_some row.answer) rows (answered_row a is_dead ∷ []));
       given = λ b. given_added a b handles subs (submission_of call) refl facts.0 fine.given ∙ ap (λ (l : List Submission). length (filter (λ c. c.actor == b) l)) (sym more);
       given_in_all = omega (arith, counted, fine.given_in_all, length-append calls (call ∷ []));
       few = omega (arith, facts.1, fine.given_in_all, length-append calls (call ∷ []));

@@ -12,9 +12,9 @@ use Rattle.act_rules.specs.RunList.{Answer}
 use Rattle.act_rules.specs.Submissions.{kept_at, is_earlier, is_known as is_known_arg}
 use Rattle.act_handles.specs.declared.handles.Handle.{Handle}
 use Rattle.act_replies.specs.declared.table.Row.{Row}
-use Rattle.act_resolver.specs.Resolver.{Entered, changed_at, new_call, with_told, is_told, is_sent, is_known, is_ready, first_ready}
+use Rattle.act_resolver.specs.Resolver.{Entered, changed_at, new_call, with_answered, is_answered, is_sent, is_known, is_ready, first_ready}
 use Rattle.act_owner.specs.declared.owner.Call.{Call}
-use Rattle.act_owner.specs.Owner.{OwnerValue, submission_of, answers_of, futures_of, entered_call, IsTold, IsOwner, is_known_call, is_sent as owner_is_sent, is_ready as owner_is_ready, first_ready as owner_first_ready}
+use Rattle.act_owner.specs.Owner.{OwnerValue, submission_of, answers_of, futures_of, entered_call, KnowsAnswers, IsOwner, is_known_call, is_sent as owner_is_sent, is_ready as owner_is_ready, first_ready as owner_first_ready}
 use Rattle.act_owner.proofs.Calls.{get_last, set_last}
 
 -- one caller, seen through its parts
@@ -43,17 +43,17 @@ read_set read change x writes (first ∷ entered) (suc k) =
 
 -- ---- what was told, and sent
 
-is_told-read : (k : ℕ) (entered : List Entered) → is_told entered k ≡ unwrap_or (slice_get (map (λ call. call.told) entered) k) false
+is_told-read : (k : ℕ) (entered : List Entered) → is_answered entered k ≡ unwrap_or (slice_get (map (λ call. call.answered) entered) k) false
 is_told-read k entered =
-    rw (slice_get-map (λ (call : Entered). call.told) entered k)
-    (elim (slice_get entered k) as (λ found. option_map_or (λ (call : Entered). call.told) found false ≡ unwrap_or (option_map (λ (call : Entered). call.told) found) false) [ None ↦ refl | Some call ↦ refl ])
+    rw (slice_get-map (λ (call : Entered). call.answered) entered k)
+    (elim (slice_get entered k) as (λ found. option_map_or (λ (call : Entered). call.answered) found false ≡ unwrap_or (option_map (λ (call : Entered). call.answered) found) false) [ None ↦ refl | Some call ↦ refl ])
 
 is_answered-read : (k : ℕ) (rows : List Row) → is_some (kept_at (answers_of rows) k) ≡ unwrap_or (slice_get (map (λ row. is_some row.answer) rows) k) false
 is_answered-read k rows =
     rw (slice_get-map (λ (row : Row). row.answer) rows k, slice_get-map (λ (row : Row). is_some row.answer) rows k)
     (elim (slice_get rows k) as (λ found. is_some (option_and_then (λ (answer : Option Answer). answer) (option_map (λ (row : Row). row.answer) found)) ≡ unwrap_or (option_map (λ (row : Row). is_some row.answer) found) false) [ None ↦ refl | Some row ↦ refl ])
 
-told_same : (k : ℕ) (entered : List Entered) (rows : List Row) → IsTold entered rows → is_told entered k ≡ is_some (kept_at (answers_of rows) k)
+told_same : (k : ℕ) (entered : List Entered) (rows : List Row) → KnowsAnswers entered rows → is_answered entered k ≡ is_some (kept_at (answers_of rows) k)
 told_same k entered rows told =
     is_told-read k entered ∙ ap (λ (flags : List Bool). unwrap_or (slice_get flags k) false) told ∙ sym (is_answered-read k rows)
 
@@ -64,26 +64,26 @@ sent_same k entered =
 
 -- ---- what a call waits for
 
-args_same : (entered : List Entered) (kept : List (Option Answer)) → ((k : ℕ) → is_told entered k ≡ is_some (kept_at kept k)) → (args : List Arg) → list_all (is_told entered) (futures_of args) ≡ list_all (is_known_arg kept) args
+args_same : (entered : List Entered) (kept : List (Option Answer)) → ((k : ℕ) → is_answered entered k ≡ is_some (kept_at kept k)) → (args : List Arg) → list_all (is_answered entered) (futures_of args) ≡ list_all (is_known_arg kept) args
 args_same entered kept same [] = refl
 args_same entered kept same (Plain value ∷ args) = args_same entered kept same args
 args_same entered kept same (Fut k ∷ args) =
-    ap (λ told. told && list_all (is_told entered) (futures_of args)) (same k)
+    ap (λ told. told && list_all (is_answered entered) (futures_of args)) (same k)
     ∙ ap (λ rest. is_some (kept_at kept k) && rest) (args_same entered kept same args)
 
-is_known-read : (k : ℕ) (entered : List Entered) → is_known entered k ≡ option_map_or (list_all (is_told entered)) (slice_get (map (λ call. call.futures) entered) k) false
+is_known-read : (k : ℕ) (entered : List Entered) → is_known entered k ≡ option_map_or (list_all (is_answered entered)) (slice_get (map (λ call. call.futures) entered) k) false
 is_known-read k entered =
     rw (slice_get-map (λ (call : Entered). call.futures) entered k)
-    (elim (slice_get entered k) as (λ found. option_map_or (λ (call : Entered). list_all (is_told entered) call.futures) found false ≡ option_map_or (list_all (is_told entered)) (option_map (λ (call : Entered). call.futures) found) false) [ None ↦ refl | Some call ↦ refl ])
+    (elim (slice_get entered k) as (λ found. option_map_or (λ (call : Entered). list_all (is_answered entered) call.futures) found false ≡ option_map_or (list_all (is_answered entered)) (option_map (λ (call : Entered). call.futures) found) false) [ None ↦ refl | Some call ↦ refl ])
 
 -- the resolver knows a call exactly where all its future arguments have an answer
 pub known_same : (k id : ℕ) (handles : List Handle) (calls : List Call) (rows : List Row) (entered : List Entered) (dead : List Bool) (limits : List (ℕ × Option ℕ)) → IsOwner handles calls rows entered → is_known entered k ≡ is_known_call (seen id handles calls rows entered dead limits) (slice_get (map submission_of calls) k)
 known_same k id handles calls rows entered dead limits fine =
     let owner = seen id handles calls rows entered dead limits in
     is_known-read k entered
-    ∙ ap (λ (lists : List (List ℕ)). option_map_or (list_all (is_told entered)) (slice_get lists k) false) fine.waits
+    ∙ ap (λ (lists : List (List ℕ)). option_map_or (list_all (is_answered entered)) (slice_get lists k) false) fine.waits
     ∙ rw (slice_get-map (λ (call : Call). futures_of call.args) calls k, slice_get-map submission_of calls k)
-    (elim (slice_get calls k) as (λ found. option_map_or (list_all (is_told entered)) (option_map (λ (call : Call). futures_of call.args) found) false ≡ is_known_call owner (option_map submission_of found)) [
+    (elim (slice_get calls k) as (λ found. option_map_or (list_all (is_answered entered)) (option_map (λ (call : Call). futures_of call.args) found) false ≡ is_known_call owner (option_map submission_of found)) [
       | None ↦ refl
       | Some call ↦ args_same entered (answers_of rows) (λ j. told_same j entered rows fine.told) call.args
     ])
@@ -96,7 +96,7 @@ and_same a b c d e f first second third = cc
 ready_at_same : (k id : ℕ) (handles : List Handle) (calls : List Call) (rows : List Row) (entered : List Entered) (dead : List Bool) (limits : List (ℕ × Option ℕ)) → IsOwner handles calls rows entered → is_ready entered k ≡ owner_is_ready (seen id handles calls rows entered dead limits) k
 ready_at_same k id handles calls rows entered dead limits fine =
     let owner = seen id handles calls rows entered dead limits in
-    and_same (is_known entered k) (is_sent entered k) (is_told entered k) (is_known_call owner (slice_get owner.calls k)) (owner_is_sent owner k) (is_some (kept_at owner.kept k))
+    and_same (is_known entered k) (is_sent entered k) (is_answered entered k) (is_known_call owner (slice_get owner.calls k)) (owner_is_sent owner k) (is_some (kept_at owner.kept k))
     (known_same k id handles calls rows entered dead limits fine) (sent_same k entered) (told_same k entered rows fine.told)
 
 find_same : (p q : ℕ → Bool) → ((k : ℕ) → p k ≡ q k) → (ks : List ℕ) → find p ks ≡ find q ks
@@ -132,14 +132,14 @@ all_earlier count (Fut j ∷ args) earlier (suc k) d below =
     all_earlier count args (and_parts (nat_lt j count) (list_all (is_earlier count) args) earlier).1 k d (omega arith)
 
 -- a call that is told as it enters
-pub told_last : (k : ℕ) (args : List Arg) (is_dead : Bool) (futures : List ℕ) (entered entered1 entered2 : List Entered) → k ≡ length entered → futures ≡ futures_of args → is_dead ≡ true → entered1 ≡ entered ++ new_call futures ∷ [] → entered2 ≡ with_told entered1 k → entered2 ≡ entered ++ entered_call args is_dead ∷ []
+pub told_last : (k : ℕ) (args : List Arg) (is_dead : Bool) (futures : List ℕ) (entered entered1 entered2 : List Entered) → k ≡ length entered → futures ≡ futures_of args → is_dead ≡ true → entered1 ≡ entered ++ new_call futures ∷ [] → entered2 ≡ with_answered entered1 k → entered2 ≡ entered ++ entered_call args is_dead ∷ []
 told_last k args is_dead futures entered entered1 entered2 last same dead one two =
     let first : Entered = new_call futures in
-    let new : Entered = record { futures = futures; told = true; sent = false } in
+    let new : Entered = record { futures = futures; answered = true; sent = false } in
     two
-    ∙ ap (λ calls. with_told calls k) one
-    ∙ ap (with_told (entered ++ first ∷ [])) last
-    ∙ ap (λ found. option_map_or (λ (call : Entered). slice_set (entered ++ first ∷ []) (length entered) (record call { told = true })) found (entered ++ first ∷ [])) (get_last entered first)
+    ∙ ap (λ calls. with_answered calls k) one
+    ∙ ap (with_answered (entered ++ first ∷ [])) last
+    ∙ ap (λ found. option_map_or (λ (call : Entered). slice_set (entered ++ first ∷ []) (length entered) (record call { answered = true })) found (entered ++ first ∷ [])) (get_last entered first)
     ∙ set_last entered first new
-    ∙ ap (λ (fs : List ℕ). entered ++ record { futures = fs; told = true; sent = false } ∷ []) same
+    ∙ ap (λ (fs : List ℕ). entered ++ record { futures = fs; answered = true; sent = false } ∷ []) same
     ∙ ap (λ b. entered ++ entered_call args b ∷ []) (sym dead)

@@ -244,13 +244,13 @@ future_of (Fut k) = Some k
 abbrev pub futures_of : List Arg → List ℕ
 futures_of args = filter_map future_of args
 
--- a call as the resolver enters it: it is told at once where its actor is dead
+-- a call as the resolver enters it: it is answered at once where its actor is dead
 abbrev pub entered_call : List Arg → Bool → Entered
-entered_call args is_dead = record { futures = futures_of args; told = is_dead; sent = false }
+entered_call args is_dead = record { futures = futures_of args; answered = is_dead; sent = false }
 
 -- the resolver was told of exactly the futures that have an answer
-abbrev pub IsTold : List Entered → List Row → Type 0
-IsTold entered rows = map (λ call. call.told) entered ≡ map (λ row. is_some row.answer) rows
+abbrev pub KnowsAnswers : List Entered → List Row → Type 0
+KnowsAnswers entered rows = map (λ call. call.answered) entered ≡ map (λ row. is_some row.answer) rows
 
 -- how the handles, the calls, the futures and what the resolver knows of one caller belong together
 pub record IsOwner (handles : List Handle) (calls : List Call) (rows : List Row) (entered : List Entered) : Type 0 where
@@ -258,7 +258,7 @@ pub record IsOwner (handles : List Handle) (calls : List Call) (rows : List Row)
   pub actors : map (λ row. row.actor) rows ≡ map (λ call. call.actor) calls
   -- each call waits for the futures among its arguments
   pub waits : map (λ call. call.futures) entered ≡ map (λ call. futures_of call.args) calls
-  pub told : IsTold entered rows
+  pub told : KnowsAnswers entered rows
   -- as many numbers were given for each actor as it has calls
   pub given : (a : ℕ) → given_in a handles ≡ length (filter (λ call. call.actor == a) (map submission_of calls))
   pub given_in_all : given_of_all handles ≡ length calls

@@ -6,7 +6,7 @@ ghost use Rattle.act_rules.specs.Submissions.{is_earlier, settled};
 ghost use Rattle.act_owner.specs.Owner.{answers_of};
 
 use act_replies::ReplyTable;
-use act_types::{Arg, CopyOf, ListOf, NoMemory, Settled};
+use act_types::{Arg, CopyOf, FewOf, ListOf, NoMemory, Settled};
 use std::alloc::Global;
 
 /// Whether the argument is a value or one of the first `count` futures.
@@ -44,10 +44,10 @@ pub(crate) fn all_settled(
     alloc: Global,
     args: &ListOf<Arg>,
     table: &ReplyTable,
-) -> Result<ListOf<Settled>, NoMemory>
+) -> Result<FewOf<Settled>, NoMemory>
     ensures { IfOk result (λ sent. sent ≡ map (settled (answers_of table.now.rows)) args.now) }
 {
-    let mut sent = ListOf::with_capacity(alloc, args.len())?;
+    let mut sent = FewOf::with_capacity(alloc, args.len())?;
     for arg in args.as_slice() {
         sent.push(settled(alloc, arg, table)?)?;
     }

@@ -4,7 +4,7 @@ ghost use Rattle.std.specs.Prelude.{◌≡◌, ◌≤◌, ◌<◌, ◌++◌, ◌
 ghost use Rattle.std.specs.List.{list_all};
 ghost use Rattle.act_rules.specs.Submissions.{is_earlier};
 ghost use Rattle.act_replies.specs.Table.{waits_for, after_death};
-ghost use Rattle.act_owner.specs.Owner.{futures_of, answered_row, entered_call, IsTold};
+ghost use Rattle.act_owner.specs.Owner.{futures_of, answered_row, entered_call, KnowsAnswers};
 
 use act_replies::ReplyTable;
 use act_resolver::{Futures, Resolver};
@@ -57,10 +57,10 @@ pub(crate) fn enter(table: &mut ReplyTable, a: ActorId, is_dead: bool) -> Future
 /// Answers each future of the actor that has no answer yet with `ActorDied`, tells the resolver of
 /// it, and gives their number. It passes over no other call.
 pub(crate) fn answer_death(table: &mut ReplyTable, resolver: &mut Resolver, a: ActorId) -> u32
-    requires told { IsTold resolver.old.calls table.old.rows }
+    requires told { KnowsAnswers resolver.old.calls table.old.rows }
     ensures value { result ≡ count_by (waits_for a) table.old.rows }
     ensures rows { table.new.rows ≡ after_death a table.old.rows }
-    ensures told { IsTold resolver.new.calls (after_death a table.old.rows) }
+    ensures told { KnowsAnswers resolver.new.calls (after_death a table.old.rows) }
     ensures futures { map (λ call. call.futures) resolver.new.calls ≡ map (λ call. call.futures) resolver.old.calls }
     ensures sent { map (λ call. call.sent) resolver.new.calls ≡ map (λ call. call.sent) resolver.old.calls }
 {

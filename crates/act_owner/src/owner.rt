@@ -296,7 +296,7 @@ impl Owner {
     }
 
     /// Whether the actor is one of this caller's.
-    fn is_listed(&self, a: ActorId) -> bool
+    pub fn is_listed(&self, a: ActorId) -> bool
         ensures { result ≡ is_some (copies_in a self.now.handles) }
     {
         match self.handles.refusal(a) {

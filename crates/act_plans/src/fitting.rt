@@ -1,7 +1,6 @@
 //! Which plans fit the casts of a run.
 
-ghost use Rattle.std.specs.Prelude.{◌≡◌, ◌≢◌, ◌<◌, ◌==◌, length, All, AllPairs};
-ghost use Rattle.std.specs.Bool.{Decides};
+ghost use Rattle.std.specs.Prelude.{◌≡◌, ◌↔◌, ◌≢◌, ◌<◌, ◌==◌, length, All, AllPairs, IsTrue};
 ghost use Rattle.std.specs.List.{list_all, list_any};
 ghost use Rattle.act_rules.specs.History.{contains};
 ghost use Rattle.act_plans.specs.Parts.{PlansFit, most_steps};
@@ -31,7 +30,7 @@ fn has_plan(plans: &[(CallerId, Plan)], caller: CallerId) -> bool
 
 /// Whether no caller has two plans.
 fn callers_differ(plans: &[(CallerId, Plan)]) -> bool
-    ensures { Decides result (AllPairs (λ one other. one.0 ≢ other.0) plans.now) }
+    ensures { IsTrue result ↔ (AllPairs (λ one other. one.0 ≢ other.0) plans.now) }
 {
     for (place, plan) in plans.iter().enumerate() {
         if has_plan(&plans[..place], plan.0) {
@@ -50,14 +49,14 @@ fn are_named<K>(casts: &[Cast<K>], plans: &[(CallerId, Plan)]) -> bool
 
 /// Whether no plan is too long.
 fn are_short(plans: &[(CallerId, Plan)]) -> bool
-    ensures { Decides result (All (λ plan. length plan.1.items < most_steps) plans.now) }
+    ensures { IsTrue result ↔ (All (λ plan. length plan.1.items < most_steps) plans.now) }
 {
     plans.iter().all(|plan| plan.1.len() < MOST_STEPS)
 }
 
 /// Whether the callers are distinct, each is named by a cast, and no plan is too long.
 pub fn plans_fit<K>(casts: &[Cast<K>], plans: &[(CallerId, Plan)]) -> bool
-    ensures { Decides result (PlansFit casts.now plans.now) }
+    ensures { IsTrue result ↔ PlansFit casts.now plans.now }
 {
     callers_differ(plans) && are_named(casts, plans) && are_short(plans)
 }

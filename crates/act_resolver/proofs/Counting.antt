@@ -8,10 +8,10 @@ use Rattle.std.proofs.lemmas.List.Sums.{sum_by-cons}
 use Rattle.std.proofs.lemmas.Option.{slice_get-get_or, slice_get_past, slice_get_within, slice_get_read}
 use Rattle.std.proofs.lemmas.Bool.{cases_lt, cases_eq, eq-eqb, false≢true}
 use Rattle.std.proofs.lemmas.Bool.Decides.{eqb_tells}
-use Rattle.act_resolver.specs.Resolver.{Entered, new_call, is_told, is_known, is_ready, first_ready, changed_at}
+use Rattle.act_resolver.specs.Resolver.{Entered, new_call, is_answered, is_known, is_ready, first_ready, changed_at}
 use Rattle.act_resolver.specs.Least.{IsLeast}
 use Rattle.act_resolver.specs.Waiters.{waiting}
-use Rattle.act_resolver.specs.Counts.{futures_of, untold_of, times, places_for, is_free, AreCounted, AreFree, IsResolver, IsTelling}
+use Rattle.act_resolver.specs.Counts.{futures_of, missing_of, times, places_for, is_free, AreCounted, AreFree, IsResolver, IsTelling}
 
 not_eqb : (a b : ℕ) → a ≢ b → eqb a b ≡ false
 not_eqb a b other = elim (eqb_tells a b) [ inl told ↦ absurd (other told.1) | inr told ↦ told.0 ]
@@ -103,10 +103,10 @@ all_told told [] = refl
 all_told told (x ∷ xs) =
     rw (sum_by-cons (λ y. cond (not (told y)) 1 0) x xs) (all_told_more (told x) (count_by (λ y. not (told y)) xs) (list_all told xs) (all_told told xs))
 
-count_known : (calls : List Entered) (counts : List ℕ) (k : ℕ) (call : Entered) → AreCounted calls counts → slice_get calls k ≡ Some call → (get_or counts k 0 == 0) ≡ list_all (is_told calls) call.futures
+count_known : (calls : List Entered) (counts : List ℕ) (k : ℕ) (call : Entered) → AreCounted calls counts → slice_get calls k ≡ Some call → (get_or counts k 0 == 0) ≡ list_all (is_answered calls) call.futures
 count_known calls counts k call counted found =
     let named : futures_of calls k ≡ call.futures = rw found refl in
-    ap (λ n. n == 0) (counted k ∙ ap (untold_of calls) named) ∙ all_told (is_told calls) call.futures
+    ap (λ n. n == 0) (counted k ∙ ap (missing_of calls) named) ∙ all_told (is_answered calls) call.futures
 
 known_at : (calls : List Entered) (counts : List ℕ) (k : ℕ) → length counts ≡ length calls → AreCounted calls counts → (found : Option Entered) → slice_get calls k ≡ found → option_map_or (λ count. count == 0) (slice_get counts k) false ≡ is_known calls k
 known_at calls counts k size counted None found =
@@ -129,7 +129,7 @@ known_is calls counts k size counted = known_at calls counts k size counted (sli
 -- the free calls are those that are ready
 free_at : (calls : List Entered) (counts : List ℕ) (k : ℕ) → AreCounted calls counts → (found : Option Entered) → slice_get calls k ≡ found → is_free calls counts k ≡ is_ready calls k
 free_at calls counts k counted None found = rw found refl
-free_at calls counts k counted (Some call) found = rw found (ap (λ b. b && not call.sent && not call.told) (count_known calls counts k call counted found))
+free_at calls counts k counted (Some call) found = rw found (ap (λ b. b && not call.sent && not call.answered) (count_known calls counts k call counted found))
 
 free_is_ready : (calls : List Entered) (counts : List ℕ) → AreCounted calls counts → (k : ℕ) → is_free calls counts k ≡ is_ready calls k
 free_is_ready calls counts counted k = free_at calls counts k counted (slice_get calls k) refl
@@ -173,11 +173,11 @@ pub changed_is : (calls : List Entered) (i k : ℕ) (found : Entered) (change : 
 changed_is calls i k found change same is = rw (same, is) refl
 
 -- calls that were told and name futures as before
-counted_same : (calls after : List Entered) (counts : List ℕ) → ((future : ℕ) → is_told after future ≡ is_told calls future) → ((k : ℕ) → futures_of after k ≡ futures_of calls k) → AreCounted calls counts → AreCounted after counts
+counted_same : (calls after : List Entered) (counts : List ℕ) → ((future : ℕ) → is_answered after future ≡ is_answered calls future) → ((k : ℕ) → futures_of after k ≡ futures_of calls k) → AreCounted calls counts → AreCounted after counts
 counted_same calls after counts told named counted k =
-    counted k ∙ ap (untold_of calls) (sym (named k)) ∙ count_same (λ future. not (is_told calls future)) (λ future. not (is_told after future)) (futures_of after k) (λ future. ap not (sym (told future)))
+    counted k ∙ ap (missing_of calls) (sym (named k)) ∙ count_same (λ future. not (is_answered calls future)) (λ future. not (is_answered after future)) (futures_of after k) (λ future. ap not (sym (told future)))
 
-places_same : (calls after : List Entered) → ((future : ℕ) → is_told after future ≡ is_told calls future) → ((k : ℕ) → futures_of after k ≡ futures_of calls k) → (future k : ℕ) → places_for calls future k ≡ places_for after future k
+places_same : (calls after : List Entered) → ((future : ℕ) → is_answered after future ≡ is_answered calls future) → ((k : ℕ) → futures_of after k ≡ futures_of calls k) → (future k : ℕ) → places_for calls future k ≡ places_for after future k
 places_same calls after told named future k = rw (told future, named k) refl
 
 -- a call is sent
@@ -187,7 +187,7 @@ sent_fine calls counts lists ready k call fine found =
     let after = slice_set calls k sent in
     let size = length-set calls k sent in
     let lt = slice_get_within calls k call found in
-    let told : (future : ℕ) → is_told after future ≡ is_told calls future = λ future. field_same (λ (c : Entered). c.told) calls k future call sent false found refl in
+    let told : (future : ℕ) → is_answered after future ≡ is_answered calls future = λ future. field_same (λ (c : Entered). c.answered) calls k future call sent false found refl in
     let named : (i : ℕ) → futures_of after i ≡ futures_of calls i = λ i. field_same (λ (c : Entered). c.futures) calls k i call sent [] found refl in
     record {
       size_counts = omega (arith, size, fine.size_counts);
@@ -206,27 +206,27 @@ sent_fine calls counts lists ready k call fine found =
     free i =
         let lt = slice_get_within calls k call found in
         elim (cases_eq i k) [
-          | inl e ↦ rw (e, get_or-set_same ready k false false (omega (arith, fine.size_ready)), get-set_same calls k (record call { sent = true }) lt) (never (get_or counts k 0 == 0) (not call.told))
-          | inr other ↦ get_or-set_other ready k i false false other ∙ fine.free i ∙ sym (field-set_other (λ (c : Entered). (get_or counts i 0 == 0) && not c.sent && not c.told) calls k i (record call { sent = true }) false other)
+          | inl e ↦ rw (e, get_or-set_same ready k false false (omega (arith, fine.size_ready)), get-set_same calls k (record call { sent = true }) lt) (never (get_or counts k 0 == 0) (not call.answered))
+          | inr other ↦ get_or-set_other ready k i false false other ∙ fine.free i ∙ sym (field-set_other (λ (c : Entered). (get_or counts i 0 == 0) && not c.sent && not c.answered) calls k i (record call { sent = true }) false other)
         ]
 
 -- a future is told: the calls that wait for it are yet to be counted down
-pub told_start : (calls : List Entered) (counts : List ℕ) (lists : List (List ℕ)) (ready : List Bool) (k : ℕ) (call : Entered) → IsResolver calls counts lists ready → slice_get calls k ≡ Some call → IsTelling k (slice_set calls k (record call { told = true })) counts lists (slice_set ready k false)
+pub told_start : (calls : List Entered) (counts : List ℕ) (lists : List (List ℕ)) (ready : List Bool) (k : ℕ) (call : Entered) → IsResolver calls counts lists ready → slice_get calls k ≡ Some call → IsTelling k (slice_set calls k (record call { answered = true })) counts lists (slice_set ready k false)
 told_start calls counts lists ready k call fine found =
-    let told : Entered = record call { told = true } in
+    let told : Entered = record call { answered = true } in
     let after = slice_set calls k told in
     let size = length-set calls k told in
     let lt = slice_get_within calls k call found in
-    let is : is_told after k ≡ true = field-set_same (λ (c : Entered). c.told) calls k told false lt in
-    let others : (future : ℕ) → future ≢ k → is_told after future ≡ is_told calls future = λ future other. field-set_other (λ (c : Entered). c.told) calls k future told false other in
+    let is : is_answered after k ≡ true = field-set_same (λ (c : Entered). c.answered) calls k told false lt in
+    let others : (future : ℕ) → future ≢ k → is_answered after future ≡ is_answered calls future = λ future other. field-set_other (λ (c : Entered). c.answered) calls k future told false other in
     let named : (i : ℕ) → futures_of after i ≡ futures_of calls i = λ i. field_same (λ (c : Entered). c.futures) calls k i call told [] found refl in
     record {
       size_counts = omega (arith, size, fine.size_counts);
       size_lists = omega (arith, size, fine.size_lists);
       size_ready = omega (arith, size, fine.size_ready, length-set ready k false);
-      counted = λ i. rw (named i, fine.waits k i) (fine.counted i ∙ count_told (is_told calls) (is_told after) k (futures_of calls i) is others);
+      counted = λ i. rw (named i, fine.waits k i) (fine.counted i ∙ count_told (is_answered calls) (is_answered after) k (futures_of calls i) is others);
       waits = λ future i other. fine.waits future i ∙ rw (others future other, named i) refl;
-      told = is;
+      answered = is;
       free = free;
     }
   where
@@ -235,12 +235,12 @@ told_start calls counts lists ready k call fine found =
     never true false = refl
     never false b = refl
 
-    free : AreFree (slice_set calls k (record call { told = true })) counts (slice_set ready k false)
+    free : AreFree (slice_set calls k (record call { answered = true })) counts (slice_set ready k false)
     free i =
         let lt = slice_get_within calls k call found in
         elim (cases_eq i k) [
-          | inl e ↦ rw (e, get_or-set_same ready k false false (omega (arith, fine.size_ready)), get-set_same calls k (record call { told = true }) lt) (never (get_or counts k 0 == 0) (not call.sent))
-          | inr other ↦ get_or-set_other ready k i false false other ∙ fine.free i ∙ sym (field-set_other (λ (c : Entered). (get_or counts i 0 == 0) && not c.sent && not c.told) calls k i (record call { told = true }) false other)
+          | inl e ↦ rw (e, get_or-set_same ready k false false (omega (arith, fine.size_ready)), get-set_same calls k (record call { answered = true }) lt) (never (get_or counts k 0 == 0) (not call.sent))
+          | inr other ↦ get_or-set_other ready k i false false other ∙ fine.free i ∙ sym (field-set_other (λ (c : Entered). (get_or counts i 0 == 0) && not c.sent && not c.answered) calls k i (record call { answered = true }) false other)
         ]
 
 -- the first call of those that wait
@@ -264,17 +264,17 @@ waiter_entered k calls counts lists ready waiter fine first =
       | inr le ↦ absurd (omega (arith, waiter_counted k calls counts lists ready waiter fine first, get_or_past counts waiter 0 (omega (arith, fine.size_counts))))
     ]
 
-told_entered : (calls : List Entered) (k : ℕ) → is_told calls k ≡ true → k < length calls
+told_entered : (calls : List Entered) (k : ℕ) → is_answered calls k ≡ true → k < length calls
 told_entered calls k told =
     elim (cases_lt k (length calls)) [
       | inl lt ↦ lt
-      | inr le ↦ let none : is_told calls k ≡ false = rw (slice_get_past calls k le) refl in absurd (false≢true (sym none ∙ told))
+      | inr le ↦ let none : is_answered calls k ≡ false = rw (slice_get_past calls k le) refl in absurd (false≢true (sym none ∙ told))
     ]
 
 -- one place of a call that waits is told
 pub told_step : (k : ℕ) (calls : List Entered) (counts : List ℕ) (lists : List (List ℕ)) (ready : List Bool) (waiter : ℕ) → IsTelling k calls counts lists ready → slice_get (waiting lists k) 0 ≡ Some waiter → IsTelling k calls (slice_set counts waiter (get_or counts waiter 0 - 1)) (slice_set lists k (drop 1 (waiting lists k))) (slice_set ready waiter (is_free calls (slice_set counts waiter (get_or counts waiter 0 - 1)) waiter))
 told_step k calls counts lists ready waiter fine first =
-    let lt = told_entered calls k fine.told in
+    let lt = told_entered calls k fine.answered in
     let rest = drop 1 (waiting lists k) in
     let less = get_or counts waiter 0 - 1 in
     let is : waiting lists k ≡ waiter ∷ rest = first_waits (waiting lists k) waiter first in
@@ -294,7 +294,7 @@ told_step k calls counts lists ready waiter fine first =
             rw (get_or-set_other counts waiter i less 0 other) (omega (arith, fine.counted i))
       ]);
       waits = λ future i other. rw (get_or-set_other lists k future rest [] other) (fine.waits future i other);
-      told = fine.told;
+      answered = fine.answered;
       free = λ i. elim (cases_eq i waiter) [
         | inl e ↦ rw (e, get_or-set_same ready waiter (is_free calls (slice_set counts waiter less) waiter) false (omega (arith, fine.size_ready))) refl
         | inr other ↦ get_or-set_other ready waiter i (is_free calls (slice_set counts waiter less) waiter) false other ∙ fine.free i ∙ rw (get_or-set_other counts waiter i less 0 other) refl
@@ -302,11 +302,11 @@ told_step k calls counts lists ready waiter fine first =
     }
 
 -- a call is entered
-pub entered_fine : (calls : List Entered) (counts : List ℕ) (lists after : List (List ℕ)) (ready : List Bool) (k count : ℕ) (futures : List ℕ) → IsResolver calls counts lists ready → k ≡ length calls → k < length ready → count ≡ untold_of calls futures → length after ≡ length (lists ++ [] ∷ []) → ((future call : ℕ) → times call (waiting after future) ≡ times call (waiting (lists ++ [] ∷ []) future) + cond ((call == k) && not (is_told calls future)) (times future futures) 0) → IsResolver (calls ++ new_call futures ∷ []) (counts ++ count ∷ []) after (slice_set ready k (count == 0))
+pub entered_fine : (calls : List Entered) (counts : List ℕ) (lists after : List (List ℕ)) (ready : List Bool) (k count : ℕ) (futures : List ℕ) → IsResolver calls counts lists ready → k ≡ length calls → k < length ready → count ≡ missing_of calls futures → length after ≡ length (lists ++ [] ∷ []) → ((future call : ℕ) → times call (waiting after future) ≡ times call (waiting (lists ++ [] ∷ []) future) + cond ((call == k) && not (is_answered calls future)) (times future futures) 0) → IsResolver (calls ++ new_call futures ∷ []) (counts ++ count ∷ []) after (slice_set ready k (count == 0))
 entered_fine calls counts lists after ready k count futures fine next room is size waits =
     let new : Entered = new_call futures in
     let more = calls ++ new ∷ [] in
-    let told : (future : ℕ) → is_told more future ≡ is_told calls future = λ future. elim (cases_eq future (length calls)) [
+    let told : (future : ℕ) → is_answered more future ≡ is_answered calls future = λ future. elim (cases_eq future (length calls)) [
       | inl e ↦ rw (e, get-push_here calls new, slice_get_past calls (length calls) (omega arith)) refl
       | inr other ↦ rw (get-push_other calls new future other) refl
     ] in
@@ -318,11 +318,11 @@ entered_fine calls counts lists after ready k count futures fine next room is si
       size_lists = omega (arith, fine.size_lists, length_push calls new, length_push lists []);
       size_ready = omega (arith, length_push calls new, length-set ready k (count == 0));
       counted = λ i. elim (cases_eq i k) [
-        | inl e ↦ rw (e, here) (get_or_push counts count 0 k (omega (arith, fine.size_counts)) ∙ is ∙ count_same (λ future. not (is_told calls future)) (λ future. not (is_told more future)) futures (λ future. ap not (sym (told future))))
-        | inr other ↦ get_or-push_other counts count 0 i (λ e. other (e ∙ fine.size_counts ∙ sym next)) ∙ fine.counted i ∙ ap (untold_of calls) (sym (named i other)) ∙ count_same (λ future. not (is_told calls future)) (λ future. not (is_told more future)) (futures_of more i) (λ future. ap not (sym (told future)))
+        | inl e ↦ rw (e, here) (get_or_push counts count 0 k (omega (arith, fine.size_counts)) ∙ is ∙ count_same (λ future. not (is_answered calls future)) (λ future. not (is_answered more future)) futures (λ future. ap not (sym (told future))))
+        | inr other ↦ get_or-push_other counts count 0 i (λ e. other (e ∙ fine.size_counts ∙ sym next)) ∙ fine.counted i ∙ ap (missing_of calls) (sym (named i other)) ∙ count_same (λ future. not (is_answered calls future)) (λ future. not (is_answered more future)) (futures_of more i) (λ future. ap not (sym (told future)))
       ];
       waits = λ future i. waits future i ∙ rw (get_or-push_default lists [] future, told future) (elim (cases_eq i k) [
-        | inl e ↦ rw (e, eq-eqb k k refl, here, fine.waits future k, nothing) (new_places (is_told calls future) (times future futures))
+        | inl e ↦ rw (e, eq-eqb k k refl, here, fine.waits future k, nothing) (new_places (is_answered calls future) (times future futures))
         | inr other ↦ rw (not_eqb i k other, named i other, fine.waits future i) (omega arith)
       ]);
       free = free;

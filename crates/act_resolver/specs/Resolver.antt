@@ -6,7 +6,7 @@ use Rattle.std.specs.Option.{option_map_or}
 -- a call: the futures among its arguments, whether it was answered, and whether it was sent
 pub record Entered : Type 0 where
   pub futures : List ℕ
-  pub told : Bool
+  pub answered : Bool
   pub sent : Bool
 
 -- the calls in the order of entering, and for how many more there is room
@@ -16,23 +16,23 @@ pub record ResolverValue : Type 0 where
 
 -- a call as it enters
 abbrev pub new_call : List ℕ → Entered
-new_call futures = record { futures = futures; told = false; sent = false }
+new_call futures = record { futures = futures; answered = false; sent = false }
 
 -- whether call k was entered and answered
-abbrev pub is_told : List Entered → ℕ → Bool
-is_told calls k = option_map_or (λ call. call.told) (slice_get calls k) false
+abbrev pub is_answered : List Entered → ℕ → Bool
+is_answered calls k = option_map_or (λ call. call.answered) (slice_get calls k) false
 
 -- whether call k was entered and sent
 abbrev pub is_sent : List Entered → ℕ → Bool
 is_sent calls k = option_map_or (λ call. call.sent) (slice_get calls k) false
 
--- whether call k was entered and all the futures among its arguments were told
+-- whether call k was entered and all the futures among its arguments were answered
 abbrev pub is_known : List Entered → ℕ → Bool
-is_known calls k = option_map_or (λ call. list_all (is_told calls) call.futures) (slice_get calls k) false
+is_known calls k = option_map_or (λ call. list_all (is_answered calls) call.futures) (slice_get calls k) false
 
--- whether call k may be sent: it is known, and neither sent nor itself told
+-- whether call k may be sent: it is known, and neither sent nor itself answered
 abbrev pub is_ready : List Entered → ℕ → Bool
-is_ready calls k = is_known calls k && not (is_sent calls k) && not (is_told calls k)
+is_ready calls k = is_known calls k && not (is_sent calls k) && not (is_answered calls k)
 
 -- the first call, counted from 0, that is ready
 abbrev pub first_ready : List Entered → Option ℕ
@@ -43,8 +43,8 @@ abbrev pub changed_at : List Entered → ℕ → (Entered → Entered) → List 
 changed_at calls k change = option_map_or (λ call. slice_set calls k (change call)) (slice_get calls k) calls
 
 -- the calls after the answer to call k
-abbrev pub with_told : List Entered → ℕ → List Entered
-with_told calls k = changed_at calls k (λ call. record call { told = true })
+abbrev pub with_answered : List Entered → ℕ → List Entered
+with_answered calls k = changed_at calls k (λ call. record call { answered = true })
 
 -- the calls after call k was sent
 abbrev pub with_sent : List Entered → ℕ → List Entered

@@ -2,8 +2,8 @@
 
 ghost use Rattle.std.specs.Prelude.{◌≡◌, ℕ, ◌+◌, ◌-◌, ◌<◌, ◌≤◌, ◌==◌, ◌&&◌, not, false, [], ◌∷◌, ◌++◌, if◌then◌else◌, length, All, IsOk, OnOk, OnErr, slice_get, slice_set, slice_index};
 ghost use Rattle.std.specs.Option.{option_copied, option_map_or};
-ghost use Rattle.act_resolver.specs.Resolver.{new_call, is_told, is_sent, is_known, first_ready, with_told, with_sent};
-ghost use Rattle.act_resolver.specs.Counts.{is_free, times, untold_of};
+ghost use Rattle.act_resolver.specs.Resolver.{new_call, is_answered, is_sent, is_known, first_ready, with_answered, with_sent};
+ghost use Rattle.act_resolver.specs.Counts.{is_free, times, missing_of};
 ghost use Rattle.act_resolver.specs.Waiters.{waiting};
 
 use crate::futures::Futures;
@@ -17,7 +17,7 @@ use std::marker::Model;
 #[derive(Drop)]
 struct Call {
     futures: Futures,
-    told: bool,
+    answered: bool,
     sent: bool,
 }
 
@@ -26,16 +26,16 @@ impl Model for Call {
 
     ghost Value = { Entered };
 
-    ghost view = { λ call. record { futures = call.futures; told = call.told; sent = call.sent } };
+    ghost view = { λ call. record { futures = call.futures; answered = call.answered; sent = call.sent } };
 }
 
 /// The calls of one caller, numbered from 0 as their futures are. Each names the futures that it
-/// waits for, and it may be sent once they were all told.
+/// waits for, and it may be sent once they are all answered.
 #[derive(Drop)]
 pub struct Resolver {
     calls: Vec<Call>,
-    /// Of each call, how many places among its arguments weren't told.
-    untold: Vec<u8>,
+    /// Of each call, how many places among its arguments wait for an answer.
+    missing: Vec<u8>,
     waiters: Waiters,
     ready: LeastSet,
 }
@@ -50,10 +50,13 @@ impl Model for Resolver {
 
     ghost view = { λ resolver. record {
       calls = resolver.calls.items;
-      spare = min (min (vec_capacity resolver.calls - vec_len resolver.calls) (vec_capacity resolver.untold - vec_len resolver.untold)) (min (min resolver.waiters.future_room (resolver.waiters.place_room / MOST_ARGS)) (length resolver.ready - vec_len resolver.calls));
+      spare = min (min (vec_capacity resolver.calls - vec_len resolver.calls)
+          (vec_capacity resolver.missing - vec_len resolver.missing))
+          (min (min resolver.waiters.future_room (resolver.waiters.place_room / MOST_ARGS))
+          (length resolver.ready - vec_len resolver.calls));
     } };
 
-    ghost invariant = { λ resolver. IsResolver resolver.calls.items resolver.untold.items resolver.waiters.lists resolver.ready };
+    ghost invariant = { λ resolver. IsResolver resolver.calls.items resolver.missing.items resolver.waiters.lists resolver.ready };
 }
 
 impl Resolver {
@@ -63,7 +66,7 @@ impl Resolver {
     {
         Resolver {
             calls: Vec::new(alloc),
-            untold: Vec::new(alloc),
+            missing: Vec::new(alloc),
             waiters: Waiters::new(alloc),
             ready: LeastSet::new(alloc),
         }
@@ -77,7 +80,7 @@ impl Resolver {
         ensures spare { self.old.spare ≤ self.new.spare }
     {
         self.calls.reserve(1)?;
-        self.untold.reserve(1)?;
+        self.missing.reserve(1)?;
         self.waiters.reserve_one()?;
         self.ready.make_room(self.calls.len() + 1)?;
         Ok(())
@@ -92,14 +95,14 @@ impl Resolver {
         ensures spare { self.old.spare ≤ self.new.spare }
     {
         self.calls.reserve(count)?;
-        self.untold.reserve(count)?;
+        self.missing.reserve(count)?;
         self.waiters.reserve(count)?;
         self.ready.make_room(self.calls.len() + count)?;
         Ok(())
     }
 
     /// Enters call `k`, the next, with the futures among its arguments. It waits for those that
-    /// weren't told yet. Where there is room it takes no memory.
+    /// aren't answered yet. Where there is room it takes no memory.
     pub fn enter(&mut self, k: FutureId, futures: &[FutureId]) -> Result<(), NoMemory>
         requires next { k ≡ length self.old.calls }
         requires at_most_four { length futures.now ≤ MOST_ARGS }
@@ -113,14 +116,14 @@ impl Resolver {
         prove_eq!(k.number() as usize, self.calls.len());
         self.reserve_one()?;
         self.waiters.add_future();
-        let untold = add_places(&self.calls, &mut self.waiters, k, futures);
+        let missing = add_places(&self.calls, &mut self.waiters, k, futures);
         self.calls.push_reserved(Call {
             futures: Futures::new(futures),
-            told: false,
+            answered: false,
             sent: false,
         });
-        self.untold.push_reserved(untold);
-        self.ready.set(k.number() as usize, untold == 0);
+        self.missing.push_reserved(missing);
+        self.ready.set(k.number() as usize, missing == 0);
         Ok(())
     }
 
@@ -128,15 +131,15 @@ impl Resolver {
     /// for each place that waited for it.
     pub fn told(&mut self, k: FutureId)
         requires { k < length self.old.calls }
-        ensures calls { self.new.calls ≡ with_told self.old.calls k }
+        ensures calls { self.new.calls ≡ with_answered self.old.calls k }
         ensures spare { self.old.spare ≤ self.new.spare }
     {
         let place = k.number() as usize;
         let call = &mut self.calls[place];
-        call.told = true;
+        call.answered = true;
         self.ready.set(place, false);
         while let Some(waiter) = self.waiters.pop(k) {
-            tell_place(&self.calls, &mut self.untold, &mut self.ready, waiter);
+            tell_place(&self.calls, &mut self.missing, &mut self.ready, waiter);
         }
     }
 
@@ -152,8 +155,8 @@ impl Resolver {
         self.ready.set(place, false);
     }
 
-    /// The least call that may be sent: every future among its arguments was told, and it was
-    /// neither sent nor told itself.
+    /// The least call that may be sent: every future among its arguments is answered, and it was
+    /// neither sent nor answered itself.
     pub fn ready(&self) -> Option<FutureId>
         ensures { result ≡ first_ready self.now.calls }
     {
@@ -167,11 +170,11 @@ impl Resolver {
         self.call(k).is_some_and(|call| call.sent)
     }
 
-    /// Whether call `k` was entered and every future among its arguments was told.
+    /// Whether call `k` was entered and every future among its arguments is answered.
     pub fn is_known(&self, k: FutureId) -> bool
         ensures { result ≡ is_known self.now.calls k }
     {
-        is_zero(&self.untold, k)
+        is_zero(&self.missing, k)
     }
 
     fn call(&self, k: FutureId) -> Option<&Call>
@@ -187,29 +190,31 @@ fn add_places(calls: &[Call], waiters: &mut Waiters, k: FutureId, futures: &[Fut
     requires earlier { All (λ future. future < length waiters.old.lists) futures.now }
     requires room { MOST_ARGS ≤ waiters.old.place_room }
 
-    ensures count { result ≡ untold_of calls.now futures.now }
+    ensures count { result ≡ missing_of calls.now futures.now }
     ensures lists { (future call : ℕ) →
         times call (waiting waiters.new.lists future)
         ≡ times call (waiting waiters.old.lists future)
-        + (if (call == k) && not (is_told calls.now future) then times future futures.now else 0) }
+        + (if (call == k) && not (is_answered calls.now future) then times future futures.now else 0) }
     ensures length { length waiters.new.lists ≡ length waiters.old.lists }
     ensures future_room { waiters.new.future_room ≡ waiters.old.future_room }
     ensures place_room { waiters.old.place_room ≤ waiters.new.place_room + MOST_ARGS }
 {
-    let mut untold = 0;
+    let mut missing = 0;
     for future in futures {
-        if !is_told(calls, *future) {
+        if !is_answered(calls, *future) {
             waiters.add(*future, k);
-            untold += 1;
+            missing += 1;
         }
     }
-    untold
+    missing
 }
 
-fn is_told(calls: &[Call], k: FutureId) -> bool
-    ensures { result ≡ is_told calls.now k }
+fn is_answered(calls: &[Call], k: FutureId) -> bool
+    ensures { result ≡ is_answered calls.now k }
 {
-    calls.get(k.number() as usize).is_some_and(|call| call.told)
+    calls
+        .get(k.number() as usize)
+        .is_some_and(|call| call.answered)
 }
 
 fn is_zero(counts: &[u8], k: FutureId) -> bool
@@ -221,18 +226,18 @@ fn is_zero(counts: &[u8], k: FutureId) -> bool
 }
 
 /// One place of call `k` waits no more.
-fn tell_place(calls: &[Call], untold: &mut [u8], ready: &mut LeastSet, k: FutureId)
+fn tell_place(calls: &[Call], missing: &mut [u8], ready: &mut LeastSet, k: FutureId)
     requires entered { k < length calls.now }
-    requires counted { length untold.old ≡ length calls.now }
-    requires waits { 1 ≤ slice_index untold.old k }
+    requires counted { length missing.old ≡ length calls.now }
+    requires waits { 1 ≤ slice_index missing.old k }
     requires room { length calls.now ≤ length ready.old }
 
-    ensures untold { untold.new ≡ slice_set untold.old k (slice_index untold.old k - 1) }
-    ensures ready { ready.new ≡ slice_set ready.old k (is_free calls.now untold.new k) }
+    ensures missing { missing.new ≡ slice_set missing.old k (slice_index missing.old k - 1) }
+    ensures ready { ready.new ≡ slice_set ready.old k (is_free calls.now missing.new k) }
 {
     let place = k.number() as usize;
-    untold[place] -= 1;
+    missing[place] -= 1;
     let call = &calls[place];
-    let is_free = untold[place] == 0 && !call.sent && !call.told;
+    let is_free = missing[place] == 0 && !call.sent && !call.answered;
     ready.set(place, is_free);
 }

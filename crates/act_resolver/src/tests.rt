@@ -173,12 +173,14 @@ fn five_thousand_calls_wait_for_one(rt: HostRuntime) -> Result<(), Fail> {
 #[derive(Drop)]
 struct Scanned {
     futures: Futures,
-    told: bool,
+    answered: bool,
     sent: bool,
 }
 
-fn is_told(calls: &[Scanned], k: FutureId) -> bool {
-    calls.get(k.number() as usize).is_some_and(|call| call.told)
+fn is_answered(calls: &[Scanned], k: FutureId) -> bool {
+    calls
+        .get(k.number() as usize)
+        .is_some_and(|call| call.answered)
 }
 
 fn is_sent(calls: &[Scanned], k: FutureId) -> bool {
@@ -193,7 +195,7 @@ fn is_known(calls: &[Scanned], k: FutureId) -> bool {
     call.futures
         .as_slice()
         .iter()
-        .all(|future| is_told(calls, *future))
+        .all(|future| is_answered(calls, *future))
 }
 
 /// Asks each call in turn.
@@ -202,7 +204,7 @@ fn first_ready(calls: &[Scanned]) -> Option<FutureId>
 {
     (0..calls.len() as u32).map(FutureId::new).find(|k| is_known(calls, *k)
         && !is_sent(calls, *k)
-        && !is_told(calls, *k))
+        && !is_answered(calls, *k))
 }
 
 /// Takes the step as `take` does.
@@ -213,14 +215,14 @@ fn scan_step(rt: &impl Abort, calls: &mut Vec<Scanned>, step: &Step) -> Result<(
             assert!(rt; futures.len() <= MOST_ARGS);
             calls.push(Scanned {
                 futures: Futures::new(futures),
-                told: false,
+                answered: false,
                 sent: false,
             })?;
         }
         Step::Told(k) => {
             assert!(rt; (k.number() as usize) < calls.len());
             let call = &mut calls[k.number() as usize];
-            call.told = true;
+            call.answered = true;
         }
         Step::Sent(k) => {
             assert!(rt; (k.number() as usize) < calls.len());

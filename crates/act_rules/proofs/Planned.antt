@@ -24,7 +24,7 @@ use Rattle.act_rules.specs.Submissions.{needs, copies_held, handle_refusal, copy
 use Rattle.act_rules.specs.History.{Casting, History, opening, contains, cast_of, names, actors_naming, is_caller, under, times, copies_of, limit_of, calls_of, kept_of, is_dead, is_ended, is_drained, next_item}
 use Rattle.act_rules.specs.Plans.{Progress, nothing_done, occurrences, holds, is_refused, stepped, done_by, planned, events_of, is_limit, is_held_back, let_through, is_planned_by}
 use Rattle.act_rules.specs.Rules.{actor_of, was_sent, deliver_refusal, unanswered, submission_refusal, refusal_of, added, after_by, after, after_run, after_all}
-use Rattle.act_rules.specs.Scripts.{casting, actors_of}
+use Rattle.act_rules.specs.Scripts.{role_casting, actors_of}
 use Rattle.act_rules.proofs.Growth.{added_grows}
 use Rattle.act_rules.proofs.Steps.{after_keeps}
 use Rattle.act_rules.proofs.Ended.{under-push}
@@ -435,12 +435,12 @@ planned_is_taken casts c plan differ free =
     ∙ ap (λ events. (moved_all c (actors_naming c casts) nothing_done events).submitted) (sym (all_through (opening casts) (events_of c plan) free))
     ∙ taken c casts (events_of c plan) differ
 
-pub actors_of-casting : (c : ℕ) (roles : List Role) → actors_of c roles ≡ actors_naming c (map casting roles)
+pub actors_of-casting : (c : ℕ) (roles : List Role) → actors_of c roles ≡ actors_naming c (map role_casting roles)
 actors_of-casting c [] = refl
 actors_of-casting c (role ∷ roles) = go (contains c role.callers) (actors_of-casting c roles)
   where
-    go : (b : Bool) → actors_of c roles ≡ actors_naming c (map casting roles)
+    go : (b : Bool) → actors_of c roles ≡ actors_naming c (map role_casting roles)
         → map (λ (x : Role). x.actor) (cond b (role ∷ filter (λ (x : Role). contains c x.callers) roles) (filter (λ (x : Role). contains c x.callers) roles))
-        ≡ actors_by b (casting role) (naming c (map casting roles))
+        ≡ actors_by b (role_casting role) (naming c (map role_casting roles))
     go true rest = ap (λ actors. role.actor ∷ actors) rest
     go false rest = rest

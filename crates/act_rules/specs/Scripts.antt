@@ -23,12 +23,12 @@ opening_state kind.Table = TableOf []
 opening_state kind.Account = AccountAt (pos 0)
 opening_state kind.ListKind = ItemsOf []
 
-abbrev pub casting : Role → Casting
-casting role = record { actor = role.actor; callers = role.callers; opening = opening_state role.kind; pending = role.pending }
+abbrev pub role_casting : Role → Casting
+role_casting role = record { actor = role.actor; callers = role.callers; opening = opening_state role.kind; pending = role.pending }
 
 -- the world of these roles, as it is opened
 abbrev pub opened : List Role → History
-opened roles = opening (map casting roles)
+opened roles = opening (map role_casting roles)
 
 -- what a script of events is to write: its report, or the line of its fault
 abbrev pub text_of : Result Script (ℕ × Wrong) → List ℕ

@@ -18,7 +18,7 @@ use Rattle.act_rules.specs.History.{Casting}
 use Rattle.act_rules.specs.declared.script.Wrong.TheVariants.{LateActor, TwiceActor, TwiceCaller}
 use Rattle.act_rules.specs.Grammar.{Script, has_twice, role_fault}
 use Rattle.act_rules.specs.Submissions.{IsLimit}
-use Rattle.act_rules.specs.Scripts.{casting as role_casting}
+use Rattle.act_rules.specs.Scripts.{role_casting}
 use Rattle.act_scripts.specs.Roles.{AreFitting, AreSound}
 
 -- ---- no more actors than there are numbers for them

@@ -105,7 +105,8 @@ fn call_of(
     alloc: Global,
     words: &[&str],
 ) -> Result<(CallerId, ActorId, Method, ListOf<Arg>), LineFault>
-    ensures { (f : ℕ → ℕ → Method → List Arg → Line) → Gives (λ call. f call.0 call.1 call.2 call.3) result (submit_at f (map (λ w. w.now) words.now)) }
+    ensures { (f : ℕ → ℕ → Method → List Arg → Line) →
+        Gives (λ call. f call.0 call.1 call.2 call.3) result (submit_at f (map (λ w. w.now) words.now)) }
 {
     match words {
         [caller, actor, method, args @ ..] => {

@@ -1,11 +1,11 @@
 //! Lines and scripts.
 
-ghost use Rattle.std.specs.Prelude.{◌≡◌, ◌==◌, ◌≤◌, ◌<◌, ◌^◌, ◌+◌, ℕ, map, IfOk, OnOk, IfSome, length};
+ghost use Rattle.std.specs.Prelude.{◌≡◌, ◌==◌, true, ◌≤◌, ◌<◌, ◌^◌, ◌+◌, ℕ, map, IfOk, OnOk, IfSome, length};
 ghost use Rattle.std.specs.List.{list_all, list_any};
 ghost use Rattle.act_scripts.specs.Gives.{Gives};
 ghost use Rattle.act_scripts.specs.Spelled.{IsLineOf, Leaves, GivesScript, mode_of, count_of, spelled_script, numbered};
 ghost use Rattle.act_rules.specs.Submissions.{IsLimit};
-ghost use Rattle.act_rules.specs.Scripts.{casting};
+ghost use Rattle.act_rules.specs.Scripts.{role_casting};
 ghost use Rattle.act_scripts.specs.Roles.{AreFitting, AreSound};
 ghost use Rattle.act_rules.specs.declared.script.Mode.TheVariants.{Play, Threads};
 ghost use Rattle.act_rules.specs.Grammar.{is_plain_byte, plain_at, words_in, line_at, forms_of, no_lines, has_twice, role_fault, added, line_added, lines_in, spelled_from, spelled};
@@ -63,9 +63,9 @@ fn are_plain(bytes: &[u8]) -> bool
     bytes.iter().all(|byte| 0x20 <= *byte && *byte <= 0x7e)
 }
 
-/// The text of a line that is short and plain.
-fn plain(line: &[u8]) -> Result<&str, LineFault>
-    ensures { Gives (λ x. x.now) result (plain_at line.now) }
+/// Whether a line is short and plain.
+fn check_plain(line: &[u8]) -> Result<(), LineFault>
+    ensures { Gives (λ _. line.now) result (plain_at line.now) }
 {
     if line.len() > MOST_LINE_BYTES {
         return Err(BAD_LINE);
@@ -73,19 +73,21 @@ fn plain(line: &[u8]) -> Result<&str, LineFault>
     if !are_plain(line) {
         return Err(BAD_LINE);
     }
-    match str::from_utf8(line) {
-        Ok(text) => Ok(text),
-        Err(_) => Err(BAD_LINE),
-    }
+    Ok(())
 }
 
 /// Puts the words of a line, which single spaces part, in the place of those of the line before.
 /// All lines share one vector, so that a line asks for no memory of its own.
-fn split_words<'a>(words: &mut Vec<&'a str>, line: &'a str) -> Result<(), AllocError>
+fn split_words<'a>(words: &mut Vec<&'a str>, line: &'a [u8]) -> Result<(), AllocError>
+    requires { list_all is_plain_byte line.now ≡ true }
     ensures { OnOk result (map (λ w. w.now) words.new.items ≡ words_in line.now) }
 {
     words.clear();
-    words.extend(line.split(' '))
+    for word in line.split(|byte| *byte == b' ') {
+        // A plain line's words are plain, and so they are text.
+        words.push(unsafe { str::from_utf8_unchecked(word) })?;
+    }
+    Ok(())
 }
 
 /// What a line says, and nothing for one that is skipped.
@@ -99,11 +101,11 @@ fn line_of<'a>(
     ensures said { Gives (λ x. x) result (line_at (forms_of mode) line.now) }
     ensures of_mode { IfOk result (λ said. IfSome said (IsLineOf mode)) }
 {
-    let text = plain(line)?;
-    match text.as_bytes() {
+    check_plain(line)?;
+    match line {
         [] | [b'#', ..] => Ok(None),
         _ => {
-            split_words(words, text)?;
+            split_words(words, line)?;
             Ok(Some(form_of(alloc, mode, words.as_slice())?))
         }
     }
@@ -167,7 +169,7 @@ fn empty(alloc: Global, mode: Mode) -> Script
 /// Adds a role, unless something refuses it.
 fn add_role(script: &mut Script, role: Role) -> Result<(), LineFault>
     requires { IsLimit role.pending }
-    ensures sound { AreSound (map casting script.old.casts) → AreSound (map casting script.new.casts) }
+    ensures sound { AreSound (map role_casting script.old.casts) → AreSound (map role_casting script.new.casts) }
     ensures read { (n : ℕ) → Leaves result script.new (added (spelled_script script.old) n (Line.Role role)) }
     ensures items { script.new.items ≡ script.old.items }
 {
@@ -213,7 +215,7 @@ fn add_step(script: &mut Script, caller: CallerId, step: Step, number: u32) -> R
 /// Adds what the line of this number says.
 fn add(script: &mut Script, line: Line, number: u32) -> Result<(), LineFault>
     requires { IsLineOf (mode_of script.old.items) line }
-    ensures sound { AreSound (map casting script.old.casts) → AreSound (map casting script.new.casts) }
+    ensures sound { AreSound (map role_casting script.old.casts) → AreSound (map role_casting script.new.casts) }
     ensures mode { mode_of script.new.items ≡ mode_of script.old.items }
     ensures read { Leaves result script.new (added (spelled_script script.old) number line) }
     ensures few { count_of script.new.items ≤ count_of script.old.items + 1 }
@@ -235,7 +237,7 @@ fn add_line<'a>(
     number: u32,
 ) -> Result<(), LineFault>
     requires { mode_of script.old.items ≡ mode }
-    ensures sound { AreSound (map casting script.old.casts) → AreSound (map casting script.new.casts) }
+    ensures sound { AreSound (map role_casting script.old.casts) → AreSound (map role_casting script.new.casts) }
     ensures mode { mode_of script.new.items ≡ mode }
     ensures read { Leaves result script.new (line_added (forms_of mode) (spelled_script script.old) number line.now) }
     ensures few { count_of script.new.items ≤ count_of script.old.items + 1 }
@@ -259,7 +261,7 @@ fn fault_in(line: u32, fault: LineFault) -> ScriptFault
 /// What the lines of a script of this mode spell, or their first fault.
 fn read_lines(alloc: Global, bytes: &[u8], mode: Mode) -> Result<Script, ScriptFault>
     requires { length bytes.now ≤ MOST_SCRIPT_BYTES }
-    ensures sound { IfOk result (λ script. AreSound (map casting script.casts)) }
+    ensures sound { IfOk result (λ script. AreSound (map role_casting script.casts)) }
     ensures spelled { GivesScript spelled_script result (spelled_from (forms_of mode) 1 no_lines (lines_in bytes.now)) }
     ensures mode { IfOk result (λ script. mode_of script.items ≡ mode) }
     ensures few { IfOk result (λ script. count_of script.items < 2 ^ 32) }
@@ -285,7 +287,7 @@ pub fn read_script(alloc: Global, bytes: &[u8], mode: Mode) -> Result<Script, Sc
     // The items are those of the mode: events of a play, steps in threads.
     ensures mode { IfOk result (λ script. mode_of script.items ≡ mode) }
     // The roles can be opened: their actors are distinct, and the callers of each; the limits are good.
-    ensures roles { IfOk result (λ script. AreFitting (map casting script.casts)) }
+    ensures roles { IfOk result (λ script. AreFitting (map role_casting script.casts)) }
     ensures few { IfOk result (λ script. count_of script.items < 2 ^ 32) }
 {
     if bytes.len() > MOST_SCRIPT_BYTES {

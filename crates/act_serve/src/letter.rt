@@ -33,7 +33,8 @@ pub(crate) enum Came {
 fn hold<K: Actor>(live: &mut Live<K>, packet: Packet) -> Result<(), NoMemory>
     ensures same { let after = live_seen K.state live.new in after ≡ record (live_seen K.state live.old) { inbox = after.inbox } }
     ensures came { OnOk result (IsIn (Call packet) (live_seen K.state live.old) (live_seen K.state live.new)) }
-    ensures fed { (callers : List ℕ) (letters : List Letter) → IsFed callers letters (live_seen K.state live.old) → IsFed callers (letters ++ Call packet ∷ []) (live_seen K.state live.new) }
+    ensures fed { (callers : List ℕ) (letters : List Letter) → IsFed callers letters (live_seen K.state live.old) →
+        IsFed callers (letters ++ Call packet ∷ []) (live_seen K.state live.new) }
 {
     match live.arrive(packet) {
         Ok(_) => Ok(()),
@@ -75,7 +76,8 @@ fn seat_at_once<K: Actor>(
 /// Runs a call at once.
 fn run_now<K: Actor>(live: &mut Live<K>, packet: Packet) -> Result<Reply, NoMemory>
     requires at_once { let before = live_seen K.state live.old in RunsAtOnce packet before.id before.log before.inbox }
-    ensures ran { IfOk result (λ reply. HasReplied packet.caller reply (with_call packet (live_seen K.state live.old)) (live_seen K.state live.new)) }
+    ensures ran { IfOk result (λ reply.
+        HasReplied packet.caller reply (with_call packet (live_seen K.state live.old)) (live_seen K.state live.new)) }
     ensures err { OnErr result (live_seen K.state live.new ≡ live_seen K.state live.old) }
 {
     live.run_now(packet)
@@ -96,9 +98,15 @@ fn take_call<R: Wait, K: Actor, F: Fn(ActorId, u32)>(
     ensures seats { All (IsSeated replies.now (live_seen K.state live.new).id (live_seen K.state live.new).log) notices.new.items }
     ensures stay { map bare notices.new.items ≡ map bare notices.old.items }
     ensures on { GoesOn (live_seen K.state live.old) (live_seen K.state live.new) }
-    ensures came { (letters : List Letter) → IfOk result (λ came. HasCome came letters (letters ++ Call packet ∷ []) notices.old.items notices.new.items (live_seen K.state live.old) (live_seen K.state live.new)) }
+    ensures came { (letters : List Letter) →
+        IfOk result (λ came.
+        HasCome came letters (letters ++ Call packet ∷ []) notices.old.items notices.new.items
+        (live_seen K.state live.old) (live_seen K.state live.new)) }
     ensures err { OnErr result ((live_seen K.state live.new).log ≡ (live_seen K.state live.old).log) }
-    ensures serving { (opening : KindState) (callers : List ℕ) (letters : List Letter) → IsServing opening callers replies.now letters (live_seen K.state live.old) notices.old.items → IsServing opening callers replies.now (letters ++ Call packet ∷ []) (live_seen K.state live.new) notices.new.items }
+    ensures serving { (opening : KindState) (callers : List ℕ) (letters : List Letter) →
+        IsServing opening callers replies.now letters (live_seen K.state live.old) notices.old.items →
+        IsServing opening callers replies.now (letters ++ Call packet ∷ [])
+        (live_seen K.state live.new) notices.new.items }
 {
     let Some(at) = seat_at_once(live, replies, notices.as_slice(), &packet) else {
         hold(live, packet)?;
@@ -121,15 +129,23 @@ pub(crate) fn take_letter<R: Wait, K: Actor, F: Fn(ActorId, u32)>(
 ) -> Result<Came, NoMemory>
     requires callable { F.IsAlwaysCallable pass.now }
     requires mail { letters.old.line ≡ lines.now.mail.now.line }
-    requires seats { All (IsSeated lines.now.replies.now (live_seen K.state live.old).id (live_seen K.state live.old).log) notices.old.items }
+    requires seats { All (IsSeated lines.now.replies.now (live_seen K.state live.old).id
+        (live_seen K.state live.old).log) notices.old.items }
     requires differ { SeatsDiffer lines.now.replies.now notices.old.items }
     ensures letters { letters.new ≡ record letters.old { taken = letters.new.taken } }
-    ensures seats { All (IsSeated lines.now.replies.now (live_seen K.state live.new).id (live_seen K.state live.new).log) notices.new.items }
+    ensures seats { All (IsSeated lines.now.replies.now (live_seen K.state live.new).id
+        (live_seen K.state live.new).log) notices.new.items }
     ensures stay { map bare notices.new.items ≡ map bare notices.old.items }
     ensures on { GoesOn (live_seen K.state live.old) (live_seen K.state live.new) }
-    ensures came { IfOk result (λ came. HasCome came letters.old.taken letters.new.taken notices.old.items notices.new.items (live_seen K.state live.old) (live_seen K.state live.new)) }
+    ensures came { IfOk result (λ came.
+        HasCome came letters.old.taken letters.new.taken notices.old.items notices.new.items
+        (live_seen K.state live.old) (live_seen K.state live.new)) }
     ensures err { OnErr result ((live_seen K.state live.new).log ≡ (live_seen K.state live.old).log) }
-    ensures serving { (opening : KindState) (callers : List ℕ) → IsServing opening callers lines.now.replies.now letters.old.taken (live_seen K.state live.old) notices.old.items → IsServing opening callers lines.now.replies.now letters.new.taken (live_seen K.state live.new) notices.new.items }
+    ensures serving { (opening : KindState) (callers : List ℕ) →
+        IsServing opening callers lines.now.replies.now letters.old.taken
+        (live_seen K.state live.old) notices.old.items →
+        IsServing opening callers lines.now.replies.now letters.new.taken
+        (live_seen K.state live.new) notices.new.items }
 {
     match lines.mail.try_take(letters) {
         None => Ok(Came::Nothing),

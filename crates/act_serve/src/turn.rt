@@ -56,7 +56,8 @@ pub(crate) fn give_reply<R: Wait, K: Actor>(
     requires seats { let now = live_seen K.state live.now in All (IsSeated replies.now now.id now.log) notices.old.items }
     requires actor { reply.actor ≡ (live_seen K.state live.now).id }
     requires place { NamesPlace (live_seen K.state live.now).log (Answered reply) }
-    ensures { (seat : Seat ReplyExecValue) → seat ≡ get_or notices.old.items at seat → notices.new.items ≡ slice_set notices.old.items at (replied_to (live_seen K.state live.now).log reply seat) }
+    ensures { (seat : Seat ReplyExecValue) → seat ≡ get_or notices.old.items at seat →
+        notices.new.items ≡ slice_set notices.old.items at (replied_to (live_seen K.state live.now).log reply seat) }
 {
     let seat = &mut notices[at];
     give(
@@ -90,9 +91,11 @@ fn next_seat<K: Actor>(
 
 /// Runs the caller's next call, if it came and the actor did not terminate.
 fn run_next<K: Actor>(live: &mut Live<K>, caller: CallerId) -> Result<Option<Reply>, NoMemory>
-    ensures ran { IfOk result (λ reply. IfSome reply (λ reply. HasReplied caller reply (live_seen K.state live.old) (live_seen K.state live.new))) }
+    ensures ran { IfOk result (λ reply.
+        IfSome reply (λ reply. HasReplied caller reply (live_seen K.state live.old) (live_seen K.state live.new))) }
     ensures none { IfOk result (λ reply. IfNone reply (live_seen K.state live.new ≡ live_seen K.state live.old)) }
-    ensures next { let before = live_seen K.state live.old in IfOk result (λ reply. is_some reply ≡ is_some (next_call before.log before.inbox caller)) }
+    ensures next { let before = live_seen K.state live.old in
+        IfOk result (λ reply. is_some reply ≡ is_some (next_call before.log before.inbox caller)) }
     ensures last { let before = live_seen K.state live.old in OnErr result (IsSome (next_call before.log before.inbox caller)) }
     ensures err { OnErr result (live_seen K.state live.new ≡ live_seen K.state live.old) }
 {
@@ -113,9 +116,12 @@ fn run_one<R: Wait, K: Actor, F: Fn(ActorId, u32)>(
     ensures seats { All (IsSeated replies.now (live_seen K.state live.new).id (live_seen K.state live.new).log) notices.new.items }
     ensures stay { map bare notices.new.items ≡ map bare notices.old.items }
     ensures on { GoesOn (live_seen K.state live.old) (live_seen K.state live.new) }
-    ensures gone { IfOk result (λ ran. HasGone ran replies.now notices.old.items (live_seen K.state live.old) (live_seen K.state live.new)) }
+    ensures gone { IfOk result (λ ran. HasGone ran replies.now notices.old.items (live_seen K.state live.old)
+        (live_seen K.state live.new)) }
     ensures err { OnErr result (live_seen K.state live.new ≡ live_seen K.state live.old) }
-    ensures serving { (opening : KindState) (callers : List ℕ) (letters : List Letter) → IsServing opening callers replies.now letters (live_seen K.state live.old) notices.old.items → IsServing opening callers replies.now letters (live_seen K.state live.new) notices.new.items }
+    ensures serving { (opening : KindState) (callers : List ℕ) (letters : List Letter) →
+        IsServing opening callers replies.now letters (live_seen K.state live.old) notices.old.items →
+        IsServing opening callers replies.now letters (live_seen K.state live.new) notices.new.items }
 {
     let Some(at) = next_seat(live, replies, notices.as_slice()) else {
         return Ok(false);
@@ -151,16 +157,25 @@ fn take_turn<R: Wait, K: Actor, F: Fn(ActorId, u32)>(
 ) -> Turn
     requires callable { F.IsAlwaysCallable pass.now }
     requires mail { letters.old.line ≡ lines.now.mail.now.line }
-    requires seats { All (IsSeated lines.now.replies.now (live_seen K.state live.old).id (live_seen K.state live.old).log) notices.old.items }
+    requires seats { All (IsSeated lines.now.replies.now (live_seen K.state live.old).id
+        (live_seen K.state live.old).log) notices.old.items }
     requires differ { SeatsDiffer lines.now.replies.now notices.old.items }
     ensures letters { letters.new ≡ record letters.old { taken = letters.new.taken } }
-    ensures seats { All (IsSeated lines.now.replies.now (live_seen K.state live.new).id (live_seen K.state live.new).log) notices.new.items }
+    ensures seats { All (IsSeated lines.now.replies.now (live_seen K.state live.new).id
+        (live_seen K.state live.new).log) notices.new.items }
     ensures stay { map bare notices.new.items ≡ map bare notices.old.items }
     ensures on { GoesOn (live_seen K.state live.old) (live_seen K.state live.new) }
-    ensures moved { result ≡ Moved → length letters.old.taken + length (live_seen K.state live.old).log < length letters.new.taken + length (live_seen K.state live.new).log }
+    ensures moved { result ≡ Moved → length letters.old.taken + length
+        (live_seen K.state live.old).log < length letters.new.taken + length (live_seen K.state live.new).log }
     ensures starved { result ≡ Starved → (live_seen K.state live.new).log ≡ (live_seen K.state live.old).log }
-    ensures idle { result ≡ Idle → (letters.new ≡ letters.old) × HasGone false lines.now.replies.now notices.old.items (live_seen K.state live.old) (live_seen K.state live.new) }
-    ensures serving { (opening : KindState) (callers : List ℕ) → IsServing opening callers lines.now.replies.now letters.old.taken (live_seen K.state live.old) notices.old.items → IsServing opening callers lines.now.replies.now letters.new.taken (live_seen K.state live.new) notices.new.items }
+    ensures idle { result ≡ Idle → (letters.new ≡ letters.old) ×
+        HasGone false lines.now.replies.now notices.old.items (live_seen K.state live.old)
+        (live_seen K.state live.new) }
+    ensures serving { (opening : KindState) (callers : List ℕ) →
+        IsServing opening callers lines.now.replies.now letters.old.taken
+        (live_seen K.state live.old) notices.old.items →
+        IsServing opening callers lines.now.replies.now letters.new.taken
+        (live_seen K.state live.new) notices.new.items }
 {
     match take_letter(rt, live, lines, letters, notices, pass) {
         Err(_) => Turn::Starved,
@@ -226,7 +241,8 @@ pub fn serve_by<R: Wait, K: Actor, F: Fn(ActorId, u32)>(
     requires callable { F.IsAlwaysCallable pass.now }
     requires passes { let now = live_seen K.state live in PassesOf lines.now now.id now.log passes }
     requires fresh { IsFresh lines.now.replies.now (live_seen K.state live) passes }
-    ensures { let now = live_seen K.state live in HasServed now.state now.id lines.now.replies.now passes (end_seen K.state result.ended) result.passes }
+    ensures { let now = live_seen K.state live in
+        HasServed now.state now.id lines.now.replies.now passes (end_seen K.state result.ended) result.passes }
 {
     let mut patience = Patience::new();
     for _ in rt.forever() {
@@ -282,7 +298,8 @@ pub fn serve<R: Wait, K: Actor, G: Gate>(
 ) -> Finished<K>
     requires passes { let now = live_seen K.state live in PassesOf lines.now now.id now.log passes }
     requires fresh { IsFresh lines.now.replies.now (live_seen K.state live) passes }
-    ensures { let now = live_seen K.state live in HasServed now.state now.id lines.now.replies.now passes (end_seen K.state result.ended) result.passes }
+    ensures { let now = live_seen K.state live in
+        HasServed now.state now.id lines.now.replies.now passes (end_seen K.state result.ended) result.passes }
 {
     serve_by(
         rt,

@@ -71,6 +71,13 @@ pub enum Settled {
     Bad(FutureId),
 }
 
+/// What an empty place of a `FewOf` holds.
+impl Default for Settled {
+    fn default() -> Settled {
+        Settled::Good(Value::Unit)
+    }
+}
+
 impl CopyOf for Settled {
     fn copy_of(&self, alloc: Global) -> Result<Settled, NoMemory> {
         match self {

@@ -3,6 +3,7 @@
 
 mod call;
 mod fault;
+mod few_of;
 mod ids;
 mod limits;
 mod list_of;
@@ -13,6 +14,7 @@ mod value;
 
 pub use call::{Arg, Method, Settled};
 pub use fault::{Answer, Fault};
+pub use few_of::FewOf;
 pub use ids::{ActorId, CallerId, FutureId};
 pub use limits::{
     MOST_ACTORS, MOST_ARGS, MOST_CALLERS, MOST_CALLS, MOST_COPIES, MOST_ITEMS, MOST_KEYS,

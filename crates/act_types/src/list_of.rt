@@ -1,6 +1,6 @@
 //! A list of items, which contracts see as a list.
 
-ghost use Rattle.std.specs.Prelude.{◌≡◌, List, [], ◌∷◌, ◌++◌, IfOk, IfErr, OnOk, OnErr, IsOk, length};
+ghost use Rattle.std.specs.Prelude.{◌≡◌, ◌↔◌, List, [], ◌∷◌, ◌++◌, IfOk, IfErr, IsTrue, OnOk, OnErr, IsOk, length};
 ghost use Rattle.std.specs.Cmp.Lexicographic.{pointwise, lists_per, lists_equiv};
 
 use crate::{CopyOf, NoMemory};
@@ -66,6 +66,13 @@ impl<T> ListOf<T> {
         ensures { result ≡ length self.now }
     {
         self.vec.len()
+    }
+
+    /// Whether there are none.
+    pub fn is_empty(&self) -> bool
+        ensures { IsTrue result ↔ (self.now ≡ []) }
+    {
+        self.vec.is_empty()
     }
 
     /// Adds an item at the end.

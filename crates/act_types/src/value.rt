@@ -8,8 +8,9 @@ use std::alloc::Global;
 use std::fmt;
 
 /// What a call carries, and what it answers.
-#[derive(Debug, Drop, PartialEq, Eq)]
+#[derive(Debug, Default, Drop, PartialEq, Eq)]
 pub enum Value {
+    #[default]
     Unit,
     Int(i64),
     Text(Text),

@@ -12,7 +12,7 @@ use Rattle.act_rules.specs.RunList.{Answer, after_item}
 use Rattle.act_rules.specs.Submissions.{kept_at}
 use Rattle.act_rules.proofs.KindFaults.{answer_alive}
 use Rattle.act_owner.specs.Owner.{OwnerValue, after_collect, is_death}
-use Rattle.act_world.proofs.Hearing.{alive_is}
+use Rattle.act_world.proofs.Answering.{alive_is}
 use Rattle.act_actor.specs.Actor.{item_of}
 use Rattle.act_uses.specs.OneCall.{asking, question, asked}
 

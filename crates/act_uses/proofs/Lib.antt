@@ -1,2 +1,5 @@
 pub mod Hearing
 pub mod Playing
+pub mod Peace
+pub mod Casts
+pub mod Fits

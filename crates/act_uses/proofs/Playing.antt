@@ -4,7 +4,7 @@ use Rattle.std.proofs.lemmas.List.{take-append-drop, take_all}
 use Rattle.std.proofs.Math.Seq.{take-add}
 use Rattle.act_rules.specs.declared.event.Event.{Event}
 use Rattle.act_rules.specs.History.{History, opening}
-use Rattle.act_rules.specs.Laws.{world as history}
+use Rattle.act_rules.specs.Laws.{history}
 use Rattle.act_rules.specs.Rules.{Outcome, after_all, outcomes}
 use Rattle.act_rules.proofs.Steps.{after_all-append, outcomes-append}
 use Rattle.act_world.specs.Value.{WorldSeen}

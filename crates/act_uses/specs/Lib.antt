@@ -1,3 +1,4 @@
 pub mod Fronts
 pub mod OneCall
+pub mod Peaceful
 pub mod Scripts

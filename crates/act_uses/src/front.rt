@@ -19,7 +19,9 @@ use std::alloc::Global;
 
 /// Does one event where there is room for it. A refused event is one that happened, too.
 fn step<K: Actor>(world: &mut World<K>, event: &Event) -> Result<(), NoMemory>
-    ensures { OnOk result ((casts : List Casting) (before : List Happening) → Stands casts before (world_seen K.state world.old) → Stands casts (before ++ event.now ∷ []) (world_seen K.state world.new)) }
+    ensures { OnOk result ((casts : List Casting) (before : List Happening) →
+        Stands casts before (world_seen K.state world.old) →
+        Stands casts (before ++ event.now ∷ []) (world_seen K.state world.new)) }
 {
     if !world.has_room(1) {
         return Err(NoMemory);
@@ -88,7 +90,9 @@ pub fn ran_of<K: Actor>(
 ) -> Result<Vec<(u32, FutureId)>, NoMemory>
     ensures ran { IfOk result (λ ran. ran.items ≡ ran_in (world_seen K.state world.now) a c) }
     // They are a front of those that the caller submitted: in order, with no gap, and each once.
-    ensures front { IfOk result (λ ran. (casts : List Casting) (events : List Happening) → Stands casts events (world_seen K.state world.now) → IsFront ran.items (submitted_in (world_seen K.state world.now) a c)) }
+    ensures front { IfOk result (λ ran. (casts : List Casting) (events : List Happening) →
+        Stands casts events (world_seen K.state world.now) →
+        IsFront ran.items (submitted_in (world_seen K.state world.now) a c)) }
 {
     world.consistent();
     let ran = listed(alloc, world, a, c)?;

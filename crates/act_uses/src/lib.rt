@@ -4,6 +4,7 @@
 mod front;
 mod one_call;
 mod patient;
+mod peaceful;
 mod played;
 #[cfg(test)]
 mod tests;
@@ -11,4 +12,5 @@ mod tests;
 pub use front::{ran_of, world_after};
 pub use one_call::{Heard, ask_once};
 pub use patient::play_patiently;
+pub use peaceful::{Kinds, PeaceFault, are_peaceful, run_in_peace, serve_each_kind};
 pub use played::{PartFault, play_part};

@@ -45,7 +45,15 @@ fn ran<K: Actor>(alloc: Global, kind: K, packet: Packet) -> Result<(Live<K>, Rep
     requires actor { packet.actor ≡ 1 }
     requires first { packet.number ≡ 0 }
     ensures state { IfOk result (λ ran. (live_seen K.state ran.0).state ≡ (after_item (K.state kind) (item_of packet)).0) }
-    ensures reply { IfOk result (λ ran. ran.1 ≡ record { actor = 1; caller = 1; future = packet.future; place = 0; answer = (after_item (K.state kind) (item_of packet)).1 }) }
+    ensures reply { IfOk result (λ ran. ran.1 ≡
+        record {
+          actor = 1;
+          caller = 1;
+          future = packet.future;
+          place = 0;
+          answer =
+              (after_item (K.state kind) (item_of packet)).1;
+        }) }
 {
     let c = CallerId::new(1).unwrap();
     let a = ActorId::new(1).unwrap();

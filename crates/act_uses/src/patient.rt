@@ -16,8 +16,11 @@ pub fn play_patiently<K: Actor>(
     tries: u32,
 ) -> Result<(), usize>
     // The same as if memory had never been refused: no event is lost, and none is done twice.
-    ensures ok { OnOk result (Played events.now (world_seen K.state world.old) (world_seen K.state world.new) told.old.items told.new.items) }
-    ensures err { IfErr result (λ place. Played (take place events.now) (world_seen K.state world.old) (world_seen K.state world.new) told.old.items told.new.items) }
+    ensures ok { OnOk result (Played events.now (world_seen K.state world.old)
+        (world_seen K.state world.new) told.old.items told.new.items) }
+    ensures err { IfErr result (λ place.
+        Played (take place events.now) (world_seen K.state world.old)
+        (world_seen K.state world.new) told.old.items told.new.items) }
 {
     let mut place: usize = 0;
     for _attempt in 0..tries {

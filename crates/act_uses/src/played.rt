@@ -58,9 +58,13 @@ pub fn play_part<K: Actor>(
     count: usize,
     told: &mut Vec<Outcome>,
 ) -> Result<(), PartFault>
-    ensures ok { OnOk result ((script : Spelled) → spelled Play bytes.now ≡ Ok script → Played (take count script.events) (world_seen K.state world.old) (world_seen K.state world.new) told.old.items told.new.items) }
+    ensures ok { OnOk result ((script : Spelled) → spelled Play bytes.now ≡ Ok script →
+        Played (take count script.events) (world_seen K.state world.old)
+        (world_seen K.state world.new) told.old.items told.new.items) }
     // A stop at a place has played the events before it, and any other `Err` none.
-    ensures err { IfErr result (λ fault. PlayedBefore fault (spelled Play bytes.now) count (world_seen K.state world.old) (world_seen K.state world.new) told.old.items told.new.items) }
+    ensures err { IfErr result (λ fault.
+        PlayedBefore fault (spelled Play bytes.now) count (world_seen K.state world.old)
+        (world_seen K.state world.new) told.old.items told.new.items) }
     // A fault with its line is the script's first one.
     ensures fault { IfErr result (λ fault. IsFaultOf fault (spelled Play bytes.now)) }
 {

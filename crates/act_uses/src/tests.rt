@@ -1,8 +1,13 @@
 //! Each caller once, where memory is there.
 
-use crate::{ask_once, play_part, play_patiently, ran_of, world_after};
+use crate::{
+    Kinds, PeaceFault, ask_once, play_part, play_patiently, ran_of, run_in_peace, serve_each_kind,
+    world_after,
+};
 use act_actor::cast_fits;
-use act_kinds::{Account, Counter};
+use act_executor::Plan;
+use act_kinds::{Account, Boxed, Counter, ListKind, Table};
+use act_rules::Step;
 use act_types::{ActorId, Arg, CallerId, FutureId, ListOf, Method, NoMemory, Value};
 use act_world::{Cast, Event, World};
 use std::alloc::Global;
@@ -88,5 +93,78 @@ fn a_part_of_a_script_is_played(rt: HostRuntime) -> Result<(), Fail> {
     let mut told = Vec::new(alloc);
     assert_eq!(rt; play_part(alloc, &mut world, script, 2, &mut told), Ok(()));
     assert_eq!(rt; told.len(), 2);
+    Ok(())
+}
+
+/// A kind of each sort, in a box.
+fn boxes(alloc: Global) -> Result<Kinds, NoMemory> {
+    let counter: Boxed = Box::new(alloc, Counter::open())?;
+    let table: Boxed = Box::new(alloc, Table::open(alloc))?;
+    let account: Boxed = Box::new(alloc, Account::open())?;
+    let list: Boxed = Box::new(alloc, ListKind::open(alloc))?;
+    Ok(Kinds {
+        counter,
+        table,
+        account,
+        list,
+    })
+}
+
+fn number(alloc: Global, number: i64) -> Result<ListOf<Arg>, NoMemory> {
+    let mut args = ListOf::new(alloc);
+    args.push(Arg::Plain(Value::Int(number)))?;
+    Ok(args)
+}
+
+/// A call for each of the four kinds.
+fn four_calls(alloc: Global) -> Result<Plan, NoMemory> {
+    let a1 = ActorId::new(1).unwrap();
+    let a2 = ActorId::new(2).unwrap();
+    let a3 = ActorId::new(3).unwrap();
+    let a4 = ActorId::new(4).unwrap();
+    let mut plan = Vec::new(alloc);
+    plan.push(Step::Submit(a1, Method::Add, number(alloc, 5)?))?;
+    plan.push(Step::Submit(a2, Method::Size, ListOf::new(alloc)))?;
+    plan.push(Step::Submit(a3, Method::Deposit, number(alloc, 10)?))?;
+    plan.push(Step::Submit(a4, Method::Push, number(alloc, 7)?))?;
+    Ok(plan)
+}
+
+#[test]
+fn each_kind_answers_in_its_box(rt: HostRuntime) -> Result<(), Fail> {
+    let alloc = rt.alloc();
+    let c1 = CallerId::new(1).unwrap();
+    let joined = serve_each_kind(&rt, alloc, c1, boxes(alloc)?, four_calls(alloc)?)?;
+    assert_eq!(rt; joined.owners.len(), 1);
+    for owner in &joined.owners {
+        assert!(rt; matches!(owner.answer(FutureId::new(0)), Some(Ok(Value::Int(5)))));
+        assert!(rt; matches!(owner.answer(FutureId::new(1)), Some(Ok(Value::Int(0)))));
+        assert!(rt; matches!(owner.answer(FutureId::new(2)), Some(Ok(Value::Int(10)))));
+        assert!(rt; matches!(owner.answer(FutureId::new(3)), Some(Ok(Value::Int(1)))));
+    }
+    Ok(())
+}
+
+#[test]
+fn a_plan_with_a_kill_is_no_peace(rt: HostRuntime) -> Result<(), Fail> {
+    let alloc = rt.alloc();
+    let c1 = CallerId::new(1).unwrap();
+    let mut plan = four_calls(alloc)?;
+    plan.push(Step::Kill(ActorId::new(3).unwrap()))?;
+    let refused = serve_each_kind(&rt, alloc, c1, boxes(alloc)?, plan).err();
+    assert_eq!(rt; refused, Some(PeaceFault::EndsAnActor));
+    Ok(())
+}
+
+#[test]
+fn a_plan_of_a_stranger_is_unfit(rt: HostRuntime) -> Result<(), Fail> {
+    let alloc = rt.alloc();
+    let a1 = ActorId::new(1).unwrap();
+    let c1 = CallerId::new(1).unwrap();
+    let c2 = CallerId::new(2).unwrap();
+    let mut plans = Vec::new(alloc);
+    plans.push((c2, Vec::new(alloc)))?;
+    let refused = run_in_peace(&rt, alloc, account(alloc, a1, c1)?, plans).err();
+    assert_eq!(rt; refused, Some(PeaceFault::Unfit));
     Ok(())
 }

@@ -1,5 +1,5 @@
 -- How a world goes on where one of its actors changes, or nothing does.
-use Rattle.std.proofs.Common.{◌≡◌, ◌≢◌, ℕ, zero, suc, ◌<◌, true, false, List, [], ◌∷◌, length, map, get_or, Some, None, inl, inr, refl, ap, sym, ◌∙◌, subst}
+use Rattle.std.proofs.Common.{◌≡◌, ◌≢◌, ℕ, ◌<◌, true, false, List, length, map, get_or, Some, None, inl, inr, refl, ap, sym, ◌∙◌, subst}
 use Rattle.std.specs.Prelude.{Option, Result, Ok, Err, OnErr, slice_get, slice_set, option_map}
 use Rattle.std.proofs.lemmas.Bool.Decides.{eqb_tells}
 use Rattle.std.proofs.lemmas.Option.{slice_get-map, slice_get-get_or, get_or_from_slice_get}
@@ -11,6 +11,7 @@ use Rattle.act_rules.specs.Rules.{refusal_of, did, added, outcome_of, after}
 use Rattle.act_world.specs.Value.{SlotSeen, Runs, Died, Ended, Vacant, WorldSeen}
 use Rattle.act_world.specs.Slots.{is_live_seen}
 use Rattle.act_world.specs.Ties.{IsStage, Ties}
+use Rattle.act_world.proofs.Lists.{get_set-same, get_set-other}
 
 -- ---- what is told, and what stands after
 
@@ -30,23 +31,6 @@ on_err (Ok value) holds = tt
 on_err (Err error) holds = holds
 
 -- ---- slots
-
-pub get_set-same : {X : Type 0} (xs : List X) (i : ℕ) (x y : X) → slice_get xs i ≡ Some x → slice_get (slice_set xs i y) i ≡ Some y
-get_set-same [] i x y e = cc
-get_set-same (z ∷ xs) zero x y e = refl
-get_set-same (z ∷ xs) (suc i) x y e = get_set-same xs i x y e
-
-pub get_set-other : {X : Type 0} (xs : List X) (i j : ℕ) (y : X) → i ≢ j → slice_get (slice_set xs i y) j ≡ slice_get xs j
-get_set-other [] i j y apart = refl
-get_set-other (z ∷ xs) zero zero y apart = absurd (apart refl)
-get_set-other (z ∷ xs) zero (suc j) y apart = refl
-get_set-other (z ∷ xs) (suc i) zero y apart = refl
-get_set-other (z ∷ xs) (suc i) (suc j) y apart = get_set-other xs i j y (λ e. apart (ap suc e))
-
-pub set-same : {X : Type 0} (xs : List X) (i : ℕ) (x : X) → slice_get xs i ≡ Some x → slice_set xs i x ≡ xs
-set-same [] i x e = cc
-set-same {X = X} (z ∷ xs) zero x e = let same : z ≡ x = cc in ap (λ (w : X). w ∷ xs) (sym same)
-set-same {X = X} (z ∷ xs) (suc i) x e = ap (λ (ys : List X). z ∷ ys) (set-same xs i x e)
 
 -- one actor changes, and none of the others
 pub stages_change : (h g : History) (slots : List SlotSeen) (a : ℕ) (old new : SlotSeen) → ((b : ℕ) → IsStage h b (slice_get slots b)) → slice_get slots a ≡ Some old → IsStage g a (Some new)

@@ -15,7 +15,7 @@ use Rattle.act_rules.specs.declared.outcome.WorldRefusal.TheVariants.{Handle, Ac
 use Rattle.act_rules.specs.RunList.{Answer, items_of, has_terminated}
 use Rattle.act_rules.specs.Submissions.{needs}
 use Rattle.act_rules.specs.Consistent.{Consistent}
-use Rattle.act_rules.specs.Laws.{world as history}
+use Rattle.act_rules.specs.Laws.{history}
 use Rattle.act_rules.specs.History.{Casting, History, opening, contains, cast_of, opening_of, names, is_caller, calls_of, runs_of, ran_count, kept_of, first_answer, has_letter, is_dead, is_retired, is_ended, next_item}
 use Rattle.act_rules.specs.Rules.{refusal_of, after_run}
 use Rattle.act_rules.proofs.Steps.{IsKept, after_all_keeps}

@@ -18,7 +18,8 @@ use Rattle.act_world.specs.Exchange.{ExchangeValue}
 use Rattle.act_world.specs.Value.{SlotSeen, Runs, Died, Ended, Vacant}
 use Rattle.act_world.specs.Slots.{killed}
 use Rattle.act_world.specs.Ties.{IsLive, IsDead, IsStage, Ties}
-use Rattle.act_world.proofs.Changes.{refused_follows, accepted_follows, get_set-same, get_set-other, set-same}
+use Rattle.act_world.proofs.Changes.{refused_follows, accepted_follows}
+use Rattle.act_world.proofs.Lists.{get_set-same, get_set-other, set-same}
 use Rattle.act_world.proofs.Lawful.{IsLawful}
 use Rattle.act_world.proofs.Frames.{same_caller, owners_stay, mail_stays, replies_stay, stage_stays, dead_same}
 

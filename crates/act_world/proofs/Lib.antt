@@ -1,3 +1,4 @@
+pub mod Lists
 pub mod Lawful
 pub mod Frames
 pub mod Playing
@@ -14,10 +15,21 @@ pub mod Telling
 pub mod Changes
 pub mod Seeing
 pub mod Making
+pub mod Mail
+pub mod CallsBrought
+pub mod NotesBrought
 pub mod Delivering
+pub mod NextCall
+pub mod RanOn
+pub mod Replying
 pub mod Running
 pub mod Retiring
-pub mod Hearing
+pub mod Tables
+pub mod Heard
+pub mod Bereaved
+pub mod Numbered
+pub mod Answering
+pub mod Collecting
 pub mod Headline
 pub mod OpenedOwners
 pub mod OpenedSlots

@@ -10,11 +10,10 @@ use Rattle.act_rules.specs.History.{History, cast_of, names, is_caller, calls_of
 use Rattle.act_rules.proofs.AsSubmitted.{IsCallTo, calls_to-at}
 use Rattle.act_rules.proofs.Letters.{calls_to-number}
 use Rattle.act_owner.specs.Owner.{OwnerValue, packet_at}
-use Rattle.act_world.specs.Exchange.{is_owner}
-use Rattle.act_world.specs.Slots.{IsPacketOf}
+use Rattle.act_world.specs.Exchange.{is_owner, head_of, packet_in}
 use Rattle.act_world.specs.Ties.{IsOwnerOf, IsOwnerAt, note_as, packet_as}
 use Rattle.act_world.proofs.Lawful.{named_caller}
-use Rattle.act_world.proofs.Hearing.{one_number}
+use Rattle.act_world.proofs.Numbered.{one_number}
 
 abbrev made : ℕ → ℕ → ℕ → ℕ → List (Option Answer) → Submission → Packet
 made c a n k kept call = record { caller = c; actor = a; number = n; future = k; method = call.method; args = map (settled kept) call.args }
@@ -39,8 +38,8 @@ made_by h c a n call owner is at =
 
 -- the caller makes the packet that the history tells
 pub made_there : (h : History) (owners : List OwnerValue) (c a n : ℕ) (call : ℕ × Submission) → ((d : ℕ) → IsOwnerAt h d (find (is_owner d) owners)) → names c (cast_of a h) ≡ true → slice_get (calls_to a (calls_of c h)) n ≡ Some call
-    → IsPacketOf owners (note_as c a n call) (packet_as h c a n call)
-made_there h owners c a n call all named at = record { made = go (find (is_owner c) owners) (all c); caller = refl; actor = refl; number = refl }
+    → packet_in owners (head_of (note_as c a n call)) ≡ Some (packet_as h c a n call)
+made_there h owners c a n call all named at = go (find (is_owner c) owners) (all c)
   where
     go : (found : Option OwnerValue) → IsOwnerAt h c found → option_and_then (λ (owner : OwnerValue). packet_at owner call.0) found ≡ Some (packet_as h c a n call)
     go None is = let caller : is_caller c h ≡ true = named_caller c a h named in cc

@@ -5,7 +5,7 @@ use Rattle.std.proofs.lemmas.Option.{slice_get-get_or}
 use Rattle.std.proofs.lemmas.List.{take_more}
 use Rattle.act_rules.specs.declared.event.Event.{Event}
 use Rattle.act_rules.specs.History.{Casting, History, opening}
-use Rattle.act_rules.specs.Laws.{world as history}
+use Rattle.act_rules.specs.Laws.{history}
 use Rattle.act_rules.specs.Rules.{Outcome, after, after_all, outcome_of, outcomes}
 use Rattle.act_rules.proofs.Steps.{after_all-append, outcomes-append}
 use Rattle.act_world.specs.Exchange.{ExchangeValue}

@@ -11,7 +11,7 @@ use Rattle.act_rules.specs.declared.outcome.Did.TheVariants.{Retired}
 use Rattle.act_rules.specs.declared.outcome.HandleRefusal.TheVariants.{NoActor}
 use Rattle.act_rules.specs.declared.outcome.WorldRefusal.{WorldRefusal}
 use Rattle.act_rules.specs.declared.outcome.WorldRefusal.TheVariants.{Handle, ActorEnded, NotDrained}
-use Rattle.act_rules.specs.Laws.{world as history}
+use Rattle.act_rules.specs.Laws.{history}
 use Rattle.act_rules.specs.Submissions.{needs}
 use Rattle.act_rules.specs.History.{History, contains, cast_of, callers_in, names, ran_count, is_ended, is_dead, is_retired, is_done, is_drained}
 use Rattle.act_rules.specs.Rules.{Outcome, refusal_of, outcome_of, after}
@@ -26,7 +26,8 @@ use Rattle.act_world.specs.Ties.{is_note, IsLive, IsRetired, IsStage, Ties}
 use Rattle.act_world.specs.Stands.{Follows}
 use Rattle.act_world.proofs.Lawful.{IsLawful, world_lawful}
 use Rattle.act_world.proofs.Frames.{same_caller, owners_stay, still_lives, stage_stays}
-use Rattle.act_world.proofs.Changes.{refused_follows, accepted_follows, set-same, stages_change, slot_within}
+use Rattle.act_world.proofs.Changes.{refused_follows, accepted_follows, stages_change, slot_within}
+use Rattle.act_world.proofs.Lists.{set-same}
 
 -- ---- drained, as the actor and as the history tells
 

@@ -27,7 +27,8 @@ use Rattle.act_world.specs.declared.exchange.Mailed.TheVariants.{Call as MailedC
 use Rattle.act_world.specs.Exchange.{ExchangeValue, is_owner}
 use Rattle.act_world.specs.Value.{SlotSeen, WorldSeen}
 use Rattle.act_world.specs.Ties.{IsOwnerOf, mailed, Ties}
-use Rattle.act_world.proofs.Changes.{refused_follows, accepted_follows, get_set-same, get_set-other}
+use Rattle.act_world.proofs.Changes.{refused_follows, accepted_follows}
+use Rattle.act_world.proofs.Lists.{get_set-same, get_set-other}
 use Rattle.act_world.proofs.Lawful.{IsLawful, has_letter-last, is_letter-same}
 use Rattle.act_world.proofs.Frames.{SameCaller, owners_change, owner_here, owner_absent, mail_stays, replies_stay, go_together, stages_stay}
 

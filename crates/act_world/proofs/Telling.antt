@@ -1,26 +1,25 @@
 -- A dead actor that tells a caller its death.
 use Rattle.std.proofs.Common.{◌≡◌, ℕ, ◌+◌, Bool, true, false, List, [], ◌∷◌, ◌++◌, length, Some, None, refl, ap, sym, ◌∙◌, subst, Ok, Err, length-append}
-use Rattle.std.specs.Prelude.{◌||◌, position, is_some}
+use Rattle.std.specs.Prelude.{◌||◌, find, slice_get}
 use Rattle.act_types.specs.declared.message.Notice.TheVariants.{Death}
 use Rattle.act_rules.specs.declared.event.Event.TheVariants.{Tell}
 use Rattle.act_rules.specs.declared.history.Post.TheVariants.{Death as DeathPost}
 use Rattle.act_rules.specs.declared.outcome.Did.TheVariants.{Told}
-use Rattle.act_rules.specs.declared.outcome.HandleRefusal.TheVariants.{NoActor}
-use Rattle.act_rules.specs.declared.outcome.WorldRefusal.TheVariants.{Handle, NoCaller, NotDead}
+use Rattle.act_rules.specs.declared.outcome.WorldRefusal.{WorldRefusal}
+use Rattle.act_rules.specs.declared.outcome.WorldRefusal.TheVariants.{NotDead}
+use Rattle.act_rules.specs.Submissions.{needs}
 use Rattle.act_rules.specs.History.{History, cast_of, names, is_caller, is_dead, is_retired}
 use Rattle.act_rules.specs.Rules.{did, refusal_of, outcome_of, added, after}
 use Rattle.act_rules.proofs.Growth.{added_grows}
-use Rattle.act_handles.specs.Handles.{copies_in}
-use Rattle.act_owner.specs.Owner.{OwnerValue}
 use Rattle.act_world.specs.declared.exchange.Posted.{Posted}
-use Rattle.act_world.specs.Exchange.{ExchangeValue, is_owner}
+use Rattle.act_world.specs.Exchange.{ExchangeValue, is_owner, naming_refusal}
 use Rattle.act_world.specs.Value.{SlotSeen, Runs, Died, Ended, Vacant}
 use Rattle.act_world.specs.Slots.{is_dead_seen}
 use Rattle.act_world.specs.Ties.{IsStage, posted, Ties}
 use Rattle.act_world.proofs.Changes.{refused_follows, accepted_follows}
 use Rattle.act_world.proofs.Lawful.{IsLawful}
-use Rattle.act_world.proofs.Seeing.{WorldSees, known}
-use Rattle.act_world.proofs.Frames.{same_caller, owners_stay, owner_absent, mail_stays, replies_stay, go_together, stages_stay}
+use Rattle.act_world.proofs.Seeing.{refused, known}
+use Rattle.act_world.proofs.Frames.{same_caller, owners_stay, mail_stays, replies_stay, go_together, stages_stay}
 
 -- ---- what the caller and the slot tell
 
@@ -41,43 +40,30 @@ dead_is h c a Vacant is named = let none = unnamed h c a is in let bad : true �
 
 -- ---- what refuses the event
 
-refuses_stranger : (h : History) (a c : ℕ) → is_caller c h ≡ true → names c (cast_of a h) ≡ false → refusal_of h (Tell a c) ≡ Some (Handle NoActor)
-refuses_stranger h a c caller named = rw (caller, named) refl
-
 refuses_living : (h : History) (a c : ℕ) → is_caller c h ≡ true → names c (cast_of a h) ≡ true → is_dead a h ≡ false → refusal_of h (Tell a c) ≡ Some NotDead
 refuses_living h a c caller named dead = rw (caller, named, dead) refl
 
 refuses_none : (h : History) (a c : ℕ) → is_caller c h ≡ true → names c (cast_of a h) ≡ true → is_dead a h ≡ true → refusal_of h (Tell a c) ≡ None
 refuses_none h a c caller named dead = rw (caller, named, dead) refl
 
-refuses_all : (h : History) (a c : ℕ) → is_caller c h ≡ false → refusal_of h (Tell a c) ≡ Some NoCaller
-refuses_all h a c caller = rw caller refl
-
 -- ---- the event that is refused, and that is not
 
-pub tell_no_caller : (h : History) (exchange : ExchangeValue) (slots : List SlotSeen) (a c : ℕ) → Ties h (record { exchange = exchange; slots = slots }) → position (is_owner c) exchange.owners ≡ None
-    → (Err NoCaller ≡ outcome_of h (Tell a c)) × Ties (after h (Tell a c)) (record { exchange = exchange; slots = slots })
-tell_no_caller h exchange slots a c ties none = refused_follows h (Tell a c) NoCaller (record { exchange = exchange; slots = slots }) (refuses_all h a c (owner_absent h exchange.owners c ties.owners none)) ties
+pub tell_refused : (h : History) (exchange : ExchangeValue) (slots : List SlotSeen) (a c : ℕ) (refusal : WorldRefusal) → Ties h (record { exchange = exchange; slots = slots }) → naming_refusal (find (is_owner c) exchange.owners) a ≡ Some refusal
+    → (Err refusal ≡ outcome_of h (Tell a c)) × Ties (after h (Tell a c)) (record { exchange = exchange; slots = slots })
+tell_refused h exchange slots a c refusal ties refuses =
+    refused_follows h (Tell a c) refusal (record { exchange = exchange; slots = slots }) (refused h exchange.owners c a ties.owners refusal (needs (is_dead a h) NotDead None) refuses) ties
 
-pub tell_stranger : (h : History) (exchange : ExchangeValue) (slots : List SlotSeen) (a c place : ℕ) (owner : OwnerValue) (slot : SlotSeen) → Ties h (record { exchange = exchange; slots = slots }) → WorldSees exchange slots a c place owner slot → is_some (copies_in a owner.handles) ≡ false
-    → (Err (Handle NoActor) ≡ outcome_of h (Tell a c)) × Ties (after h (Tell a c)) (record { exchange = exchange; slots = slots })
-tell_stranger h exchange slots a c place owner slot ties sees stranger =
-    let here = known h exchange slots a c place owner slot sees ties in
-    refused_follows h (Tell a c) (Handle NoActor) (record { exchange = exchange; slots = slots }) (refuses_stranger h a c here.0 (sym here.1 ∙ stranger)) ties
-
-pub tell_living : (h : History) (exchange : ExchangeValue) (slots : List SlotSeen) (a c place : ℕ) (owner : OwnerValue) (slot : SlotSeen) → Ties h (record { exchange = exchange; slots = slots }) → WorldSees exchange slots a c place owner slot → is_some (copies_in a owner.handles) ≡ true → is_dead_seen slot ≡ false
+pub tell_living : (h : History) (exchange : ExchangeValue) (slots : List SlotSeen) (a c : ℕ) (slot : SlotSeen) → Ties h (record { exchange = exchange; slots = slots }) → slice_get slots a ≡ Some slot → naming_refusal (find (is_owner c) exchange.owners) a ≡ None → is_dead_seen slot ≡ false
     → (Err NotDead ≡ outcome_of h (Tell a c)) × Ties (after h (Tell a c)) (record { exchange = exchange; slots = slots })
-tell_living h exchange slots a c place owner slot ties sees listed lives =
-    let here = known h exchange slots a c place owner slot sees ties in
-    let named = sym here.1 ∙ listed in
-    refused_follows h (Tell a c) NotDead (record { exchange = exchange; slots = slots }) (refuses_living h a c here.0 named (sym (dead_is h c a slot (subst (IsStage h a) sees.slot_is (ties.actors a)) named) ∙ lives)) ties
+tell_living h exchange slots a c slot ties there free lives =
+    let here = known h exchange.owners c a ties.owners free in
+    refused_follows h (Tell a c) NotDead (record { exchange = exchange; slots = slots }) (refuses_living h a c here.0 here.1 (sym (dead_is h c a slot (subst (IsStage h a) there (ties.actors a)) here.1) ∙ lives)) ties
 
-pub tell_unrefused : (h : History) (exchange : ExchangeValue) (slots : List SlotSeen) (a c place : ℕ) (owner : OwnerValue) (slot : SlotSeen) → Ties h (record { exchange = exchange; slots = slots }) → WorldSees exchange slots a c place owner slot → is_some (copies_in a owner.handles) ≡ true → is_dead_seen slot ≡ true
+pub tell_unrefused : (h : History) (exchange : ExchangeValue) (slots : List SlotSeen) (a c : ℕ) (slot : SlotSeen) → Ties h (record { exchange = exchange; slots = slots }) → slice_get slots a ≡ Some slot → naming_refusal (find (is_owner c) exchange.owners) a ≡ None → is_dead_seen slot ≡ true
     → refusal_of h (Tell a c) ≡ None
-tell_unrefused h exchange slots a c place owner slot ties sees listed dead =
-    let here = known h exchange slots a c place owner slot sees ties in
-    let named = sym here.1 ∙ listed in
-    refuses_none h a c here.0 named (sym (dead_is h c a slot (subst (IsStage h a) sees.slot_is (ties.actors a)) named) ∙ dead)
+tell_unrefused h exchange slots a c slot ties there free dead =
+    let here = known h exchange.owners c a ties.owners free in
+    refuses_none h a c here.0 here.1 (sym (dead_is h c a slot (subst (IsStage h a) there (ties.actors a)) here.1) ∙ dead)
 
 -- ---- the notice
 
@@ -97,10 +83,10 @@ told_ties h exchange slots a c lawful ties =
       asked = ties.asked;
     }
 
-pub tell_follows : (h : History) (exchange : ExchangeValue) (slots : List SlotSeen) (a c place j : ℕ) (owner : OwnerValue) (slot : SlotSeen) (replies : List Posted) → IsLawful h → Ties h (record { exchange = exchange; slots = slots }) → WorldSees exchange slots a c place owner slot
-    → is_some (copies_in a owner.handles) ≡ true → is_dead_seen slot ≡ true → j ≡ length exchange.replies → replies ≡ exchange.replies ++ record { caller = c; notice = Death a } ∷ []
+pub tell_follows : (h : History) (exchange : ExchangeValue) (slots : List SlotSeen) (a c j : ℕ) (slot : SlotSeen) (replies : List Posted) → IsLawful h → Ties h (record { exchange = exchange; slots = slots }) → slice_get slots a ≡ Some slot
+    → naming_refusal (find (is_owner c) exchange.owners) a ≡ None → is_dead_seen slot ≡ true → j ≡ length exchange.replies → replies ≡ exchange.replies ++ record { caller = c; notice = Death a } ∷ []
     → (Ok (Told j) ≡ outcome_of h (Tell a c)) × Ties (after h (Tell a c)) (record { exchange = record exchange { replies = replies }; slots = slots })
-tell_follows h exchange slots a c place j owner slot replies lawful ties sees listed dead j_is replies_are =
-    let unrefused = tell_unrefused h exchange slots a c place owner slot ties sees listed dead in
+tell_follows h exchange slots a c j slot replies lawful ties there free dead j_is replies_are =
+    let unrefused = tell_unrefused h exchange slots a c slot ties there free dead in
     let count : j ≡ length h.posts = j_is ∙ ties.reply_count in
     rw (count, replies_are) (accepted_follows h (Tell a c) (did h (Tell a c)) (record { exchange = record exchange { replies = exchange.replies ++ record { caller = c; notice = Death a } ∷ [] }; slots = slots }) unrefused refl (told_ties h exchange slots a c lawful ties))

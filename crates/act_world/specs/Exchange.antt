@@ -1,10 +1,14 @@
 -- What contracts see of the callers, and of what is on its way.
-use Rattle.std.specs.Prelude.{ℕ, ◌==◌, Bool, List, [], find, Option, option_and_then, Ok, Err}
+use Rattle.std.specs.Prelude.{ℕ, ◌==◌, Bool, List, [], find, Option, Some, None, is_some, option_and_then, Ok, Err}
 use Rattle.act_types.specs.declared.call.Method.TheVariants.{Get}
 use Rattle.act_types.specs.declared.message.Packet.{Packet}
 use Rattle.act_rules.specs.declared.outcome.Did.TheVariants.{Kept, Late as DidLate, Died as DidDie}
-use Rattle.act_rules.specs.declared.outcome.WorldRefusal.TheVariants.{NoReply}
+use Rattle.act_rules.specs.declared.outcome.HandleRefusal.TheVariants.{NoActor}
+use Rattle.act_rules.specs.declared.outcome.WorldRefusal.{WorldRefusal}
+use Rattle.act_rules.specs.declared.outcome.WorldRefusal.TheVariants.{NoReply, NoCaller, Handle}
+use Rattle.act_rules.specs.Submissions.{needs}
 use Rattle.act_rules.specs.Rules.{Outcome}
+use Rattle.act_handles.specs.Handles.{copies_in}
 use Rattle.act_owner.specs.declared.owner.Collected.{Collected}
 use Rattle.act_owner.specs.declared.owner.Collected.TheVariants.{First, Late, Stray, Died}
 use Rattle.act_owner.specs.Owner.{OwnerValue, packet_at}
@@ -24,6 +28,11 @@ pub record ExchangeValue : Type 0 where
 abbrev pub is_owner : ℕ → OwnerValue → Bool
 is_owner c owner = owner.id == c
 
+-- why the caller cannot name the actor: it is no caller, or the actor is none of its own
+abbrev pub naming_refusal : Option OwnerValue → ℕ → Option WorldRefusal
+naming_refusal None a = Some NoCaller
+naming_refusal (Some owner) a = needs (is_some (copies_in a owner.handles)) (Handle NoActor) None
+
 -- what is told of a notice that a caller took
 abbrev pub told_collected : ℕ → Collected → Outcome
 told_collected c (First k) = Ok (Kept c k)
@@ -40,6 +49,10 @@ mailed_to (MailedNote note) = note.actor
 abbrev pub head_of : CallNote → Packet
 head_of call = record { caller = call.caller; actor = call.actor; number = call.number; future = call.future; method = Get; args = [] }
 
--- the packet that a call's caller makes of it
-abbrev pub packet_in : List OwnerValue → CallNote → Option Packet
-packet_in owners call = option_and_then (λ owner. packet_at owner call.future) (find (is_owner call.caller) owners)
+-- the packet that the caller of a call makes of it, where the call is told by its head
+abbrev pub packet_in : List OwnerValue → Packet → Option Packet
+packet_in owners head = option_and_then (λ owner. packet_at owner head.future) (find (is_owner head.caller) owners)
+
+-- the head of a call, filled in with what its caller's packet carries
+abbrev pub filled : Packet → Packet → Packet
+filled head packet = record head { method = packet.method; args = packet.args }

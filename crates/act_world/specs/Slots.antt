@@ -15,10 +15,10 @@ use Rattle.act_rules.specs.declared.outcome.WorldRefusal.{WorldRefusal}
 use Rattle.act_rules.specs.declared.outcome.WorldRefusal.TheVariants.{Handle, ActorEnded, NoKill, NotDrained}
 use Rattle.act_rules.specs.RunList.{has_terminated}
 use Rattle.act_rules.specs.Rules.{Outcome}
-use Rattle.act_inbox.specs.Inbox.{waiting, waiting_after, note_of, note_after}
+use Rattle.act_inbox.specs.Inbox.{IsTakenIn, IsNotedIn}
 use Rattle.act_actor.specs.Value.{ActorSeen}
 use Rattle.act_actor.specs.Actor.{arrival_at, note_arrival_at, reply_to, next_call, MayRetire, HasRun}
-use Rattle.act_world.specs.Exchange.{head_of, packet_in}
+use Rattle.act_world.specs.Exchange.{head_of, packet_in, filled}
 use Rattle.act_world.specs.Value.{SlotSeen, Runs, Died, Ended, Vacant}
 
 abbrev pub IsLiveSeen : SlotSeen → Type 0
@@ -37,28 +37,17 @@ is_dead_seen slot = false
 pub record HasTaken (packet : Packet) (arrival : Arrival) (old new : ActorSeen) : Type 0 where
   pub arrival_is : arrival ≡ arrival_at old.id old.inbox packet
   pub same : new ≡ record old { inbox = new.inbox }
-  pub lanes : new.inbox.lanes ≡ old.inbox.lanes
-  pub notes : (c : ℕ) → note_of new.inbox c ≡ note_of old.inbox c
-  pub waits : (c n : ℕ) → waiting new.inbox c n ≡ waiting_after arrival packet old.inbox c n
+  pub taken : IsTakenIn packet arrival old.inbox new.inbox
 
--- the packet is what the call's caller makes of it, and is of the call that is named
-pub record IsPacketOf (owners : List OwnerValue) (call : CallNote) (packet : Packet) : Type 0 where
-  pub made : packet_in owners call ≡ Some packet
-  pub caller : packet.caller ≡ call.caller
-  pub actor : packet.actor ≡ call.actor
-  pub number : packet.number ≡ call.number
-
--- the running actor took a call in, by the packet that its caller makes of it
+-- the running actor took a call in, which its caller filled in
 abbrev pub HasTakenCall : List OwnerValue → CallNote → Arrival → ActorSeen → ActorSeen → Type 0
-HasTakenCall owners call arrival old new = (packet : Packet) → IsPacketOf owners call packet → HasTaken packet arrival old new
+HasTakenCall owners call arrival old new = (packet : Packet) → packet_in owners (head_of call) ≡ Some packet → HasTaken (filled (head_of call) packet) arrival old new
 
 -- the running actor took a release note in
 pub record HasNoted (note : ReleaseNote) (arrival : Arrival) (old new : ActorSeen) : Type 0 where
   pub arrival_is : arrival ≡ note_arrival_at old.id old.inbox note
   pub same : new ≡ record old { inbox = new.inbox }
-  pub lanes : new.inbox.lanes ≡ old.inbox.lanes
-  pub held : new.inbox.held ≡ old.inbox.held
-  pub notes : (c : ℕ) → note_of new.inbox c ≡ note_after arrival note old.inbox c
+  pub noted : IsNotedIn note arrival old.inbox new.inbox
 
 -- the running actor took a letter in
 abbrev pub HasArrived : List OwnerValue → Mailed → Arrival → ActorSeen → ActorSeen → Type 0

@@ -2,7 +2,7 @@
 use Rattle.std.specs.Prelude.{◌≡◌, ℕ, ◌+◌, ◌<◌, ◌≤◌, Bool, true, false, List, ◌++◌, length, slice_get, None, Err, IfSome}
 use Rattle.act_rules.specs.declared.event.Event.{Event}
 use Rattle.act_rules.specs.declared.outcome.WorldRefusal.TheVariants.{NoMemory}
-use Rattle.act_rules.specs.Laws.{world as history}
+use Rattle.act_rules.specs.Laws.{history}
 use Rattle.act_rules.specs.History.{Casting}
 use Rattle.act_rules.specs.Rules.{Outcome, refusal_of, outcome_of, outcomes, after}
 use Rattle.act_world.specs.Exchange.{ExchangeValue}

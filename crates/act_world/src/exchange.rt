@@ -1,12 +1,14 @@
 //! The callers, and what is on its way between them and the actors.
 
-ghost use Rattle.std.specs.Prelude.{◌≡◌, IfOk, Some, find, position, option_copied, slice_get, is_some, unwrap_or, false};
-ghost use Rattle.act_handles.specs.Handles.{copies_in};
-ghost use Rattle.act_world.specs.Exchange.{is_owner, mailed_to, head_of, packet_in};
+ghost use Rattle.std.specs.Prelude.{◌≡◌, IfOk, IfSome, Some, Err, find, position, option_copied, slice_get, unwrap_or, false};
+ghost use Rattle.std.specs.Option.{option_map};
+ghost use Rattle.act_world.specs.Exchange.{is_owner, naming_refusal, mailed_to, head_of, packet_in, filled};
+ghost use Rattle.act_world.specs.Stands.{is_memory};
 
-use act_owner::{HandleRefusal, Owner};
+use act_owner::Owner;
+use act_rules::{HandleRefusal, WorldRefusal};
 use act_types::{
-    ActorId, CallerId, FutureId, ListOf, Method, NoMemory, Notice, Packet, ReleaseNote,
+    ActorId, CallerId, FewOf, FutureId, Method, NoMemory, Notice, Packet, ReleaseNote,
 };
 use std::alloc::Global;
 use std::marker::Model;
@@ -32,7 +34,7 @@ impl CallNote {
             number: self.number,
             future: self.future,
             method: Method::Get,
-            args: ListOf::new(alloc),
+            args: FewOf::new(alloc),
         }
     }
 }
@@ -94,16 +96,6 @@ pub(crate) fn place_of(owners: &[Owner], c: CallerId) -> Option<usize>
     owners.iter().position(|owner| owner.id() == c)
 }
 
-/// Whether the actor is one of the caller's.
-pub(crate) fn names(owner: &Owner, a: ActorId) -> bool
-    ensures { result ≡ is_some (copies_in a owner.now.handles) }
-{
-    match owner.ask_kill(a) {
-        Err(HandleRefusal::NoActor) => false,
-        _ => true,
-    }
-}
-
 impl Exchange {
     /// Where it asks for memory.
     pub(crate) fn alloc(&self) -> Global {
@@ -120,6 +112,20 @@ impl Exchange {
         Some(&self.owners[place])
     }
 
+    /// Why the caller cannot name the actor: it is none of these, or the actor is none of its own.
+    pub(crate) fn naming_refusal(&self, c: CallerId, a: ActorId) -> Option<WorldRefusal>
+        ensures refusal { result ≡ naming_refusal (find (is_owner c) self.now.owners) a }
+        ensures told { IfSome result (λ refusal. is_memory (Err refusal) ≡ false) }
+    {
+        let Some(owner) = self.owner(c) else {
+            return Some(WorldRefusal::NoCaller);
+        };
+        if !owner.is_listed(a) {
+            return Some(WorldRefusal::Handle(HandleRefusal::NoActor));
+        }
+        None
+    }
+
     /// The letter at a place of the mail.
     pub(crate) fn letter(&self, i: u32) -> Option<&Mailed>
         ensures { option_copied result ≡ slice_get self.now.mail i }
@@ -127,18 +133,22 @@ impl Exchange {
         self.mail.get(i as usize)
     }
 
-    /// The packet of a call that was sent. Its caller is one of these and refuses nothing, so only
-    /// memory is wanting where there is none.
-    pub(crate) fn packet_of(&self, call: &CallNote) -> Result<Packet, NoMemory>
-        ensures { IfOk result (λ packet. packet_in self.now.owners call.now ≡ Some packet) }
+    /// The packet of a call that was sent, which its caller fills in. The caller is one of these and
+    /// refuses nothing, so only memory is wanting where there is none.
+    pub(crate) fn filled(&self, head: Packet) -> Result<Packet, NoMemory>
+        ensures { IfOk result (λ packet. option_map (filled head) (packet_in self.now.owners head) ≡ Some packet) }
     {
-        let Some(owner) = self.owner(call.caller) else {
+        let Some(owner) = self.owner(head.caller) else {
             return Err(NoMemory);
         };
-        let Ok(packet) = owner.packet_of(self.alloc(), call.future) else {
+        let Ok(Packet { method, args, .. }) = owner.packet_of(self.alloc(), head.future) else {
             return Err(NoMemory);
         };
-        Ok(packet)
+        Ok(Packet {
+            method,
+            args,
+            ..head
+        })
     }
 
     /// Whether a kill of the actor was asked.

@@ -2,7 +2,6 @@
 #![tactic(auto)]
 
 mod callers;
-mod collecting;
 mod exchange;
 pub mod laws;
 mod opening;

@@ -37,7 +37,8 @@ fn add_owner<K>(
     c: CallerId,
 ) -> Result<(), NoMemory>
     requires fit { IsFitting casts.now }
-    ensures { OnOk result ((callers : List ℕ) → HasOwners casts.now callers owners.old.items → HasOwners casts.now (callers ++ c ∷ []) owners.new.items) }
+    ensures { OnOk result ((callers : List ℕ) → HasOwners casts.now callers owners.old.items →
+        HasOwners casts.now (callers ++ c ∷ []) owners.new.items) }
 {
     if place_of(owners.as_slice(), c).is_some() {
         return Ok(());
@@ -55,7 +56,8 @@ fn add_owners<K>(
     these: &[CallerId],
 ) -> Result<(), NoMemory>
     requires fit { IsFitting casts.now }
-    ensures { OnOk result ((callers : List ℕ) → HasOwners casts.now callers owners.old.items → HasOwners casts.now (callers ++ these.now) owners.new.items) }
+    ensures { OnOk result ((callers : List ℕ) → HasOwners casts.now callers owners.old.items →
+        HasOwners casts.now (callers ++ these.now) owners.new.items) }
 {
     for c in these {
         add_owner(alloc, owners, casts, *c)?;
@@ -94,7 +96,8 @@ fn vacant<K: Actor>() -> [Slot<K>; 9]
 
 /// Puts an actor in its slot.
 fn seat<K: Actor>(slots: &mut [Slot<K>; 9], a: ActorId, live: Live<K>)
-    ensures { (b : ℕ) → slice_get (map (slot_seen K.state) slots.new) b ≡ (if a == b then Some (Runs (live_seen K.state live)) else slice_get (map (slot_seen K.state) slots.old) b) }
+    ensures { (b : ℕ) → slice_get (map (slot_seen K.state) slots.new) b ≡
+        (if a == b then Some (Runs (live_seen K.state live)) else slice_get (map (slot_seen K.state) slots.old) b) }
 {
     slots[slot_of(a)] = Slot::Live(live);
 }
@@ -102,7 +105,9 @@ fn seat<K: Actor>(slots: &mut [Slot<K>; 9], a: ActorId, live: Live<K>)
 /// The actors, each in its opening state.
 fn slots_of<K: Actor>(alloc: Global, casts: Vec<Cast<K>>) -> Result<[Slot<K>; 9], NoMemory>
     requires fit { IsFitting casts.items }
-    ensures { IfOk result (λ slots. (a : ℕ) → IsStage (opening (map (casting K.state) casts.items)) a (slice_get (map (slot_seen K.state) slots) a)) }
+    ensures { IfOk result (λ slots.
+        (a : ℕ) → IsStage (opening (map (casting K.state) casts.items)) a
+        (slice_get (map (slot_seen K.state) slots) a)) }
 {
     let mut slots = vacant();
     for cast in casts {
@@ -125,7 +130,8 @@ impl<K: Actor> World<K> {
         requires fit { IsFitting casts.items }
         ensures stands { IfOk result (λ world. Stands (map (casting K.state) casts.items) [] (world_seen K.state world)) }
         // The room that events ask for is there.
-        ensures empty { IfOk result (λ world. length (world_seen K.state world).exchange.mail + length (world_seen K.state world).exchange.replies ≡ 0) }
+        ensures empty { IfOk result (λ world.
+            length (world_seen K.state world).exchange.mail + length (world_seen K.state world).exchange.replies ≡ 0) }
     {
         let owners = owners_of(alloc, casts.as_slice())?;
         let slots = slots_of(alloc, casts)?;

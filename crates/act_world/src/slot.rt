@@ -1,10 +1,11 @@
 //! Where an actor is.
 
-ghost use Rattle.std.specs.Prelude.{◌≡◌, ◌<◌, ℕ, map, IfOk, OnErr, false};
+ghost use Rattle.std.specs.Prelude.{◌≡◌, ◌<◌, ℕ, map, Some, slice_get, IfOk, OnErr, false};
+ghost use Rattle.std.specs.Option.{option_map};
 ghost use Rattle.act_rules.specs.declared.outcome.Arrival.TheVariants.{New};
 ghost use Rattle.act_actor.specs.Actor.{arrival_at};
 ghost use Rattle.act_actor.specs.Seen.{live_seen};
-ghost use Rattle.act_world.specs.Value.{Runs, slot_seen};
+ghost use Rattle.act_world.specs.Value.{Runs, slot_seen, stage_seen, stage_of_slot};
 ghost use Rattle.act_world.specs.Exchange.{head_of};
 ghost use Rattle.act_world.specs.Stands.{is_memory};
 ghost use Rattle.act_world.specs.Slots.{IsLiveSeen, is_live_seen, is_dead_seen, HasTakenCall, HasArrived, IsNewCall, IsBrought, IsRun, IsRunAt, IsRetiredIn, buried, killed};
@@ -42,6 +43,27 @@ pub(crate) fn slot_of(a: ActorId) -> usize
     a.number() as usize
 }
 
+/// The actor's slot.
+pub(crate) fn slot_at<K: Actor>(slots: &[Slot<K>; 9], a: ActorId) -> &Slot<K>
+    ensures { slice_get (map (slot_seen K.state) slots.now) a ≡ Some (slot_seen K.state result.now) }
+{
+    &slots[slot_of(a)]
+}
+
+impl<K: Actor> Slot<K> {
+    /// The actor in the state that it is in, where there is one.
+    pub(crate) fn stage(&self) -> Option<Stage<'_, K>>
+        ensures { option_map (stage_seen K.state) result ≡ stage_of_slot (Some (slot_seen K.state self.now)) }
+    {
+        match self {
+            Slot::Live(live) => Some(Stage::Live(live)),
+            Slot::Dead(dead) => Some(Stage::Dead(dead)),
+            Slot::Retired(retired) => Some(Stage::Retired(retired)),
+            Slot::Vacant => None,
+        }
+    }
+}
+
 /// Brings a letter to the actor.
 pub(crate) fn bring<K: Actor>(
     exchange: &Exchange,
@@ -68,7 +90,8 @@ fn arrive<K: Actor>(
     live: &mut Live<K>,
     letter: &Mailed,
 ) -> Result<Arrival, NoMemory>
-    ensures ok { IfOk result (λ arrival. HasArrived exchange.now.owners letter.now arrival (live_seen K.state live.old) (live_seen K.state live.new)) }
+    ensures ok { IfOk result (λ arrival.
+        HasArrived exchange.now.owners letter.now arrival (live_seen K.state live.old) (live_seen K.state live.new)) }
     ensures last { OnErr result (IsNewCall letter.now (Runs (live_seen K.state live.old))) }
     ensures err { OnErr result (live_seen K.state live.new ≡ live_seen K.state live.old) }
 {
@@ -78,22 +101,24 @@ fn arrive<K: Actor>(
     }
 }
 
-/// The actor takes a call in. Its packet is made only where it is new.
+/// The actor takes a call in. Its packet is filled in only where it is new.
 fn take_in<K: Actor>(
     exchange: &Exchange,
     live: &mut Live<K>,
     call: &CallNote,
 ) -> Result<Arrival, NoMemory>
-    ensures ok { IfOk result (λ arrival. HasTakenCall exchange.now.owners call.now arrival (live_seen K.state live.old) (live_seen K.state live.new)) }
+    ensures ok { IfOk result (λ arrival.
+        HasTakenCall exchange.now.owners call.now arrival (live_seen K.state live.old) (live_seen K.state live.new)) }
     ensures last { let before = live_seen K.state live.old in OnErr result (arrival_at before.id before.inbox (head_of call.now) ≡ New) }
     ensures err { OnErr result (live_seen K.state live.new ≡ live_seen K.state live.old) }
 {
-    let arrival = live.arrival(&call.head(exchange.alloc()));
+    let head = call.head(exchange.alloc());
+    let arrival = live.arrival(&head);
     let Arrival::New = arrival else {
         return Ok(arrival);
     };
-    let packet = exchange.packet_of(call)?;
-    let Ok(arrival) = live.arrive(packet) else {
+    let packet = exchange.filled(head)?;
+    let Ok(()) = live.hold(packet) else {
         return Err(NoMemory);
     };
     Ok(arrival)

@@ -3,25 +3,24 @@
 //! `K` is the kind, mostly a box. A clause names what is seen of a world by `world_seen` at the
 //! kind's state.
 
-ghost use Rattle.std.specs.Bool.{Decides};
-ghost use Rattle.std.specs.Prelude.{◌≡◌, ◌<◌, ◌++◌, ◌∷◌, [], ℕ, List, Option, Some, None, Err, ◌≤◌, ◌+◌, IfOk, IfErr, OnOk, OnErr, true, false, length, take, find, option_copied, vec_len, vec_capacity};
+ghost use Rattle.std.specs.Prelude.{◌≡◌, ◌↔◌, ◌<◌, ◌++◌, ◌∷◌, [], ℕ, List, Option, Some, None, Err, ◌≤◌, ◌+◌, IfOk, IfErr, OnOk, OnErr, true, false, length, take, find, option_copied, vec_len, vec_capacity, IsTrue};
 ghost use Rattle.std.specs.Option.{option_map};
 ghost use Rattle.act_rules.specs.declared.event.Event.{Event as Happening};
 ghost use Rattle.act_rules.specs.declared.event.Event.TheVariants as event;
 ghost use Rattle.act_rules.specs.History.{Casting};
-ghost use Rattle.act_rules.specs.Laws.{world as history};
+ghost use Rattle.act_rules.specs.Laws.{history};
 ghost use Rattle.act_rules.specs.Rules.{outcome_of, refusal_of};
 ghost use Rattle.act_world.specs.Value.{world_seen, stage_seen, is_owner, stage_in};
 ghost use Rattle.act_world.specs.Ties.{IsOwnerAt, IsStage};
 ghost use Rattle.act_world.specs.Headline.{IsConsistent};
 ghost use Rattle.act_world.specs.Stands.{Stands, is_memory, HasRoom, IsGrown, IsGrownBy, Follows, IsUnrefused, IsUnrefusedAt, Played};
 
-use crate::exchange::{Exchange, Posted, names, place_of};
+use crate::exchange::{Exchange, Posted};
 use crate::slot::{
-    Slot, Stage, bring, is_dead_in, is_live_in, kill_in, retire_in, run_at, slot_of,
+    Slot, Stage, bring, is_dead_in, is_live_in, kill_in, retire_in, run_at, slot_at, slot_of,
 };
 use act_kinds::{Actor, Boxed};
-use act_owner::{HandleRefusal, Owner};
+use act_owner::Owner;
 use act_rules::{Did, Event, Outcome, WorldRefusal};
 use act_types::{ActorId, CallerId, CopyOf, NoMemory, Notice};
 
@@ -71,12 +70,9 @@ impl<K: Actor> World<K> {
         ensures last { OnErr result (IsUnrefused (event.Run a c) (world_seen K.state self.old)) }
         ensures err { OnErr result (world_seen K.state self.new ≡ world_seen K.state self.old) }
     {
-        let is_live = is_live_in(&self.slots[slot_of(a)]);
-        let Some(place) = place_of(&self.exchange.owners, c) else {
-            return Ok(Err(WorldRefusal::NoCaller));
-        };
-        if !names(&self.exchange.owners[place], a) {
-            return Ok(Err(WorldRefusal::Handle(HandleRefusal::NoActor)));
+        let is_live = is_live_in(slot_at(&self.slots, a));
+        if let Some(refusal) = self.exchange.naming_refusal(c, a) {
+            return Ok(Err(refusal));
         }
         if !is_live {
             return Ok(Err(WorldRefusal::ActorEnded));
@@ -118,12 +114,9 @@ impl<K: Actor> World<K> {
         ensures last { OnErr result (IsUnrefused (event.Tell a c) (world_seen K.state self.old)) }
         ensures err { OnErr result (world_seen K.state self.new ≡ world_seen K.state self.old) }
     {
-        let is_dead = is_dead_in(&self.slots[slot_of(a)]);
-        let Some(place) = place_of(&self.exchange.owners, c) else {
-            return Ok(Err(WorldRefusal::NoCaller));
-        };
-        if !names(&self.exchange.owners[place], a) {
-            return Ok(Err(WorldRefusal::Handle(HandleRefusal::NoActor)));
+        let is_dead = is_dead_in(slot_at(&self.slots, a));
+        if let Some(refusal) = self.exchange.naming_refusal(c, a) {
+            return Ok(Err(refusal));
         }
         if !is_dead {
             return Ok(Err(WorldRefusal::NotDead));
@@ -174,7 +167,7 @@ impl<K: Actor> World<K> {
 
     /// Whether there is room for so many events more: each adds one letter or notice at most.
     pub fn has_room(&self, count: usize) -> bool
-        ensures { Decides result (HasRoom count (world_seen K.state self.now).exchange) }
+        ensures { IsTrue result ↔ HasRoom count (world_seen K.state self.now).exchange }
     {
         let letters = self.exchange.mail.len();
         let notices = self.exchange.replies.len();
@@ -187,11 +180,15 @@ impl<K: Actor> World<K> {
     /// Does an event, and tells what it did or the first refusal that met it.
     pub fn apply(&mut self, event: &Event) -> Result<Did, WorldRefusal>
         requires room { HasRoom 1 (world_seen K.state self.old).exchange }
-        ensures outcome { is_memory result ≡ false → (casts : List Casting) (before : List Happening) → Stands casts before (world_seen K.state self.old) → result ≡ outcome_of (history casts before) event.now }
-        ensures stands { is_memory result ≡ false → (casts : List Casting) (before : List Happening) → Stands casts before (world_seen K.state self.old) → Stands casts (before ++ event.now ∷ []) (world_seen K.state self.new) }
+        ensures outcome { is_memory result ≡ false → (casts : List Casting) (before : List Happening) →
+            Stands casts before (world_seen K.state self.old) → result ≡ outcome_of (history casts before) event.now }
+        ensures stands { is_memory result ≡ false → (casts : List Casting) (before : List Happening) →
+            Stands casts before (world_seen K.state self.old) →
+            Stands casts (before ++ event.now ∷ []) (world_seen K.state self.new) }
         ensures grown { IsGrown (world_seen K.state self.old).exchange (world_seen K.state self.new).exchange }
         // Want of memory comes last.
-        ensures last { is_memory result ≡ true → (casts : List Casting) (before : List Happening) → Stands casts before (world_seen K.state self.old) → refusal_of (history casts before) event.now ≡ None }
+        ensures last { is_memory result ≡ true → (casts : List Casting) (before : List Happening) →
+            Stands casts before (world_seen K.state self.old) → refusal_of (history casts before) event.now ≡ None }
         ensures err { OnErr result (world_seen K.state self.new ≡ world_seen K.state self.old) }
     {
         match self.step(event) {
@@ -205,16 +202,19 @@ impl<K: Actor> World<K> {
     /// the place is 0.
     pub fn play(&mut self, events: &[Event], told: &mut Vec<Outcome>) -> Result<(), u32>
         requires room { HasRoom (length events.now) (world_seen K.state self.old).exchange }
-        ensures ok { OnOk result (Played events.now (world_seen K.state self.old) (world_seen K.state self.new) told.old.items told.new.items) }
+        ensures ok { OnOk result (Played events.now (world_seen K.state self.old)
+            (world_seen K.state self.new) told.old.items told.new.items) }
         ensures grown { IsGrownBy (length events.now) (world_seen K.state self.old).exchange (world_seen K.state self.new).exchange }
         ensures place { IfErr result (λ i. i < length events.now) }
-        ensures err { IfErr result (λ i. Played (take i events.now) (world_seen K.state self.old) (world_seen K.state self.new) told.old.items told.new.items) }
+        ensures err { IfErr result (λ i. Played (take i events.now) (world_seen K.state self.old)
+            (world_seen K.state self.new) told.old.items told.new.items) }
         ensures first { result ≡ Err 0 → (world_seen K.state self.new ≡ world_seen K.state self.old) × (told.new.items ≡ told.old.items) }
 
         // Nothing refuses the event of a later stop, nor that of any stop where there is room for
         // all outcomes.
         ensures last { IfErr result (λ i. 0 < i → IsUnrefusedAt i events.now (world_seen K.state self.new)) }
-        ensures last_with_room { vec_len told.old + length events.now ≤ vec_capacity told.new → IfErr result (λ i. IsUnrefusedAt i events.now (world_seen K.state self.new)) }
+        ensures last_with_room { vec_len told.old + length events.now ≤ vec_capacity told.new →
+            IfErr result (λ i. IsUnrefusedAt i events.now (world_seen K.state self.new)) }
         ensures capacity { vec_capacity told.old ≤ vec_capacity told.new }
     {
         let Ok(()) = told.reserve(events.len()) else {
@@ -233,13 +233,15 @@ impl<K: Actor> World<K> {
     /// to it, in order, each call once, and each answer kept is that of the call's place in a run
     /// list, or a dead actor's fault.
     pub fn consistent(&self)
-        ensures { (casts : List Casting) (events : List Happening) → Stands casts events (world_seen K.state self.now) → IsConsistent casts (world_seen K.state self.now) }
+        ensures { (casts : List Casting) (events : List Happening) → Stands casts events (world_seen K.state self.now) →
+            IsConsistent casts (world_seen K.state self.now) }
     {}
 
     /// A caller, where some cast names it.
     pub fn owner(&self, c: CallerId) -> Option<&Owner>
         ensures shown { option_copied result ≡ find (is_owner c) (world_seen K.state self.now).exchange.owners }
-        ensures stands { (casts : List Casting) (events : List Happening) → Stands casts events (world_seen K.state self.now) → IsOwnerAt (history casts events) c (option_copied result) }
+        ensures stands { (casts : List Casting) (events : List Happening) → Stands casts events (world_seen K.state self.now) →
+            IsOwnerAt (history casts events) c (option_copied result) }
     {
         self.exchange.owner(c)
     }
@@ -247,13 +249,9 @@ impl<K: Actor> World<K> {
     /// An actor in the state that it is in, where it has a cast.
     pub fn stage(&self, a: ActorId) -> Option<Stage<'_, K>>
         ensures shown { option_map (stage_seen K.state) result ≡ stage_in (world_seen K.state self.now) a }
-        ensures stands { (casts : List Casting) (events : List Happening) → Stands casts events (world_seen K.state self.now) → IsStage (history casts events) a (option_map (stage_seen K.state) result) }
+        ensures stands { (casts : List Casting) (events : List Happening) → Stands casts events (world_seen K.state self.now) →
+            IsStage (history casts events) a (option_map (stage_seen K.state) result) }
     {
-        match &self.slots[slot_of(a)] {
-            Slot::Live(live) => Some(Stage::Live(live)),
-            Slot::Dead(dead) => Some(Stage::Dead(dead)),
-            Slot::Retired(retired) => Some(Stage::Retired(retired)),
-            Slot::Vacant => None,
-        }
+        slot_at(&self.slots, a).stage()
     }
 }

@@ -6,7 +6,7 @@ mod status;
 
 ghost use Rattle.std.specs.Prelude.{◌≡◌};
 ghost use Rattle.act_rules.specs.declared.script.Mode.TheVariants.{Play, Threads};
-ghost use Rattle.act_console.specs.Console.{Played};
+ghost use Rattle.act_console.specs.Console.{ScriptPlayed};
 ghost use Rattle.act_console.specs.Threads.{Threaded};
 
 use act_console::{ConsoleFault, NoGate, Stock, play_script, threads_script};
@@ -29,8 +29,10 @@ fn run_script<Rt: AllocGlobal + Threads + Wait + Sync, R: Read, W: Write>(
     reader: &mut R,
     writer: &mut W,
 ) -> Result<(), ConsoleFault>
-    ensures played { mode ≡ Play → Played (R.remaining reader.old) (R.remaining reader.new) (W.contents writer.old) (W.contents writer.new) result }
-    ensures threaded { mode ≡ Threads → Threaded (R.remaining reader.old) (R.remaining reader.new) (W.contents writer.old) (W.contents writer.new) result }
+    ensures played { mode ≡ Play → ScriptPlayed (R.remaining reader.old) (R.remaining reader.new) (W.contents writer.old)
+        (W.contents writer.new) result }
+    ensures threaded { mode ≡ Threads → Threaded (R.remaining reader.old) (R.remaining reader.new) (W.contents writer.old)
+        (W.contents writer.new) result }
 {
     let alloc = rt.alloc();
     let mut stock = Stock {

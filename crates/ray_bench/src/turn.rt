@@ -52,7 +52,9 @@ fn run_measured<R: Clock + Threads + Wait + Sync, K: Actor + Send>(
 ) -> Result<Measured<K>, Stop>
     requires fit { IsFitting casts.items }
     requires plans { PlansFit casts.items plans.items }
-    ensures { IfOk result (λ measured. IsJoined (map (casting K.state) casts.items) (map plan_seen plans.items) measured.joined.owners.items (map (λ actor. end_seen K.state actor.ended) measured.joined.actors.items)) }
+    ensures { IfOk result (λ measured.
+        IsJoined (map (casting K.state) casts.items) (map plan_seen plans.items) measured.joined.owners.items
+        (map (λ actor. end_seen K.state actor.ended) measured.joined.actors.items)) }
 {
     let begin = Instant::now(rt)?;
     let joined = run_plans(rt, alloc, casts, plans, &NoGate)?;

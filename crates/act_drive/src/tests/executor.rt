@@ -103,7 +103,9 @@ fn take_kill<R: Wait, K: Actor>(rt: &R, control: &Control, kills: &mut ControlEx
 fn run_next<K: Actor>(live: &mut Live<K>) -> Result<Option<Reply>, NoMemory>
     ensures id { (live_seen K.state live.new).id ≡ (live_seen K.state live.old).id }
     ensures front { IsFront (live_seen K.state live.old).log (live_seen K.state live.new).log }
-    ensures names { IfOk result (λ ran. IfSome ran (λ reply. (reply.actor ≡ (live_seen K.state live.old).id) × NamesPlace (live_seen K.state live.new).log (Answered reply))) }
+    ensures names { IfOk result (λ ran. IfSome ran (λ reply.
+        (reply.actor ≡ (live_seen K.state live.old).id) ×
+        NamesPlace (live_seen K.state live.new).log (Answered reply))) }
 {
     live.run(caller())
 }

@@ -100,7 +100,8 @@ struct Room {
 
 fn make_room(alloc: Global) -> Result<Room, NoMemory>
     ensures empty { IfOk result (λ room. (room.letters.items ≡ []) × (room.kills.items ≡ [])) }
-    ensures room { IfOk result (λ room. (vec_len room.letters + 2 ≤ vec_capacity room.letters) × (vec_len room.kills + 2 ≤ vec_capacity room.kills)) }
+    ensures room { IfOk result (λ room.
+        (vec_len room.letters + 2 ≤ vec_capacity room.letters) × (vec_len room.kills + 2 ≤ vec_capacity room.kills)) }
 {
     let letters = Vec::with_capacity(alloc, 2)?;
     let kills = Vec::with_capacity(alloc, 2)?;
@@ -201,8 +202,16 @@ fn paired(
 /// The lines, and the passes of the caller.
 pub(super) fn opened_pair(alloc: Global) -> Result<(Pair, CallerPasses), NoMemory>
     ensures caller { IfOk result (λ opened. IsUnused opened.0.mails opened.0.controls opened.0.replies 1 opened.1) }
-    ensures exec { IfOk result (λ opened. let mails = opened.0.mails in let controls = opened.0.controls in let exec = opened.0.exec in (m : MailValue) (k : ControlValue) → (exec.letters.line ≡ (slice_index_or mails 0 m).line) × (exec.kills.line ≡ (slice_index_or controls 0 k).line) × (exec.kills.actor ≡ 1) × (exec.gives ≡ new_exec opened.0.replies.line 1)) }
-    ensures other_exec { IfOk result (λ opened. let mails = opened.0.mails in let controls = opened.0.controls in let exec = opened.0.other_exec in (m : MailValue) (k : ControlValue) → (exec.letters.line ≡ (slice_index_or mails 1 m).line) × (exec.kills.line ≡ (slice_index_or controls 1 k).line) × (exec.kills.actor ≡ 2) × (exec.gives ≡ new_exec opened.0.replies.line 2)) }
+    ensures exec { IfOk result (λ opened.
+        let mails = opened.0.mails in let controls = opened.0.controls in let exec = opened.0.exec in
+        (m : MailValue) (k : ControlValue) → (exec.letters.line ≡ (slice_index_or mails 0 m).line) ×
+        (exec.kills.line ≡ (slice_index_or controls 0 k).line) × (exec.kills.actor ≡ 1) ×
+        (exec.gives ≡ new_exec opened.0.replies.line 1)) }
+    ensures other_exec { IfOk result (λ opened.
+        let mails = opened.0.mails in let controls = opened.0.controls in let exec = opened.0.other_exec in
+        (m : MailValue) (k : ControlValue) → (exec.letters.line ≡ (slice_index_or mails 1 m).line) ×
+        (exec.kills.line ≡ (slice_index_or controls 1 k).line) × (exec.kills.actor ≡ 2) ×
+        (exec.gives ≡ new_exec opened.0.replies.line 2)) }
 {
     let room = make_room(alloc)?;
     let one = opened_lines(alloc, actor())?;

@@ -1,11 +1,12 @@
 //! A caller of two actors, where memory may be refused to each of them.
 
-ghost use Rattle.std.specs.Prelude.{◌≡◌, [], ◌∷◌, None, IfOk};
+ghost use Rattle.std.specs.Prelude.{◌≡◌, [], ◌∷◌, All, None, IfOk};
 ghost use Rattle.std.specs.Thread.{IsSync};
+ghost use Rattle.act_rules.specs.Consistent.{IsFront};
 ghost use Rattle.act_rules.specs.Plans.{first_bad};
 ghost use Rattle.act_actor.specs.Seen.{live_seen};
 ghost use Rattle.act_owner.specs.Owner.{opened as opened_owner};
-ghost use Rattle.act_mailbox.specs.Notices.{new_exec};
+ghost use Rattle.act_mailbox.specs.Notices.{new_exec, IsReply};
 ghost use Rattle.act_drive.specs.Driven.{IsUnused};
 
 use super::executor::{ExecLines, run_one};
@@ -15,7 +16,7 @@ use super::{Said, add, answer_of};
 use crate::{CallerLines, CallerPasses, Plan, drive};
 use act_actor::Live;
 use act_kinds::{Actor, Counter};
-use act_mailbox::{Letter, Mail, MailExec};
+use act_mailbox::{Letter, Mail, MailExec, Replies, ReplyExec};
 use act_owner::Owner;
 use act_rules::Step;
 use act_types::{ActorId, FutureId, NoMemory, Notice};
@@ -53,6 +54,16 @@ fn take_in<R: Wait, K: Actor>(
     }
 }
 
+/// Tells the actor's death.
+fn tell_death<R: Wait, K: Actor>(rt: &R, line: &Replies, gives: &mut ReplyExec, live: &Live<K>)
+    requires line { gives.old.line ≡ line.now.line }
+    requires actor { gives.old.actor ≡ (live_seen K.state live.now).id }
+    requires grown { IsFront gives.old.seen (live_seen K.state live.now).log }
+    requires alive { All IsReply gives.old.given }
+{
+    let _ = line.give(rt, gives, live.log(), Notice::Death(live.id()));
+}
+
 /// Serves until all is drained, and whether it was. A kill, want of memory or the last look ends it
 /// before, and its death is told.
 fn attend<R: Wait, K: Actor>(
@@ -86,8 +97,7 @@ fn attend<R: Wait, K: Actor>(
         }
         thread::yield_now();
     }
-    let death = Notice::Death(live.id());
-    let _ = lines.replies.give(rt, &mut passes.gives, live.log(), death);
+    tell_death(rt, lines.replies, &mut passes.gives, &live);
     false
 }
 
@@ -172,16 +182,22 @@ fn attended<R: Threads + Wait + Sync>(
     other_exec: ExecPasses,
 ) -> (bool, bool)
     requires sync { IsSync R.row }
-    requires first { (exec.letters.line ≡ lines.mail.now.line) × (exec.kills.line ≡ lines.control.now.line) × (exec.kills.actor ≡ 1) × (exec.gives ≡ new_exec lines.replies.now.line 1) }
-    requires second { (other_exec.letters.line ≡ other_lines.mail.now.line) × (other_exec.kills.line ≡ other_lines.control.now.line) × (other_exec.kills.actor ≡ 2) × (other_exec.gives ≡ new_exec other_lines.replies.now.line 2) }
+    requires first { (exec.letters.line ≡ lines.mail.now.line) × (exec.kills.line ≡ lines.control.now.line) ×
+        (exec.kills.actor ≡ 1) × (exec.gives ≡ new_exec lines.replies.now.line 1) }
+    requires second { (other_exec.letters.line ≡ other_lines.mail.now.line) ×
+        (other_exec.kills.line ≡ other_lines.control.now.line) × (other_exec.kills.actor ≡ 2) ×
+        (other_exec.gives ≡ new_exec other_lines.replies.now.line 2) }
 {
     thread::join(
         rt,
         move || -> bool
-            requires { (exec.letters.line ≡ lines.mail.now.line) × (exec.kills.line ≡ lines.control.now.line) × (exec.kills.actor ≡ 1) × (exec.gives ≡ new_exec lines.replies.now.line 1) }
+            requires { (exec.letters.line ≡ lines.mail.now.line) × (exec.kills.line ≡ lines.control.now.line) ×
+                (exec.kills.actor ≡ 1) × (exec.gives ≡ new_exec lines.replies.now.line 1) }
         { attend_counter(rt, alloc, actor(), &lines, exec) },
         move || -> bool
-            requires { (other_exec.letters.line ≡ other_lines.mail.now.line) × (other_exec.kills.line ≡ other_lines.control.now.line) × (other_exec.kills.actor ≡ 2) × (other_exec.gives ≡ new_exec other_lines.replies.now.line 2) }
+            requires { (other_exec.letters.line ≡ other_lines.mail.now.line) ×
+                (other_exec.kills.line ≡ other_lines.control.now.line) × (other_exec.kills.actor ≡ 2) ×
+                (other_exec.gives ≡ new_exec other_lines.replies.now.line 2) }
         { attend_counter(rt, alloc, other(), &other_lines, other_exec) },
     )
 }
@@ -219,10 +235,15 @@ fn joined<R: Threads + Wait + Sync>(rt: &R, alloc: Global) -> Result<(Left, (boo
     Ok(thread::join(
         rt,
         move || -> Left
-            requires { (owner ≡ opened_owner 1 (1 ∷ 2 ∷ [])) × (first_bad (1 ∷ 2 ∷ []) plan.items ≡ None) × IsUnused lines.mails.now lines.controls.now lines.replies.now 1 passes }
+            requires { (owner ≡ opened_owner 1 (1 ∷ 2 ∷ [])) × (first_bad (1 ∷ 2 ∷ []) plan.items ≡ None) ×
+                IsUnused lines.mails.now lines.controls.now lines.replies.now 1 passes }
         { driven(rt, alloc, owner, plan, &lines, passes) },
         move || -> (bool, bool)
-            requires { ((exec.letters.line ≡ exec_lines.mail.now.line) × (exec.kills.line ≡ exec_lines.control.now.line) × (exec.kills.actor ≡ 1) × (exec.gives ≡ new_exec exec_lines.replies.now.line 1)) × ((other_exec.letters.line ≡ other_lines.mail.now.line) × (other_exec.kills.line ≡ other_lines.control.now.line) × (other_exec.kills.actor ≡ 2) × (other_exec.gives ≡ new_exec other_lines.replies.now.line 2)) }
+            requires { ((exec.letters.line ≡ exec_lines.mail.now.line) × (exec.kills.line ≡ exec_lines.control.now.line) ×
+                (exec.kills.actor ≡ 1) × (exec.gives ≡ new_exec exec_lines.replies.now.line 1)) ×
+                ((other_exec.letters.line ≡ other_lines.mail.now.line) ×
+                (other_exec.kills.line ≡ other_lines.control.now.line) × (other_exec.kills.actor ≡ 2) ×
+                (other_exec.gives ≡ new_exec other_lines.replies.now.line 2)) }
         { attended(rt, alloc, exec_lines, exec, other_lines, other_exec) },
     ))
 }

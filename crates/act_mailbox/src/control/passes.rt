@@ -21,13 +21,27 @@ impl Model for ControlExec {
 
     ghost Value = { ControlExecValue };
 
-    ghost view = { λ p. record { line = p.pass.line; actor = p.actor; askers = p.pass.putters; taken = p.pass.taken; lengths = p.pass.note; looked = p.looked } };
+    ghost view = { λ p. record {
+      line = p.pass.line;
+      actor = p.actor;
+      askers = p.pass.putters;
+      taken = p.pass.taken;
+      lengths = p.pass.note;
+      looked = p.looked;
+    } };
 }
 
 impl ControlExec {
     /// The pass of an actor's executor, which looked at no length.
     pub(super) fn new(actor: ActorId, pass: Taker<Asked, u64>) -> ControlExec
-        ensures { result ≡ record { line = pass.line; actor = actor; askers = pass.putters; taken = pass.taken; lengths = pass.note; looked = 0 } }
+        ensures { result ≡ record {
+          line = pass.line;
+          actor = actor;
+          askers = pass.putters;
+          taken = pass.taken;
+          lengths = pass.note;
+          looked = 0;
+        } }
     {
         ControlExec {
             pass,

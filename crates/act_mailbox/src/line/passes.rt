@@ -27,7 +27,8 @@ impl<T, N> Model for Putter<T, N> {
     ghost view = { λ p. record { line = p.pass.table_id; number = p.number; put = put_of (known p.pass); note = note_of (known p.pass) } };
 
     // It is at rest, and its view is a putter's.
-    ghost invariant = { λ p. (p.pass.me.1 ≡ []) × ((seen : List T) × (known p.pass ≡ putting p.number (put_of (known p.pass)) (note_of (known p.pass)) seen)) };
+    ghost invariant = { λ p. (p.pass.me.1 ≡ []) ×
+        ((seen : List T) × (known p.pass ≡ putting p.number (put_of (known p.pass)) (note_of (known p.pass)) seen)) };
 }
 
 impl<T, N> Putter<T, N> {
@@ -53,10 +54,16 @@ impl<T, N> Model for Taker<T, N> {
 
     ghost Value = { TakerValue T N };
 
-    ghost view = { λ p. record { line = p.pass.table_id; putters = putters_of (known p.pass); taken = taken_of (known p.pass); note = note_of (known p.pass) } };
+    ghost view = { λ p. record {
+      line = p.pass.table_id;
+      putters = putters_of (known p.pass);
+      taken = taken_of (known p.pass);
+      note = note_of (known p.pass);
+    } };
 
     // It is at rest, and its view is the taker's.
-    ghost invariant = { λ p. (p.pass.me.1 ≡ []) × (known p.pass ≡ taking (putters_of (known p.pass)) (taken_of (known p.pass)) (note_of (known p.pass))) };
+    ghost invariant = { λ p. (p.pass.me.1 ≡ []) ×
+        (known p.pass ≡ taking (putters_of (known p.pass)) (taken_of (known p.pass)) (note_of (known p.pass))) };
 }
 
 impl<T, N> Taker<T, N> {

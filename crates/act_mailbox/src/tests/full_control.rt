@@ -6,7 +6,7 @@ ghost use Rattle.act_actor.specs.Seen.{live_seen};
 use crate::{Control, ControlCaller, ControlExec};
 use act_actor::Live;
 use act_kinds::{Actor, Counter};
-use act_types::{ActorId, CallerId, FutureId, KillNote, ListOf, Method, NoMemory, Packet};
+use act_types::{ActorId, CallerId, FewOf, FutureId, KillNote, Method, NoMemory, Packet};
 use std::alloc::Global;
 use std::process::Abort;
 use std::sync::Wait;
@@ -73,7 +73,7 @@ fn after_calls(
             number,
             future: FutureId::new(number),
             method: Method::Get,
-            args: ListOf::new(alloc),
+            args: FewOf::new(alloc),
         };
         if live.arrive(call).is_err() {
             return Err(NoMemory);

@@ -6,7 +6,7 @@ ghost use Rattle.act_mailbox.specs.Notices.{IsReply, NamesPlace, actor_of, new_e
 
 use crate::{Replies, ReplyCaller, ReplyExec};
 use act_rules::RunItem;
-use act_types::{ActorId, CallerId, FutureId, ListOf, Method, NoMemory, Notice, Reply, Value};
+use act_types::{ActorId, CallerId, FewOf, FutureId, Method, NoMemory, Notice, Reply, Value};
 use std::alloc::Global;
 use std::process::Abort;
 use std::sync::Wait;
@@ -185,7 +185,7 @@ fn full_and_empty(rt: HostRuntime) -> Result<(), Fail> {
         number: 0,
         future: FutureId::new(0),
         method: Method::Get,
-        args: ListOf::new(rt.alloc()),
+        args: FewOf::new(rt.alloc()),
     }];
     let death = ActorId::new(8).unwrap();
     let (replies, mut pass, mut collector) = opened(rt.alloc())?;

@@ -11,7 +11,7 @@ use act_mailbox::{
 };
 use act_seats::Seat;
 use act_types::{
-    ActorId, CallerId, FutureId, KillNote, ListOf, Method, NoMemory, Packet, ReleaseNote, Settled,
+    ActorId, CallerId, FewOf, FutureId, KillNote, Method, NoMemory, Packet, ReleaseNote, Settled,
     Value,
 };
 use std::alloc::Global;
@@ -120,7 +120,7 @@ pub(super) fn call(
 ) -> Result<Packet, NoMemory>
     ensures { IfOk result (λ packet. packet.caller ≡ caller) }
 {
-    let mut args = ListOf::new(alloc);
+    let mut args = FewOf::new(alloc);
     args.push(Settled::Good(Value::Int(1)))?;
     Ok(Packet {
         caller,
@@ -142,7 +142,7 @@ pub(super) fn terminate(alloc: Global, caller: CallerId, actor: ActorId, number:
         number,
         future: FutureId::new(number),
         method: Method::Terminate,
-        args: ListOf::new(alloc),
+        args: FewOf::new(alloc),
     }
 }
 

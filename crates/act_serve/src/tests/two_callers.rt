@@ -84,8 +84,12 @@ fn seated(
 fn opened(alloc: Global) -> Result<(Pair, ExecPasses), NoMemory>
     ensures first { IfOk result (λ opened. (opened.0.first.post.line ≡ opened.0.mail.line) × (opened.0.first.post.number ≡ 1)) }
     ensures second { IfOk result (λ opened. (opened.0.second.post.line ≡ opened.0.mail.line) × (opened.0.second.post.number ≡ 2)) }
-    ensures collectors { IfOk result (λ opened. (opened.0.first.collector.line ≡ opened.0.first.replies.line) × (opened.0.second.collector.line ≡ opened.0.second.replies.line)) }
-    ensures fit { IfOk result (λ opened. PassesFit opened.0.mail.line opened.0.control.line (opened.0.first.replies ∷ opened.0.second.replies ∷ []) 1 [] opened.1) }
+    ensures collectors { IfOk result (λ opened.
+        (opened.0.first.collector.line ≡ opened.0.first.replies.line) ×
+        (opened.0.second.collector.line ≡ opened.0.second.replies.line)) }
+    ensures fit { IfOk result (λ opened.
+        PassesFit opened.0.mail.line opened.0.control.line
+        (opened.0.first.replies ∷ opened.0.second.replies ∷ []) 1 [] opened.1) }
     ensures fresh { IfOk result (λ opened. IsUnused (opened.0.first.replies ∷ opened.0.second.replies ∷ []) (1 ∷ 2 ∷ []) opened.1) }
 {
     let (mail, first_post, second_post, letters) = opened_mail(alloc)?;

@@ -1,10 +1,10 @@
-use Rattle.std.proofs.Common.{List, map, arith}
+use Rattle.std.proofs.Common.{List, map, arith, refl}
 use Rattle.std.specs.String.{string_bytes}
 use Rattle.std.proofs.lemmas.Result.{IfOk-weaker}
 use Rattle.act_rules.specs.declared.event.Event.{Event}
 use Rattle.act_rules.specs.History.{Casting, opening}
 use Rattle.act_rules.specs.Report.{report}
-use Rattle.act_rules.specs.Scripts.{casting as role_casting}
+use Rattle.act_rules.specs.Scripts.{role_casting}
 use Rattle.act_actor.specs.Casts.{casting}
 use Rattle.act_console.proofs.Roles.{casts_fit}
 use Rattle.act_console.proofs.Shown.{told_of_same}
@@ -19,8 +19,8 @@ open-requires g c = (
 pub returns : goal.returns
 returns g c =
     let casts = map (casting (λ b. (goal.Actor-dyn g (b.vtable, b.value)).state b.value)) c.in_ok-casts.casts.items in
-    IfOk-weaker c.report_of.result _ _
+    IfOk-weaker c.play_and_report.result _ _
     (λ text written.
-    told_of_same (λ (casts : List Casting) (events : List Event). report (opening casts) events) (string_bytes text) casts (map role_casting c.args.roles) c.as_slice.result.now c.args.events
-    c.in_ok-casts.ensures c.as_slice.ensures (written casts c.in_ok-world.ensures.stands))
-    c.report_of.ensures
+    told_of_same (λ (casts : List Casting) (events : List Event). report (opening casts) events) (string_bytes text) casts (map role_casting c.args.roles) c.args.events c.args.events
+    c.in_ok-casts.ensures refl (written casts c.in_ok-world.ensures.stands))
+    c.play_and_report.ensures

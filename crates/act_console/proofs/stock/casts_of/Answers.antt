@@ -2,7 +2,7 @@ use Rattle.std.proofs.Common.{rules, ◌≡◌, ◌≤◌, ◌++◌, [], List, l
 use Rattle.std.specs.Vec.Iter.{into_iter_items}
 use Rattle.std.proofs.lemmas.List.{nil_from_length}
 use Rattle.act_rules.specs.declared.script.Role.{Role}
-use Rattle.act_rules.specs.Scripts.{casting as role_casting}
+use Rattle.act_rules.specs.Scripts.{role_casting}
 use Rattle.act_actor.specs.Casts.{casting}
 use Rattle.act_console.proofs.Stocked.{fewer, one_of, one_made, all_made, found_cast}
 use Rattle.act_console.proofs.stock.casts_of.Goals as goal

@@ -1,6 +1,6 @@
 use Rattle.std.proofs.Common.{◌≡◌, ◌++◌, length, map}
 use Rattle.std.specs.Vec.Iter.{into_iter_items, into_iter_len}
-use Rattle.act_rules.specs.Scripts.{casting as role_casting}
+use Rattle.act_rules.specs.Scripts.{role_casting}
 use Rattle.act_actor.specs.Casts.{casting}
 use Rattle.act_console.specs.Stock.{HasEach}
 use Rattle.act_console.proofs.stock.casts_of.Given as goal

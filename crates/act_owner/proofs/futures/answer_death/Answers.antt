@@ -2,7 +2,7 @@ use Rattle.std.proofs.Common.{◌≡◌, ◌∙◌, Err, count_by, sym, ap, subs
 use Rattle.act_types.specs.declared.fault.Fault.TheVariants.{ActorDied}
 use Rattle.act_replies.specs.Table.{waits_for, after_death}
 use Rattle.act_replies.proofs.Deaths.{death-after_keep, count-after_keep, death-none}
-use Rattle.act_owner.specs.Owner.{IsTold}
+use Rattle.act_owner.specs.Owner.{KnowsAnswers}
 use Rattle.act_owner.proofs.Deaths.{waits_within, told_step, futures_step, sent_step}
 use Rattle.act_owner.proofs.futures.answer_death.Goals as goal
 
@@ -33,4 +33,4 @@ pub returns-clause-told : goal.returns-clause-told
 returns-clause-told c =
     let last : c.loop-future.table.rows ≡ after_death c.args.a c.args.table.now.rows =
     sym (death-none c.args.a c.loop-future.table.rows c.in_default.ensures.none) ∙ c.loop-future.invariant.rows in
-    subst (IsTold c.loop-future.resolver.calls) last c.loop-future.invariant.told
+    subst (KnowsAnswers c.loop-future.resolver.calls) last c.loop-future.invariant.told

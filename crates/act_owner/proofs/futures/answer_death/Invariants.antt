@@ -1,13 +1,13 @@
 use Rattle.std.proofs.Common.{◌≡◌, count_by, map}
 use Rattle.act_replies.specs.Table.{waits_for, after_death}
-use Rattle.act_owner.specs.Owner.{IsTold}
+use Rattle.act_owner.specs.Owner.{KnowsAnswers}
 use Rattle.act_owner.proofs.futures.answer_death.Given as goal
 
 -- the death still leaves the same, and the resolver was told of these
 abbrev pub invariant-loop-future : goal.invariant-loop-future
 invariant-loop-future l = record {
   rows : after_death l.a l.table.rows ≡ after_death l.a l.initial.table.rows;
-  told : IsTold l.resolver.calls l.table.rows;
+  told : KnowsAnswers l.resolver.calls l.table.rows;
   futures : map (λ call. call.futures) l.resolver.calls ≡ map (λ call. call.futures) l.initial.resolver.calls;
   sent : map (λ call. call.sent) l.resolver.calls ≡ map (λ call. call.sent) l.initial.resolver.calls;
 }

@@ -1,15 +1,15 @@
 use Rattle.std.proofs.Common.{◌≡◌, ℕ, ◌+◌, ◌≤◌, ◌==◌, ◌&&◌, not, cond, length, take}
-use Rattle.act_resolver.specs.Resolver.{is_told}
-use Rattle.act_resolver.specs.Counts.{times, untold_of}
+use Rattle.act_resolver.specs.Resolver.{is_answered}
+use Rattle.act_resolver.specs.Counts.{times, missing_of}
 use Rattle.act_resolver.specs.Waiters.{waiting}
 use Rattle.act_resolver.proofs.resolver.add_places.Given as goal
 
 -- the call waits at the places so far
 abbrev pub invariant-loop-future : goal.invariant-loop-future
 invariant-loop-future l = record {
-  count : l.untold ≡ untold_of l.calls (take l.future-index l.futures);
-  few : l.untold ≤ l.future-index;
-  lists : (future call : ℕ) → times call (waiting l.waiters.lists future) ≡ times call (waiting l.initial.waiters.lists future) + cond ((call == l.k) && not (is_told l.calls future)) (times future (take l.future-index l.futures)) 0;
+  count : l.missing ≡ missing_of l.calls (take l.future-index l.futures);
+  few : l.missing ≤ l.future-index;
+  lists : (future call : ℕ) → times call (waiting l.waiters.lists future) ≡ times call (waiting l.initial.waiters.lists future) + cond ((call == l.k) && not (is_answered l.calls future)) (times future (take l.future-index l.futures)) 0;
   size : length l.waiters.lists ≡ length l.initial.waiters.lists;
   future_room : l.waiters.future_room ≡ l.initial.waiters.future_room;
   place_room : l.initial.waiters.place_room ≤ l.waiters.place_room + l.future-index;

@@ -1,10 +1,15 @@
-use Rattle.std.proofs.Common.{lit<, rules, ap, map, ◌++◌, ◌∙◌}
-use Rattle.std.proofs.lemmas.Iterator.Adapters.{fact_from_extend}
-use Rattle.std.proofs.lemmas.Iterator.Splits.{YieldsList-from_str_split}
+use Rattle.std.proofs.Common.{rules, tests, ◌==◌, ◌∙◌}
+use Rattle.std.proofs.lemmas.Iterator.Consumers.{YieldsList-turn, YieldsList-end}
+use Rattle.std.proofs.lemmas.Iterator.Splits.{YieldsList-from_slice_split}
+use Rattle.act_scripts.proofs.Plain.{word_is_text}
 use Rattle.act_scripts.proofs.script.split_words.Goals as goal
 
--- the vector was emptied, so it holds the words that were added
+pub from_utf8_unchecked-requires : goal.from_utf8_unchecked-requires
+from_utf8_unchecked-requires c =
+    word_is_text c.args.line.now c.in-Some.word.now _ c.requires
+    (YieldsList-turn (YieldsList-from_slice_split _ (λ b. b == 32) c.args.line.now (cc) (cc) (cc) (λ x r q k. search (rules, tests))) c.loop-word.yielded _ c.loop-word.yielded_by _ _ c.in-Some.word c.in-Some.is c.next.ensures.steps)
+
 pub returns : goal.returns
-returns c = fact_from_extend (λ w. w.now) c.extend.result c.extend.ensures.ran
-    (λ it is. YieldsList-from_str_split {s = it} 32 c.args.line.now (lit< tt) (search rules) (search rules) (search rules))
-    (λ xs all added. ap (map (λ w. w.now)) (added.0 ∙ ap (λ words. words ++ xs) c.clear.ensures.items) ∙ all)
+returns c =
+    c.loop-word.invariant ∙
+    (YieldsList-end (YieldsList-from_slice_split _ (λ b. b == 32) c.args.line.now (cc) (cc) (cc) (λ x r q k. search (rules, tests))) c.loop-word.yielded _ c.loop-word.yielded_by _ _ c.in-None.is c.next.ensures.steps).0

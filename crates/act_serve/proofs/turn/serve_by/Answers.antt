@@ -17,7 +17,7 @@ returns-then-is_over g c =
     let still = stay_on c.args.passes c.loop.passes (record { letters = c.loop.passes.letters; kills = c.is_over.new.kills; notices = c.loop.passes.notices }) c.loop.invariant.stay (λ i. c.loop.passes.letters) c.is_over.ensures.pass (λ i. map bare c.loop.passes.notices.items) in
     killed_served (g.K.Actor.state c.args.live.kind) replies c.args.passes now c.loop.passes.notices.items passes
     c.loop.invariant.serving still.letters still.kills still.seats c.is_over.ensures.looked c.loop.invariant.last
-    c.args.live.book.id c.kill-dead.result c.loop.invariant.id c.kill-dead.ensures c.tell_deaths.ensures
+    c.args.live.id c.kill-dead.result c.loop.invariant.id c.kill-dead.ensures c.tell_deaths.ensures
     (subst (λ b. HasLooked b now.log c.loop.passes.kills c.is_over.new.kills) c.if-is_over.true c.is_over.ensures.told)
 
 pub loop-preserved-in-Moved : goal.loop-preserved-in-Moved
@@ -55,7 +55,7 @@ returns-in-Starved g c =
     (record { letters = c.take_turn.new.letters; kills = c.is_over.new.kills; notices = c.tell_deaths-in-Starved.new.notices })
     (turn.serving (g.K.Actor.state c.args.live.kind) (callers_of replies c.args.passes.notices.items) old.serving) still.letters still.kills still.seats
     (looked_on c.loop.passes.kills.looked c.is_over.new.kills.looked (length before.log) (length now.log) look.1 old.passes.looked turn.on.long) (turn.on.last old.last)
-    c.args.live.book.id c.kill-dead-in-Starved.result (turn.on.id ∙ old.id) c.kill-dead-in-Starved.ensures c.tell_deaths-in-Starved.ensures
+    c.args.live.id c.kill-dead-in-Starved.result (turn.on.id ∙ old.id) c.kill-dead-in-Starved.ensures c.tell_deaths-in-Starved.ensures
     (still_untaken c.loop.passes.kills c.is_over.new.kills look.0 old.untaken) (ap has_terminated (turn.starved (search rules)) ∙ on.0)
 
 pub returns-in-Ok : goal.returns-in-Ok
@@ -73,7 +73,7 @@ returns-in-Ok g c =
     retired_served (g.K.Actor.state c.args.live.kind) replies c.args.passes now c.take_turn.new.notices.items between
     (turn.serving (g.K.Actor.state c.args.live.kind) (callers_of replies c.args.passes.notices.items) old.serving) still.letters still.kills still.seats
     (looked_on c.loop.passes.kills.looked c.is_over.new.kills.looked (length before.log) (length now.log) look.1 old.passes.looked turn.on.long) (turn.on.last old.last)
-    c.args.live.book.id (retired_seen g.K.Actor.state c.in-Ok.retired) (turn.on.id ∙ old.id) c.in-Ok.ensures.ok may (λ i. c.take_turn.new.notices.items)
+    c.args.live.id (retired_seen g.K.Actor.state c.in-Ok.retired) (turn.on.id ∙ old.id) c.in-Ok.ensures.ok may (λ i. c.take_turn.new.notices.items)
     (still_untaken c.loop.passes.kills c.is_over.new.kills look.0 old.untaken)
 
 pub loop-preserved : goal.loop-preserved

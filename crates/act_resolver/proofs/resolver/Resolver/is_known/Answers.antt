@@ -9,5 +9,5 @@ pub returns : goal.returns
 returns c =
     c.is_zero.ensures
     ∙ ap (λ counts. option_map_or (λ count. count == 0) (slice_get counts c.args.k) false) c.deref.ensures.value
-    ∙ known_is c.self.inside.calls.items c.self.inside.untold.items c.args.k c.self.invariant.size_counts c.self.invariant.counted
+    ∙ known_is c.self.inside.calls.items c.self.inside.missing.items c.args.k c.self.invariant.size_counts c.self.invariant.counted
     ∙ ap (λ v. is_known v.calls c.args.k) c.self.view_is

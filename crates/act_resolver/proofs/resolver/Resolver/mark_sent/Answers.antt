@@ -8,16 +8,16 @@ pub invariant_of-self : goal.invariant_of-self
 invariant_of-self c =
     let calls = c.self.inside.calls.items in
     let i = c.number-place.result in
-    let found : Entered = record { futures = c.call.inside.futures; told = c.call.inside.told; sent = c.call.inside.sent } in
+    let found : Entered = record { futures = c.call.inside.futures; answered = c.call.inside.answered; sent = c.call.inside.sent } in
     let lists : calls ≡ c.args.self.now.calls = ap (λ v. v.calls) c.self.view_is in
     let read : slice_get calls i ≡ Some found = found_at calls c.args.self.now.calls c.self.inside.calls.len i c.args.k found c.index_mut-call.result.now lists c.self.inside.calls.ok.0 c.number-place.ensures c.requires c.index_mut-call.ensures.value c.call.view_is in
-    rw c.set.ensures (sent_fine calls c.self.inside.untold.items c.self.inside.waiters.lists c.self.inside.ready i found c.self.invariant read)
+    rw c.set.ensures (sent_fine calls c.self.inside.missing.items c.self.inside.waiters.lists c.self.inside.ready i found c.self.invariant read)
 
 pub returns-clause-calls : goal.returns-clause-calls
 returns-clause-calls c =
     let calls = c.self.inside.calls.items in
     let i = c.number-place.result in
-    let found : Entered = record { futures = c.call.inside.futures; told = c.call.inside.told; sent = c.call.inside.sent } in
+    let found : Entered = record { futures = c.call.inside.futures; answered = c.call.inside.answered; sent = c.call.inside.sent } in
     let lists : calls ≡ c.args.self.now.calls = ap (λ v. v.calls) c.self.view_is in
     let read : slice_get calls i ≡ Some found = found_at calls c.args.self.now.calls c.self.inside.calls.len i c.args.k found c.index_mut-call.result.now lists c.self.inside.calls.ok.0 c.number-place.ensures c.requires c.index_mut-call.ensures.value c.call.view_is in
     changed_is calls i i found (λ call. record call { sent = true }) refl read

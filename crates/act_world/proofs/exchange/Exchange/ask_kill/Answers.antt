@@ -1,6 +1,6 @@
 use Rattle.std.proofs.Common.{◌<◌, length, refl, sym, arith}
 use Rattle.std.specs.Prelude.{option_map}
-use Rattle.act_rules.specs.Laws.{world as history}
+use Rattle.act_rules.specs.Laws.{history}
 use Rattle.act_rules.specs.Submissions.{handle_refusal}
 use Rattle.act_rules.specs.History.{copies_of}
 use Rattle.act_rules.specs.declared.event.Event.TheVariants as event

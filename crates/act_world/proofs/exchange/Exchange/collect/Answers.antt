@@ -2,7 +2,7 @@ use Rattle.std.proofs.Common.{◌≡◌, Some, None, ap, sym, ◌∙◌, subst, 
 use Rattle.std.specs.Prelude.{slice_get, position}
 use Rattle.act_types.specs.declared.message.Notice.{Notice}
 use Rattle.act_rules.specs.declared.event.Event.TheVariants as event
-use Rattle.act_rules.specs.Laws.{world as history}
+use Rattle.act_rules.specs.Laws.{history}
 use Rattle.act_rules.specs.Rules.{outcome_of, after}
 use Rattle.act_owner.specs.Owner.{OwnerValue, collected, after_collect, KnowsDeath}
 use Rattle.act_world.specs.declared.exchange.Posted.{Posted}
@@ -10,7 +10,7 @@ use Rattle.act_world.specs.Exchange.{ExchangeValue, is_owner, told_collected}
 use Rattle.act_world.specs.Ties.{Ties}
 use Rattle.act_world.proofs.Lawful.{world_lawful}
 use Rattle.act_world.proofs.Sending.{SeesOwner}
-use Rattle.act_world.proofs.Hearing.{collect_follows, collect_owned, late_follows}
+use Rattle.act_world.proofs.Collecting.{collect_follows, collect_owned, late_follows}
 use Rattle.act_world.proofs.exchange.Exchange.collect.Goals as goal
 
 pub returns-in_default-place_of-clause-ok : goal.returns-in_default-place_of-clause-ok

@@ -1,6 +1,6 @@
 use Rattle.std.proofs.Common.{refl, sym}
 use Rattle.std.specs.Prelude.{option_map}
-use Rattle.act_rules.specs.Laws.{world as history}
+use Rattle.act_rules.specs.Laws.{history}
 use Rattle.act_rules.specs.Submissions.{copy_refusal}
 use Rattle.act_rules.specs.History.{copies_of}
 use Rattle.act_rules.specs.declared.event.Event.TheVariants as event

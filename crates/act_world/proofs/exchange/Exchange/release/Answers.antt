@@ -1,7 +1,7 @@
 use Rattle.std.proofs.Common.{◌≡◌, length, Some, refl, sym, ◌∙◌, ap, arith}
 use Rattle.std.specs.Prelude.{option_map, position}
 use Rattle.std.proofs.lemmas.Grind.{common_steps}
-use Rattle.act_rules.specs.Laws.{world as history}
+use Rattle.act_rules.specs.Laws.{history}
 use Rattle.act_rules.specs.Submissions.{handle_refusal}
 use Rattle.act_rules.specs.History.{copies_of}
 use Rattle.act_rules.specs.declared.event.Event.TheVariants as event

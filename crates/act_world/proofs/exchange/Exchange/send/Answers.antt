@@ -3,7 +3,7 @@ use Rattle.std.specs.Prelude.{position}
 use Rattle.std.proofs.lemmas.Grind.{common_steps}
 use Rattle.act_rules.specs.declared.event.Event.TheVariants as event
 use Rattle.act_rules.specs.declared.outcome.Did.TheVariants as did
-use Rattle.act_rules.specs.Laws.{world as history}
+use Rattle.act_rules.specs.Laws.{history}
 use Rattle.act_rules.specs.Rules.{outcome_of, after}
 use Rattle.act_owner.specs.Owner.{OwnerValue, sending_refusal, address_at, with_sent}
 use Rattle.act_world.specs.declared.exchange.CallNote.{CallNote}

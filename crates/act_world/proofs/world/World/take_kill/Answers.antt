@@ -5,7 +5,7 @@ use Rattle.std.proofs.lemmas.List.{map-set}
 use Rattle.std.proofs.lemmas.Result.{on_err_weaker}
 use Rattle.std.proofs.Math.Seq.{map-set_same}
 use Rattle.act_rules.specs.declared.event.Event.TheVariants as event
-use Rattle.act_rules.specs.Laws.{world as history}
+use Rattle.act_rules.specs.Laws.{history}
 use Rattle.act_rules.specs.Rules.{outcome_of, after}
 use Rattle.act_rules.proofs.Lists.{slice_get-map}
 use Rattle.act_world.specs.Value.{SlotSeen, slot_seen, world_seen}

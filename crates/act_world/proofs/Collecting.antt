@@ -1,0 +1,120 @@
+-- A notice that its caller collects.
+use Rattle.std.proofs.Common.{◌≡◌, ℕ, ◌<◌, Bool, true, false, cond, List, length, Some, None, refl, ap, sym, ◌∙◌, subst, Ok}
+use Rattle.std.specs.Prelude.{Option, zip, count_by, slice_get, slice_set, position, option_map, option_and_then, is_some}
+use Rattle.std.proofs.lemmas.List.Quantifiers.{position-Some}
+use Rattle.std.proofs.lemmas.Option.{slice_get-get_or}
+use Rattle.act_types.specs.declared.message.Notice.{Notice}
+use Rattle.act_types.specs.declared.message.Reply.{Reply}
+use Rattle.act_types.specs.declared.message.Notice.TheVariants.{Answered, Death}
+use Rattle.act_rules.specs.declared.event.Event.TheVariants.{Collect}
+use Rattle.act_rules.specs.declared.history.RunItem.{RunItem}
+use Rattle.act_rules.specs.declared.history.Post.{Post}
+use Rattle.act_rules.specs.declared.history.Post.TheVariants.{Reply as ReplyPost, Death as DeathPost}
+use Rattle.act_rules.specs.declared.outcome.Did.TheVariants.{Late as DidLate}
+use Rattle.act_rules.specs.RunList.{Answer}
+use Rattle.act_rules.specs.History.{History, is_caller, runs_of, answer_of}
+use Rattle.act_rules.specs.Rules.{outcome_of, after}
+use Rattle.act_rules.proofs.Lists.{All_at}
+use Rattle.act_rules.proofs.Posts.{IsSoundPost}
+use Rattle.act_handles.specs.Handles.{copies_in}
+use Rattle.act_owner.specs.declared.owner.Collected.{Collected}
+use Rattle.act_owner.specs.declared.owner.Collected.TheVariants.{Late, Stray, Died}
+use Rattle.act_owner.specs.Owner.{OwnerValue, collected, after_collect, after_reply_that, waits_for, KnowsDeath}
+use Rattle.act_world.specs.declared.exchange.Posted.{Posted}
+use Rattle.act_world.specs.Exchange.{ExchangeValue, is_owner, told_collected}
+use Rattle.act_world.specs.Value.{SlotSeen}
+use Rattle.act_world.specs.Ties.{reply_as, reply_at, posted, Ties}
+use Rattle.act_world.proofs.Lawful.{IsLawful, IsNamedPost, named_caller}
+use Rattle.act_world.proofs.Frames.{owner_absent}
+use Rattle.act_world.proofs.Sending.{SeesOwner}
+use Rattle.act_world.proofs.Heard.{caller_of, Collects}
+use Rattle.act_world.proofs.Bereaved.{death_collects}
+use Rattle.act_world.proofs.Answering.{reply_collects}
+use Rattle.act_world.proofs.Lists.{set-same}
+
+-- ---- each notice
+
+record HasPost (h : History) (j : ℕ) (notice : Posted) : Type 0 where
+  post : Post
+  at : slice_get h.posts j ≡ Some post
+  is : posted h post ≡ Some notice
+
+has_post : (h : History) (exchange : ExchangeValue) (slots : List SlotSeen) (j : ℕ) (notice : Posted) → Ties h (record { exchange = exchange; slots = slots }) → slice_get exchange.replies j ≡ Some notice → HasPost h j notice
+has_post h exchange slots j notice ties e = go (slice_get h.posts j) refl (sym (ties.replies j) ∙ e)
+  where
+    go : (o : Option Post) → slice_get h.posts j ≡ o → option_and_then (posted h) o ≡ Some notice → HasPost h j notice
+    go None at e = cc
+    go (Some post) at e = record { post = post; at = at; is = e }
+
+abbrev told_to : ℕ → Reply → Posted
+told_to c reply = record { caller = c; notice = Answered reply }
+
+by_reply : (h : History) (exchange : ExchangeValue) (slots : List SlotSeen) (j c a place : ℕ) (notice : Posted) → IsLawful h → Ties h (record { exchange = exchange; slots = slots }) → slice_get h.posts j ≡ Some (ReplyPost c a place) → IsSoundPost h (ReplyPost c a place) → posted h (ReplyPost c a place) ≡ Some notice
+    → Collects h exchange slots j notice
+by_reply h exchange slots j c a place notice lawful ties at sound is = go (answer_of a place h) refl (sym (ap (λ (o : Option RunItem). option_map (told_to c) (reply_at h c a place o)) sound.1) ∙ is)
+  where
+    go : (o : Option Answer) → answer_of a place h ≡ o → option_map (told_to c) (option_map (reply_as c a place sound.0) o) ≡ Some notice → Collects h exchange slots j notice
+    go None answered e = cc
+    go (Some answer) answered e =
+        let same : told_to c (reply_as c a place sound.0 answer) ≡ notice = cc in
+        subst (Collects h exchange slots j) same (reply_collects h exchange slots j c a place sound.0 answer lawful ties at sound.1 sound.2 answered)
+
+by_post : (h : History) (exchange : ExchangeValue) (slots : List SlotSeen) (j : ℕ) (notice : Posted) (post : Post) → IsLawful h → Ties h (record { exchange = exchange; slots = slots }) → slice_get h.posts j ≡ Some post → posted h post ≡ Some notice → Collects h exchange slots j notice
+by_post h exchange slots j notice (DeathPost c a) lawful ties at is =
+    let same : ◌≡◌ {A = Posted} (record { caller = c; notice = Death a }) notice = cc in
+    subst (Collects h exchange slots j) same (death_collects h exchange slots j c a lawful ties at)
+by_post h exchange slots j notice (ReplyPost c a place) lawful ties at is =
+    by_reply h exchange slots j c a place notice lawful ties at (All_at (IsSoundPost h) h.posts j (ReplyPost c a place) lawful.sound.posts.posts at) is
+
+pub collect_follows : (h : History) (exchange : ExchangeValue) (slots : List SlotSeen) (j : ℕ) (notice : Posted) → IsLawful h → Ties h (record { exchange = exchange; slots = slots }) → slice_get exchange.replies j ≡ Some notice → Collects h exchange slots j notice
+collect_follows h exchange slots j notice lawful ties e =
+    let found = has_post h exchange slots j notice ties e in
+    by_post h exchange slots j notice found.post lawful ties found.at found.is
+
+-- ---- an answer that comes late
+
+-- it leaves its caller as it was
+late_same : (owner : OwnerValue) (notice : Notice) (k : ℕ) → collected owner notice ≡ Late k → (after_collect owner notice ≡ owner) × KnowsDeath notice owner owner
+late_same owner (Answered reply) k e = (ap (λ (told : Collected). after_reply_that told owner reply) e, tt)
+late_same owner (Death a) k e = go (is_some (copies_in a owner.handles)) e
+  where
+    go : (listed : Bool) → cond listed (Died (count_by (waits_for a) (zip owner.calls owner.kept))) Stray ≡ Late k → (after_collect owner (Death a) ≡ owner) × KnowsDeath (Death a) owner owner
+    go true e = cc
+    go false e = cc
+
+pub late_follows : (h : History) (exchange : ExchangeValue) (slots : List SlotSeen) (j : ℕ) (notice : Posted) (place k : ℕ) (owner : OwnerValue) → IsLawful h → Ties h (record { exchange = exchange; slots = slots }) → slice_get exchange.replies j ≡ Some notice
+    → SeesOwner exchange notice.caller place owner → collected owner notice.notice ≡ Late k → (Ok (DidLate notice.caller k) ≡ outcome_of h (Collect j)) × Ties (after h (Collect j)) (record { exchange = exchange; slots = slots })
+late_follows h exchange slots j notice place k owner lawful ties e sees late =
+    let same = late_same owner notice.notice k late in
+    let follows = collect_follows h exchange slots j notice lawful ties e place owner owner (Ok (DidLate notice.caller k)) sees (sym (ap (told_collected notice.caller) late)) (sym same.0) same.1 in
+    (follows.0, subst (λ (owners : List OwnerValue). Ties (after h (Collect j)) (record { exchange = record exchange { owners = owners }; slots = slots })) stays follows.1)
+  where
+    within : place < length exchange.owners
+    within = (position-Some (is_owner notice.caller) exchange.owners place owner sees.place_is).0
+
+    here : slice_get exchange.owners place ≡ Some owner
+    here = slice_get-get_or exchange.owners place owner within ∙ ap (λ (o : OwnerValue). Some o) (sym sees.owner_is)
+
+    stays : slice_set exchange.owners place owner ≡ exchange.owners
+    stays = set-same exchange.owners place owner here
+
+-- ---- a notice is for a caller
+
+posted_caller : (h : History) (post : Post) (notice : Posted) → posted h post ≡ Some notice → notice.caller ≡ caller_of post
+posted_caller h (DeathPost c a) notice e = let same : ◌≡◌ {A = Posted} (record { caller = c; notice = Death a }) notice = cc in ap (λ (p : Posted). p.caller) (sym same)
+posted_caller h (ReplyPost c a place) notice e = go (reply_at h c a place (slice_get (runs_of a h) place)) e
+  where
+    go : (o : Option Reply) → option_map (told_to c) o ≡ Some notice → notice.caller ≡ c
+    go None e = cc
+    go (Some reply) e = let same : told_to c reply ≡ notice = cc in ap (λ (p : Posted). p.caller) (sym same)
+
+post_caller : (h : History) (post : Post) → IsNamedPost h post → is_caller (caller_of post) h ≡ true
+post_caller h (ReplyPost c a place) named = named_caller c a h named
+post_caller h (DeathPost c a) named = named_caller c a h named
+
+pub collect_owned : (h : History) (exchange : ExchangeValue) (slots : List SlotSeen) (j : ℕ) (notice : Posted) → IsLawful h → Ties h (record { exchange = exchange; slots = slots }) → slice_get exchange.replies j ≡ Some notice → position (is_owner notice.caller) exchange.owners ≡ None → ⊥
+collect_owned h exchange slots j notice lawful ties e none =
+    let found = has_post h exchange slots j notice ties e in
+    let caller : is_caller notice.caller h ≡ true = ap (λ (c : ℕ). is_caller c h) (posted_caller h found.post notice found.is) ∙ post_caller h found.post (All_at (IsNamedPost h) h.posts j found.post lawful.named.posts found.at) in
+    let absent : is_caller notice.caller h ≡ false = owner_absent h exchange.owners notice.caller ties.owners none in
+    let bad : true ≡ false = sym caller ∙ absent in cc

@@ -1,0 +1,98 @@
+-- A history after one of its posts was collected.
+use Rattle.std.proofs.Common.{◌≡◌, ◌≢◌, ℕ, Bool, false, List, [], ◌∷◌, ◌++◌, Some, None, refl, ap, sym, ◌∙◌, subst, Ok}
+use Rattle.std.specs.Prelude.{Option, ◌==◌, ◌||◌, slice_get, slice_set}
+use Rattle.std.specs.List.{list_any}
+use Rattle.std.proofs.Math.Bool.{or-false}
+use Rattle.std.proofs.lemmas.Bool.{ne_eqb}
+use Rattle.std.proofs.lemmas.List.Folds.{list_any-append}
+use Rattle.act_rules.specs.declared.event.Event.TheVariants.{Collect}
+use Rattle.act_rules.specs.declared.history.Submission.{Submission}
+use Rattle.act_rules.specs.declared.history.Post.{Post}
+use Rattle.act_rules.specs.declared.history.Post.TheVariants.{Reply as ReplyPost, Death as DeathPost}
+use Rattle.act_rules.specs.RunList.{Answer}
+use Rattle.act_rules.specs.History.{History, calls_of, kept_of, answer_in, first_answer}
+use Rattle.act_rules.specs.Rules.{did, Outcome, refusal_of, outcome_of, did_collect, added, after, and_also, was_sent}
+use Rattle.act_rules.proofs.Growth.{Grows, added_grows}
+use Rattle.act_rules.proofs.Table.{or_else, kept_of-collected}
+use Rattle.act_owner.specs.Owner.{OwnerValue, collected, after_collect, KnowsDeath}
+use Rattle.act_world.specs.declared.exchange.Posted.{Posted}
+use Rattle.act_world.specs.Exchange.{ExchangeValue, told_collected}
+use Rattle.act_world.specs.Value.{SlotSeen, WorldSeen}
+use Rattle.act_world.specs.Ties.{IsOwnerOf, is_death_to, Ties}
+use Rattle.act_world.proofs.Changes.{accepted_follows}
+use Rattle.act_world.proofs.Lawful.{IsLawful}
+use Rattle.act_world.proofs.Frames.{SameCaller, owners_change, mail_stays, replies_stay, stages_stay}
+use Rattle.act_world.proofs.Pending.{kept_long}
+use Rattle.act_world.proofs.Sending.{SeesOwner}
+use Rattle.act_world.proofs.Tables.{table_is, kept_there}
+
+-- ---- the history after the post was collected
+
+abbrev pub heard : History → Post → History
+heard h post = record h { collected = h.collected ++ post ∷ [] }
+
+abbrev pub caller_of : Post → ℕ
+caller_of (ReplyPost c a place) = c
+caller_of (DeathPost c a) = c
+
+-- what a post answers is its own caller's
+no_answer : (h : History) (d k b : ℕ) (post : Post) → caller_of post ≢ d → answer_in h d k b post ≡ None
+no_answer h d k b (ReplyPost c a place) apart = let other : (c == d) ≡ false = ne_eqb c d apart in rw other refl
+no_answer h d k b (DeathPost c a) apart = let other : (c == d) ≡ false = ne_eqb c d apart in rw other refl
+
+no_death : (d b : ℕ) (post : Post) → caller_of post ≢ d → is_death_to d b post ≡ false
+no_death d b (ReplyPost c a place) apart = refl
+no_death d b (DeathPost c a) apart = let other : (c == d) ≡ false = ne_eqb c d apart in rw other refl
+
+pub or_else_none : (o : Option Answer) → o ≡ or_else o None
+or_else_none None = refl
+or_else_none (Some answer) = refl
+
+-- nothing of another caller changes
+others : (h : History) (post : Post) (d : ℕ) → caller_of post ≢ d → SameCaller d h (heard h post)
+others h post d apart = record {
+  calls = refl;
+  copies = λ b. refl;
+  sent = λ k. same_sent k (slice_get (calls_of d h) k);
+  kept = kept_of-collected h d post ∙ sym (table_is (kept_of d h) (calls_of d h) (λ (call : ℕ × Submission). or_else (first_answer h d call) (answer_in h d call.0 call.1.actor post)) (kept_long h d)
+      (λ j x e. kept_there h d j x e ∙ ap (λ (o : Option Answer). Some o) (or_else_none (first_answer h d (j, x)) ∙ ap (λ (o : Option Answer). or_else (first_answer h d (j, x)) o) (sym (no_answer h d j x.actor post apart)))));
+  deaths = λ b. list_any-append (is_death_to d b) h.collected (post ∷ []) ∙ ap (λ (t : Bool). list_any (is_death_to d b) h.collected || (t || false)) (no_death d b post apart) ∙ or-false (list_any (is_death_to d b) h.collected);
+}
+  where
+    same_sent : (k : ℕ) (call : Option Submission) → was_sent d k call (heard h post) ≡ was_sent d k call h
+    same_sent k None = refl
+    same_sent k (Some call) = refl
+
+pub heard_ties : (h : History) (exchange : ExchangeValue) (slots : List SlotSeen) (post : Post) (place : ℕ) (owner new : OwnerValue) → IsLawful h → Grows h (heard h post) → Ties h (record { exchange = exchange; slots = slots }) → SeesOwner exchange (caller_of post) place owner → IsOwnerOf (heard h post) (caller_of post) new
+    → Ties (heard h post) (record { exchange = record exchange { owners = slice_set exchange.owners place new }; slots = slots })
+heard_ties h exchange slots post place owner new lawful grows ties sees is =
+    let g = heard h post in
+    record {
+      owners = owners_change h g exchange.owners (caller_of post) place new refl ties.owners sees.place_is is (λ d apart. others h post d apart);
+      actors = stages_stay h g slots lawful grows refl refl refl refl ties.actors;
+      mail = mail_stays h g exchange.mail lawful grows ties.mail;
+      mail_count = ties.mail_count;
+      replies = replies_stay h g exchange.replies lawful grows ties.replies;
+      reply_count = ties.reply_count;
+      asked = ties.asked;
+    }
+
+collect_unrefused : (h : History) (j : ℕ) (post : Post) → slice_get h.posts j ≡ Some post → refusal_of h (Collect j) ≡ None
+collect_unrefused h j post at = rw at refl
+
+collect_adds : (h : History) (j : ℕ) (post : Post) → slice_get h.posts j ≡ Some post → added h (Collect j) ≡ heard h post
+collect_adds h j post at = ap (λ (o : Option Post). record h { collected = and_also h.collected o }) at
+
+pub heard_grows : (h : History) (j : ℕ) (post : Post) → slice_get h.posts j ≡ Some post → Grows h (heard h post)
+heard_grows h j post at = subst (Grows h) (collect_adds h j post at) (added_grows h (Collect j))
+
+pub finish : (h : History) (j : ℕ) (post : Post) (told : Outcome) (world : WorldSeen) → slice_get h.posts j ≡ Some post → told ≡ Ok (did_collect h (Some post)) → Ties (heard h post) world → (told ≡ outcome_of h (Collect j)) × Ties (after h (Collect j)) world
+finish h j post told world at told_is ties =
+    let both = accepted_follows h (Collect j) (did h (Collect j)) world (collect_unrefused h j post at) refl (subst (λ (g : History). Ties g world) (sym (collect_adds h j post at)) ties) in
+    (told_is ∙ ap (λ (o : Option Post). Ok (did_collect h o)) (sym at) ∙ both.0, both.1)
+
+-- ---- what is asked of each notice
+
+abbrev pub Collects : History → ExchangeValue → List SlotSeen → ℕ → Posted → Type 0
+Collects h exchange slots j notice = (place : ℕ) (owner new : OwnerValue) (told : Outcome) → SeesOwner exchange notice.caller place owner → told ≡ told_collected notice.caller (collected owner notice.notice) → new ≡ after_collect owner notice.notice → KnowsDeath notice.notice owner new
+    → (told ≡ outcome_of h (Collect j)) × Ties (after h (Collect j)) (record { exchange = record exchange { owners = slice_set exchange.owners place new }; slots = slots })
