@@ -19,12 +19,12 @@ from itertools import chain
 
 from refusing import HANGS, TOP, Refusing
 
-PARTS = ["act_inbox", "act_replies", "act_resolver", "act_owner", "act_actor"]
-TESTS = [(crate, "tests::refused_memory_changes_nothing") for crate in PARTS]
+PARTS = [("act_inbox", "tests"), ("tests_of_owners", "replies"), ("act_resolver", "tests"), ("tests_of_owners", "owner"), ("act_actor", "tests")]
+TESTS = [(crate, f"{part}::refused_memory_changes_nothing") for crate, part in PARTS]
 ROWS = ["another_caller_passes", "one_packet_for_good", "release_and_retire", "ran_and_yet_died", "terminate_in_turn"]
-TESTS += [("act_world", f"tests::{row}") for row in ROWS]
+TESTS += [("tests_of_worlds", f"world::{row}") for row in ROWS]
 TESTS += [("act_serve", "tests::refused_memory_starves"), ("act_drive", "tests::starved::refused_memory_starves")]
-RUNS = [("act_executor", f"tests::{run}") for run in ["a_table_and_an_account", "kills::a_kill_once", "terminates::a_terminate_once"]]
+RUNS = [("tests_of_runs", f"executor::{run}") for run in ["a_table_and_an_account", "kills::a_kill_once", "terminates::a_terminate_once"]]
 PASSED = 0
 ERROR = 101
 NO_THREAD = b"error: NoThread"

@@ -5,8 +5,6 @@ mod audits;
 mod joined;
 mod run;
 mod starter;
-#[cfg(test)]
-mod tests;
 mod work;
 
 pub use act_drive::{CallerLines, CallerPasses, Driven, drive};

@@ -2,8 +2,6 @@
 #![tactic(auto)]
 
 mod handles;
-#[cfg(test)]
-mod tests;
 
 pub use act_rules::HandleRefusal;
 pub use handles::{Handle, Handles};

@@ -5,8 +5,6 @@ mod args;
 mod futures;
 mod laws;
 mod owner;
-#[cfg(test)]
-mod tests;
 
 pub use act_rules::{HandleRefusal, SendRefusal, SubmitRefusal};
 pub use laws::{never_above_the_limit, one_packet_for_good, told_by_notices};

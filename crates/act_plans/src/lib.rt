@@ -5,8 +5,6 @@ mod draft;
 mod fitting;
 mod part;
 mod rising;
-#[cfg(test)]
-mod tests;
 
 pub use draft::{bad_step, first_bad_part};
 pub use fitting::{MOST_STEPS, plans_fit};

@@ -2,8 +2,6 @@
 #![tactic(auto)]
 
 mod table;
-#[cfg(test)]
-mod tests;
 mod waiting;
 
 pub use table::{Kept, ReplyTable, Row};

@@ -4,8 +4,6 @@
 mod forms;
 mod line;
 mod script;
-#[cfg(test)]
-mod tests;
 mod words;
 
 pub use line::ScriptFault;

@@ -6,8 +6,6 @@ mod one_call;
 mod patient;
 mod peaceful;
 mod played;
-#[cfg(test)]
-mod tests;
 
 pub use front::{ran_of, world_after};
 pub use one_call::{Heard, ask_once};

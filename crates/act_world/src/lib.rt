@@ -6,8 +6,6 @@ mod exchange;
 pub mod laws;
 mod opening;
 mod slot;
-#[cfg(test)]
-mod tests;
 mod world;
 
 pub use act_actor::{Cast, cast_fits};

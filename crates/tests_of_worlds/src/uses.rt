@@ -1,14 +1,14 @@
 //! Each caller once, where memory is there.
 
-use crate::{
-    Kinds, PeaceFault, ask_once, play_part, play_patiently, ran_of, run_in_peace, serve_each_kind,
-    world_after,
-};
 use act_actor::cast_fits;
 use act_executor::Plan;
 use act_kinds::{Account, Boxed, Counter, ListKind, Table};
 use act_rules::Step;
 use act_types::{ActorId, Arg, CallerId, FutureId, ListOf, Method, NoMemory, Value};
+use act_uses::{
+    Kinds, PeaceFault, ask_once, play_part, play_patiently, ran_of, run_in_peace, serve_each_kind,
+    world_after,
+};
 use act_world::{Cast, Event, World};
 use std::alloc::Global;
 use std::test::Fail;

@@ -2,7 +2,7 @@
 
 use super::scene::{Given, Ids, Row, counters, few_ids, plans_of, ran};
 use super::told::tell;
-use crate::{Ended, Finished, Joined, NoGate, RunFault};
+use act_executor::{Ended, Finished, Joined, NoGate, RunFault};
 use act_kinds::Counter;
 use act_owner::Owner;
 use act_rules::RunItem;

@@ -1,6 +1,6 @@
 //! One handle from its opening to its last release, and the most copies of it.
 
-use crate::{HandleRefusal, Handles};
+use act_handles::{HandleRefusal, Handles};
 use act_types::ActorId;
 use std::test::Fail;
 

@@ -1,7 +1,7 @@
 //! Casts, plans and runs.
 
-use crate::{Gate, Joined, Plan, RunFault, plans_fit, run_plans};
 use act_actor::{Cast, cast_fits};
+use act_executor::{Gate, Joined, Plan, RunFault, plans_fit, run_plans};
 use act_kinds::{Actor, Counter};
 use act_rules::Step;
 use act_types::{

@@ -2,8 +2,8 @@
 //! with its end and the calls of its log.
 
 use super::scene::ran;
-use crate::{Ended, Finished, Joined, NoGate, Plan, RunFault};
 use act_actor::Cast;
+use act_executor::{Ended, Finished, Joined, NoGate, Plan, RunFault};
 use act_kinds::Actor;
 use act_owner::Owner;
 use act_rules::RunItem;

@@ -3,7 +3,7 @@
 
 ghost use Rattle.std.specs.Prelude.{◌≢◌};
 
-use crate::{Collected, HandleRefusal, Owner, SendRefusal, SubmitRefusal};
+use act_owner::{Collected, HandleRefusal, Owner, SendRefusal, SubmitRefusal};
 use act_types::{
     ActorId, Answer, Arg, CallerId, Fault, FutureId, ListOf, Method, NoMemory, Notice, Reply,
     Settled, Value,

@@ -3,7 +3,7 @@
 use super::scene::{
     Given, Ids, Row, all_actors, all_callers, counters, few_ids, plans_for_all, plans_of, ran,
 };
-use crate::{Ended, Finished, Joined, NoGate, RunFault};
+use act_executor::{Ended, Finished, Joined, NoGate, RunFault};
 use act_kinds::{Actor, Counter};
 use act_owner::Owner;
 use act_rules::RunItem;

@@ -2,7 +2,7 @@
 
 use super::scene::{Given, Ids, Row, counters, few_ids, plans_of};
 use super::told::{tell, told};
-use crate::RunFault;
+use act_executor::RunFault;
 use act_types::Method;
 use std::alloc::Global;
 use std::sync::Wait;

@@ -8,8 +8,8 @@ mod scene;
 mod terminates;
 mod told;
 
-use crate::Plan;
 use act_actor::Cast;
+use act_executor::Plan;
 use act_kinds::{Account, Boxed, Counter, ListKind, Table};
 use act_types::{CallerId, Method, NoMemory};
 use scene::{Given, Ids, Row, few_ids, plans_of, two_casts};

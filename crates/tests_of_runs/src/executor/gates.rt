@@ -1,8 +1,8 @@
 //! Runs whose gate sees which actors run at the same time, or whether any does.
 
 use super::scene::{Given, Ids, Row, all_actors, counters, few_ids, plans_for_all, plans_of, ran};
-use crate::{Gate, Joined, Plan, RunFault};
 use act_actor::Cast;
+use act_executor::{Gate, Joined, Plan, RunFault};
 use act_kinds::Counter;
 use act_types::{ActorId, CallerId, Method, NoMemory};
 use std::alloc::Global;

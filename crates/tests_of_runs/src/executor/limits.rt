@@ -2,7 +2,7 @@
 
 use super::scene::{Given, Ids, Row, counters, few_ids, limited, one_cast, plans_of};
 use super::told::tell;
-use crate::RunFault;
+use act_executor::RunFault;
 use act_kinds::ListKind;
 use act_types::Method;
 use std::alloc::Global;

@@ -1,12 +1,13 @@
 //! Plans that fit and others that don't, steps that would be refused, and casts and plans that are
 //! given out of order.
 
-use crate::{Plan, bad_step, first_bad_part, plans_fit, prepare};
 use act_actor::{Cast, cast_fits};
 use act_kinds::Counter;
+use act_plans::{MOST_STEPS, Part, Plan, bad_step, first_bad_part, plans_fit, prepare};
 use act_rules::Step;
 use act_types::{ActorId, Arg, CallerId, FutureId, ListOf, Method, NoMemory};
 use std::alloc::Global;
+use std::process::Abort;
 use std::test::Fail;
 
 /// An actor and its callers.
@@ -73,29 +74,72 @@ fn plans_that_fit(rt: HostRuntime) -> Result<(), Fail> {
     Ok(())
 }
 
+/// Compares the step of a plan that would be refused, of a caller of actor 1 alone.
+fn assert_bad_at(
+    rt: &impl Abort,
+    alloc: Global,
+    plan: &[Step],
+    wanted: Option<u32>,
+) -> Result<(), NoMemory> {
+    assert!(rt; plan.len() < MOST_STEPS);
+    let bad = bad_step(alloc, &[ActorId::new(1).unwrap()], plan)?;
+    assert_eq!(rt; bad, wanted);
+    Ok(())
+}
+
+/// Plans of calls.
+#[test]
+fn calls_that_would_be_refused(rt: HostRuntime) -> Result<(), Fail> {
+    let alloc = rt.alloc();
+    let a1 = ActorId::new(1).unwrap();
+    let no_handle = vec![in alloc; Step::Release(a1), get(alloc, a1, None)?]?;
+    assert_bad_at(&rt, alloc, no_handle.as_slice(), Some(1))?;
+    let its_own = vec![in alloc; get(alloc, a1, None)?, get(alloc, a1, Some(1))?]?;
+    assert_bad_at(&rt, alloc, its_own.as_slice(), Some(1))?;
+    let copied = vec![in alloc; Step::Copy(a1), Step::Release(a1), get(alloc, a1, None)?]?;
+    assert_bad_at(&rt, alloc, copied.as_slice(), None)?;
+    Ok(())
+}
+
+/// Plans of other steps, and of all.
 #[test]
 fn steps_that_would_be_refused(rt: HostRuntime) -> Result<(), Fail> {
     let alloc = rt.alloc();
     let a1 = ActorId::new(1).unwrap();
     let a2 = ActorId::new(2).unwrap();
     let first = FutureId::new(0);
-    let no_handle = vec![in alloc; Step::Release(a1), get(alloc, a1, None)?]?;
-    assert_eq!(rt; bad_step(alloc, &[a1], no_handle.as_slice())?, Some(1));
-    let no_future = vec![in alloc; Step::Await(first)]?;
-    assert_eq!(rt; bad_step(alloc, &[a1], no_future.as_slice())?, Some(0));
-    let its_own = vec![in alloc; get(alloc, a1, None)?, get(alloc, a1, Some(1))?]?;
-    assert_eq!(rt; bad_step(alloc, &[a1], its_own.as_slice())?, Some(1));
-    let no_actor = vec![in alloc; Step::Kill(a1), Step::Copy(a1), Step::Kill(a2)]?;
-    assert_eq!(rt; bad_step(alloc, &[a1], no_actor.as_slice())?, Some(2));
-    let copied = vec![in alloc; Step::Copy(a1), Step::Release(a1), get(alloc, a1, None)?]?;
-    assert_eq!(rt; bad_step(alloc, &[a1], copied.as_slice())?, None);
+    assert_bad_at(&rt, alloc, &[Step::Await(first)], Some(0))?;
+    assert_bad_at(
+        &rt,
+        alloc,
+        &[Step::Kill(a1), Step::Copy(a1), Step::Kill(a2)],
+        Some(2),
+    )?;
     let good = vec![in alloc;
         get(alloc, a1, None)?,
         get(alloc, a1, Some(0))?,
         Step::Await(first),
     ]?;
-    assert_eq!(rt; bad_step(alloc, &[a1], good.as_slice())?, None);
+    assert_bad_at(&rt, alloc, good.as_slice(), None)?;
     Ok(())
+}
+
+/// Compares the actors of casts.
+fn assert_actors(rt: &impl Abort, casts: &[Cast<Counter>], actors: &[ActorId]) {
+    assert_eq!(rt; casts.len(), actors.len());
+    for (cast, actor) in casts.iter().zip(actors.iter()) {
+        assert_eq!(rt; cast.actor, *actor);
+    }
+}
+
+/// Compares the callers of parts, their actors, and how many steps they have.
+fn assert_parts(rt: &impl Abort, parts: &[Part], wanted: &[(CallerId, [ActorId; 2], usize)]) {
+    assert_eq!(rt; parts.len(), wanted.len());
+    for (part, wanted) in parts.iter().zip(wanted.iter()) {
+        assert_eq!(rt; part.caller, wanted.0);
+        assert_eq!(rt; part.actors.as_slice(), &wanted.1[..]);
+        assert_eq!(rt; part.plan.len(), wanted.2);
+    }
 }
 
 #[test]
@@ -113,22 +157,9 @@ fn a_run_is_prepared(rt: HostRuntime) -> Result<(), Fail> {
     let plans = vec![in alloc; (c9, nine), (c5, five)]?;
     assert!(rt; cast_fits(casts.as_slice()) && plans_fit(casts.as_slice(), plans.as_slice()));
     let prepared = prepare(alloc, casts, plans)?;
-    let actors = [a1, a2, a3];
-    assert_eq!(rt; prepared.casts.len(), 3);
-    for (place, cast) in prepared.casts.iter().enumerate() {
-        assert_eq!(rt; actors.get(place).copied(), Some(cast.actor));
-    }
-    let parts: [(CallerId, [ActorId; 2], usize); 3] = [
-        (c2, [a3, a1], 0),
-        (c5, [a3, a2], 3),
-        (c9, [a1, a2], 2),
-    ];
-    assert_eq!(rt; prepared.parts.len(), 3);
-    for (wanted, part) in parts.iter().zip(prepared.parts.iter()) {
-        assert_eq!(rt; part.caller, wanted.0);
-        assert_eq!(rt; part.actors.as_slice(), &wanted.1[..]);
-        assert_eq!(rt; part.plan.len(), wanted.2);
-    }
+    assert_actors(&rt, prepared.casts.as_slice(), &[a1, a2, a3]);
+    let wanted = [(c2, [a3, a1], 0), (c5, [a3, a2], 3), (c9, [a1, a2], 2)];
+    assert_parts(&rt, prepared.parts.as_slice(), &wanted);
     let bad = first_bad_part(alloc, prepared.parts.as_slice())?;
     assert_eq!(rt; bad, Some((c5, 2)));
     Ok(())

@@ -1,8 +1,7 @@
 //! Lines of an actor with a limit, at the edge of the grammar.
 
-use crate::line::ScriptFault;
-use crate::script::read_script;
 use act_rules::{Mode, Wrong};
+use act_scripts::{ScriptFault, read_script};
 use std::alloc::Global;
 use std::process::Abort;
 use std::test::Fail;

@@ -1,10 +1,25 @@
 //! Three futures of two actors, with an answer, a death, and replies that come too late; how many
 //! futures of each wait, step by step; a table that grows where memory is refused; and random steps that compare a table with a plain list.
 
-use crate::{Kept, ReplyTable};
+use act_replies::{Kept, ReplyTable};
 use act_types::{ActorId, Answer, Fault, FutureId, MOST_CALLS, NoMemory, Value};
 use std::process::Abort;
 use std::test::Fail;
+
+/// Keeps an answer of each future, and compares what is told of it.
+fn keep_late(rt: &impl Abort, table: &mut ReplyTable, rows: &[(u32, Kept)]) {
+    for (k, wanted) in rows {
+        let told = table.keep(FutureId::new(*k), Ok(Value::Int(7)));
+        assert_eq!(rt; told, *wanted, "at {k}");
+    }
+}
+
+/// Compares the answers of some futures.
+fn assert_answers(rt: &impl Abort, table: &ReplyTable, rows: &[(u32, Option<Answer>)]) {
+    for (k, wanted) in rows {
+        assert_eq!(rt; table.answer(FutureId::new(*k)), wanted.as_ref(), "at {k}");
+    }
+}
 
 #[test]
 fn the_first_answer_stays(rt: HostRuntime) -> Result<(), Fail> {
@@ -16,26 +31,21 @@ fn the_first_answer_stays(rt: HostRuntime) -> Result<(), Fail> {
     table.enter(a1)?;
     table.enter(a2)?;
     table.enter(a1)?;
-    assert_eq!(rt;
-        table.keep(FutureId::new(0), Ok(Value::Int(5))),
-        Kept::First
+    let first = table.keep(FutureId::new(0), Ok(Value::Int(5)));
+    assert_eq!(rt; (first, table.died(a1)), (Kept::First, 1));
+    keep_late(
+        &rt,
+        &mut table,
+        &[(0, Kept::Late), (2, Kept::Late), (9, Kept::Stray)],
     );
-    assert_eq!(rt; table.died(a1), 1);
-    for (k, want) in [(0, Kept::Late), (2, Kept::Late), (9, Kept::Stray)] {
-        assert_eq!(rt;
-            table.keep(FutureId::new(k), Ok(Value::Int(7))),
-            want,
-            "at {k}"
-        );
-    }
-    for (k, want) in [
+    let died = Some(Err(Fault::ActorDied));
+    let rows = [
         (0, Some(Ok(Value::Int(5)))),
         (1, None),
-        (2, Some(Err(Fault::ActorDied))),
+        (2, died),
         (9, None),
-    ] {
-        assert_eq!(rt; table.answer(FutureId::new(k)), want.as_ref(), "at {k}");
-    }
+    ];
+    assert_answers(&rt, &table, &rows);
     assert_eq!(rt; (table.unanswered(), table.count()), (1, 3));
     Ok(())
 }
@@ -117,9 +127,11 @@ fn refused_memory_changes_nothing(rt: HostRuntime) -> Result<(), Fail> {
         assert_eq!(rt; entered, Ok(FutureId::new(count)));
         table.keep(FutureId::new(2), Ok(Value::Int(5)));
     }
-    for (k, want) in [(1, None), (2, Some(Ok(Value::Int(5)))), (16, None)] {
-        assert_eq!(rt; table.answer(FutureId::new(k)), want.as_ref(), "at {k}");
-    }
+    assert_answers(
+        &rt,
+        &table,
+        &[(1, None), (2, Some(Ok(Value::Int(5)))), (16, None)],
+    );
     Ok(())
 }
 

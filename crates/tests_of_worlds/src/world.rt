@@ -1,13 +1,13 @@
 //! Worked rows of events, each with what is told of them and how the world ends, also where memory
 //! is refused.
 
-use crate::{Cast, Did, Event, Outcome, Stage, World, WorldRefusal, cast_fits};
 use act_kinds::{Actor, Boxed, Counter, ListKind};
 use act_owner::Owner;
 use act_rules::{Arrival, RunItem, SendRefusal, SubmitRefusal};
 use act_types::{
     ActorId, Answer, Arg, CallerId, FutureId, ListOf, Method, NoMemory, Settled, Value,
 };
+use act_world::{Cast, Did, Event, Outcome, Stage, World, WorldRefusal, cast_fits};
 use std::alloc::Global;
 use std::process::Abort;
 use std::test::Fail;

@@ -1,0 +1,11 @@
+//! Tests of what a caller keeps: its handles, its calls and answers, and the plans it is given.
+#![tactic(auto)]
+
+#[cfg(test)]
+mod handles;
+#[cfg(test)]
+mod owner;
+#[cfg(test)]
+mod plans;
+#[cfg(test)]
+mod replies;
