@@ -130,20 +130,27 @@ fn at_once_as_arrived_and_run(rt: HostRuntime) -> Result<(), Fail> {
     Ok(())
 }
 
-/// A call doesn't run at once after a `terminate`, nor is one that was for another actor.
+/// A call that was for another actor doesn't run at once.
 #[test]
-fn not_at_once(rt: HostRuntime) -> Result<(), Fail> {
+fn not_at_once_elsewhere(rt: HostRuntime) -> Result<(), Fail> {
     let alloc = rt.alloc();
     let c1 = CallerId::new(1).unwrap();
-    let none: [Given; 0] = [];
-    let end: Row = (0, Method::Terminate, &none, Ok(0));
-    let after: Row = (1, Method::Get, &none, Ok(0));
-    let mut elsewhere = Live::open(alloc, ActorId::new(2).unwrap(), &[c1], Counter::open())?;
-    assert_eq!(rt; run_at_once(alloc, &mut elsewhere, &end)?, None);
+    let mut live = Live::open(alloc, ActorId::new(2).unwrap(), &[c1], Counter::open())?;
+    let ran = run_at_once(alloc, &mut live, &(0, Method::Get, &[], Ok(0)))?;
+    assert!(rt; ran.is_none());
+    Ok(())
+}
+
+/// A call doesn't run at once after a `terminate`.
+#[test]
+fn not_at_once_after_a_terminate(rt: HostRuntime) -> Result<(), Fail> {
+    let alloc = rt.alloc();
+    let c1 = CallerId::new(1).unwrap();
     let mut live = Live::open(alloc, ActorId::new(1).unwrap(), &[c1], Counter::open())?;
-    assert!(rt; run_at_once(alloc, &mut live, &end)?.is_some());
-    assert!(rt; live.terminated());
-    assert_eq!(rt; run_at_once(alloc, &mut live, &after)?, None);
+    let end = run_at_once(alloc, &mut live, &(0, Method::Terminate, &[], Ok(0)))?;
+    assert!(rt; end.is_some() && live.terminated());
+    let after = run_at_once(alloc, &mut live, &(1, Method::Get, &[], Ok(0)))?;
+    assert!(rt; after.is_none());
     Ok(())
 }
 
