@@ -434,10 +434,8 @@ fn run_next<K: Actor>(
     ran
 }
 
-/// Memory is refused from outside, at most once.
-#[test]
-fn refused_memory_changes_nothing(rt: HostRuntime) -> Result<(), Fail> {
-    let alloc = rt.alloc();
+/// Opens an actor with a list, and once more where memory is refused.
+fn opened_list(rt: &impl Abort, alloc: Global) -> Result<Live<ListKind>, NoMemory> {
     let a1 = ActorId::new(1).unwrap();
     let callers = [CallerId::new(1).unwrap()];
     let mut opened = Live::open(alloc, a1, &callers, ListKind::open(alloc));
@@ -445,7 +443,30 @@ fn refused_memory_changes_nothing(rt: HostRuntime) -> Result<(), Fail> {
         opened = Live::open(alloc, a1, &callers, ListKind::open(alloc));
         assert!(rt; opened.is_ok());
     }
-    let mut live = opened?;
+    opened
+}
+
+/// Brings the calls in reverse, and runs them in turn.
+fn bring_and_run<K: Actor>(
+    rt: &impl Abort,
+    alloc: Global,
+    live: &mut Live<K>,
+    rows: &[Row],
+) -> Result<(), NoMemory> {
+    for row in rows.iter().rev() {
+        bring(rt, alloc, live, row)?;
+    }
+    for row in rows {
+        assert_eq!(rt; run_next(rt, alloc, live)?, Some(reply_of(row)));
+    }
+    Ok(())
+}
+
+/// Memory is refused from outside, at most once.
+#[test]
+fn refused_memory_changes_nothing(rt: HostRuntime) -> Result<(), Fail> {
+    let alloc = rt.alloc();
+    let mut live = opened_list(&rt, alloc)?;
     let rows: [Row; 5] = [
         (0, Method::Push, &[Given::Text("x")], Ok(1)),
         (1, Method::Push, &[Given::Int(7)], Ok(2)),
@@ -458,12 +479,7 @@ fn refused_memory_changes_nothing(rt: HostRuntime) -> Result<(), Fail> {
         ),
         (4, Method::Push, &[Given::Text("y")], Ok(3)),
     ];
-    for row in rows.iter().rev() {
-        bring(&rt, alloc, &mut live, row)?;
-    }
-    for row in &rows {
-        assert_eq!(rt; run_next(&rt, alloc, &mut live)?, Some(reply_of(row)));
-    }
+    bring_and_run(&rt, alloc, &mut live, &rows)?;
     let text = text_of(&rt, alloc, &live)?;
     assert_eq!(rt; text.as_str(), "is list \"x\" 7 \"y\"");
     Ok(())
