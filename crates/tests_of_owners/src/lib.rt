@@ -1,8 +1,11 @@
-//! Tests of what a caller keeps: its handles, its calls and answers, and the plans it is given.
+//! Tests of what a caller keeps: its handles, its calls and answers, the lists that they carry, and
+//! the plans it is given.
 #![tactic(auto)]
 
 #[cfg(test)]
 mod handles;
+#[cfg(test)]
+mod lists;
 #[cfg(test)]
 mod owner;
 #[cfg(test)]
