@@ -1,5 +1,5 @@
 #!/usr/bin/env python3
-"""Writes the worked scripts beside the program into the tables that act_console's tests run.
+"""Writes the worked scripts beside the program into the tables that the tests of scripts run.
 
 The scripts of events make one table, and those for threads another, but for those whose report depends
 on the schedule. Each table is written as functions of a few rows: the check of one function reads all
@@ -13,10 +13,10 @@ import sys
 TOP = pathlib.Path(__file__).resolve().parent.parent
 ROWS = TOP / "crates/ray_actors/rows"
 THREAD_ROWS = TOP / "crates/ray_actors/thread_rows"
-TESTS = TOP / "crates/act_console/src/tests"
+TESTS = TOP / "crates/tests_of_scripts/src/console"
 HEAD = """//! The worked scripts that lie beside the program, as tools/rows_in_test.py writes them.
 
-use crate::fault::ConsoleFault;
+use act_console::ConsoleFault;
 
 /// A script, what is written of it, and how its run ends.
 pub struct Row {
@@ -29,7 +29,7 @@ pub struct Row {
 THREAD_HEAD = """//! The worked scripts for threads that lie beside the program, as tools/rows_in_test.py writes them.
 
 use super::rows::Row;
-use crate::fault::ConsoleFault;
+use act_console::ConsoleFault;
 
 """
 # So many rows stand in one function.

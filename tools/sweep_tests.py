@@ -19,11 +19,11 @@ from itertools import chain
 
 from refusing import HANGS, TOP, Refusing
 
-PARTS = [("act_inbox", "tests"), ("tests_of_owners", "replies"), ("act_resolver", "tests"), ("tests_of_owners", "owner"), ("act_actor", "tests")]
+PARTS = [("tests_of_actors", "inbox"), ("tests_of_owners", "replies"), ("tests_of_owners", "resolver"), ("tests_of_owners", "owner"), ("tests_of_actors", "actor")]
 TESTS = [(crate, f"{part}::refused_memory_changes_nothing") for crate, part in PARTS]
 ROWS = ["another_caller_passes", "one_packet_for_good", "release_and_retire", "ran_and_yet_died", "terminate_in_turn"]
 TESTS += [("tests_of_worlds", f"world::{row}") for row in ROWS]
-TESTS += [("act_serve", "tests::refused_memory_starves"), ("act_drive", "tests::starved::refused_memory_starves")]
+TESTS += [("tests_of_threads", f"{part}::refused_memory_starves") for part in ["serve", "drive::starved"]]
 RUNS = [("tests_of_runs", f"executor::{run}") for run in ["a_table_and_an_account", "kills::a_kill_once", "terminates::a_terminate_once"]]
 PASSED = 0
 ERROR = 101

@@ -7,8 +7,6 @@ mod dead;
 mod live;
 mod retired;
 mod terminate;
-#[cfg(test)]
-mod tests;
 
 pub use act_rules::{Arrival, RunItem};
 pub use cast::{Cast, actors_of, cast_fits, limits_of};

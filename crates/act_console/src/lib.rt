@@ -10,8 +10,6 @@ mod reading;
 mod report;
 mod stock;
 mod summary;
-#[cfg(test)]
-mod tests;
 mod threads;
 mod words;
 mod writing;

@@ -7,8 +7,6 @@ mod laws;
 mod room;
 mod starve;
 mod steps;
-#[cfg(test)]
-mod tests;
 
 pub use caller::{Driven, Plan, drive};
 pub use desk::{CallerLines, CallerPasses};

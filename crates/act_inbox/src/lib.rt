@@ -4,8 +4,6 @@
 
 mod held;
 mod inbox;
-#[cfg(test)]
-mod tests;
 
 pub use act_rules::Arrival;
 pub use inbox::Inbox;

@@ -7,8 +7,6 @@ mod counter;
 mod list;
 mod storable;
 mod table;
-#[cfg(test)]
-mod tests;
 
 pub use account::Account;
 pub use actor::{Actor, Boxed};

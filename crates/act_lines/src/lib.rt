@@ -4,8 +4,6 @@
 mod group;
 mod open;
 mod opened;
-#[cfg(test)]
-mod tests;
 
 pub use open::open_lines;
 pub use opened::{Lines, Opened};

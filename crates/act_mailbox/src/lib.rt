@@ -6,8 +6,6 @@ mod control;
 mod line;
 mod mail;
 mod replies;
-#[cfg(test)]
-mod tests;
 
 pub use control::{Asked, Control, ControlCaller, ControlExec};
 pub use line::{Putter, Taker};

@@ -6,8 +6,6 @@ mod futures;
 mod least;
 mod level;
 mod resolver;
-#[cfg(test)]
-mod tests;
 mod waiters;
 
 pub use futures::Futures;

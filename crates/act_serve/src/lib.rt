@@ -5,8 +5,6 @@ mod gate;
 mod laws;
 mod letter;
 mod seat;
-#[cfg(test)]
-mod tests;
 mod turn;
 
 pub use gate::{Gate, NoGate};

@@ -12,3 +12,5 @@ mod owner;
 mod plans;
 #[cfg(test)]
 mod replies;
+#[cfg(test)]
+mod resolver;

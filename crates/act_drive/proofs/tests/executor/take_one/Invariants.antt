@@ -1,8 +1,0 @@
-use Rattle.std.proofs.Common.{◌≡◌}
-use Rattle.act_drive.proofs.tests.executor.take_one.Given as goal
-
-abbrev pub invariant-loop : goal.invariant-loop
-invariant-loop g l = record {
-  line : l.letters.line ≡ l.initial.letters.line;
-  live : l.live ≡ l.initial.live;
-}

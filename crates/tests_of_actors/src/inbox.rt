@@ -1,0 +1,423 @@
+//! The order in which calls come, and in which they are handed out; calls that come where memory is
+//! refused; and an inbox beside a plain list of what it holds.
+
+use act_inbox::{Arrival, Inbox};
+use act_types::{
+    ActorId, CallerId, FewOf, FutureId, Method, NoMemory, Packet, ReleaseNote, Settled, Value,
+};
+use std::alloc::{AllocError, Global};
+use std::process::Abort;
+use std::test::Fail;
+
+/// A call of this caller, number and method to actor 1, with one argument.
+fn packet_of(
+    alloc: Global,
+    caller: CallerId,
+    number: u32,
+    method: Method,
+) -> Result<Packet, NoMemory> {
+    let mut args = FewOf::new(alloc);
+    args.push(Settled::Good(Value::Int(7)))?;
+    Ok(Packet {
+        caller,
+        actor: ActorId::new(1).unwrap(),
+        number,
+        future: FutureId::new(number),
+        method,
+        args,
+    })
+}
+
+/// Caller 1's call of this number.
+fn call_of(alloc: Global, number: u32) -> Result<Packet, NoMemory> {
+    packet_of(alloc, CallerId::new(1).unwrap(), number, Method::Add)
+}
+
+/// Brings caller 1's call of this number.
+fn bring(
+    rt: &impl Abort,
+    alloc: Global,
+    inbox: &mut Inbox,
+    number: u32,
+    arrival: Arrival,
+) -> Result<(), NoMemory> {
+    assert_eq!(rt; inbox.arrive(call_of(alloc, number)?), Ok(arrival));
+    Ok(())
+}
+
+/// Takes out the call of caller 1 that is next, if it came.
+fn take(rt: &impl Abort, inbox: &mut Inbox, wanted: Option<u32>) {
+    let taken = inbox.next(CallerId::new(1).unwrap());
+    assert_eq!(rt; taken.map(|packet| packet.number), wanted);
+}
+
+/// Brings calls of caller 1 and of a stranger.
+fn bring_each(rt: &impl Abort, alloc: Global, inbox: &mut Inbox) -> Result<(), NoMemory> {
+    let c1 = CallerId::new(1).unwrap();
+    let c9 = CallerId::new(9).unwrap();
+    for (caller, number, method, arrival, has_next) in [
+        (c1, 2, Method::Add, Arrival::New, false),
+        (c1, 0, Method::Get, Arrival::New, true),
+        (c1, 2, Method::Add, Arrival::Repeat, true),
+        (c1, 0, Method::Put, Arrival::Repeat, true),
+        (c1, 65536, Method::Add, Arrival::Stranger, true),
+        (c9, 0, Method::Add, Arrival::Stranger, true),
+    ] {
+        let packet = packet_of(alloc, caller, number, method)?;
+        assert_eq!(rt; inbox.arrive(packet), Ok(arrival));
+        assert_eq!(rt; inbox.has_next(c1), has_next);
+    }
+    Ok(())
+}
+
+/// Brings release notes of caller 1 and of a stranger, where one call of caller 1 went out.
+fn note_each(rt: &impl Abort, inbox: &mut Inbox) {
+    let actor = ActorId::new(1).unwrap();
+    let c1 = CallerId::new(1).unwrap();
+    let c9 = CallerId::new(9).unwrap();
+    for (caller, after, arrival, drained) in [
+        (c9, 1, Arrival::Stranger, false),
+        (c1, 1, Arrival::New, true),
+        (c1, 2, Arrival::Repeat, true),
+    ] {
+        let note = ReleaseNote {
+            caller,
+            actor,
+            after,
+        };
+        assert_eq!(rt; inbox.released(note), arrival);
+        assert_eq!(rt; inbox.drained(), drained);
+    }
+}
+
+/// Shows and takes the one call that comes next, which then is none.
+fn show_and_take(rt: &impl Abort, inbox: &mut Inbox) {
+    let c1 = CallerId::new(1).unwrap();
+    for wanted in [Some(Method::Get), None] {
+        let shown = inbox.peek(c1).map(|packet| packet.method);
+        let taken = inbox.next(c1).map(|packet| packet.method);
+        assert_eq!(rt; (shown, taken), (wanted, wanted));
+        assert_eq!(rt; inbox.handed(c1), 1);
+    }
+}
+
+#[test]
+fn first_arrivals_in_order(rt: HostRuntime) -> Result<(), Fail> {
+    let mut inbox = Inbox::open(rt.alloc(), &[CallerId::new(1).unwrap()])?;
+    bring_each(&rt, rt.alloc(), &mut inbox)?;
+    show_and_take(&rt, &mut inbox);
+    note_each(&rt, &mut inbox);
+    Ok(())
+}
+
+/// Brings a thousand calls, the last one first.
+fn bring_descending(
+    rt: &impl Abort,
+    alloc: Global,
+    inbox: &mut Inbox,
+    arrival: Arrival,
+) -> Result<(), NoMemory> {
+    for number in (0..1000).rev() {
+        bring(rt, alloc, inbox, number, arrival)?;
+    }
+    Ok(())
+}
+
+/// Takes a thousand calls, the first one first.
+fn take_ascending(rt: &impl Abort, inbox: &mut Inbox) {
+    for number in 0..1000 {
+        take(rt, inbox, Some(number));
+    }
+}
+
+#[test]
+fn descending_numbers_go_out_ascending(rt: HostRuntime) -> Result<(), Fail> {
+    let mut inbox = Inbox::open(rt.alloc(), &[CallerId::new(1).unwrap()])?;
+    bring_descending(&rt, rt.alloc(), &mut inbox, Arrival::New)?;
+    take_ascending(&rt, &mut inbox);
+    bring_descending(&rt, rt.alloc(), &mut inbox, Arrival::Repeat)?;
+    bring(&rt, rt.alloc(), &mut inbox, 1000, Arrival::New)?;
+    take(&rt, &mut inbox, Some(1000));
+    Ok(())
+}
+
+/// Opens an inbox, and once more where memory is refused.
+fn opened(rt: &impl Abort, alloc: Global) -> Result<Inbox, NoMemory> {
+    let callers = [CallerId::new(1).unwrap()];
+    let mut opened = Inbox::open(alloc, &callers);
+    if opened.is_err() {
+        opened = Inbox::open(alloc, &callers);
+        assert!(rt; opened.is_ok());
+    }
+    opened
+}
+
+/// Brings a call that came back, since memory was refused.
+fn bring_again(rt: &impl Abort, inbox: &mut Inbox, back: Packet, before: (bool, u32)) {
+    let c1 = CallerId::new(1).unwrap();
+    assert_eq!(rt; (inbox.has_next(c1), inbox.handed(c1)), before);
+    assert_eq!(rt; inbox.arrival(&back), Arrival::New);
+    assert_eq!(rt; inbox.arrive(back), Ok(Arrival::New));
+}
+
+/// Brings a call, and what came back of it where memory is refused.
+fn bring_at_last(
+    rt: &impl Abort,
+    alloc: Global,
+    inbox: &mut Inbox,
+    number: u32,
+) -> Result<(), NoMemory> {
+    let c1 = CallerId::new(1).unwrap();
+    let call = call_of(alloc, number)?;
+    let before = (inbox.has_next(c1), inbox.handed(c1));
+    if let Err(back) = inbox.arrive(call_of(alloc, number)?) {
+        assert_eq!(rt; back, call);
+        bring_again(rt, inbox, back, before);
+    }
+    assert_eq!(rt; inbox.arrive(call), Ok(Arrival::Repeat));
+    Ok(())
+}
+
+/// Brings a thousand calls, the last one first, and what came back of one.
+fn bring_all_at_last(rt: &impl Abort, alloc: Global, inbox: &mut Inbox) -> Result<(), NoMemory> {
+    for number in (0..1000).rev() {
+        bring_at_last(rt, alloc, inbox, number)?;
+    }
+    Ok(())
+}
+
+/// Memory is refused from outside, at most once.
+#[test]
+fn refused_memory_changes_nothing(rt: HostRuntime) -> Result<(), Fail> {
+    let mut inbox = opened(&rt, rt.alloc())?;
+    bring_all_at_last(&rt, rt.alloc(), &mut inbox)?;
+    take_ascending(&rt, &mut inbox);
+    Ok(())
+}
+
+/// A call, by what tells it from the others.
+#[derive(Clone, Copy, Debug, PartialEq, Eq)]
+struct Call {
+    caller: CallerId,
+    number: u32,
+    future: FutureId,
+}
+
+impl Call {
+    fn of(packet: &Packet) -> Call {
+        Call {
+            caller: packet.caller,
+            number: packet.number,
+            future: packet.future,
+        }
+    }
+
+    fn packet(&self, alloc: Global) -> Packet {
+        Packet {
+            caller: self.caller,
+            actor: ActorId::new(1).unwrap(),
+            number: self.number,
+            future: self.future,
+            method: Method::Get,
+            args: FewOf::new(alloc),
+        }
+    }
+}
+
+/// How many of a caller's calls were handed out, whether its next came, and which that is.
+type Seen = (u32, bool, Option<Call>);
+
+fn seen(inbox: &Inbox, caller: CallerId) -> Seen {
+    let next = inbox.peek(caller).map(|packet| Call::of(packet));
+    (inbox.handed(caller), inbox.has_next(caller), next)
+}
+
+/// The calls that wait, in the order in which they came, and by the callers' numbers how many were
+/// handed out.
+#[derive(Drop)]
+struct PlainInbox {
+    held: Vec<Call>,
+    handed: [u32; 17],
+}
+
+impl PlainInbox {
+    fn handed(&self, caller: CallerId) -> u32 {
+        self.handed[caller.number() as usize]
+    }
+
+    fn place(&self, caller: CallerId, number: u32) -> Option<usize> {
+        self.held
+            .iter()
+            .position(|call| call.caller == caller && call.number == number)
+    }
+
+    fn arrive(&mut self, call: Call) -> Result<Arrival, AllocError> {
+        let came = call.number < self.handed(call.caller)
+            || self.place(call.caller, call.number).is_some();
+        if came {
+            return Ok(Arrival::Repeat);
+        }
+        self.held.push(call)?;
+        Ok(Arrival::New)
+    }
+
+    fn peek(&self, caller: CallerId) -> Option<Call> {
+        let place = self.place(caller, self.handed(caller))?;
+        self.held.get(place).copied()
+    }
+
+    fn seen(&self, caller: CallerId) -> Seen {
+        let next = self.peek(caller);
+        (self.handed(caller), next.is_some(), next)
+    }
+
+    fn next(&mut self, caller: CallerId) -> Option<Call> {
+        let call = self.peek(caller)?;
+        self.held.retain(|other| *other != call);
+        let number = caller.number() as usize;
+        self.handed[number] = self.handed[number].saturating_add(1);
+        Some(call)
+    }
+}
+
+/// The next of a row of random words.
+fn word_after(word: u32) -> u32 {
+    let word = word ^ (word << 13);
+    let word = word ^ (word >> 17);
+    word ^ (word << 5)
+}
+
+/// Passes a call by where that may be done, and whether it was.
+fn passed_by(inbox: &mut Inbox, packet: &Packet) -> bool {
+    if !inbox.is_empty() || inbox.handed(packet.caller) != packet.number {
+        return false;
+    }
+    match inbox.arrival(packet) {
+        Arrival::New => {
+            inbox.pass_by(packet);
+            true
+        }
+        _ => false,
+    }
+}
+
+/// A call of the caller near those that were handed out of the plain inbox.
+fn call_near(plain: &PlainInbox, caller: CallerId, word: u32, step: u32) -> Call {
+    let least = plain.handed(caller).saturating_sub(3);
+    Call {
+        caller,
+        number: least.saturating_add(word / 9 % 8),
+        future: FutureId::new(step),
+    }
+}
+
+/// Brings a call to both, to the inbox by passing it by where that may be done.
+fn bring_to_both(
+    rt: &impl Abort,
+    alloc: Global,
+    inbox: &mut Inbox,
+    plain: &mut PlainInbox,
+    call: Call,
+    may_pass: bool,
+) -> Result<(), AllocError> {
+    let arrival = plain.arrive(call)?;
+    let packet = call.packet(alloc);
+    assert_eq!(rt; inbox.arrival(&packet), arrival);
+    if may_pass && passed_by(inbox, &packet) {
+        assert_eq!(rt; plain.next(call.caller), Some(call));
+    } else {
+        assert_eq!(rt; inbox.arrive(packet), Ok(arrival));
+    }
+    assert_eq!(rt; inbox.is_empty(), plain.held.is_empty());
+    Ok(())
+}
+
+/// A step of an inbox and of a plain one, as a random word says.
+fn random_step(
+    rt: &impl Abort,
+    alloc: Global,
+    inbox: &mut Inbox,
+    plain: &mut PlainInbox,
+    caller: CallerId,
+    word: u32,
+    step: u32,
+) -> Result<(), AllocError> {
+    if word / 3 % 3 == 0 {
+        let taken = inbox.next(caller).map(|packet| Call::of(&packet));
+        assert_eq!(rt; taken, plain.next(caller));
+        return Ok(());
+    }
+    let call = call_near(plain, caller, word, step);
+    bring_to_both(rt, alloc, inbox, plain, call, word / 72 % 2 == 0)
+}
+
+/// Steps of an inbox and of a plain one, each drawn from the row of random words.
+fn random_run(rt: &impl Abort, alloc: Global, word: &mut u32) -> Result<(), Fail> {
+    let callers = [
+        CallerId::new(3).unwrap(),
+        CallerId::new(16).unwrap(),
+        CallerId::new(1).unwrap(),
+    ];
+    let mut inbox = Inbox::open(alloc, &callers)?;
+    let mut plain = PlainInbox {
+        held: Vec::new(alloc),
+        handed: [0; 17],
+    };
+    for step in 0..30 {
+        *word = word_after(*word);
+        let caller = callers[(*word % 3) as usize];
+        random_step(rt, alloc, &mut inbox, &mut plain, caller, *word, step)?;
+        assert!(rt;
+            callers
+                .iter()
+                .all(|caller| seen(&inbox, *caller) == plain.seen(*caller))
+        );
+    }
+    Ok(())
+}
+
+/// Passes calls by where that may be done.
+fn pass_each_by(rt: &impl Abort, alloc: Global, inbox: &mut Inbox) -> Result<(), NoMemory> {
+    let c1 = CallerId::new(1).unwrap();
+    for (number, passes) in [(1, false), (0, true), (0, false), (2, false), (1, true)] {
+        let packet = call_of(alloc, number)?;
+        assert_eq!(rt; passed_by(inbox, &packet), passes);
+    }
+    assert_eq!(rt; (inbox.handed(c1), inbox.has_next(c1)), (2, false));
+    Ok(())
+}
+
+/// Brings calls around one that can't be passed by, since another is held.
+fn bring_beside_one_held(
+    rt: &impl Abort,
+    alloc: Global,
+    inbox: &mut Inbox,
+) -> Result<(), NoMemory> {
+    bring(rt, alloc, inbox, 1, Arrival::Repeat)?;
+    bring(rt, alloc, inbox, 3, Arrival::New)?;
+    assert_eq!(rt; inbox.is_empty(), false);
+    assert_eq!(rt; passed_by(inbox, &call_of(alloc, 2)?), false);
+    bring(rt, alloc, inbox, 2, Arrival::New)
+}
+
+/// A call that is passed by leaves what one leaves that comes and goes out.
+#[test]
+fn passed_by_as_come_and_gone(rt: HostRuntime) -> Result<(), Fail> {
+    let mut inbox = Inbox::open(rt.alloc(), &[CallerId::new(1).unwrap()])?;
+    pass_each_by(&rt, rt.alloc(), &mut inbox)?;
+    bring_beside_one_held(&rt, rt.alloc(), &mut inbox)?;
+    for wanted in [Some(2), Some(3), None] {
+        take(&rt, &mut inbox, wanted);
+    }
+    assert_eq!(rt; inbox.is_empty(), true);
+    Ok(())
+}
+
+#[test]
+fn random_runs_as_of_a_plain_list(rt: HostRuntime) -> Result<(), Fail> {
+    let mut word = 2463534242;
+    for _ in 0..2000 {
+        random_run(&rt, rt.alloc(), &mut word)?;
+    }
+    Ok(())
+}

@@ -1,0 +1,203 @@
+//! A reply line that is filled and emptied.
+
+ghost use Rattle.std.specs.Prelude.{◌≡◌, [], ◌∷◌, All, IfOk};
+ghost use Rattle.act_rules.specs.Consistent.{IsFront};
+ghost use Rattle.act_mailbox.specs.Notices.{IsReply, NamesPlace, actor_of, new_exec};
+
+use act_mailbox::{Replies, ReplyCaller, ReplyExec};
+use act_rules::RunItem;
+use act_types::{ActorId, CallerId, FewOf, FutureId, Method, NoMemory, Notice, Reply, Value};
+use std::alloc::Global;
+use std::process::Abort;
+use std::sync::Wait;
+use std::test::Fail;
+
+/// A reply of actor 8 to caller 1 at the first place, told from others by its answer.
+fn reply(number: u32) -> Notice
+    ensures actor { actor_of result ≡ 8 }
+    ensures reply { IsReply result }
+    ensures place { (item : RunItem) → item.caller ≡ 1 → item.future ≡ 0 → NamesPlace (item ∷ []) result }
+{
+    Notice::Answered(Reply {
+        actor: ActorId::new(8).unwrap(),
+        caller: CallerId::new(1).unwrap(),
+        future: FutureId::new(0),
+        place: 0,
+        answer: Ok(Value::Int(i64::from(number))),
+    })
+}
+
+/// How many replies are taken in, until the next one is handed back.
+fn accepted<R: Wait>(
+    rt: &R,
+    replies: &Replies,
+    pass: &mut ReplyExec,
+    log: &[RunItem],
+) -> Option<u32>
+    requires opened { pass.old ≡ new_exec replies.now.line 8 }
+    requires log { (item : RunItem) × (log.now ≡ item ∷ []) × (item.caller ≡ 1) × (item.future ≡ 0) }
+    ensures pass { pass.new.line ≡ replies.now.line }
+    ensures actor { pass.new.actor ≡ 8 }
+    ensures alive { All IsReply pass.new.given }
+    ensures grown { IsFront pass.new.seen log.now }
+{
+    for number in 0..1000 {
+        if let Err(back) = replies.give(rt, pass, log, reply(number)) {
+            return (back == reply(number)).then_some(number);
+        }
+    }
+    None
+}
+
+/// Whether the next notice is this one, or there is none.
+fn is_next<R: Wait>(
+    rt: &R,
+    replies: &Replies,
+    pass: &mut ReplyCaller,
+    wanted: Option<Notice>,
+) -> bool
+    requires { pass.old.line ≡ replies.now.line }
+    ensures { pass.new.line ≡ replies.now.line }
+{
+    replies.collect(rt, pass) == wanted
+}
+
+/// The same, by an attempt. One thread alone is never before a notice that isn't given to its end.
+fn is_next_at_once(replies: &Replies, pass: &mut ReplyCaller, wanted: Option<Notice>) -> bool
+    requires { pass.old.line ≡ replies.now.line }
+    ensures { pass.new.line ≡ replies.now.line }
+{
+    replies.try_collect(pass) == wanted
+}
+
+/// Whether the next replies are those of these numbers, in order.
+fn are_next<R: Wait>(rt: &R, replies: &Replies, pass: &mut ReplyCaller, from: u32, end: u32) -> bool
+    requires { pass.old.line ≡ replies.now.line }
+    ensures { pass.new.line ≡ replies.now.line }
+{
+    for number in from..end {
+        if !is_next(rt, replies, pass, Some(reply(number))) {
+            return false;
+        }
+    }
+    true
+}
+
+/// The reply line of caller 1, the pass of actor 8 and the caller's.
+fn opened(alloc: Global) -> Result<(Replies, ReplyExec, ReplyCaller), NoMemory>
+    ensures executor { IfOk result (λ opened. opened.1 ≡ new_exec opened.0.line 8) }
+    ensures collector { IfOk result (λ opened. opened.2.line ≡ opened.0.line) }
+{
+    let actors = [ActorId::new(1).unwrap(), ActorId::new(8).unwrap()];
+    let (replies, mut passes, collector) = Replies::open(
+        alloc,
+        CallerId::new(1).unwrap(),
+        &actors,
+    )?;
+    Ok((replies, passes.pop().unwrap(), collector))
+}
+
+/// The line fills up with the actor's replies.
+fn assert_filled<R: Wait + Abort>(
+    rt: &R,
+    replies: &Replies,
+    pass: &mut ReplyExec,
+    collector: &mut ReplyCaller,
+    log: &[RunItem],
+)
+    requires opened { pass.old ≡ new_exec replies.now.line 8 }
+    requires log { (item : RunItem) × (log.now ≡ item ∷ []) × (item.caller ≡ 1) × (item.future ≡ 0) }
+    requires collector { collector.old.line ≡ replies.now.line }
+    ensures pass { pass.new.line ≡ replies.now.line }
+    ensures actor { pass.new.actor ≡ 8 }
+    ensures alive { All IsReply pass.new.given }
+    ensures grown { IsFront pass.new.seen log.now }
+    ensures collector { collector.new ≡ collector.old }
+{
+    assert_eq!(rt; accepted(rt, replies, pass, log), Some(64));
+    assert_eq!(rt; replies.audit(rt, pass, collector), 64);
+}
+
+/// The replies of these numbers come in order, and leave so many notices in the line.
+fn assert_next<R: Wait + Abort>(
+    rt: &R,
+    replies: &Replies,
+    pass: &mut ReplyExec,
+    collector: &mut ReplyCaller,
+    numbers: (u32, u32),
+    left: usize,
+)
+    requires pass { pass.old.line ≡ replies.now.line }
+    requires collector { collector.old.line ≡ replies.now.line }
+    ensures pass { pass.new ≡ pass.old }
+    ensures collector { collector.new.line ≡ replies.now.line }
+{
+    let (from, end) = numbers;
+    assert!(rt; are_next(rt, replies, collector, from, end), "from {from}");
+    assert_eq!(rt; replies.audit(rt, pass, collector), left, "from {from}");
+}
+
+/// A full line gives its first reply.
+fn assert_fills<R: Wait + Abort>(
+    rt: &R,
+    replies: &Replies,
+    pass: &mut ReplyExec,
+    collector: &mut ReplyCaller,
+    log: &[RunItem],
+)
+    requires opened { pass.old ≡ new_exec replies.now.line 8 }
+    requires log { (item : RunItem) × (log.now ≡ item ∷ []) × (item.caller ≡ 1) × (item.future ≡ 0) }
+    requires collector { collector.old.line ≡ replies.now.line }
+    ensures pass { pass.new.line ≡ replies.now.line }
+    ensures actor { pass.new.actor ≡ 8 }
+    ensures alive { All IsReply pass.new.given }
+    ensures grown { IsFront pass.new.seen log.now }
+    ensures collector { collector.new.line ≡ replies.now.line }
+{
+    assert!(rt; is_next(rt, replies, collector, None));
+    assert_filled(rt, replies, pass, collector, log);
+    assert_next(rt, replies, pass, collector, (0, 1), 63);
+}
+
+/// The death of actor 8 comes last.
+fn assert_empties<R: Wait + Abort>(
+    rt: &R,
+    replies: &Replies,
+    pass: &mut ReplyExec,
+    collector: &mut ReplyCaller,
+)
+    requires pass { pass.old.line ≡ replies.now.line }
+    requires collector { collector.old.line ≡ replies.now.line }
+{
+    let death = Notice::Death(ActorId::new(8).unwrap());
+    assert_next(rt, replies, pass, collector, (1, 33), 32);
+    assert!(rt; are_next(rt, replies, collector, 33, 64));
+    assert!(rt; is_next_at_once(replies, collector, Some(death)));
+    assert!(rt; is_next_at_once(replies, collector, None));
+    assert!(rt; is_next(rt, replies, collector, None));
+    assert_next(rt, replies, pass, collector, (64, 64), 0);
+}
+
+#[test]
+fn full_and_empty(rt: HostRuntime) -> Result<(), Fail> {
+    let log = [RunItem {
+        caller: CallerId::new(1).unwrap(),
+        number: 0,
+        future: FutureId::new(0),
+        method: Method::Get,
+        args: FewOf::new(rt.alloc()),
+    }];
+    let death = ActorId::new(8).unwrap();
+    let (replies, mut pass, mut collector) = opened(rt.alloc())?;
+    assert_eq!(rt; replies.caller().number(), 1);
+    assert_eq!(rt; pass.actor(), death);
+    assert_fills(&rt, &replies, &mut pass, &mut collector, &log);
+    assert!(rt;
+        replies
+            .give(&rt, &mut pass, &log, Notice::Death(death))
+            .is_ok()
+    );
+    pass.shows();
+    assert_empties(&rt, &replies, &mut pass, &mut collector);
+    Ok(())
+}

@@ -1,0 +1,361 @@
+//! A worked example, calls that are entered where memory is refused, and many calls beside a plain
+//! scan of them.
+
+ghost use Rattle.std.specs.Prelude.{◌≡◌, ◌<◌, ◌≤◌, [], length, IfOk, OnErr};
+
+use act_resolver::{Futures, Resolver};
+use act_types::{FutureId, MOST_ARGS, MOST_CALLS, NoMemory};
+use std::alloc::Global;
+use std::process::Abort;
+use std::test::Fail;
+
+/// A change of the calls.
+#[derive(Clone, Copy)]
+enum Step<'a> {
+    Reserve(usize),
+    Enter(&'a [FutureId]),
+    Told(FutureId),
+    Sent(FutureId),
+}
+
+/// Takes a step, where so many calls were entered, and tells how many there are after it. Where
+/// memory is refused there are as many as before.
+fn take(
+    rt: &impl Abort,
+    resolver: &mut Resolver,
+    entered: u32,
+    step: &Step,
+) -> Result<u32, NoMemory>
+    requires { entered ≡ length resolver.old.calls }
+    ensures ok { IfOk result (λ entered. entered ≡ length resolver.new.calls) }
+    ensures err { OnErr result (entered ≡ length resolver.new.calls) }
+{
+    match *step {
+        Step::Reserve(count) => {
+            resolver.reserve(count)?;
+            Ok(entered)
+        }
+        Step::Enter(futures) => {
+            assert!(rt; entered < u32::MAX);
+            assert!(rt; futures.len() <= MOST_ARGS);
+            assert!(rt; futures.iter().all(|future| future.number() < entered));
+            resolver.enter(FutureId::new(entered), futures)?;
+            Ok(entered + 1)
+        }
+        Step::Told(k) => {
+            assert!(rt; k.number() < entered);
+            resolver.told(k);
+            Ok(entered)
+        }
+        Step::Sent(k) => {
+            assert!(rt; k.number() < entered);
+            resolver.mark_sent(k);
+            Ok(entered)
+        }
+    }
+}
+
+/// Takes each step in turn, and compares the call that is ready after it. A step for which memory
+/// is refused changes nothing, and is taken once more.
+fn play(
+    rt: &impl Abort,
+    resolver: &mut Resolver,
+    rows: &[(Step, Option<FutureId>)],
+) -> Result<(), NoMemory>
+    requires { resolver.old.calls ≡ [] }
+{
+    let mut entered = 0;
+    for (step, ready) in rows {
+        let before = resolver.ready();
+        let mut taken = take(rt, resolver, entered, step);
+        if taken.is_err() {
+            assert_eq!(rt; resolver.ready(), before);
+            assert!(rt; !resolver.is_known(FutureId::new(entered)));
+            taken = take(rt, resolver, entered, step);
+            assert!(rt; taken.is_ok());
+        }
+        entered = taken?;
+        assert_eq!(rt; resolver.ready(), *ready);
+    }
+    Ok(())
+}
+
+#[test]
+fn calls_wait_for_answers(rt: HostRuntime) -> Result<(), Fail> {
+    let [c0, c1, c2, c3, c4] = [0, 1, 2, 3, 4].map(FutureId::new);
+    let mut resolver = Resolver::new(rt.alloc());
+    let rows: [(Step, Option<FutureId>); 14] = [
+        (Step::Reserve(1), None),
+        (Step::Enter(&[]), Some(c0)),
+        (Step::Sent(c0), None),
+        (Step::Reserve(1), None),
+        (Step::Enter(&[c0, c0]), None),
+        (Step::Reserve(1), None),
+        (Step::Enter(&[c0, c1]), None),
+        (Step::Told(c0), Some(c1)),
+        (Step::Told(c0), Some(c1)),
+        (Step::Told(c1), Some(c2)),
+        (Step::Sent(c2), None),
+        (Step::Reserve(1), None),
+        (Step::Enter(&[c2, c0]), None),
+        (Step::Told(c2), Some(c3)),
+    ];
+    play(&rt, &mut resolver, &rows)?;
+    for (k, sent, known) in [
+        (c0, true, true),
+        (c1, false, true),
+        (c2, true, true),
+        (c3, false, true),
+        (c4, false, false),
+    ] {
+        assert_eq!(rt; (resolver.is_sent(k), resolver.is_known(k)), (sent, known));
+    }
+    Ok(())
+}
+
+/// Memory is refused from outside, at most once.
+#[test]
+fn refused_memory_changes_nothing(rt: HostRuntime) -> Result<(), Fail> {
+    let [c0, c1, c5, c9] = [0, 1, 5, 9].map(FutureId::new);
+    let mut resolver = Resolver::new(rt.alloc());
+    let rows: [(Step, Option<FutureId>); 14] = [
+        (Step::Reserve(2), None),
+        (Step::Enter(&[]), Some(c0)),
+        (Step::Sent(c0), None),
+        (Step::Enter(&[c0]), None),
+        (Step::Enter(&[c0, c1]), None),
+        (Step::Enter(&[c1]), None),
+        (Step::Enter(&[c0]), None),
+        (Step::Enter(&[]), Some(c5)),
+        (Step::Enter(&[c5]), Some(c5)),
+        (Step::Enter(&[]), Some(c5)),
+        (Step::Reserve(9), Some(c5)),
+        (Step::Enter(&[c0]), Some(c5)),
+        (Step::Told(c0), Some(c1)),
+        (Step::Sent(c1), Some(FutureId::new(4))),
+    ];
+    play(&rt, &mut resolver, &rows)?;
+    for (k, sent, known) in [
+        (c0, true, true),
+        (c1, true, true),
+        (c5, false, true),
+        (c9, false, false),
+    ] {
+        assert_eq!(rt; (resolver.is_sent(k), resolver.is_known(k)), (sent, known));
+    }
+    Ok(())
+}
+
+/// So many calls are past the numbers of a word, and past those of a word of words.
+#[test]
+fn five_thousand_calls_wait_for_one(rt: HostRuntime) -> Result<(), Fail> {
+    let c0 = FutureId::new(0);
+    let mut resolver = Resolver::new(rt.alloc());
+    resolver.reserve_one()?;
+    let mut entered = take(&rt, &mut resolver, 0, &Step::Enter(&[]))?;
+    for _ in 0..5000 {
+        resolver.reserve_one()?;
+        entered = take(&rt, &mut resolver, entered, &Step::Enter(&[c0]))?;
+    }
+    assert_eq!(rt; resolver.ready(), Some(c0));
+    entered = take(&rt, &mut resolver, entered, &Step::Told(c0))?;
+    for number in 1..5001 {
+        let k = FutureId::new(number);
+        assert_eq!(rt; resolver.ready(), Some(k));
+        entered = take(&rt, &mut resolver, entered, &Step::Sent(k))?;
+    }
+    assert_eq!(rt; resolver.ready(), None);
+    Ok(())
+}
+
+/// A call as the plain scan sees it.
+#[derive(Drop)]
+struct Scanned {
+    futures: Futures,
+    answered: bool,
+    sent: bool,
+}
+
+fn is_answered(calls: &[Scanned], k: FutureId) -> bool {
+    calls
+        .get(k.number() as usize)
+        .is_some_and(|call| call.answered)
+}
+
+fn is_sent(calls: &[Scanned], k: FutureId) -> bool {
+    calls.get(k.number() as usize).is_some_and(|call| call.sent)
+}
+
+/// Asks each argument of the call.
+fn is_known(calls: &[Scanned], k: FutureId) -> bool {
+    let Some(call) = calls.get(k.number() as usize) else {
+        return false;
+    };
+    call.futures
+        .as_slice()
+        .iter()
+        .all(|future| is_answered(calls, *future))
+}
+
+/// Asks each call in turn.
+fn first_ready(calls: &[Scanned]) -> Option<FutureId>
+    requires { length calls.now ≤ MOST_CALLS }
+{
+    (0..calls.len() as u32).map(FutureId::new).find(|k| is_known(calls, *k)
+        && !is_sent(calls, *k)
+        && !is_answered(calls, *k))
+}
+
+/// Takes the step as `take` does.
+fn scan_step(rt: &impl Abort, calls: &mut Vec<Scanned>, step: &Step) -> Result<(), NoMemory> {
+    match *step {
+        Step::Reserve(_) => {}
+        Step::Enter(futures) => {
+            assert!(rt; futures.len() <= MOST_ARGS);
+            calls.push(Scanned {
+                futures: Futures::new(futures),
+                answered: false,
+                sent: false,
+            })?;
+        }
+        Step::Told(k) => {
+            assert!(rt; (k.number() as usize) < calls.len());
+            let call = &mut calls[k.number() as usize];
+            call.answered = true;
+        }
+        Step::Sent(k) => {
+            assert!(rt; (k.number() as usize) < calls.len());
+            let call = &mut calls[k.number() as usize];
+            call.sent = true;
+        }
+    }
+    Ok(())
+}
+
+/// The resolver answers as the plain scan does.
+fn assert_same(rt: &impl Abort, resolver: &Resolver, calls: &[Scanned]) {
+    assert!(rt; calls.len() <= MOST_CALLS as usize);
+    assert_eq!(rt; resolver.ready(), first_ready(calls));
+    for k in (0..calls.len() as u32 + 1).map(FutureId::new) {
+        assert_eq!(rt; resolver.is_known(k), is_known(calls, k));
+        assert_eq!(rt; resolver.is_sent(k), is_sent(calls, k));
+    }
+}
+
+/// A xorshift generator.
+#[derive(Drop)]
+struct Random {
+    state: u32,
+}
+
+impl Random {
+    fn below(&mut self, bound: u32) -> u32
+        requires { 0 < bound }
+        ensures { result < bound }
+    {
+        self.state ^= self.state << 13;
+        self.state ^= self.state >> 17;
+        self.state ^= self.state << 5;
+        self.state % bound
+    }
+}
+
+/// Four futures of so many calls.
+fn random_futures(random: &mut Random, entered: u32) -> [FutureId; 4] {
+    let mut futures = [FutureId::new(0); 4];
+    for future in futures.iter_mut() {
+        *future = FutureId::new(random.below(entered.max(1)));
+    }
+    futures
+}
+
+/// A step that may be taken after so many calls, of which this one is ready.
+fn random_step<'a>(
+    random: &mut Random,
+    entered: u32,
+    ready: Option<FutureId>,
+    futures: &'a [FutureId; 4],
+) -> Step<'a> {
+    if entered == 0 {
+        return Step::Enter(&[]);
+    }
+    let k = FutureId::new(random.below(entered));
+    match random.below(4) {
+        0 => Step::Told(k),
+        1 => Step::Sent(k),
+        2 => Step::Sent(ready.unwrap_or(k)),
+        _ => Step::Enter(&futures[..random.below(5) as usize]),
+    }
+}
+
+/// So many calls, each of which waits for an earlier one or for none.
+fn enter_all(
+    rt: &impl Abort,
+    random: &mut Random,
+    resolver: &mut Resolver,
+    calls: &mut Vec<Scanned>,
+    count: u32,
+) -> Result<u32, NoMemory>
+    requires { resolver.old.calls ≡ [] }
+    ensures { IfOk result (λ entered. entered ≡ length resolver.new.calls) }
+{
+    let mut entered = 0;
+    for _ in 0..count {
+        let futures = random_futures(random, entered);
+        let most = random.below(2).min(entered);
+        let step = Step::Enter(&futures[..most as usize]);
+        entered = take(rt, resolver, entered, &step)?;
+        scan_step(rt, calls, &step)?;
+    }
+    Ok(entered)
+}
+
+/// Random steps of a resolver and of the plain calls, of which there are so many at first.
+fn random_run(
+    rt: &impl Abort,
+    alloc: Global,
+    random: &mut Random,
+    count: u32,
+    steps: u32,
+) -> Result<(), NoMemory> {
+    let mut resolver = Resolver::new(alloc);
+    let mut calls = Vec::new(alloc);
+    let mut entered = enter_all(rt, random, &mut resolver, &mut calls, count)?;
+    for _ in 0..steps {
+        let futures = random_futures(random, entered);
+        let step = random_step(random, entered, resolver.ready(), &futures);
+        entered = take(rt, &mut resolver, entered, &step)?;
+        scan_step(rt, &mut calls, &step)?;
+        assert!(rt; calls.len() <= MOST_CALLS as usize);
+        assert_eq!(rt; resolver.ready(), first_ready(&calls));
+    }
+    assert_same(rt, &resolver, &calls);
+    Ok(())
+}
+
+#[test]
+fn random_runs_agree_with_a_plain_scan(rt: HostRuntime) -> Result<(), Fail> {
+    let mut random = Random { state: 2026 };
+    for _ in 0..4000 {
+        let steps = random.below(41);
+        random_run(&rt, rt.alloc(), &mut random, 0, steps)?;
+    }
+    Ok(())
+}
+
+/// Up to the numbers of a word, of a word of words, and of more than one word at the top.
+#[test]
+fn random_changes_agree_with_a_plain_scan(rt: HostRuntime) -> Result<(), Fail> {
+    let mut random = Random { state: 64 };
+    for (count, steps) in [
+        (1, 10),
+        (63, 500),
+        (64, 500),
+        (4095, 500),
+        (4096, 500),
+        (65_000, 50),
+    ] {
+        random_run(&rt, rt.alloc(), &mut random, count, steps)?;
+    }
+    Ok(())
+}

@@ -1,0 +1,174 @@
+//! Readers and writers that are slow, or fail, and some scripts from bytes to bytes.
+mod fakes;
+mod rows;
+mod thread_rows;
+mod threads;
+
+use act_console::{ConsoleFault, Gate, NoGate, Stock, play_script, threads_script};
+use act_kinds::{Account, Boxed, Counter, ListKind, Table};
+use act_rules::Mode;
+use act_types::{MOST_ACTORS, MOST_SCRIPT_BYTES};
+use fakes::{FakeReader, FakeWriter};
+use rows::Row;
+use std::process::Abort;
+use std::sync::Wait;
+use std::test::Fail;
+use std::thread::Threads;
+
+/// The rows of a shorter script are few, and some of them have a fault.
+const SHORT: usize = 100;
+
+/// Runs what a reader has in this mode, with kinds that are made here.
+fn ran<Rt: AllocGlobal + Threads + Wait + Sync, G: Gate>(
+    rt: &Rt,
+    mode: Mode,
+    gate: &G,
+    reader: &mut FakeReader,
+    writer: &mut FakeWriter,
+) -> Result<(), ConsoleFault> {
+    let alloc = rt.alloc();
+    let mut stock = Stock {
+        counters: Vec::new(alloc),
+        tables: Vec::new(alloc),
+        accounts: Vec::new(alloc),
+        lists: Vec::new(alloc),
+    };
+    for _ in 0..MOST_ACTORS {
+        let counter: Boxed = Box::new(alloc, Counter::open())?;
+        let table: Boxed = Box::new(alloc, Table::open(alloc))?;
+        let account: Boxed = Box::new(alloc, Account::open())?;
+        let list: Boxed = Box::new(alloc, ListKind::open(alloc))?;
+        stock.add(counter, table, account, list)?;
+    }
+    match mode {
+        Mode::Play => play_script(alloc, stock, reader, writer),
+        Mode::Threads => threads_script(rt, alloc, stock, reader, writer, gate),
+    }
+}
+
+/// A script of empty lines is read byte by byte, and of a longer one than a script may be no more
+/// than one byte too many.
+#[test]
+fn a_byte_a_read(rt: HostRuntime) -> Result<(), Fail> {
+    const MOST_READ: usize = MOST_SCRIPT_BYTES + 1;
+    for (len, reads, wanted) in [
+        (0, 1, Ok(())),
+        (10, 11, Ok(())),
+        (MOST_SCRIPT_BYTES, MOST_READ, Ok(())),
+        (MOST_READ, MOST_READ, Err(ConsoleFault::Script)),
+        (MOST_READ + 10, MOST_READ, Err(ConsoleFault::Script)),
+    ] {
+        let bytes = vec![in rt.alloc(); b'\n'; len]?;
+        let mut reader = FakeReader::new(&bytes);
+        let mut writer = FakeWriter::new(rt.alloc());
+        let answer = ran(&rt, Mode::Play, &NoGate, &mut reader, &mut writer);
+        assert_eq!(rt; (answer, reader.reads()), (wanted, reads), "of {len}");
+    }
+    Ok(())
+}
+
+/// Each script gives its output and its answer.
+fn assert_told<Rt: AllocGlobal + Threads + Wait + Sync + Abort>(rt: &Rt, mode: Mode, rows: &[Row]) {
+    for row in rows {
+        let mut reader = FakeReader::new(row.script.as_bytes());
+        let mut writer = FakeWriter::new(rt.alloc());
+        let answer = ran(rt, mode, &NoGate, &mut reader, &mut writer);
+        assert_eq!(rt; answer, row.answer, "{}", row.script);
+        assert_eq!(rt; writer.written(), row.output.as_bytes(), "{}", row.script);
+    }
+}
+
+#[test]
+fn scripts_are_played(rt: HostRuntime) -> Result<(), Fail> {
+    for rows in rows::tables() {
+        assert_told(&rt, Mode::Play, rows);
+    }
+    Ok(())
+}
+
+#[test]
+fn plans_are_run(rt: HostRuntime) -> Result<(), Fail> {
+    for rows in thread_rows::tables() {
+        assert_told(&rt, Mode::Threads, rows);
+    }
+    Ok(())
+}
+
+/// A failed read ends each run of a short script at once, and nothing is written.
+fn assert_reads_fail<Rt: AllocGlobal + Threads + Wait + Sync + Abort>(
+    rt: &Rt,
+    mode: Mode,
+    rows: &[Row],
+) {
+    for row in rows {
+        if row.script.len() < SHORT {
+            for read in 0..=row.script.len() {
+                let mut reader = FakeReader::failing(row.script.as_bytes(), read + 1);
+                let mut writer = FakeWriter::new(rt.alloc());
+                let answer = ran(rt, mode, &NoGate, &mut reader, &mut writer);
+                let seen = (answer, reader.reads(), writer.writes());
+                assert_eq!(rt; seen, (Err(ConsoleFault::Reading), read + 1, 0));
+            }
+        }
+    }
+}
+
+#[test]
+fn each_read_fails_in_turn(rt: HostRuntime) -> Result<(), Fail> {
+    for rows in rows::tables() {
+        assert_reads_fail(&rt, Mode::Play, rows);
+    }
+    for rows in thread_rows::tables() {
+        assert_reads_fail(&rt, Mode::Threads, rows);
+    }
+    Ok(())
+}
+
+/// A failed write, or one of 0 bytes, ends each run of a short script at once, and a front is
+/// written by then.
+fn assert_writes_fail<Rt: AllocGlobal + Threads + Wait + Sync + Abort>(
+    rt: &Rt,
+    mode: Mode,
+    rows: &[Row],
+) {
+    for row in rows {
+        if row.script.len() < SHORT {
+            for written in 0..row.output.len() {
+                let front = &row.output.as_bytes()[..written];
+                for answers_zero in [false, true] {
+                    let mut reader = FakeReader::new(row.script.as_bytes());
+                    let mut writer = FakeWriter::failing(rt.alloc(), written + 1, answers_zero);
+                    let answer = ran(rt, mode, &NoGate, &mut reader, &mut writer);
+                    let seen = (answer, writer.writes(), writer.written());
+                    assert_eq!(rt; seen, (Err(ConsoleFault::Writing), written + 1, front));
+                }
+            }
+        }
+    }
+}
+
+#[test]
+fn each_write_fails_in_turn(rt: HostRuntime) -> Result<(), Fail> {
+    for rows in rows::tables() {
+        assert_writes_fail(&rt, Mode::Play, rows);
+    }
+    for rows in thread_rows::tables() {
+        assert_writes_fail(&rt, Mode::Threads, rows);
+    }
+    Ok(())
+}
+
+#[test]
+fn fault_texts(rt: HostRuntime) -> Result<(), Fail> {
+    let table = [
+        (ConsoleFault::Script, "script fault"),
+        (ConsoleFault::Memory, "no memory"),
+        (ConsoleFault::Thread, "no thread"),
+        (ConsoleFault::Reading, "read failed"),
+        (ConsoleFault::Writing, "write failed"),
+    ];
+    for (fault, want) in table {
+        assert_eq!(rt; fault.to_string(rt.alloc())?.as_str(), want);
+    }
+    Ok(())
+}

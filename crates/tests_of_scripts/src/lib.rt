@@ -1,0 +1,5 @@
+//! Tests of whole scripts, from bytes to bytes.
+#![tactic(auto)]
+
+#[cfg(test)]
+mod console;

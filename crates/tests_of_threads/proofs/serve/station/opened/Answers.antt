@@ -1,0 +1,13 @@
+use Rattle.std.proofs.Common.{rules}
+use Rattle.act_serve.proofs.Alone.{seated_alone, alone_differs}
+use Rattle.tests_of_threads.proofs.serve.station.opened.Goals as goal
+
+pub returns-clause-fit : goal.returns-clause-fit
+returns-clause-fit c = record {
+  mail_is = search rules;
+  control_is = search rules;
+  actor_is = search rules;
+  looked = search rules;
+  seats = seated_alone c.in_ok-replies.replies c.in_ok-replies.pass c.in_ok-notices.notices.items (search rules) (search rules);
+  differ = alone_differs c.in_ok-replies.replies c.in_ok-replies.pass c.in_ok-notices.notices.items (search rules);
+}

@@ -1,0 +1,13 @@
+use Rattle.std.proofs.Common.{rules}
+use Rattle.act_serve.proofs.Pair.{seated_both, both_differ}
+use Rattle.tests_of_threads.proofs.serve.two_callers.opened.Goals as goal
+
+pub returns-clause-fit : goal.returns-clause-fit
+returns-clause-fit c = record {
+  mail_is = search rules;
+  control_is = search rules;
+  actor_is = search rules;
+  looked = search rules;
+  seats = seated_both c.in_ok-first_line.first_line c.in_ok-second_line.second_line c.in_ok-first_line.first_pass c.in_ok-second_line.second_pass c.in_ok-notices.notices.items (search rules) (search rules) (search rules);
+  differ = both_differ c.in_ok-first_line.first_line c.in_ok-second_line.second_line c.in_ok-first_line.first_pass c.in_ok-second_line.second_pass c.in_ok-notices.notices.items (search rules) (search rules) (search rules);
+}
