@@ -10,8 +10,8 @@ ghost use Rattle.act_world.specs.Stands.{Stands, HasRoom};
 ghost use Rattle.act_console.specs.Parts.{item_head, owner_line, owner_lines, standing_text, caller_lines, stage_lines, world_report, AreTold};
 
 use crate::words::{
-    method_word, push_actor_name, push_did, push_future_name, push_number, push_numbered,
-    push_settled, push_value,
+    push_actor_name, push_did, push_future_name, push_number, push_numbered, push_settled,
+    push_value,
 };
 use act_kinds::Actor;
 use act_owner::Owner;
@@ -133,7 +133,7 @@ fn push_head(
     text.push_str(" ")?;
     push_future_name(text, item.caller, item.future)?;
     text.push_str(" ")?;
-    text.push_str(method_word(item.method))
+    text.push_str(item.method.word())
 }
 
 /// Adds the line of a call that an actor ran.

@@ -3,11 +3,11 @@
 
 ghost use Rattle.std.specs.Prelude.{◌≡◌, ◌++◌, OnOk, codes, decimal, string_bytes};
 ghost use Rattle.std.specs.Fmt.{signed_decimal};
-ghost use Rattle.act_types.specs.Texts.{actor_text, value_text, settled_text, method_text};
-ghost use Rattle.act_rules.specs.Report.{future_text, arrival_text, did_text};
+ghost use Rattle.act_types.specs.Texts.{actor_text, value_text, settled_text};
+ghost use Rattle.act_rules.specs.Report.{future_text, did_text};
 
-use act_rules::{Arrival, Did};
-use act_types::{ActorId, CallerId, FutureId, Method, Settled, Value};
+use act_rules::Did;
+use act_types::{ActorId, CallerId, FutureId, Settled, Value};
 use itoa::Buffer;
 use std::alloc::AllocError;
 
@@ -92,38 +92,6 @@ pub(crate) fn push_settled(text: &mut String, arg: &Settled) -> Result<(), Alloc
     }
 }
 
-/// The word for a method.
-pub(crate) fn method_word(method: Method) -> &'static str
-    ensures { result.now ≡ method_text method }
-{
-    match method {
-        Method::Add => "add",
-        Method::Get => "get",
-        Method::Put => "put",
-        Method::Del => "del",
-        Method::Size => "size",
-        Method::Deposit => "deposit",
-        Method::Withdraw => "withdraw",
-        Method::Balance => "balance",
-        Method::Push => "push",
-        Method::Pop => "pop",
-        Method::At => "at",
-        Method::Len => "len",
-        Method::Terminate => "terminate",
-    }
-}
-
-/// The word for an arrival.
-fn arrival_word(arrival: Arrival) -> &'static str
-    ensures { result.now ≡ arrival_text arrival }
-{
-    match arrival {
-        Arrival::New => "new",
-        Arrival::Repeat => "repeat",
-        Arrival::Stranger => "stranger",
-    }
-}
-
 /// Adds what an event did.
 pub(crate) fn push_did(text: &mut String, did: &Did) -> Result<(), AllocError>
     ensures { OnOk result (string_bytes text.new ≡ string_bytes text.old ++ did_text did.now) }
@@ -132,7 +100,7 @@ pub(crate) fn push_did(text: &mut String, did: &Did) -> Result<(), AllocError>
         Did::Future(caller, future) => push_named(text, "future ", caller, future),
         Did::Copies(copies) => push_numbered(text, "copies ", copies as u64),
         Did::Mail(place) => push_numbered(text, "mail ", place as u64),
-        Did::Arrived(arrival) => text.push_str(arrival_word(arrival)),
+        Did::Arrived(arrival) => text.push_str(arrival.word()),
         Did::Ran(place, reply) => {
             push_numbered(text, "place ", place as u64)?;
             push_numbered(text, " reply ", reply as u64)

@@ -1,6 +1,6 @@
 //! What is told of an event: what it did, or the first refusal that met it.
 
-ghost use Rattle.std.specs.Prelude.{Some};
+ghost use Rattle.std.specs.Prelude.{◌≡◌, Some};
 ghost use Rattle.act_rules.specs.Report.{arrival_text, did_text, handle_text, submit_text, sending_text, refusal_text};
 
 use act_types::{CallerId, FutureId};
@@ -114,15 +114,24 @@ pub enum WorldRefusal {
 /// What is told of an event.
 pub type Outcome = Result<Did, WorldRefusal>;
 
+impl Arrival {
+    /// The word by which reports tell it.
+    pub fn word(&self) -> &'static str
+        ensures { result.now ≡ arrival_text self.now }
+    {
+        match self {
+            Arrival::New => "new",
+            Arrival::Repeat => "repeat",
+            Arrival::Stranger => "stranger",
+        }
+    }
+}
+
 impl fmt::Display for Arrival {
     ghost output = { λ arrival. Some (arrival_text arrival) };
 
     fn fmt<W: fmt::Write>(&self, f: &mut fmt::Formatter<W>) -> fmt::Result {
-        match self {
-            Arrival::New => write!(f, "new"),
-            Arrival::Repeat => write!(f, "repeat"),
-            Arrival::Stranger => write!(f, "stranger"),
-        }
+        f.write_str(self.word())
     }
 }
 
@@ -148,15 +157,41 @@ impl fmt::Display for Did {
     }
 }
 
+impl HandleRefusal {
+    /// The word by which reports tell it.
+    pub fn word(&self) -> &'static str
+        ensures { result.now ≡ handle_text self.now }
+    {
+        match self {
+            HandleRefusal::NoActor => "NoActor",
+            HandleRefusal::NoHandle => "NoHandle",
+            HandleRefusal::TooManyCopies => "TooManyCopies",
+            HandleRefusal::TooManyCalls => "TooManyCalls",
+        }
+    }
+}
+
 impl fmt::Display for HandleRefusal {
     ghost output = { λ refusal. Some (handle_text refusal) };
 
     fn fmt<W: fmt::Write>(&self, f: &mut fmt::Formatter<W>) -> fmt::Result {
+        f.write_str(self.word())
+    }
+}
+
+impl SubmitRefusal {
+    /// The word by which reports tell it.
+    pub fn word(&self) -> &'static str
+        ensures { result.now ≡ submit_text self.now }
+    {
         match self {
-            HandleRefusal::NoActor => write!(f, "NoActor"),
-            HandleRefusal::NoHandle => write!(f, "NoHandle"),
-            HandleRefusal::TooManyCopies => write!(f, "TooManyCopies"),
-            HandleRefusal::TooManyCalls => write!(f, "TooManyCalls"),
+            SubmitRefusal::NoActor => "NoActor",
+            SubmitRefusal::NoHandle => "NoHandle",
+            SubmitRefusal::TooManyArgs => "TooManyArgs",
+            SubmitRefusal::BadFuture => "BadFuture",
+            SubmitRefusal::TooManyCalls => "TooManyCalls",
+            SubmitRefusal::PendingLimit => "PendingLimit",
+            SubmitRefusal::NoMemory => "NoMemory",
         }
     }
 }
@@ -165,14 +200,20 @@ impl fmt::Display for SubmitRefusal {
     ghost output = { λ refusal. Some (submit_text refusal) };
 
     fn fmt<W: fmt::Write>(&self, f: &mut fmt::Formatter<W>) -> fmt::Result {
+        f.write_str(self.word())
+    }
+}
+
+impl SendRefusal {
+    /// The word by which reports tell it.
+    pub fn word(&self) -> &'static str
+        ensures { result.now ≡ sending_text self.now }
+    {
         match self {
-            SubmitRefusal::NoActor => write!(f, "NoActor"),
-            SubmitRefusal::NoHandle => write!(f, "NoHandle"),
-            SubmitRefusal::TooManyArgs => write!(f, "TooManyArgs"),
-            SubmitRefusal::BadFuture => write!(f, "BadFuture"),
-            SubmitRefusal::TooManyCalls => write!(f, "TooManyCalls"),
-            SubmitRefusal::PendingLimit => write!(f, "PendingLimit"),
-            SubmitRefusal::NoMemory => write!(f, "NoMemory"),
+            SendRefusal::NoFuture => "NoFuture",
+            SendRefusal::NotReady => "NotReady",
+            SendRefusal::Answered => "Answered",
+            SendRefusal::NoMemory => "NoMemory",
         }
     }
 }
@@ -181,11 +222,27 @@ impl fmt::Display for SendRefusal {
     ghost output = { λ refusal. Some (sending_text refusal) };
 
     fn fmt<W: fmt::Write>(&self, f: &mut fmt::Formatter<W>) -> fmt::Result {
+        f.write_str(self.word())
+    }
+}
+
+impl WorldRefusal {
+    /// The word by which reports tell it, which is that of the refusal within it, if there is one.
+    pub fn word(&self) -> &'static str
+        ensures { result.now ≡ refusal_text self.now }
+    {
         match self {
-            SendRefusal::NoFuture => write!(f, "NoFuture"),
-            SendRefusal::NotReady => write!(f, "NotReady"),
-            SendRefusal::Answered => write!(f, "Answered"),
-            SendRefusal::NoMemory => write!(f, "NoMemory"),
+            WorldRefusal::Submit(refusal) => refusal.word(),
+            WorldRefusal::Handle(refusal) => refusal.word(),
+            WorldRefusal::Sending(refusal) => refusal.word(),
+            WorldRefusal::NoCaller => "NoCaller",
+            WorldRefusal::NoMail => "NoMail",
+            WorldRefusal::NoReply => "NoReply",
+            WorldRefusal::ActorEnded => "ActorEnded",
+            WorldRefusal::NoKill => "NoKill",
+            WorldRefusal::NotDead => "NotDead",
+            WorldRefusal::NotDrained => "NotDrained",
+            WorldRefusal::NoMemory => "NoMemory",
         }
     }
 }
@@ -194,18 +251,6 @@ impl fmt::Display for WorldRefusal {
     ghost output = { λ refusal. Some (refusal_text refusal) };
 
     fn fmt<W: fmt::Write>(&self, f: &mut fmt::Formatter<W>) -> fmt::Result {
-        match self {
-            WorldRefusal::Submit(refusal) => write!(f, "{refusal}"),
-            WorldRefusal::Handle(refusal) => write!(f, "{refusal}"),
-            WorldRefusal::Sending(refusal) => write!(f, "{refusal}"),
-            WorldRefusal::NoCaller => write!(f, "NoCaller"),
-            WorldRefusal::NoMail => write!(f, "NoMail"),
-            WorldRefusal::NoReply => write!(f, "NoReply"),
-            WorldRefusal::ActorEnded => write!(f, "ActorEnded"),
-            WorldRefusal::NoKill => write!(f, "NoKill"),
-            WorldRefusal::NotDead => write!(f, "NotDead"),
-            WorldRefusal::NotDrained => write!(f, "NotDrained"),
-            WorldRefusal::NoMemory => write!(f, "NoMemory"),
-        }
+        f.write_str(self.word())
     }
 }

@@ -1,6 +1,6 @@
 //! What scripts are made of.
 
-ghost use Rattle.std.specs.Prelude.{Some};
+ghost use Rattle.std.specs.Prelude.{◌≡◌, Some};
 ghost use Rattle.act_rules.specs.Report.{wrong_text};
 
 use crate::Event;
@@ -72,18 +72,27 @@ pub enum Wrong {
     BadPlan,
 }
 
+impl Wrong {
+    /// The word by which a script fault tells it.
+    pub fn word(&self) -> &'static str
+        ensures { result.now ≡ wrong_text self.now }
+    {
+        match self {
+            Wrong::TooLong => "TooLong",
+            Wrong::BadLine => "BadLine",
+            Wrong::LateActor => "LateActor",
+            Wrong::TwiceActor => "TwiceActor",
+            Wrong::TwiceCaller => "TwiceCaller",
+            Wrong::TooMany => "TooMany",
+            Wrong::BadPlan => "BadPlan",
+        }
+    }
+}
+
 impl fmt::Display for Wrong {
     ghost output = { λ wrong. Some (wrong_text wrong) };
 
     fn fmt<W: fmt::Write>(&self, f: &mut fmt::Formatter<W>) -> fmt::Result {
-        match self {
-            Wrong::TooLong => write!(f, "TooLong"),
-            Wrong::BadLine => write!(f, "BadLine"),
-            Wrong::LateActor => write!(f, "LateActor"),
-            Wrong::TwiceActor => write!(f, "TwiceActor"),
-            Wrong::TwiceCaller => write!(f, "TwiceCaller"),
-            Wrong::TooMany => write!(f, "TooMany"),
-            Wrong::BadPlan => write!(f, "BadPlan"),
-        }
+        f.write_str(self.word())
     }
 }

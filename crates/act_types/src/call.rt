@@ -26,25 +26,34 @@ pub enum Method {
     Terminate,
 }
 
+impl Method {
+    /// The word by which scripts and reports name the method.
+    pub fn word(&self) -> &'static str
+        ensures { result.now ≡ method_text self.now }
+    {
+        match self {
+            Method::Add => "add",
+            Method::Get => "get",
+            Method::Put => "put",
+            Method::Del => "del",
+            Method::Size => "size",
+            Method::Deposit => "deposit",
+            Method::Withdraw => "withdraw",
+            Method::Balance => "balance",
+            Method::Push => "push",
+            Method::Pop => "pop",
+            Method::At => "at",
+            Method::Len => "len",
+            Method::Terminate => "terminate",
+        }
+    }
+}
+
 impl fmt::Display for Method {
     ghost output = { λ method. Some (method_text method) };
 
     fn fmt<W: fmt::Write>(&self, f: &mut fmt::Formatter<W>) -> fmt::Result {
-        match self {
-            Method::Add => write!(f, "add"),
-            Method::Get => write!(f, "get"),
-            Method::Put => write!(f, "put"),
-            Method::Del => write!(f, "del"),
-            Method::Size => write!(f, "size"),
-            Method::Deposit => write!(f, "deposit"),
-            Method::Withdraw => write!(f, "withdraw"),
-            Method::Balance => write!(f, "balance"),
-            Method::Push => write!(f, "push"),
-            Method::Pop => write!(f, "pop"),
-            Method::At => write!(f, "at"),
-            Method::Len => write!(f, "len"),
-            Method::Terminate => write!(f, "terminate"),
-        }
+        f.write_str(self.word())
     }
 }
 

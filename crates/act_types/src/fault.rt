@@ -1,7 +1,8 @@
 //! What a call can answer.
 
-ghost use Rattle.std.specs.Prelude.{Some};
+ghost use Rattle.std.specs.Prelude.{◌≡◌, IfOk, IfErr, Some};
 ghost use Rattle.act_types.specs.Texts.{fault_text};
+ghost use Rattle.act_types.specs.declared.fault.Fault.TheVariants.{Dependency};
 
 use crate::{FutureId, Value};
 use std::fmt;
@@ -35,22 +36,35 @@ pub enum Fault {
     ActorDied,
 }
 
+impl Fault {
+    /// The word of the fault, or the future that failed, where it depends on one.
+    fn word(&self) -> Result<&'static str, FutureId>
+        ensures word { IfOk result (λ word. word.now ≡ fault_text self.now) }
+        ensures future { IfErr result (λ future. self.now ≡ Dependency future) }
+    {
+        Ok(match self {
+            Fault::NoMethod => "NoMethod",
+            Fault::BadArgs => "BadArgs",
+            Fault::Overflow => "Overflow",
+            Fault::NoKey => "NoKey",
+            Fault::BadAmount => "BadAmount",
+            Fault::Insufficient => "Insufficient",
+            Fault::NoItems => "NoItems",
+            Fault::NoItem => "NoItem",
+            Fault::KindFull => "KindFull",
+            Fault::Dependency(future) => return Err(*future),
+            Fault::ActorDied => "ActorDied",
+        })
+    }
+}
+
 impl fmt::Display for Fault {
     ghost output = { λ fault. Some (fault_text fault) };
 
     fn fmt<W: fmt::Write>(&self, f: &mut fmt::Formatter<W>) -> fmt::Result {
-        match self {
-            Fault::NoMethod => write!(f, "NoMethod"),
-            Fault::BadArgs => write!(f, "BadArgs"),
-            Fault::Overflow => write!(f, "Overflow"),
-            Fault::NoKey => write!(f, "NoKey"),
-            Fault::BadAmount => write!(f, "BadAmount"),
-            Fault::Insufficient => write!(f, "Insufficient"),
-            Fault::NoItems => write!(f, "NoItems"),
-            Fault::NoItem => write!(f, "NoItem"),
-            Fault::KindFull => write!(f, "KindFull"),
-            Fault::Dependency(future) => write!(f, "Dependency({future})"),
-            Fault::ActorDied => write!(f, "ActorDied"),
+        match self.word() {
+            Ok(word) => f.write_str(word),
+            Err(future) => write!(f, "Dependency({future})"),
         }
     }
 }
