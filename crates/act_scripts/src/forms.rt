@@ -121,11 +121,12 @@ fn call_of(
 }
 
 /// A submission, from the words after `submit`.
-fn submit_of(alloc: Global, words: &[&str]) -> Result<Event, LineFault>
-    ensures { Gives Line.Event result (submit_at (λ c a m args. Line.Event (Event.Submit c a m args)) (map (λ w. w.now) words.now)) }
+fn submit_of(alloc: Global, words: &[&str]) -> Result<Line, LineFault>
+    ensures said { Gives (λ x. x) result (submit_at (λ c a m args. Line.Event (Event.Submit c a m args)) (map (λ w. w.now) words.now)) }
+    ensures of_mode { IfOk result (IsLineOf Play) }
 {
     let (caller, actor, method, args) = call_of(alloc, words)?;
-    Ok(Event::Submit(caller, actor, method, args))
+    Ok(Line::Event(Event::Submit(caller, actor, method, args)))
 }
 
 /// The caller and the actor of a form that has these two words.
@@ -177,27 +178,27 @@ fn only_actor(words: &[&str]) -> Result<ActorId, LineFault>
 }
 
 /// A copy, from the words after `copy`.
-fn copy_of(words: &[&str]) -> Result<Event, LineFault>
-    ensures { Gives Line.Event result (two_at (λ c a. Line.Event (Event.Copy c a)) caller_at actor_at (map (λ w. w.now) words.now)) }
+fn copy_of(words: &[&str]) -> Result<Line, LineFault>
+    ensures { Gives (λ x. x) result (two_at (λ c a. Line.Event (Event.Copy c a)) caller_at actor_at (map (λ w. w.now) words.now)) }
 {
     let (caller, actor) = caller_and_actor(words)?;
-    Ok(Event::Copy(caller, actor))
+    Ok(Line::Event(Event::Copy(caller, actor)))
 }
 
 /// A release, from the words after `release`.
-fn release_of(words: &[&str]) -> Result<Event, LineFault>
-    ensures { Gives Line.Event result (two_at (λ c a. Line.Event (Event.Release c a)) caller_at actor_at (map (λ w. w.now) words.now)) }
+fn release_of(words: &[&str]) -> Result<Line, LineFault>
+    ensures { Gives (λ x. x) result (two_at (λ c a. Line.Event (Event.Release c a)) caller_at actor_at (map (λ w. w.now) words.now)) }
 {
     let (caller, actor) = caller_and_actor(words)?;
-    Ok(Event::Release(caller, actor))
+    Ok(Line::Event(Event::Release(caller, actor)))
 }
 
 /// The asking for a kill, from the words after `kill`.
-fn kill_of(words: &[&str]) -> Result<Event, LineFault>
-    ensures { Gives Line.Event result (two_at (λ c a. Line.Event (Event.AskKill c a)) caller_at actor_at (map (λ w. w.now) words.now)) }
+fn kill_of(words: &[&str]) -> Result<Line, LineFault>
+    ensures { Gives (λ x. x) result (two_at (λ c a. Line.Event (Event.AskKill c a)) caller_at actor_at (map (λ w. w.now) words.now)) }
 {
     let (caller, actor) = caller_and_actor(words)?;
-    Ok(Event::AskKill(caller, actor))
+    Ok(Line::Event(Event::AskKill(caller, actor)))
 }
 
 /// The caller and the future of a form that has these two words.
@@ -215,55 +216,55 @@ fn caller_and_future(words: &[&str]) -> Result<(CallerId, FutureId), LineFault>
 }
 
 /// A sending, from the words after `send`.
-fn send_of(words: &[&str]) -> Result<Event, LineFault>
-    ensures { Gives Line.Event result (two_at (λ c k. Line.Event (Event.Send c k)) caller_at number_at (map (λ w. w.now) words.now)) }
+fn send_of(words: &[&str]) -> Result<Line, LineFault>
+    ensures { Gives (λ x. x) result (two_at (λ c k. Line.Event (Event.Send c k)) caller_at number_at (map (λ w. w.now) words.now)) }
 {
     let (caller, future) = caller_and_future(words)?;
-    Ok(Event::Send(caller, future))
+    Ok(Line::Event(Event::Send(caller, future)))
 }
 
 /// A delivery, from the words after `deliver`.
-fn deliver_of(words: &[&str]) -> Result<Event, LineFault>
-    ensures { Gives Line.Event result (one_at (λ i. Line.Event (Event.Deliver i)) number_at (map (λ w. w.now) words.now)) }
+fn deliver_of(words: &[&str]) -> Result<Line, LineFault>
+    ensures { Gives (λ x. x) result (one_at (λ i. Line.Event (Event.Deliver i)) number_at (map (λ w. w.now) words.now)) }
 {
-    Ok(Event::Deliver(only_number(words)?))
+    Ok(Line::Event(Event::Deliver(only_number(words)?)))
 }
 
 /// A run, from the words after `run`.
-fn run_of(words: &[&str]) -> Result<Event, LineFault>
-    ensures { Gives Line.Event result (two_at (λ a c. Line.Event (Event.Run a c)) actor_at caller_at (map (λ w. w.now) words.now)) }
+fn run_of(words: &[&str]) -> Result<Line, LineFault>
+    ensures { Gives (λ x. x) result (two_at (λ a c. Line.Event (Event.Run a c)) actor_at caller_at (map (λ w. w.now) words.now)) }
 {
     let (actor, caller) = actor_and_caller(words)?;
-    Ok(Event::Run(actor, caller))
+    Ok(Line::Event(Event::Run(actor, caller)))
 }
 
 /// A collection, from the words after `collect`.
-fn collect_of(words: &[&str]) -> Result<Event, LineFault>
-    ensures { Gives Line.Event result (one_at (λ j. Line.Event (Event.Collect j)) number_at (map (λ w. w.now) words.now)) }
+fn collect_of(words: &[&str]) -> Result<Line, LineFault>
+    ensures { Gives (λ x. x) result (one_at (λ j. Line.Event (Event.Collect j)) number_at (map (λ w. w.now) words.now)) }
 {
-    Ok(Event::Collect(only_number(words)?))
+    Ok(Line::Event(Event::Collect(only_number(words)?)))
 }
 
 /// The taking of a kill, from the words after `take`.
-fn take_of(words: &[&str]) -> Result<Event, LineFault>
-    ensures { Gives Line.Event result (one_at (λ a. Line.Event (Event.TakeKill a)) actor_at (map (λ w. w.now) words.now)) }
+fn take_of(words: &[&str]) -> Result<Line, LineFault>
+    ensures { Gives (λ x. x) result (one_at (λ a. Line.Event (Event.TakeKill a)) actor_at (map (λ w. w.now) words.now)) }
 {
-    Ok(Event::TakeKill(only_actor(words)?))
+    Ok(Line::Event(Event::TakeKill(only_actor(words)?)))
 }
 
 /// The telling of a death, from the words after `tell`.
-fn tell_of(words: &[&str]) -> Result<Event, LineFault>
-    ensures { Gives Line.Event result (two_at (λ a c. Line.Event (Event.Tell a c)) actor_at caller_at (map (λ w. w.now) words.now)) }
+fn tell_of(words: &[&str]) -> Result<Line, LineFault>
+    ensures { Gives (λ x. x) result (two_at (λ a c. Line.Event (Event.Tell a c)) actor_at caller_at (map (λ w. w.now) words.now)) }
 {
     let (actor, caller) = actor_and_caller(words)?;
-    Ok(Event::Tell(actor, caller))
+    Ok(Line::Event(Event::Tell(actor, caller)))
 }
 
 /// A retirement, from the words after `retire`.
-fn retire_of(words: &[&str]) -> Result<Event, LineFault>
-    ensures { Gives Line.Event result (one_at (λ a. Line.Event (Event.Retire a)) actor_at (map (λ w. w.now) words.now)) }
+fn retire_of(words: &[&str]) -> Result<Line, LineFault>
+    ensures { Gives (λ x. x) result (one_at (λ a. Line.Event (Event.Retire a)) actor_at (map (λ w. w.now) words.now)) }
 {
-    Ok(Event::Retire(only_actor(words)?))
+    Ok(Line::Event(Event::Retire(only_actor(words)?)))
 }
 
 /// A step that submits, from the words after `submit`.
@@ -318,17 +319,17 @@ fn event_form_of(alloc: Global, words: &[&str]) -> Result<Line, LineFault>
     };
     match *head {
         "actor" => Ok(Line::Role(role_of(alloc, words)?)),
-        "submit" => Ok(Line::Event(submit_of(alloc, words)?)),
-        "copy" => Ok(Line::Event(copy_of(words)?)),
-        "release" => Ok(Line::Event(release_of(words)?)),
-        "kill" => Ok(Line::Event(kill_of(words)?)),
-        "send" => Ok(Line::Event(send_of(words)?)),
-        "deliver" => Ok(Line::Event(deliver_of(words)?)),
-        "run" => Ok(Line::Event(run_of(words)?)),
-        "collect" => Ok(Line::Event(collect_of(words)?)),
-        "take" => Ok(Line::Event(take_of(words)?)),
-        "tell" => Ok(Line::Event(tell_of(words)?)),
-        "retire" => Ok(Line::Event(retire_of(words)?)),
+        "submit" => submit_of(alloc, words),
+        "copy" => copy_of(words),
+        "release" => release_of(words),
+        "kill" => kill_of(words),
+        "send" => send_of(words),
+        "deliver" => deliver_of(words),
+        "run" => run_of(words),
+        "collect" => collect_of(words),
+        "take" => take_of(words),
+        "tell" => tell_of(words),
+        "retire" => retire_of(words),
         _ => Err(BAD_LINE),
     }
 }
