@@ -1,25 +1,13 @@
 -- One more item at the end of a run list.
-use Rattle.std.proofs.Common.{◌≡◌, ℕ, List, [], ◌∷◌, ◌++◌, Option, Some, None, Result, Ok, Err, IfOk, OnOk, IfSome, IfNone, length, refl, ap, sym, ◌∙◌}
+use Rattle.std.proofs.Common.{◌≡◌, ℕ, Option, Some, None, Result, Ok, Err, IfOk, OnOk, IfSome, IfNone, length, ap, sym, ◌∙◌}
 use Rattle.std.specs.Option.{option_map}
 use Rattle.act_types.specs.KindState.{KindState}
 use Rattle.act_types.specs.declared.message.Packet.{Packet}
 use Rattle.act_types.specs.declared.message.Reply.{Reply}
-use Rattle.act_rules.specs.declared.history.RunItem.{RunItem}
 use Rattle.act_rules.specs.RunList.{after_item, state_after, answer_at}
+use Rattle.act_rules.proofs.RunLists.{state_after-push, answer_at-push}
 use Rattle.act_actor.specs.Value.{ActorSeen}
 use Rattle.act_actor.specs.Actor.{item_of, reply_to, HasRun, HasRunFrom}
-
--- the state after one more item
-state_after-push : (opening : KindState) (items : List RunItem) (item : RunItem)
-    → state_after opening (items ++ item ∷ []) ≡ (after_item (state_after opening items) item).0
-state_after-push opening [] item = refl
-state_after-push opening (first ∷ items) item = state_after-push (after_item opening first).0 items item
-
--- the answer of one more item
-answer_at-push : (opening : KindState) (items : List RunItem) (item : RunItem)
-    → answer_at opening (items ++ item ∷ []) (length items) ≡ Some (after_item (state_after opening items) item).1
-answer_at-push opening [] item = refl
-answer_at-push opening (first ∷ items) item = answer_at-push (after_item opening first).0 items item
 
 -- an actor that ran one more packet
 follows_more : (opening : KindState) (caller : ℕ) (packet : Packet) (before after : ActorSeen)

@@ -1,12 +1,14 @@
 -- What a joined run shows, as a summary tells it.
-use Rattle.std.proofs.Common.{◌≡◌, ℕ, ◌==◌, Bool, true, false, List, [], ◌∷◌, ◌++◌, map, get_or, Option, Some, None, option_map, if◌then◌else◌, refl, ap, sym, ◌∙◌, append_assoc}
-use Rattle.std.specs.Prelude.{find, position}
+use Rattle.std.proofs.Common.{◌≡◌, ℕ, ◌==◌, List, [], ◌++◌, map, get_or, Option, Some, None, option_map, ap, sym, ◌∙◌, append_assoc}
+use Rattle.std.specs.Prelude.{position}
 use Rattle.std.specs.List.{flat_map}
 use Rattle.act_rules.specs.Report.{one_to, placed, future_line, actor_lines}
+use Rattle.act_rules.proofs.Lists.{find-map}
+use Rattle.act_rules.proofs.Finding.{find-None}
 use Rattle.act_owner.specs.Owner.{OwnerValue}
 use Rattle.act_serve.specs.Served.{EndSeen, id_of, log_of}
 use Rattle.act_joint.specs.Joined.{owner_of, end_of, calls_of_owner, kept_of_owner, log_of_end}
-use Rattle.act_plans.proofs.Taking.{find_none, find_some}
+use Rattle.act_plans.proofs.Taking.{find_some}
 use Rattle.act_console.specs.Parts.{owner_lines}
 use Rattle.act_console.specs.Threads.{end_text, owner_lines_in, end_lines_in, joined_summary}
 use Rattle.act_console.proofs.Shown.{found_named}
@@ -41,21 +43,13 @@ one_end ends end a n is found =
 
 -- ---- an actor's place
 
-find_step : {X Y : Type 0} (f : X → Y) (x : X) (o : Option X) (found : Option Y) (b : Bool) → found ≡ option_map f o → (if b then Some (f x) else found) ≡ option_map f (if b then Some x else o)
-find_step f x o found true is = refl
-find_step f x o found false is = is
-
-find_map : {X Y : Type 0} (p : Y → Bool) (f : X → Y) (xs : List X) → find p (map f xs) ≡ option_map f (find (λ x. p (f x)) xs)
-find_map p f [] = refl
-find_map p f (x ∷ xs) = find_step f x (find (λ x. p (f x)) xs) (find p (map f xs)) (p (f x)) (find_map p f xs)
-
 -- no actor is seen as this one
 pub none_seen : {X : Type 0} (seen : X → EndSeen) (a : ℕ) (xs : List X) → position (λ x. id_of (seen x) == a) xs ≡ None → end_of a (map seen xs) ≡ None
-none_seen seen a xs none = find_map (λ end. id_of end == a) seen xs ∙ ap (option_map seen) (find_none (λ x. id_of (seen x) == a) xs none)
+none_seen seen a xs none = find-map (λ end. id_of end == a) seen xs ∙ ap (option_map seen) (find-None (λ x. id_of (seen x) == a) xs none)
 
 -- the first that is seen as this one, at its place
 pub one_seen : {X : Type 0} (seen : X → EndSeen) (a : ℕ) (xs : List X) (i : ℕ) (d : X) → position (λ x. id_of (seen x) == a) xs ≡ Some i → end_of a (map seen xs) ≡ Some (seen (get_or xs i d))
-one_seen seen a xs i d some = find_map (λ end. id_of end == a) seen xs ∙ ap (option_map seen) (find_some (λ x. id_of (seen x) == a) xs i d some).1
+one_seen seen a xs i d some = find-map (λ end. id_of end == a) seen xs ∙ ap (option_map seen) (find_some (λ x. id_of (seen x) == a) xs i d some).1
 
 -- ---- all of them
 

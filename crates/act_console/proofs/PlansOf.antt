@@ -1,11 +1,12 @@
 -- The plans of a script, and the line of its first step that is refused.
-use Rattle.std.proofs.Common.{◌≡◌, ℕ, zero, suc, ◌+◌, ◌<◌, ◌==◌, Bool, true, false, not, ◌||◌, if◌then◌else◌, List, [], ◌∷◌, ◌++◌, length, map, Option, Some, None, refl, sym, ◌∙◌, ap, arith, eq-eqb, inl, inr}
+use Rattle.std.proofs.Common.{◌≡◌, ℕ, suc, ◌+◌, ◌<◌, ◌==◌, Bool, true, false, not, ◌||◌, if◌then◌else◌, List, [], ◌∷◌, ◌++◌, length, map, Option, Some, None, refl, sym, ◌∙◌, ap, arith, eq-eqb, inl, inr}
 use Rattle.std.specs.Prelude.{filter, filter_map, find, slice_get, option_map, option_and_then}
 use Rattle.std.specs.List.{list_any, AllByRecursion}
 use Rattle.std.proofs.lemmas.Bool.Decides.{eqb_tells}
 use Rattle.std.proofs.lemmas.List.{length-map}
 use Rattle.std.proofs.lemmas.List.Elements.{filter_agree}
-use Rattle.act_rules.proofs.Lists.{filter_map-same}
+use Rattle.std.proofs.Math.Bool.{or-true}
+use Rattle.act_rules.proofs.Lists.{filter_map-same, element}
 use Rattle.act_rules.specs.declared.script.Step.{Step}
 use Rattle.act_rules.specs.declared.script.Role.{Role}
 use Rattle.act_rules.specs.History.{Casting, contains, actors_naming}
@@ -37,25 +38,16 @@ bad_within actors steps i is = let below = first_within 0 actors nothing_done st
 
 -- ---- lists
 
-some_at : {X : Type 0} (xs : List X) (i : ℕ) → i < length xs → (x : X) × (slice_get xs i ≡ Some x)
-some_at [] i below = absurd (omega arith)
-some_at (x ∷ xs) zero below = (x, refl)
-some_at (x ∷ xs) (suc i) below = some_at xs i (omega arith)
-
 after_none : {X : Type 0} (xs ys : List X) → slice_get xs 0 ≡ None → slice_get (xs ++ ys) 0 ≡ slice_get ys 0
 after_none [] ys none = refl
 after_none (x ∷ xs) ys none = absurd (cc none)
-
-or_true : (b : Bool) → (b || true) ≡ true
-or_true true = refl
-or_true false = refl
 
 -- what holds of each number that a list contains
 all_contained : (P : ℕ → Type 0) (ns : List ℕ) → ((n : ℕ) → contains n ns ≡ true → P n) → AllByRecursion P ns
 all_contained P [] each = tt
 all_contained P (n ∷ ns) each = (
   each n (ap (λ (b : Bool). b || contains n ns) (eq-eqb n n refl)),
-  all_contained P ns (λ m has. each m (ap (λ (b : Bool). (n == m) || b) has ∙ or_true (n == m))),
+  all_contained P ns (λ m has. each m (ap (λ (b : Bool). (n == m) || b) has ∙ or-true (n == m))),
 )
 
 -- ---- the plans of a script, told as those of a run
@@ -121,7 +113,7 @@ rows_same script =
 has_line : (script : Script) (c place : ℕ) → bad_place script c ≡ Some place → (line : ℕ) × (line_at script c place ≡ Some line)
 has_line script c place is =
     let below : place < length (plan_of c script) = omega (arith, bad_within (actors_of c script.roles) (map (λ (s : ℕ × Step × ℕ). s.1) (plan_of c script)) place is, length-map (plan_of c script) (λ (s : ℕ × Step × ℕ). s.1)) in
-    let step = some_at (plan_of c script) place below in
+    let step = element (plan_of c script) place below in
     (step.0.2, ap (option_map (λ (s : ℕ × Step × ℕ). s.2)) step.1)
 
 module _ (bad : ℕ → Option ℕ) (line : ℕ → ℕ → Option ℕ) (has : (c place : ℕ) → bad c ≡ Some place → (n : ℕ) × (line c place ≡ Some n)) where

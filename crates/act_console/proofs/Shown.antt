@@ -1,7 +1,7 @@
 -- What a world shows, as a report tells it.
-use Rattle.std.proofs.Common.{◌≡◌, ℕ, true, false, Bool, List, [], ◌∷◌, ◌++◌, ◌||◌, Option, Some, None, option_map, refl, ap, sym, ◌∙◌, subst, suc, ◌+◌, append_assoc, add-one}
+use Rattle.std.proofs.Common.{◌≡◌, ℕ, true, false, Bool, List, [], ◌∷◌, ◌++◌, Option, Some, None, option_map, refl, ap, sym, ◌∙◌, subst, suc, ◌+◌, append_assoc, add-one}
 use Rattle.std.specs.Prelude.{find, slice_get, if◌then◌else◌}
-use Rattle.std.proofs.lemmas.Bool.{eqb-true}
+use Rattle.std.proofs.lemmas.Bool.{eqb-true, or_parts}
 use Rattle.std.proofs.lemmas.Grind.{flat_map-append}
 use Rattle.std.proofs.lemmas.List.{append-nil}
 use Rattle.std.specs.Option.{option_map_or}
@@ -83,14 +83,10 @@ cast_at h a cast dead retired state is died ended same =
     ∙ ap (λ (b : Bool). Some (stage_text dead b (state_after cast.opening (runs_of a h)))) ended
     ∙ ap (λ (s : KindState). Some (stage_text dead retired s)) (sym same)
 
-neither : (x y : Bool) → (x || y) ≡ false → (x ≡ false) × (y ≡ false)
-neither true y e = cc
-neither false y e = (refl, e)
-
 stages_are : (h : History) (a : ℕ) (slot : Option SlotSeen) → IsStage h a slot → stage_of a h ≡ option_map standing_text (stage_of_slot slot)
 stages_are h a None is = uncast h a is
 stages_are h a (Some Vacant) is = uncast h a is
-stages_are h a (Some (Runs live)) is = let runs = neither (is_dead a h) (is_retired a h) is.runs in cast_at h a is.cast false false live.state is.cast_is runs.0 runs.1 is.state
+stages_are h a (Some (Runs live)) is = let runs = or_parts (is_dead a h) (is_retired a h) is.runs in cast_at h a is.cast false false live.state is.cast_is runs.0 runs.1 is.state
 stages_are h a (Some (Died dead)) is = cast_at h a is.cast true (is_retired a h) (state_after is.cast.opening (runs_of a h)) is.cast_is is.died refl refl
 stages_are h a (Some (Ended retired)) is = cast_at h a is.cast false true retired.state is.cast_is is.lived is.ended is.state
 

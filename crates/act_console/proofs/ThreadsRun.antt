@@ -5,9 +5,8 @@ use Rattle.std.specs.Global.{Vec}
 use Rattle.std.specs.List.{list_any}
 use Rattle.std.proofs.lemmas.Bool.Decides.{nat_tests}
 use Rattle.std.proofs.lemmas.List.{length-map, get_or-map}
-use Rattle.std.proofs.lemmas.List.Elements.{All-nil, All-cons, All-map}
+use Rattle.std.proofs.lemmas.List.Elements.{All-cons, All-map, filter_passes}
 use Rattle.std.proofs.lemmas.Option.{slice_get-map}
-use Rattle.std.proofs.lemmas.List.Sums.{length-filter, count_by-le-length}
 use Rattle.act_types.specs.KindState.{KindState}
 use Rattle.act_rules.specs.declared.script.Role.{Role}
 use Rattle.act_rules.specs.declared.script.Step.{Step}
@@ -18,6 +17,7 @@ use Rattle.act_rules.specs.Report.{one_to}
 use Rattle.act_rules.specs.declared.script.Mode.TheVariants.{Threads}
 use Rattle.act_rules.specs.Grammar.{Script as Spelled, spelled}
 use Rattle.act_rules.specs.Scripts.{role_casting, callers_of, plan_of, is_too_many, bad_lines, or_fault, checked}
+use Rattle.act_rules.proofs.Lists.{list_any-map, length-filter_least}
 use Rattle.act_actor.specs.declared.cast.Cast.{Cast}
 use Rattle.act_actor.specs.Casts.{casting}
 use Rattle.act_owner.specs.Owner.{OwnerValue}
@@ -42,10 +42,6 @@ use Rattle.act_console.proofs.PlansOf.{bad_plan_line, no_bad_line}
 
 -- ---- lists
 
-any_map : {X Y : Type 0} (p : Y → Bool) (f : X → Y) (xs : List X) → list_any p (map f xs) ≡ list_any (λ x. p (f x)) xs
-any_map p f [] = refl
-any_map p f (x ∷ xs) = ap (λ b. p (f x) || b) (any_map p f xs)
-
 map_both : {X Y Z : Type 0} (g : Y → Z) (f : X → Y) (xs : List X) → map g (map f xs) ≡ map (λ x. g (f x)) xs
 map_both g f [] = refl
 map_both g f (x ∷ xs) = ap (λ ys. g (f x) ∷ ys) (map_both g f xs)
@@ -61,13 +57,6 @@ kept_step : {X : Type 0} (p : X → Bool) (x : X) (kept : List X) (b : Bool) →
 kept_step p x kept true is all = All-cons (λ y. p y ≡ true) x kept is all
 kept_step p x kept false is all = all
 
-all_kept : {X : Type 0} (p : X → Bool) (xs : List X) → All (λ x. p x ≡ true) (filter p xs)
-all_kept p [] = All-nil (λ x. p x ≡ true)
-all_kept p (x ∷ xs) = kept_step p x (filter p xs) (p x) refl (all_kept p xs)
-
-fewer_kept : {X : Type 0} (p : X → Bool) (xs : List X) → length (filter p xs) ≤ length xs
-fewer_kept p xs = omega (arith, length-filter p xs, count_by-le-length p xs)
-
 -- ---- roles and plans
 
 -- whether some role names a caller
@@ -78,9 +67,9 @@ module _ {K : Type 0} (state : K → KindState) (casts : List (Cast K)) (roles :
   -- the casts name the callers that the roles name
   named_same : (c : ℕ) → list_any (λ (cast : Cast K). contains c cast.callers) casts ≡ names roles c
   named_same c =
-      sym (any_map (λ (cast : Casting). contains c cast.callers) (casting state) casts)
+      sym (list_any-map (λ (cast : Casting). contains c cast.callers) (casting state) casts)
       ∙ ap (list_any (λ (cast : Casting). contains c cast.callers)) same
-      ∙ any_map (λ (cast : Casting). contains c cast.callers) role_casting roles
+      ∙ list_any-map (λ (cast : Casting). contains c cast.callers) role_casting roles
 
   module _ (steps : List (ℕ × Step × ℕ)) (plans : List (ℕ × Vec Step)) (sorted : map plan_seen plans ≡ map (plan_from steps) (callers_of roles)) where
     -- the plans' callers are those that the roles name
@@ -98,7 +87,7 @@ module _ {K : Type 0} (state : K → KindState) (casts : List (Cast K)) (roles :
         (All-map (λ (plan : ℕ × List Step). length plan.1 < 4294967296) (plan_from steps) (callers_of roles)
         (λ k d within.
         let c : ℕ = get_or (callers_of roles) k d in
-        omega (arith, length-map (filter (λ (s : ℕ × Step × ℕ). s.0 == c) steps) (λ (s : ℕ × Step × ℕ). s.1), fewer_kept (λ (s : ℕ × Step × ℕ). s.0 == c) steps))))
+        omega (arith, length-map (filter (λ (s : ℕ × Step × ℕ). s.0 == c) steps) (λ (s : ℕ × Step × ℕ). s.1), length-filter_least (λ (s : ℕ × Step × ℕ). s.0 == c) steps))))
 
     -- the plans can be run with the casts
     pub plans_fit : length steps < 4294967296 → PlansFit casts plans
@@ -107,7 +96,7 @@ module _ {K : Type 0} (state : K → KindState) (casts : List (Cast K)) (roles :
           (subst (AllPairs (λ one other. one ≢ other)) (sym callers_are) (callers_differ roles));
       named = all_of_map (λ (c : ℕ). list_any (λ (cast : Cast K). contains c cast.callers) casts ≡ true) (λ (plan : ℕ × Vec Step). plan.0) plans
           (subst (All (λ (c : ℕ). list_any (λ (cast : Cast K). contains c cast.callers) casts ≡ true)) (sym callers_are)
-          (λ k d within. named_same (get_or (callers_of roles) k d) ∙ all_kept (names roles) (one_to 16) k d within));
+          (λ k d within. named_same (get_or (callers_of roles) k d) ∙ filter_passes (names roles) (one_to 16) k d within));
       short = are_short few;
     }
 
@@ -126,7 +115,7 @@ module _ {K : Type 0} (state : K → KindState) (casts : List (Cast K)) (roles :
 -- ---- what is spelled
 
 few_named : (roles : List Role) → length (callers_of roles) ≤ 16
-few_named roles = fewer_kept (names roles) (one_to 16)
+few_named roles = length-filter_least (names roles) (one_to 16)
 
 -- threads serve as many actors and callers as a script can name
 not_too_many : (roles : List Role) (steps : List (ℕ × Step × ℕ)) → AreFitting (map role_casting roles) → is_too_many 16 8 (script_of roles steps) ≡ false

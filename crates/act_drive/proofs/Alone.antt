@@ -7,6 +7,7 @@ use Rattle.act_types.specs.declared.message.Notice.{Notice}
 use Rattle.act_types.specs.declared.message.Notice.TheVariants.{Answered}
 use Rattle.act_rules.specs.declared.history.RunItem.{RunItem}
 use Rattle.act_rules.specs.Consistent.{IsFront}
+use Rattle.act_rules.proofs.Lists.{All-two}
 use Rattle.act_actor.specs.Value.{ActorSeen}
 use Rattle.act_actor.specs.Actor.{item_of, reply_to, next_call, HasRun}
 use Rattle.std.proofs.lemmas.List.Elements.{All-push}
@@ -51,9 +52,6 @@ at_one : {X : Type 0} (x d : X) (j : ℕ) → j < length (x ∷ []) → get_or (
 at_one x d zero below = refl
 at_one x d (suc j) below = absurd (omega (arith, below))
 
-two_all : {X : Type 0} (P : X → Type 0) (x y : X) → P x → P y → All P (x ∷ y ∷ [])
-two_all P x y px py = All-push P (x ∷ []) y (All-push P [] x (λ k d below. absurd (omega arith)) px) py
-
 pub unused_pair : (passes : CallerPasses) (c : ℕ) (mail mail2 : MailValue) (control control2 : ControlValue) (replies : RepliesValue) (post post2 : PutterValue Letter Unit) (ask ask2 : PutterValue Asked ℕ) (actors : List ℕ)
     → post ≡ new_putter mail.line c → post2 ≡ new_putter mail2.line c → ask ≡ new_putter control.line c → ask2 ≡ new_putter control2.line c → control.actor ≢ control2.actor
     → passes.letters.items ≡ record { place = 0; pass = post } ∷ record { place = 1; pass = post2 } ∷ [] → passes.kills.items ≡ record { place = 0; pass = ask } ∷ record { place = 1; pass = ask2 } ∷ [] → passes.collects ≡ new_taker replies.line actors
@@ -67,14 +65,14 @@ unused_pair passes c mail mail2 control control2 replies post post2 ask ask2 act
     record {
       collects = ap (λ (t : _). t.line) collects;
       taken = ap (λ (t : _). t.taken) collects;
-      letters = rw letters (two_all (IsFreshSeat (mail ∷ mail2 ∷ []) c) (record { place = 0; pass = post }) (record { place = 1; pass = post2 })
+      letters = rw letters (All-two (IsFreshSeat (mail ∷ mail2 ∷ []) c) (record { place = 0; pass = post }) (record { place = 1; pass = post2 })
           (record { below = omega arith; line = λ d. sym (ap (λ (p : PutterValue Letter Unit). p.line) posted); number = ap (λ (p : PutterValue Letter Unit). p.number) posted; put = ap (λ (p : PutterValue Letter Unit). p.put) posted })
           (record { below = omega arith; line = λ d. sym (ap (λ (p : PutterValue Letter Unit). p.line) posted2); number = ap (λ (p : PutterValue Letter Unit). p.number) posted2; put = ap (λ (p : PutterValue Letter Unit). p.put) posted2 }));
       kills = rw kills (
-        two_all (IsKillSeat controls) one two (record { below = omega arith; line = λ d. sym (ap (λ (p : PutterValue Asked ℕ). p.line) asked) }) (record { below = omega arith; line = λ d. sym (ap (λ (p : PutterValue Asked ℕ). p.line) asked2) }),
+        All-two (IsKillSeat controls) one two (record { below = omega arith; line = λ d. sym (ap (λ (p : PutterValue Asked ℕ). p.line) asked) }) (record { below = omega arith; line = λ d. sym (ap (λ (p : PutterValue Asked ℕ). p.line) asked2) }),
         differ,
       );
-      asked = rw kills (two_all (λ (s : Seat (PutterValue Asked ℕ)). s.pass.put ≡ []) one two (ap (λ (p : PutterValue Asked ℕ). p.put) asked) (ap (λ (p : PutterValue Asked ℕ). p.put) asked2));
+      asked = rw kills (All-two (λ (s : Seat (PutterValue Asked ℕ)). s.pass.put ≡ []) one two (ap (λ (p : PutterValue Asked ℕ). p.put) asked) (ap (λ (p : PutterValue Asked ℕ). p.put) asked2));
     }
 
 -- ---- an actor's run, and what is given

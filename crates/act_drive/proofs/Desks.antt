@@ -21,7 +21,7 @@ use Rattle.act_owner.specs.declared.owner.Collected.TheVariants.{First, Late, St
 use Rattle.act_owner.specs.Owner.{OwnerValue, packet_at, packet_of, is_sent, is_of_call, after_reply_that, with_death, after_collect, with_sent, is_ready, first_ready, is_known_call}
 use Rattle.act_owner.specs.Life.{Change, Sent, Noticed, after, is_known_at, Hears}
 use Rattle.act_owner.proofs.Life.{step, packet_stays}
-use Rattle.act_owner.proofs.Told.{sent_stays, hears_step}
+use Rattle.act_owner.proofs.Told.{sent_stays, hears_step, reply_sent, death_sent}
 use Rattle.act_mailbox.specs.Mails.{MailValue}
 use Rattle.act_mailbox.specs.Passes.{PutterValue}
 use Rattle.act_mailbox.specs.declared.mail.Letter.{Letter}
@@ -94,18 +94,9 @@ notice_on owner notice places =
     let keeps = notice_keeps owner notice in
     change_on owner (Noticed notice) places (λ a none. (ap (λ (h : List Handle). copies_held (copies_in a h)) keeps.2 ∙ none, ap (λ (c : List Submission). length (calls_to a c)) keeps.1))
 
-reply_flags : (owner : OwnerValue) (reply : Reply) (mine known : Bool) → (after_reply_that (if mine then (if known then Late reply.future else First reply.future) else Stray) owner reply).sent ≡ owner.sent
-reply_flags owner reply false known = refl
-reply_flags owner reply true true = refl
-reply_flags owner reply true false = refl
-
-death_flags : (owner : OwnerValue) (a : ℕ) (listed : Bool) → (if listed then with_death owner a else owner).sent ≡ owner.sent
-death_flags owner a false = refl
-death_flags owner a true = refl
-
 notice_sent : (owner : OwnerValue) (notice : Notice) → (after_collect owner notice).sent ≡ owner.sent
-notice_sent owner (Answered reply) = reply_flags owner reply (is_of_call owner reply) (is_some (kept_at owner.kept reply.future))
-notice_sent owner (Death a) = death_flags owner a (is_some (copies_in a owner.handles))
+notice_sent owner (Answered reply) = reply_sent owner reply (is_of_call owner reply) (is_some (kept_at owner.kept reply.future))
+notice_sent owner (Death a) = death_sent owner a (is_some (copies_in a owner.handles))
 
 notice_flags : (owner : OwnerValue) (notice : Notice) → length owner.sent ≡ length owner.calls → length (after_collect owner notice).sent ≡ length (after_collect owner notice).calls
 notice_flags owner notice flags = ap (λ (l : List Bool). length l) (notice_sent owner notice) ∙ flags ∙ ap (λ (l : List Submission). length l) (sym (notice_keeps owner notice).1)

@@ -1,5 +1,10 @@
 pub mod Alone
 pub mod Desks
-pub mod Doings
+pub mod OwnChanges
+pub mod PlanSteps
+pub mod Notes
+pub mod Kills
+pub mod Closing
+pub mod Done
 pub mod Keeps
 pub mod Seats

@@ -1,10 +1,10 @@
 -- That what a run leaves fits the casts and plans that it was given.
-use Rattle.std.proofs.Common.{◌≡◌, ℕ, ◌+◌, ◌<◌, ◌∷◌, ◌++◌, true, false, List, [], length, map, get_or, slice_get, Some, sym, ap, ◌∙◌, subst, refl, arith, All, AllPairs, Contains, ◌≢◌}
+use Rattle.std.proofs.Common.{◌≡◌, ℕ, ◌+◌, ◌∷◌, ◌++◌, true, false, List, [], length, map, get_or, slice_get, Some, sym, ap, ◌∙◌, subst, refl, arith, All, Contains, ◌≢◌}
 use Rattle.std.specs.Prelude.{option_map}
 use Rattle.std.specs.List.{range_with_len}
 use Rattle.std.specs.Global.{Vec}
 use Rattle.std.proofs.lemmas.Simd.{map-map}
-use Rattle.std.proofs.lemmas.List.{length-map, get_or-map}
+use Rattle.std.proofs.lemmas.List.{length-map}
 use Rattle.std.proofs.lemmas.List.Elements.{All-map}
 use Rattle.std.proofs.lemmas.List.FromFn.{length-range_with_len}
 use Rattle.std.proofs.lemmas.Option.{slice_get_within, slice_get-map, get_or_from_slice_get}
@@ -15,6 +15,7 @@ use Rattle.act_rules.specs.History.{Casting, contains, actors_naming}
 use Rattle.act_types.specs.declared.limits.TheConstants.{MOST_ACTORS, MOST_CALLERS}
 use Rattle.act_rules.specs.Report.{one_to}
 use Rattle.act_rules.proofs.Unique.{map-slice_get}
+use Rattle.act_rules.proofs.Lists.{element, AllPairs-map}
 use Rattle.act_owner.specs.Owner.{OwnerValue}
 use Rattle.act_actor.specs.declared.cast.Cast.{Cast}
 use Rattle.act_actor.specs.Cast.{IsFitting}
@@ -44,19 +45,10 @@ use Rattle.act_executor.specs.Audits.{KillTold, CallerTold, NoticeTold, Left, le
 use Rattle.act_executor.specs.Work.{IsUnusedStarter}
 use Rattle.act_executor.specs.Joins.{ended_starved}
 use Rattle.act_executor.specs.Runs.{HasRun, plan_seen}
-use Rattle.act_executor.proofs.Tasks.{element}
 use Rattle.act_executor.proofs.Settled.{seen_through}
 use Rattle.act_executor.proofs.Actors.{served_seen, is_served, notices_audited, same_id, not_starved}
 use Rattle.act_executor.proofs.Callers.{caller_is, is_driven, letters_audited, kills_audited}
 use Rattle.act_executor.proofs.Prepared.{maps_agree, ActorAt, actor_at, CallerAt, caller_at as caller_there}
-
--- what holds of the images of all pairs
-pairs_map : {X Y : Type 0} (P : Y → Y → Type 0) (f : X → Y) (xs : List X) → AllPairs (λ one other. P (f one) (f other)) xs → AllPairs P (map f xs)
-pairs_map P f xs all i j d lt below =
-    let short : j < length xs = omega (arith, below, length-map xs f) in
-    let x = (element xs j short).0 in
-    let At : _ × _ → Type 0 = λ p. P p.0 p.1 in
-    subst At (λ k. (sym (get_or-map f xs i x d (omega (arith, lt, short))) k, sym (get_or-map f xs j x d short) k)) (all i j x lt short)
 
 front_none : {X : Type 0} (xs : List X) → IsFront xs [] → xs ≡ []
 front_none [] front = refl
@@ -101,7 +93,7 @@ module _ {K : Type 0} (state : K → KindState) (casts : List (Cast K)) (plans :
 
   casts_are : AreCasts seen
   casts_are = record {
-    differ = pairs_map (λ (one other : Casting). one.actor ≢ other.actor) (casting state) casts fit.actors;
+    differ = AllPairs-map (λ (one other : Casting). one.actor ≢ other.actor) (casting state) casts fit.actors;
     actors = All-map (λ (cast : Casting). Contains (one_to MOST_ACTORS) cast.actor) (casting state) casts (λ k d lt. (numbers k d lt).actor);
     callers = All-map (λ (cast : Casting). All (λ (c : ℕ). Contains (one_to MOST_CALLERS) c) cast.callers) (casting state) casts (λ k d lt. (numbers k d lt).callers);
   }

@@ -1,8 +1,9 @@
 -- Owners that were just opened.
-use Rattle.std.proofs.Common.{◌≡◌, ◌≢◌, ℕ, List, [], ◌∷◌, map, None, Option, refl, ap, sym, ◌∙◌, subst, AllPairs}
+use Rattle.std.proofs.Common.{◌≡◌, ◌≢◌, ℕ, List, None, Option, ap, sym, ◌∙◌, subst, AllPairs}
 use Rattle.act_rules.specs.declared.script.Step.{Step}
 use Rattle.act_rules.specs.Plans.{first_bad}
-use Rattle.act_handles.specs.Handles.{actors_in, opened as opened_handle}
+use Rattle.act_handles.specs.Handles.{actors_in}
+use Rattle.act_handles.proofs.Places.{actors_opened}
 use Rattle.act_owner.specs.Owner.{OwnerValue, opened_under, opened_with}
 use Rattle.act_drive.specs.declared.desk.CallerLines.{CallerLines}
 use Rattle.act_drive.specs.declared.desk.CallerPasses.{CallerPasses}
@@ -10,10 +11,6 @@ use Rattle.act_drive.specs.Driven.{IsUnused, IsFresh}
 use Rattle.act_plans.specs.declared.part.Part.{Part}
 use Rattle.act_plans.specs.Parts.{HasLimits}
 use Rattle.act_plans.proofs.Keys.{pairs_of_map}
-
-actors_opened : (actors : List ℕ) → actors_in (map opened_handle actors) ≡ actors
-actors_opened [] = refl
-actors_opened (a ∷ actors) = ap (λ (rest : List ℕ). a ∷ rest) (actors_opened actors)
 
 pub own_actors : (limits : List (ℕ × Option ℕ)) (id : ℕ) (actors : List ℕ) → actors_in (opened_under limits id actors).handles ≡ actors
 own_actors limits id actors = actors_opened actors

@@ -22,9 +22,10 @@ use Rattle.act_joint.proofs.Elements.{all_by_places, range_at}
 use Rattle.act_executor.specs.Audits.{SitsAtReplies, SitsAtControl, HasSeats}
 use Rattle.act_executor.specs.Work.{IsUnusedStarter}
 use Rattle.act_executor.specs.Joins.{AreServed, AreDriven, AreStarters}
-use Rattle.act_executor.proofs.Tasks.{element, each_at}
+use Rattle.act_executor.proofs.Tasks.{each_at}
 use Rattle.act_executor.proofs.Actors.{sits, same_letters_line, same_kills_line}
 use Rattle.act_executor.proofs.Callers.{has_seats, same_replies_line}
+use Rattle.act_rules.proofs.Lists.{element}
 
 -- lists whose elements agree at each place
 pub maps_agree : {X Y Z : Type 0} (f : X → Z) (g : Y → Z) (xs : List X) (ys : List Y) → length xs ≡ length ys → ((i : ℕ) (x : X) (y : Y) → slice_get xs i ≡ Some x → slice_get ys i ≡ Some y → f x ≡ g y) → map f xs ≡ map g ys

@@ -47,7 +47,3 @@ nothing_left (suc n) (x ∷ xs) none = let more = nothing_left n xs none in omeg
 -- all lines have their pass where none is left
 pub all_seated : (controls : List ControlValue) (n : ℕ) → drop n (map pass_on controls) ≡ [] → n ≤ length controls → n ≡ length controls
 all_seated controls n none short = let past = nothing_left n (map pass_on controls) none in omega (arith, past, short, length-map controls pass_on)
-
-pub nothing : {X : Type 0} (xs : List X) → length xs ≡ 0 → xs ≡ []
-nothing [] none = refl
-nothing (x ∷ xs) none = absurd (omega (arith, none))

@@ -1,5 +1,5 @@
 -- From what the tasks were given and left to the casts and the parts.
-use Rattle.std.proofs.Common.{◌≡◌, ℕ, ◌<◌, zero, suc, List, [], ◌∷◌, length, map, drop, zip, get_or, slice_get, Some, sym, ap, ◌∙◌, subst, refl, arith}
+use Rattle.std.proofs.Common.{◌≡◌, ℕ, zero, suc, List, [], ◌∷◌, length, map, drop, zip, get_or, slice_get, Some, sym, ap, ◌∙◌, subst, arith}
 use Rattle.std.proofs.lemmas.Option.{slice_get_within, get_or_from_slice_get}
 use Rattle.std.proofs.lemmas.List.{length-map}
 use Rattle.act_types.specs.KindState.{KindState}
@@ -18,6 +18,7 @@ use Rattle.act_executor.specs.declared.work.Serving.{Serving}
 use Rattle.act_executor.specs.declared.work.Driving.{Driving}
 use Rattle.act_executor.specs.Work.{IsServedBy, IsDrivenBy, ActorStart, serving_start, cast_start, CallerStart, driving_start, part_start}
 use Rattle.act_executor.specs.Joins.{AreServed, AreDriven}
+use Rattle.act_rules.proofs.Lists.{element, length-zip_same}
 
 -- the elements at a place of a list, and of two lists beside each other, that agree
 pub starts_at : {X A B Z : Type 0} (f : X → Z) (g : A × B → Z) (xs : List X) (ls : List A) (ms : List B) (j : ℕ) (x : X) (a : A) (b : B) → map f xs ≡ map g (zip ls ms) →
@@ -33,22 +34,12 @@ starts_at f g (y ∷ xs) (c ∷ ls) (d ∷ ms) zero x a b same at_x at_a at_b =
     ap f (sym is_x) ∙ heads ∙ (λ i. g (is_a i, is_b i))
 starts_at f g (y ∷ xs) (c ∷ ls) (d ∷ ms) (suc j) x a b same at_x at_a at_b = starts_at f g xs ls ms j x a b (ap (drop 1) same) at_x at_a at_b
 
-pub element : {X : Type 0} (xs : List X) (i : ℕ) → i < length xs → (x : X) × (slice_get xs i ≡ Some x)
-element [] i lt = absurd (omega (arith, lt))
-element (x ∷ xs) zero lt = (x, refl)
-element (x ∷ xs) (suc i) lt = element xs i (omega arith)
-
 pub each_at : {T X : Type 0} (D : T → X → Type 0) (ts : List T) (xs : List X) (i : ℕ) (t : T) (x : X) → Each D ts xs → slice_get ts i ≡ Some t → slice_get xs i ≡ Some x → D t x
 each_at D ts xs i t x each at_t at_x = subst (λ y. D t y) (get_or_from_slice_get xs i x x at_x) (subst (λ s. D s (get_or xs i x)) (get_or_from_slice_get ts i t t at_t) (each.1 i t x (slice_get_within ts i t at_t)))
 
-zip_length : {A B : Type 0} (ls : List A) (ms : List B) → length ms ≡ length ls → length (zip ls ms) ≡ length ls
-zip_length [] ms long = refl
-zip_length (a ∷ ls) [] long = absurd (omega (arith, long))
-zip_length (a ∷ ls) (b ∷ ms) long = let more = zip_length ls ms (omega (arith, long)) in omega (arith, more)
-
 -- the tasks are ls many ls their casts
 tasks_long : {X A B Z : Type 0} (f : X → Z) (g : A × B → Z) (xs : List X) (ls : List A) (ms : List B) → map f xs ≡ map g (zip ls ms) → length ms ≡ length ls → length xs ≡ length ls
-tasks_long f g xs ls ms same long = sym (length-map xs f) ∙ ap length same ∙ length-map (zip ls ms) g ∙ zip_length ls ms long
+tasks_long f g xs ls ms same long = sym (length-map xs f) ∙ ap length same ∙ length-map (zip ls ms) g ∙ length-zip_same ls ms long
 
 pub all_served : {K G : Type 0} (state : K → KindState) (lines : Lines) (casts : List (Cast K)) (execs : List (Seat ExecPasses)) (servings : List (Serving K G)) (actors : List (Finished K)) →
     length execs ≡ length casts → map (serving_start state) servings ≡ map (cast_start state lines.replies.items) (zip casts execs) → Each (IsServedBy state) servings actors → AreServed state lines casts execs actors

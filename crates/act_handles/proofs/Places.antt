@@ -44,7 +44,7 @@ changed_at a change (handle ∷ handles) (suc place) d apart below here =
     rw (if_other handle.actor a (change handle) handle (λ same. rest_other a handle handles apart same place d (omega arith) here))
     (ap (λ (rest : List Handle). handle ∷ rest) (changed_at a change handles place d (tail_apart handle.actor (actors_in handles) apart) (omega arith) here))
 
-actors_opened : (actors : List ℕ) → actors_in (map opened actors) ≡ actors
+pub actors_opened : (actors : List ℕ) → actors_in (map opened actors) ≡ actors
 actors_opened [] = refl
 actors_opened (a ∷ actors) = ap (λ (rest : List ℕ). a ∷ rest) (actors_opened actors)
 

@@ -8,7 +8,7 @@ use Rattle.std.proofs.lemmas.List.Sums.{sum_by-set, sum_by-le}
 use Rattle.std.proofs.lemmas.List.Quantifiers.{position-Some}
 use Rattle.act_inbox.specs.declared.inbox.Lane.{Lane}
 use Rattle.act_inbox.specs.Inbox.{InboxValue, is_lane_of, lane_at_first, lane_of, handed_of, handed_in_all}
-use Rattle.act_inbox.proofs.Finding.{find-Some, find-None, position_or_len-Some}
+use Rattle.act_rules.proofs.Finding.{find-Some, find-None, position_or_len-Some}
 
 -- the counts of few lanes add up to little
 pub in_all_bound : (inbox : InboxValue) → length inbox.lanes ≤ 16 → All (λ lane. lane.handed ≤ 65536) inbox.lanes → handed_in_all inbox ≤ 16 * 65536

@@ -1,4 +1,3 @@
-pub mod Finding
 pub mod Opening
 pub mod Lanes
 pub mod Packets

@@ -1,11 +1,12 @@
 -- Elements of lists by their places, and look-ups.
 use Rattle.std.proofs.Common.{◌≡◌, ℕ, zero, suc, ◌+◌, Bool, true, false, cond, List, [], ◌∷◌, ◌++◌, length, Some, None, refl, ap, sym, ◌∙◌, subst, arith, inl, inr, ◌<◌, length-append}
-use Rattle.std.specs.Prelude.{◌==◌, ◌||◌, map, filter, find, slice_get, option_map, All, Contains, ◌⊎◌}
+use Rattle.std.specs.Prelude.{◌==◌, ◌||◌, map, filter, find, slice_get, All, Contains, ◌⊎◌}
 use Rattle.std.specs.List.{AllByRecursion, list_any, range_with_len, enumerate_from}
 use Rattle.std.proofs.lemmas.Bool.{eq-eqb, eqb-true}
 use Rattle.std.proofs.lemmas.Option.{slice_get_read, slice_get-get_or, slice_get_within, get_or_from_slice_get}
 use Rattle.std.proofs.lemmas.List.{append-nil}
 use Rattle.std.proofs.lemmas.List.Elements.{All-contains}
+use Rattle.std.proofs.lemmas.Map.Keys.{any_passes_from_place}
 use Rattle.act_rules.specs.Consistent.{IsFront}
 use Rattle.act_rules.proofs.Lists.{slice_get-filter, slice_get_front}
 use Rattle.act_rules.specs.History.{contains}
@@ -85,14 +86,6 @@ finds {A = A} p (y ∷ xs) k x e passes = go (p y) refl k (λ j f. finds p xs j 
     go false is zero rest e = let same : y ≡ x = cc in let bad : p y ≡ true = ap p same ∙ passes in cc
     go false is (suc k) rest e = let r = rest k e in record { one = r.one; is = ap (λ (b : Bool). cond b (Some y) (find p xs)) is ∙ r.is }
 
-pub find-map : {A B : Type 0} (p : B → Bool) (f : A → B) (xs : List A) → find p (map f xs) ≡ option_map f (find (λ x. p (f x)) xs)
-find-map p f [] = refl
-find-map {A = A} {B = B} p f (x ∷ xs) = go (p (f x)) (find-map p f xs)
-  where
-    go : (b : Bool) → find p (map f xs) ≡ option_map f (find (λ (y : A). p (f y)) xs) → cond b (Some (f x)) (find p (map f xs)) ≡ option_map f (cond b (Some x) (find (λ (y : A). p (f y)) xs))
-    go true e = refl
-    go false e = e
-
 -- an element that passes in a list, from `list_any`
 pub any_is : {A : Type 0} (p : A → Bool) (xs : List A) → list_any p xs ≡ true → (x : A) × IsFound p xs x
 any_is p [] e = cc
@@ -102,21 +95,12 @@ any_is {A = A} p (y ∷ xs) e = go (p y) refl (any_is p xs) e
     go true is rest e = (y, record { inside = record { place = 0; at = refl }; passes = is })
     go false is rest e = let r = rest e in (r.0, record { inside = record { place = suc r.1.inside.place; at = r.1.inside.at }; passes = r.1.passes })
 
-pub any_from : {A : Type 0} (p : A → Bool) (xs : List A) (k : ℕ) (x : A) → slice_get xs k ≡ Some x → p x ≡ true → list_any p xs ≡ true
-any_from p [] k x e passes = cc
-any_from {A = A} p (y ∷ xs) zero x e passes = let same : y ≡ x = cc in let is : p y ≡ true = ap p same ∙ passes in ap (λ (b : Bool). b || list_any p xs) is
-any_from {A = A} p (y ∷ xs) (suc k) x e passes = go (p y) (any_from p xs k x e passes)
-  where
-    go : (b : Bool) → list_any p xs ≡ true → (b || list_any p xs) ≡ true
-    go true e = refl
-    go false e = e
-
 -- a number of a list, and `contains`
 pub contains_is : (n : ℕ) (ns : List ℕ) → contains n ns ≡ true → IsIn ns n
 contains_is n ns e = let r = any_is (λ (m : ℕ). m == n) ns e in subst (IsIn ns) (eqb-true r.0 n r.1.passes) r.1.inside
 
 pub is_contained : (n : ℕ) (ns : List ℕ) → IsIn ns n → contains n ns ≡ true
-is_contained n ns i = any_from (λ (m : ℕ). m == n) ns i.place n i.at (eq-eqb n n refl)
+is_contained n ns i = any_passes_from_place (λ (m : ℕ). m == n) ns i.place n i.at (eq-eqb n n refl)
 
 pub empty_by_places : {A : Type 0} (xs : List A) → ((k : ℕ) (x : A) → slice_get xs k ≡ Some x → ⊥) → xs ≡ []
 empty_by_places [] f = refl

@@ -19,6 +19,7 @@ use Rattle.act_rules.specs.RunList.{Answer, items_of, NothingFollowsAnEnd}
 use Rattle.act_rules.specs.Submissions.{kept_at}
 use Rattle.act_rules.specs.Report.{one_to}
 use Rattle.act_rules.specs.History.{Casting, contains, actors_naming}
+use Rattle.act_rules.proofs.Lists.{All-two}
 use Rattle.act_owner.specs.Owner.{OwnerValue, is_death}
 use Rattle.act_owner.specs.Life.{IsToldBy}
 use Rattle.act_mailbox.specs.Lines.{items_of as items_put}
@@ -46,16 +47,6 @@ one_at x y (suc k) e = cc
 
 pub all_one : {A : Type 0} (P : A → Type 0) (x : A) → P x → All P (x ∷ [])
 all_one P x p = all_by_places P (x ∷ []) (λ k y e. subst P (one_at x y k e) p)
-
-pub all_two : {A : Type 0} (P : A → Type 0) (x y : A) → P x → P y → All P (x ∷ y ∷ [])
-all_two {A = A} P x y p q = all_by_places P (x ∷ y ∷ []) go
-  where
-    go : (k : ℕ) (z : A) → slice_get (x ∷ y ∷ []) k ≡ Some z → P z
-    go zero z e = let same : x ≡ z = cc in subst P same p
-    go (suc k) z e = subst P (one_at y z k e) q
-
-pub all_none : {A : Type 0} (P : A → Type 0) → All P []
-all_none P k x below = absurd (omega arith)
 
 pub pairs_one : {A : Type 0} (R : A → A → Type 0) (x : A) → AllPairs R (x ∷ [])
 pairs_one R x i j e first second = absurd (omega arith)
@@ -179,7 +170,7 @@ module _ (mail control reply : TableId) (ptr : Ptr) (alloc : Global) where
 
   drives : IsDriven (mails mail) (controls control) (1 ∷ []) plan d
   drives = record {
-    letters = all_one (HasPosted (mails mail) owner) _ (λ m. (all_two (IsSent owner 1) _ _ (refl, refl, refl) (refl, refl), pairs_one (λ (x y : ℕ). x ≢ y) 0));
+    letters = all_one (HasPosted (mails mail) owner) _ (λ m. (All-two (IsSent owner 1) _ _ (refl, refl, refl) (refl, refl), pairs_one (λ (x y : ℕ). x ≢ y) 0));
     hears = record { answers = answers; deaths = λ a e. cc };
     calls = refl;
     answered = answered;

@@ -2,6 +2,7 @@
 use Rattle.std.proofs.Common.{◌≡◌, ◌≢◌, ℕ, zero, suc, ◌<◌, true, false, List, [], ◌∷◌, ◌++◌, Some, inl, refl, subst, arith}
 use Rattle.std.specs.Prelude.{is_some, Err, Contains, pos}
 use Rattle.std.specs.Global.{Global}
+use Rattle.std.proofs.lemmas.List.Elements.{All-nil}
 use denote.RawPtr.{Ptr}
 use Rattle.atomic_table.specs.Seated.{TableId}
 use Rattle.act_types.specs.KindState.{CounterAt}
@@ -30,7 +31,7 @@ use Rattle.act_drive.specs.Driven.{HasPosted, HasAsked, IsSent}
 use Rattle.act_plans.specs.Runs.{limits_naming, cast_at, plan_of}
 use Rattle.act_joint.specs.Joined.{is_starved}
 use Rattle.act_joint.specs.Left.{ServedSeen, IsServed, IsDriven, AreAudited, AreJoined}
-use Rattle.act_joint.proofs.Example.{one_at, all_one, all_none, pairs_one, only, casts, casts_are, mails, controls, replies, letter_seat, kill_seat, notice_seat, call, item}
+use Rattle.act_joint.proofs.Example.{one_at, all_one, pairs_one, only, casts, casts_are, mails, controls, replies, letter_seat, kill_seat, notice_seat, call, item}
 
 abbrev letters : List Letter
 letters = Call (packet_of 1 item) ∷ []
@@ -77,8 +78,8 @@ module _ (mail control reply : TableId) (ptr : Ptr) (alloc : Global) where
     callers = 1 ∷ [];
     same_callers = λ c. refl;
     log = record {
-      taken = all_none (λ (i : RunItem). Contains {X = Letter} [] (Call (packet_of 1 i)));
-      listed = all_none (λ (i : RunItem). contains i.caller (1 ∷ []) ≡ true);
+      taken = All-nil (λ (i : RunItem). Contains {X = Letter} [] (Call (packet_of 1 i)));
+      listed = All-nil (λ (i : RunItem). contains i.caller (1 ∷ []) ≡ true);
       numbered = λ c. refl;
     };
     last = λ place ends. cc;

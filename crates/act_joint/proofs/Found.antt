@@ -4,7 +4,8 @@ use Rattle.std.specs.Prelude.{◌==◌, map, filter, slice_get, option_map, All,
 use Rattle.std.specs.List.{AllByRecursion, list_any}
 use Rattle.std.proofs.lemmas.Bool.{eq-eqb, eqb-true}
 use Rattle.std.proofs.lemmas.Bool.Decides.{leb_tells}
-use Rattle.std.proofs.lemmas.Option.{slice_get_within, get_or_from_slice_get}
+use Rattle.std.proofs.lemmas.Option.{slice_get_within, get_or_from_slice_get, slice_get-map}
+use Rattle.std.proofs.lemmas.Map.Keys.{any_passes_from_place}
 use Rattle.act_types.specs.declared.limits.TheConstants.{MOST_ACTORS, MOST_CALLERS}
 use Rattle.act_types.specs.declared.call.Arg.{Arg}
 use Rattle.act_rules.specs.declared.history.Submission.{Submission}
@@ -14,7 +15,7 @@ use Rattle.act_rules.specs.Submissions.{submit_refusal}
 use Rattle.act_rules.specs.Plans.{Progress, nothing_done, occurrences, holds, is_refused, stepped, done_by, planned}
 use Rattle.act_rules.specs.Report.{one_to}
 use Rattle.act_rules.specs.History.{Casting, contains, actors_naming}
-use Rattle.act_rules.proofs.Lists.{slice_get-map, All_more, All_at}
+use Rattle.act_rules.proofs.Lists.{All_more, All_at}
 use Rattle.act_rules.proofs.AsSubmitted.{filter-slice_get}
 use Rattle.act_rules.proofs.Unique.{map-slice_get}
 use Rattle.act_serve.specs.Served.{id_of}
@@ -24,7 +25,7 @@ use Rattle.act_mailbox.specs.Controls.{ControlValue}
 use Rattle.act_mailbox.specs.Notices.{RepliesValue}
 use Rattle.act_plans.specs.Runs.{cast_at}
 use Rattle.act_joint.specs.Left.{ServedSeen, AreCasts, AreJoined}
-use Rattle.act_joint.proofs.Elements.{IsIn, in_from_contains, all_in, in_filter, found_is, Finds, finds, any_is, any_from, contains_is, is_contained}
+use Rattle.act_joint.proofs.Elements.{IsIn, in_from_contains, all_in, in_filter, found_is, Finds, finds, any_is, contains_is, is_contained}
 
 -- where no number stands twice, two elements of one number are one
 pub one_of : {A : Type 0} (number : A → ℕ) (xs : List A) (k m : ℕ) (x y : A) → AllPairs (λ one other. number one ≢ number other) xs → slice_get xs k ≡ Some x → slice_get xs m ≡ Some y → number x ≡ number y → x ≡ y
@@ -133,7 +134,7 @@ module _ {mails : List MailValue} {controls : List ControlValue} {replies : List
   pub driven_named : (cast : Casting) (c : ℕ) → IsIn casts cast → IsIn cast.callers c → Finds (λ (d : Driven). d.owner.id == c) driven
   driven_named cast c i names =
       let valid = in_from_contains (one_to MOST_CALLERS) c (all_in (λ (n : ℕ). Contains (one_to MOST_CALLERS) n) cast.callers c (all_in (λ (x : Casting). All (λ (n : ℕ). Contains (one_to MOST_CALLERS) n) x.callers) casts cast j.casts_are.callers i) names) in
-      let named = any_from (λ (x : Casting). contains c x.callers) casts i.place cast i.at (is_contained c cast.callers names) in
+      let named = any_passes_from_place (λ (x : Casting). contains c x.callers) casts i.place cast i.at (is_contained c cast.callers names) in
       let listed = in_filter (λ (n : ℕ). list_any (λ (x : Casting). contains n x.callers) casts) (one_to MOST_CALLERS) c valid named in
       let there : slice_get (map (λ (d : Driven). d.owner.id) driven) listed.place ≡ Some c = rw (j.callers) listed.at in
       let mapped = map-slice_get (λ (d : Driven). d.owner.id) driven listed.place c there in
@@ -143,7 +144,7 @@ module _ {mails : List MailValue} {controls : List ControlValue} {replies : List
   pub served_cast : (cast : Casting) (a : ℕ) → IsIn casts cast → cast.actor ≡ a → Finds (λ (s : ServedSeen). id_of s.end == a) served
   served_cast cast a i actor =
       let valid = in_from_contains (one_to MOST_ACTORS) a (subst (λ (n : ℕ). Contains (one_to MOST_ACTORS) n) actor (all_in (λ (x : Casting). Contains (one_to MOST_ACTORS) x.actor) casts cast j.casts_are.actors i)) in
-      let named = any_from (λ (x : Casting). x.actor == a) casts i.place cast i.at (eq-eqb cast.actor a actor) in
+      let named = any_passes_from_place (λ (x : Casting). x.actor == a) casts i.place cast i.at (eq-eqb cast.actor a actor) in
       let listed = in_filter (λ (n : ℕ). list_any (λ (x : Casting). x.actor == n) casts) (one_to MOST_ACTORS) a valid named in
       let there : slice_get (map (λ (s : ServedSeen). id_of s.end) served) listed.place ≡ Some a = rw (j.actors) listed.at in
       let mapped = map-slice_get (λ (s : ServedSeen). id_of s.end) served listed.place a there in

@@ -1,6 +1,6 @@
 -- What the threads leave, and the audits, fit one another.
 use Rattle.std.proofs.Common.{◌≡◌, ◌≢◌, ℕ, true, false, Bool, List, ◌++◌, length, Some, None, refl, ap, sym, ◌∙◌, subst}
-use Rattle.std.specs.Prelude.{Option, ◌==◌, map, find, slice_get, slice_index_or, option_map, Ok, Err, Contains, IsTrue}
+use Rattle.std.specs.Prelude.{Option, ◌==◌, map, find, slice_get, slice_index_or, option_map, Err, Contains, IsTrue}
 use Rattle.std.specs.List.{list_all, range_with_len}
 use Rattle.std.proofs.lemmas.Bool.{eq-eqb, eqb-true}
 use Rattle.act_types.specs.declared.fault.Fault.TheVariants.{ActorDied}
@@ -14,8 +14,10 @@ use Rattle.act_rules.specs.RunList.{Answer, items_of}
 use Rattle.act_rules.specs.Submissions.{kept_at, is_known, settled, number_of}
 use Rattle.act_rules.specs.Consistent.{IsCallToDead}
 use Rattle.act_rules.specs.History.{Casting, contains, opening, opening_of, actors_naming}
+use Rattle.act_rules.proofs.Lists.{find-map}
 use Rattle.act_owner.specs.Owner.{OwnerValue, packet_of as packet_of_call, is_known_call, is_to, is_death}
 use Rattle.act_owner.specs.Life.{IsReplied, IsBereft, IsToldBy}
+use Rattle.act_owner.proofs.Told.{is_death-only}
 use Rattle.act_mailbox.specs.Lines.{items_of as items_put}
 use Rattle.act_mailbox.specs.Mails.{MailValue, caller_of}
 use Rattle.act_mailbox.specs.Controls.{ControlValue}
@@ -29,7 +31,7 @@ use Rattle.act_drive.specs.Driven.{IsSent, HasPosted}
 use Rattle.act_plans.specs.Runs.{cast_at, plan_of}
 use Rattle.act_joint.specs.Joined.{owner_of, end_of, is_starved, calls_of_owner, kept_of_owner, log_of_end, is_killed_end, calls_in, kept_in, log_in, killed_in}
 use Rattle.act_joint.specs.Left.{ServedSeen, IsServed, IsDriven, AreAudited, AreJoined}
-use Rattle.act_joint.proofs.Elements.{IsIn, in_from_contains, all_in, in_filter, in_front, found_is, find-map, contains_is, is_contained}
+use Rattle.act_joint.proofs.Elements.{IsIn, in_from_contains, all_in, in_filter, in_front, found_is, contains_is, is_contained}
 use Rattle.act_joint.proofs.Found.{naming, IsCast, same_cast, planned_known, driven_named, served_cast, cast_served}
 use Rattle.act_joint.proofs.Given.{reply_given, death_given}
 use Rattle.act_joint.proofs.Fitting.{IsSentItem, IsRunAnswer, IsFit}
@@ -69,17 +71,12 @@ to_call : (a : ℕ) (o : Option Submission) → is_to a o ≡ true → (call : S
 to_call a None e = cc
 to_call a (Some call) e = (call, refl, eqb-true call.actor a e)
 
-is_that : (answer : Answer) → is_death answer ≡ true → answer ≡ Err ActorDied
-is_that (Ok value) e = cc
-is_that (Err ActorDied) e = refl
-is_that (Err fault) e = cc
-
 -- an answer other than a death is that of a reply
 alive_told : (owner : OwnerValue) (notices : List Notice) (k : ℕ) (answer : Answer) → answer ≢ Err ActorDied → IsToldBy (is_death answer) owner notices k answer → IsReplied owner notices k answer
 alive_told owner notices k answer alive told = go (is_death answer) refl told
   where
     go : (b : Bool) → is_death answer ≡ b → IsToldBy b owner notices k answer → IsReplied owner notices k answer
-    go true is told = absurd (alive (is_that answer is))
+    go true is told = absurd (alive (is_death-only answer is))
     go false is told = told
 
 -- what was given at a seat, said of the seat's caller and the cast's actor

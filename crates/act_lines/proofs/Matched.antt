@@ -5,6 +5,7 @@ use Rattle.std.specs.List.{list_any}
 use Rattle.std.proofs.lemmas.List.Elements.{All-nil, All-cons}
 use Rattle.std.proofs.lemmas.List.Kept.{AllPairs-cons}
 use Rattle.act_rules.specs.History.{contains}
+use Rattle.act_rules.proofs.Lists.{All-two}
 use Rattle.act_actor.specs.Cast.{CallersDiffer}
 use Rattle.act_actor.specs.declared.cast.Cast.{Cast}
 use Rattle.act_plans.specs.declared.part.Part.{Part}
@@ -20,11 +21,8 @@ module _ {X : Type 0} (R : X → X → Type 0) where
   three_apart : (x y z : X) → R x y → R x z → R y z → AllPairs R (x ∷ y ∷ z ∷ [])
   three_apart x y z one two three = AllPairs-cons R x (y ∷ z ∷ []) (All-cons (R x) y (z ∷ []) one (All-cons (R x) z [] two (All-nil (R x)))) (two_apart y z three)
 
-all_two : {X : Type 0} (P : X → Type 0) (x y : X) → P x → P y → All P (x ∷ y ∷ [])
-all_two P x y one two = All-cons P x (y ∷ []) one (All-cons P y [] two (All-nil P))
-
 all_three : {X : Type 0} (P : X → Type 0) (x y z : X) → P x → P y → P z → All P (x ∷ y ∷ z ∷ [])
-all_three P x y z one two three = All-cons P x (y ∷ z ∷ []) one (all_two P y z two three)
+all_three P x y z one two three = All-cons P x (y ∷ z ∷ []) one (All-two P y z two three)
 
 -- who a cast and who a part names
 pub record IsCast {K : Type 0} (a c d : ℕ) (cast : Cast K) : Type 0 where
@@ -52,16 +50,16 @@ module _ {K : Type 0} (one two : Cast K) (is_one : IsCast 5 2 7 one) (is_two : I
   pub are_matched : AreMatched casts parts
   are_matched = record {
     actors_differ = two_apart (λ (x y : Cast K). x.actor ≢ y.actor) one two (λ same. let bad : 5 ≡ 3 = sym is_one.actor ∙ same ∙ is_two.actor in absurd (omega arith));
-    callers_differ = all_two (λ (cast : Cast K). CallersDiffer cast.callers) one two
+    callers_differ = All-two (λ (cast : Cast K). CallersDiffer cast.callers) one two
         (subst CallersDiffer (sym is_one.callers) (two_apart (λ m n. m ≢ n) 2 7 (λ same. absurd (omega arith))))
         (subst CallersDiffer (sym is_two.callers) (two_apart (λ m n. m ≢ n) 7 1 (λ same. absurd (omega arith))));
     parts_differ = three_apart (λ (x y : Part). x.caller ≢ y.caller) both last first
         (λ same. let bad : 7 ≡ 1 = sym is_both.caller ∙ same ∙ is_last.caller in absurd (omega arith))
         (λ same. let bad : 7 ≡ 2 = sym is_both.caller ∙ same ∙ is_first.caller in absurd (omega arith))
         (λ same. let bad : 1 ≡ 2 = sym is_last.caller ∙ same ∙ is_first.caller in absurd (omega arith));
-    taking_part = all_two (λ (cast : Cast K). All (Contains (map (λ (part : Part). part.caller) parts)) cast.callers) one two
-        (subst (λ (l : List ℕ). All (Contains (map (λ (part : Part). part.caller) parts)) l) (sym is_one.callers) (all_two (Contains (map (λ (part : Part). part.caller) parts)) 2 7 (2, omega arith, is_first.caller) (0, omega arith, is_both.caller)))
-        (subst (λ (l : List ℕ). All (Contains (map (λ (part : Part). part.caller) parts)) l) (sym is_two.callers) (all_two (Contains (map (λ (part : Part). part.caller) parts)) 7 1 (0, omega arith, is_both.caller) (1, omega arith, is_last.caller)));
+    taking_part = All-two (λ (cast : Cast K). All (Contains (map (λ (part : Part). part.caller) parts)) cast.callers) one two
+        (subst (λ (l : List ℕ). All (Contains (map (λ (part : Part). part.caller) parts)) l) (sym is_one.callers) (All-two (Contains (map (λ (part : Part). part.caller) parts)) 2 7 (2, omega arith, is_first.caller) (0, omega arith, is_both.caller)))
+        (subst (λ (l : List ℕ). All (Contains (map (λ (part : Part). part.caller) parts)) l) (sym is_two.callers) (All-two (Contains (map (λ (part : Part). part.caller) parts)) 7 1 (0, omega arith, is_both.caller) (1, omega arith, is_last.caller)));
     own_differ = all_three (λ (part : Part). CallersDiffer part.actors.items) both last first
         (subst CallersDiffer (sym is_both.actors_are) (two_apart (λ m n. m ≢ n) 5 3 (λ same. absurd (omega arith))))
         (subst CallersDiffer (sym is_last.actors_are) (one_alone (λ m n. m ≢ n) 3))

@@ -1,11 +1,12 @@
 -- Lists that are put together place by place.
-use Rattle.std.proofs.Common.{◌≡◌, ℕ, zero, suc, ◌+◌, List, [], ◌∷◌, ◌++◌, length, length-append, map, min, refl, ap, sym, ◌∙◌, arith, append_assoc}
+use Rattle.std.proofs.Common.{◌≡◌, ℕ, suc, ◌+◌, List, [], ◌∷◌, ◌++◌, length, length-append, map, min, ap, sym, ◌∙◌, arith, append_assoc}
 use Rattle.std.specs.Prelude.{zip}
 use Rattle.std.specs.List.{range_with_len}
 use Rattle.std.proofs.lemmas.List.{map-append}
 use Rattle.std.proofs.lemmas.Simd.{map-map}
 use Rattle.std.proofs.lemmas.Slice.Zip.{length-zip, firsts-zip, seconds-zip}
 use Rattle.act_seats.specs.declared.seat.Seat.{Seat}
+use Rattle.act_rules.proofs.Lists.{range_push}
 
 -- what three lists of one length are, zipped
 pub record AreZipped {A B C : Type 0} (xs : List A) (ys : List B) (zs : List C) (all : List ((A × B) × C)) : Type 0 where
@@ -34,12 +35,6 @@ one_done {X} {Y} {Z} f g done after y left rest x whole were pushed stepped same
     ∙ ap (λ (z : Z). map f done ++ z ∷ map g rest) same
     ∙ ap (λ (l : List X). map f done ++ map g l) (sym stepped)
     ∙ were
-
-range_push : (a n : ℕ) → range_with_len a (suc n) ≡ range_with_len a n ++ (a + n) ∷ []
-range_push a zero = let e : a + 0 ≡ a = omega arith in rw e refl
-range_push a (suc n) =
-    let e : (a + 1) + n ≡ a + suc n = omega arith in
-    ap (λ (l : List ℕ). a ∷ l) (range_push (a + 1) n ∙ ap (λ (m : ℕ). range_with_len (a + 1) n ++ m ∷ []) e)
 
 -- a seat is pushed at its place
 pub placed : {P : Type 0} (done after : List (Seat P)) (seat : Seat P) → map (λ (s : Seat P). s.place) done ≡ range_with_len 0 (length done) → after ≡ done ++ seat ∷ [] → seat.place ≡ length done

@@ -9,6 +9,7 @@ use Rattle.act_types.specs.declared.fault.Fault.TheVariants.{ActorDied}
 use Rattle.act_rules.specs.declared.history.Submission.{Submission}
 use Rattle.act_rules.specs.RunList.{Answer}
 use Rattle.act_rules.specs.Submissions.{kept_at}
+use Rattle.act_rules.proofs.Lists.{slice_get_last}
 use Rattle.act_handles.specs.declared.handles.Handle.{Handle}
 use Rattle.act_replies.specs.declared.table.Row.{Row}
 use Rattle.act_replies.specs.Table.{is_open, waits_for as row_waits_for, unanswered_row, with_answer, after_keep, after_keep_in, row_after_death, after_death as rows_after_death}
@@ -18,7 +19,7 @@ use Rattle.act_handles.specs.Handles.{copies_in}
 use Rattle.act_owner.specs.declared.owner.Collected.TheVariants.{First, Late, Stray, Died}
 use Rattle.act_owner.specs.Owner.{OwnerValue, is_of_call, with_answer as owner_with_answer, after_reply_that, after_reply, with_death, with_sent, collected_death, after_death, submission_of, answers_of, answered_row, waits_for, answer_after_death, KnowsAnswers, IsOwner}
 use Rattle.act_resolver.specs.Resolver.{Entered, with_answered, with_sent as with_sent_entered}
-use Rattle.act_owner.proofs.Calls.{get_last, set_last}
+use Rattle.act_owner.proofs.Calls.{set_last}
 use Rattle.act_owner.proofs.Waiting.{seen, read_stays, read_set}
 
 answered_cases : (answer : Option Answer) (n : ℕ) (rest : Bool) → nat_eq n 0 ≡ rest → nat_eq (cond (not (is_some answer)) 1 0 + n) 0 ≡ (is_some answer && rest)
@@ -35,7 +36,7 @@ all_answered (row ∷ rows) =
 -- a new future that is answered at once
 pub keep_last : (rows : List Row) (a : ℕ) → after_keep (length rows) (Err ActorDied) (rows ++ unanswered_row a ∷ []) ≡ rows ++ answered_row a true ∷ []
 keep_last rows a =
-    ap (after_keep_in (length rows) (Err ActorDied) (rows ++ unanswered_row a ∷ [])) (get_last rows (unanswered_row a))
+    ap (after_keep_in (length rows) (Err ActorDied) (rows ++ unanswered_row a ∷ [])) (slice_get_last rows (unanswered_row a))
     ∙ set_last rows (unanswered_row a) (answered_row a true)
 
 -- an answer for a later future leaves the first one

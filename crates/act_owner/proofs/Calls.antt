@@ -12,6 +12,7 @@ use Rattle.act_rules.specs.declared.history.Submission.{Submission}
 use Rattle.act_rules.specs.declared.outcome.HandleRefusal.{HandleRefusal}
 use Rattle.act_rules.specs.declared.outcome.HandleRefusal.TheVariants.{NoActor, NoHandle, TooManyCalls}
 use Rattle.act_rules.specs.Submissions.{needs, number_of, copies_held}
+use Rattle.act_rules.proofs.Lists.{slice_get_last}
 use Rattle.act_handles.specs.declared.handles.Handle.{Handle}
 use Rattle.act_handles.specs.Handles.{changed, copies_in, given_in, given_of_all, numbered, or_else, opened, with_copy, with_number, without_copy}
 use Rattle.act_handles.proofs.Lookups.{given-with_copy, given-without_copy, given-with_number, given-with_number-other, given-opened, given_of_all-opened}
@@ -71,10 +72,6 @@ get_before [] x k below = absurd (omega arith)
 get_before (y ∷ xs) x zero below = refl
 get_before (y ∷ xs) x (suc k) below = get_before xs x k (omega arith)
 
-pub get_last : {X : Type 0} (xs : List X) (x : X) → slice_get (xs ++ x ∷ []) (length xs) ≡ Some x
-get_last [] x = refl
-get_last (y ∷ xs) x = get_last xs x
-
 pub set_last : {X : Type 0} (xs : List X) (x y : X) → slice_set (xs ++ x ∷ []) (length xs) y ≡ xs ++ y ∷ []
 set_last [] x y = refl
 set_last (z ∷ xs) x y = ap (λ rest. z ∷ rest) (set_last xs x y)
@@ -94,7 +91,7 @@ call_at-more calls call k below =
 -- the new call
 call_at-last : (calls : List Submission) (call : Call) → call.number ≡ number_of call.actor (length calls) calls → call_at (calls ++ submission_of call ∷ []) (length calls) ≡ Some call
 call_at-last calls call number =
-    ap (option_map (numbered_call (calls ++ submission_of call ∷ []) (length calls))) (get_last calls (submission_of call))
+    ap (option_map (numbered_call (calls ++ submission_of call ∷ []) (length calls))) (slice_get_last calls (submission_of call))
     ∙ ap (λ n. Some (record { actor = call.actor; number = n; method = call.method; args = call.args })) (number_of-more call.actor (length calls) calls (submission_of call) (omega arith) ∙ sym number)
 
 numbered_added : (calls : List Call) (call : Call) → ((k : ℕ) → slice_get calls k ≡ call_at (map submission_of calls) k) → call.number ≡ number_of call.actor (length (map submission_of calls)) (map submission_of calls) → (k : ℕ) → slice_get (calls ++ call ∷ []) k ≡ call_at (map submission_of calls ++ submission_of call ∷ []) k
@@ -105,7 +102,7 @@ numbered_added calls call before number k =
       | inr f ↦ elim (eqb_tells k (length calls)) [
         | inl e ↦
             ap (slice_get (calls ++ call ∷ [])) e.1
-            ∙ get_last calls call
+            ∙ slice_get_last calls call
             ∙ sym (call_at-last (map submission_of calls) call number)
             ∙ ap (call_at (map submission_of calls ++ submission_of call ∷ [])) (same ∙ sym e.1)
         | inr n ↦

@@ -5,6 +5,7 @@ use Rattle.std.specs.List.{list_all}
 use Rattle.std.proofs.lemmas.List.{length-append, length-set}
 use Rattle.std.proofs.lemmas.Option.{slice_get_past}
 use Rattle.std.proofs.lemmas.Bool.Decides.{leb_tells}
+use Rattle.std.proofs.lemmas.Bool.{and_parts}
 use Rattle.act_types.specs.declared.fault.Fault.TheVariants.{ActorDied}
 use Rattle.act_types.specs.declared.call.Method.{Method}
 use Rattle.act_types.specs.declared.call.Arg.{Arg}
@@ -20,7 +21,6 @@ use Rattle.act_owner.specs.declared.owner.Collected.TheVariants.{First, Late, St
 use Rattle.act_owner.specs.Owner.{OwnerValue, with_call, with_death, after_reply_that, is_of_call, is_dead, first_answer, answer_after_death, is_known_call, packet_of, packet_at}
 use Rattle.act_owner.specs.Life.{Change, Copied, Released, Submitted, Sent, Noticed, after, after_all, is_known_at}
 use Rattle.act_owner.proofs.Calls.{get_before, number_of-more}
-use Rattle.act_owner.proofs.Waiting.{and_parts}
 
 -- what was there stays: each call with its number, and each answer
 pub record Extends (owner later : OwnerValue) : Type 0 where

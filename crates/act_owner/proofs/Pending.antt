@@ -1,7 +1,6 @@
 -- How many calls wait for an answer while a caller changes.
 use Rattle.std.proofs.Common.{◌≡◌, ℕ, zero, suc, ◌+◌, ◌≤◌, ◌==◌, ◌&&◌, Bool, true, false, not, cond, List, [], ◌∷◌, ◌++◌, length, map, count_by, nat_lt, Option, Some, None, is_some, Err, refl, sym, ◌∙◌, ap, subst, arith}
 use Rattle.std.specs.Prelude.{slice_set, zip}
-use Rattle.std.specs.Option.{option_or}
 use Rattle.std.proofs.lemmas.Bool.{eqb-true, ltb-true}
 use Rattle.std.proofs.lemmas.List.Sums.{sum_by-cons}
 use Rattle.act_types.specs.declared.fault.Fault.TheVariants.{ActorDied}
@@ -14,6 +13,7 @@ use Rattle.act_rules.specs.declared.outcome.SubmitRefusal.{SubmitRefusal}
 use Rattle.act_rules.specs.declared.outcome.SubmitRefusal.TheVariants.{PendingLimit}
 use Rattle.act_rules.specs.RunList.{Answer}
 use Rattle.act_rules.specs.Submissions.{needs, submit_refusal, limit_refusal}
+use Rattle.act_rules.proofs.Lists.{option_or-none_second}
 use Rattle.act_handles.specs.Handles.{copies_in}
 use Rattle.act_owner.specs.declared.owner.Collected.{Collected}
 use Rattle.act_owner.specs.declared.owner.Collected.TheVariants.{First, Late, Stray, Died}
@@ -87,10 +87,6 @@ one_more a (other ∷ calls) (x ∷ kept) call answer places =
 abbrev pub IsUnder : ℕ → ℕ → OwnerValue → Type 0
 IsUnder a limit owner = limit_of owner a ≡ Some limit → pending owner a ≤ limit
 
-second_none : {A : Type 0} (o p : Option A) → option_or o p ≡ None → p ≡ None
-second_none None p e = e
-second_none (Some x) p e = cc
-
 -- where the limit refuses nothing, there is room for one more
 has_room : (limit n : ℕ) → limit_refusal (Some limit) n ≡ None → n + 1 ≤ limit
 has_room limit n e = go (nat_lt n limit) refl e
@@ -108,7 +104,7 @@ submitted_under owner a limit b method args places accepted under set =
     go : (to : Bool) → (b == a) ≡ to → pending (with_call owner b method args) a ≡ pending owner a + cond (to && not (is_some (first_answer (is_dead owner b)))) 1 0 → pending (with_call owner b method args) a ≤ limit
     go true e more =
         let same : b ≡ a = eqb-true b a e in
-        let free : limit_refusal (limit_of owner b) (pending owner b) ≡ None = second_none (submit_refusal (copies_in b owner.handles) (length owner.calls) args) (limit_refusal (limit_of owner b) (pending owner b)) accepted in
+        let free : limit_refusal (limit_of owner b) (pending owner b) ≡ None = option_or-none_second (submit_refusal (copies_in b owner.handles) (length owner.calls) args) (limit_refusal (limit_of owner b) (pending owner b)) accepted in
         let here : limit_refusal (limit_of owner a) (pending owner a) ≡ None = subst (λ x. limit_refusal (limit_of owner x) (pending owner x) ≡ None) same free in
         let room = has_room limit (pending owner a) (ap (λ l. limit_refusal l (pending owner a)) (sym set) ∙ here) in
         at_most (not (is_some (first_answer (is_dead owner b)))) more room

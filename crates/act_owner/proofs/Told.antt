@@ -1,9 +1,10 @@
 -- Where what a caller keeps comes from.
-use Rattle.std.proofs.Common.{◌≡◌, ℕ, zero, suc, ◌+◌, ◌<◌, ◌==◌, ◌&&◌, ◌⊎◌, rules, Bool, true, false, if◌then◌else◌, not, List, [], ◌∷◌, ◌++◌, length, map, replicate, Option, Some, None, is_some, Err, inl, inr, refl, sym, ◌∙◌, ap, subst, Contains, append_assoc, append-nil, filter}
+use Rattle.std.proofs.Common.{◌≡◌, ℕ, zero, suc, ◌+◌, ◌<◌, ◌==◌, ◌&&◌, ◌⊎◌, rules, Bool, true, false, if◌then◌else◌, not, List, [], ◌∷◌, ◌++◌, length, map, replicate, Option, Ok, Err, Some, None, is_some, inl, inr, refl, sym, ◌∙◌, ap, subst, Contains, append_assoc, append-nil, filter}
 use Rattle.std.specs.Prelude.{slice_get, slice_set, zip, unwrap_or}
 use Rattle.std.specs.List.{enumerate_from}
 use Rattle.std.proofs.lemmas.List.Elements.{Contains-append_left, Contains-push}
 use Rattle.std.proofs.lemmas.Bool.Decides.{eqb_tells}
+use Rattle.std.proofs.lemmas.Bool.{not-true}
 use Rattle.act_types.specs.declared.fault.Fault.TheVariants.{ActorDied}
 use Rattle.act_types.specs.declared.message.Reply.{Reply}
 use Rattle.act_types.specs.declared.message.Notice.{Notice}
@@ -11,13 +12,20 @@ use Rattle.act_types.specs.declared.message.Notice.TheVariants.{Answered, Death}
 use Rattle.act_rules.specs.declared.history.Submission.{Submission}
 use Rattle.act_rules.specs.RunList.{Answer}
 use Rattle.act_rules.specs.Submissions.{kept_at, calls_to}
+use Rattle.act_rules.proofs.Lists.{slice_get_last}
 use Rattle.act_handles.specs.Handles.{copies_in, given_in}
 use Rattle.act_owner.specs.declared.owner.Collected.TheVariants.{First, Late, Stray}
 use Rattle.act_owner.specs.Owner.{OwnerValue, submission_of, opened_under, with_death, after_reply_that, is_of_call, is_sent, is_dead, is_to, is_death, first_answer, answer_after_death}
 use Rattle.act_owner.specs.declared.owner.Call.{Call}
 use Rattle.act_owner.specs.Life.{Change, Copied, Released, Submitted, Sent, Noticed, after, after_all, notices_in, IsToldBy, Hears}
 use Rattle.act_owner.proofs.Life.{Extends, step, found_below}
-use Rattle.act_owner.proofs.Calls.{get_last}
+
+-- ---- deaths
+
+pub is_death-only : (answer : Answer) → is_death answer ≡ true → answer ≡ Err ActorDied
+is_death-only (Ok value) e = cc
+is_death-only (Err ActorDied) e = refl
+is_death-only (Err fault) e = cc
 
 -- ---- sent
 
@@ -33,12 +41,12 @@ sent_set (b ∷ sent) zero (suc k) is = is
 sent_set (b ∷ sent) (suc j) zero is = is
 sent_set (b ∷ sent) (suc j) (suc k) is = sent_set sent j k is
 
-reply_sent : (owner : OwnerValue) (reply : Reply) (mine known : Bool) → (after_reply_that (if mine then (if known then Late reply.future else First reply.future) else Stray) owner reply).sent ≡ owner.sent
+pub reply_sent : (owner : OwnerValue) (reply : Reply) (mine known : Bool) → (after_reply_that (if mine then (if known then Late reply.future else First reply.future) else Stray) owner reply).sent ≡ owner.sent
 reply_sent owner reply false known = refl
 reply_sent owner reply true true = refl
 reply_sent owner reply true false = refl
 
-death_sent : (owner : OwnerValue) (a : ℕ) (listed : Bool) → (if listed then with_death owner a else owner).sent ≡ owner.sent
+pub death_sent : (owner : OwnerValue) (a : ℕ) (listed : Bool) → (if listed then with_death owner a else owner).sent ≡ owner.sent
 death_sent owner a false = refl
 death_sent owner a true = refl
 
@@ -107,7 +115,7 @@ hears_submitted owner later notices call grown places calls kept dead hears = re
         | inl t ↦ more_told (is_death answer) owner later notices [] k answer grown.id (λ a to. to_later owner later k a grown to) (hears.answers k answer t)
         | inr f ↦
             let first = dead_first (is_dead owner call.actor) answer f.1 in
-            let there : slice_get later.calls k ≡ Some call = ap (λ (l : List Submission). slice_get l k) calls ∙ ap (slice_get (owner.calls ++ call ∷ [])) (f.0 ∙ places) ∙ get_last owner.calls call in
+            let there : slice_get later.calls k ≡ Some call = ap (λ (l : List Submission). slice_get l k) calls ∙ ap (slice_get (owner.calls ++ call ∷ [])) (f.0 ∙ places) ∙ slice_get_last owner.calls call in
             one_call (is_death answer) later (notices ++ []) k call.actor answer (ap is_death first.1) (Contains-append_left notices [] (Death call.actor) (hears.deaths call.actor first.0)) (ap (is_to call.actor) there ∙ eqb_same call.actor)
       ];
   deaths = λ a is. Contains-append_left notices [] (Death a) (hears.deaths a (ap (λ (l : List Bool). unwrap_or (slice_get l a) false) (sym dead) ∙ is));
@@ -136,10 +144,6 @@ four true true false d is = absurd (cc is)
 four true false c d is = absurd (cc is)
 four false b c d is = absurd (cc is)
 
-not_true : (b : Bool) → not b ≡ true → b ≡ false
-not_true true is = absurd (cc is)
-not_true false is = refl
-
 hears_reply : (owner : OwnerValue) (notices : List Notice) (reply : Reply) (mine known : Bool) → is_of_call owner reply ≡ mine → length owner.kept ≡ length owner.calls → Hears owner notices
     → Hears (after_reply_that (if mine then (if known then Late reply.future else First reply.future) else Stray) owner reply) (notices ++ Answered reply ∷ [])
 hears_reply owner notices reply false known mine places hears = record {
@@ -158,7 +162,7 @@ hears_reply owner notices reply true false mine places hears =
           elim (set_kept owner.kept reply.future k reply.answer answer is) [
             | inl t ↦ more_told (is_death answer) owner later notices (Answered reply ∷ []) k answer refl (λ a to. to) (hears.answers k answer t)
             | inr f ↦
-                one_reply (is_death answer) later (notices ++ Answered reply ∷ []) reply k answer (ap is_death (sym f.1) ∙ not_true (is_death reply.answer) all.2) (Contains-push notices (Answered reply))
+                one_reply (is_death answer) later (notices ++ Answered reply ∷ []) reply k answer (ap is_death (sym f.1) ∙ not-true (is_death reply.answer) all.2) (Contains-push notices (Answered reply))
                 (same_number reply.caller owner.id all.0) (ap (λ (j : ℕ). is_to reply.actor (slice_get owner.calls j)) (sym f.0) ∙ all.1) f.0 f.1
           ];
       deaths = λ a is. Contains-append_left notices (Answered reply ∷ []) (Death a) (hears.deaths a is);
@@ -226,7 +230,7 @@ hears_all owner notices (change ∷ changes) places hears =
     subst (Hears (after_all (after owner change) changes)) (append_assoc notices (notices_in (change ∷ [])) (notices_in changes) ∙ ap (λ (l : List Notice). notices ++ l) (notices_more change changes))
     (hears_all (after owner change) (notices ++ notices_in (change ∷ [])) changes (step owner change places).places (hears_step owner notices change places hears))
 
-none_dead : (n a : ℕ) → unwrap_or (slice_get (replicate n false) a) false ≡ false
+pub none_dead : (n a : ℕ) → unwrap_or (slice_get (replicate n false) a) false ≡ false
 none_dead zero a = refl
 none_dead (suc n) zero = refl
 none_dead (suc n) (suc a) = none_dead n a

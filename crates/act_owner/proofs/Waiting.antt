@@ -6,16 +6,18 @@ use Rattle.std.specs.Option.{option_map_or, option_and_then}
 use Rattle.std.proofs.lemmas.List.{length-map}
 use Rattle.std.proofs.lemmas.Option.{slice_get-map}
 use Rattle.std.proofs.lemmas.Bool.Decides.{leb_tells}
+use Rattle.std.proofs.lemmas.Bool.{and_parts}
 use Rattle.act_types.specs.declared.call.Arg.{Arg}
 use Rattle.act_types.specs.declared.call.Arg.TheVariants.{Plain, Fut}
 use Rattle.act_rules.specs.RunList.{Answer}
 use Rattle.act_rules.specs.Submissions.{kept_at, is_earlier, is_known as is_known_arg}
+use Rattle.act_rules.proofs.Lists.{slice_get_last}
 use Rattle.act_handles.specs.declared.handles.Handle.{Handle}
 use Rattle.act_replies.specs.declared.table.Row.{Row}
 use Rattle.act_resolver.specs.Resolver.{Entered, changed_at, new_call, with_answered, is_answered, is_sent, is_known, is_ready, first_ready}
 use Rattle.act_owner.specs.declared.owner.Call.{Call}
 use Rattle.act_owner.specs.Owner.{OwnerValue, submission_of, answers_of, futures_of, entered_call, KnowsAnswers, IsOwner, is_known_call, is_sent as owner_is_sent, is_ready as owner_is_ready, first_ready as owner_first_ready}
-use Rattle.act_owner.proofs.Calls.{get_last, set_last}
+use Rattle.act_owner.proofs.Calls.{set_last}
 
 -- one caller, seen through its parts
 abbrev pub seen : ℕ → List Handle → List Call → List Row → List Entered → List Bool → List (ℕ × Option ℕ) → OwnerValue
@@ -117,10 +119,6 @@ first_ready_same id handles calls rows entered dead limits fine =
 
 -- ---- a call as it enters
 
-pub and_parts : (a b : Bool) → (a && b) ≡ true → (a ≡ true) × (b ≡ true)
-and_parts true b e = (refl, e)
-and_parts false b e = absurd (cc e)
-
 -- the futures among the arguments are earlier ones
 pub all_earlier : (count : ℕ) (args : List Arg) → list_all (is_earlier count) args ≡ true → All (λ future. future < count) (futures_of args)
 all_earlier count [] earlier k d below = absurd (omega arith)
@@ -139,7 +137,7 @@ told_last k args is_dead futures entered entered1 entered2 last same dead one tw
     two
     ∙ ap (λ calls. with_answered calls k) one
     ∙ ap (with_answered (entered ++ first ∷ [])) last
-    ∙ ap (λ found. option_map_or (λ (call : Entered). slice_set (entered ++ first ∷ []) (length entered) (record call { answered = true })) found (entered ++ first ∷ [])) (get_last entered first)
+    ∙ ap (λ found. option_map_or (λ (call : Entered). slice_set (entered ++ first ∷ []) (length entered) (record call { answered = true })) found (entered ++ first ∷ [])) (slice_get_last entered first)
     ∙ set_last entered first new
     ∙ ap (λ (fs : List ℕ). entered ++ record { futures = fs; answered = true; sent = false } ∷ []) same
     ∙ ap (λ b. entered ++ entered_call args b ∷ []) (sym dead)

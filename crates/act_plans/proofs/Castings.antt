@@ -1,5 +1,5 @@
 -- The prepared casts and parts, told of the castings and the plans of a run.
-use Rattle.std.proofs.Common.{◌≡◌, ℕ, ◌==◌, Bool, true, false, ◌||◌, if◌then◌else◌, List, [], ◌∷◌, map, Option, Some, None, refl, sym, ◌∙◌, ap, All}
+use Rattle.std.proofs.Common.{◌≡◌, ℕ, ◌==◌, Bool, true, false, if◌then◌else◌, List, [], ◌∷◌, map, Option, Some, None, refl, sym, ◌∙◌, ap, All}
 use Rattle.std.specs.Prelude.{find, filter, filter_map, slice_get, option_map}
 use Rattle.std.specs.List.{list_any, cons_option}
 use Rattle.std.specs.Global.{Vec}
@@ -10,6 +10,7 @@ use Rattle.act_rules.specs.declared.script.Step.{Step}
 use Rattle.act_rules.specs.History.{Casting, contains, actors_naming as naming_seen}
 use Rattle.act_rules.specs.Plans.{first_bad}
 use Rattle.act_rules.specs.Report.{one_to}
+use Rattle.act_rules.proofs.Lists.{find-map, list_any-map}
 use Rattle.act_actor.specs.declared.cast.Cast.{Cast}
 use Rattle.act_actor.specs.Casts.{casting, actors_naming, limits_naming}
 use Rattle.act_actor.proofs.Castings.{actors_naming-casting}
@@ -20,18 +21,6 @@ use Rattle.act_plans.proofs.Keys.{each_first}
 use Rattle.act_plans.proofs.Matching.{actors_rising, found_rising, callers_are, roles_are}
 
 -- ---- lists that are mapped
-
-any_map : {X Y : Type 0} (p : Y → Bool) (f : X → Y) (xs : List X) → list_any p (map f xs) ≡ list_any (λ x. p (f x)) xs
-any_map p f [] = refl
-any_map p f (x ∷ xs) = ap (λ b. p (f x) || b) (any_map p f xs)
-
-find_step : {X Y : Type 0} (f : X → Y) (x : X) (o : Option X) (found : Option Y) (b : Bool) → found ≡ option_map f o → (if b then Some (f x) else found) ≡ option_map f (if b then Some x else o)
-find_step f x o found true is = refl
-find_step f x o found false is = is
-
-find_map : {X Y : Type 0} (p : Y → Bool) (f : X → Y) (xs : List X) → find p (map f xs) ≡ option_map f (find (λ x. p (f x)) xs)
-find_map p f [] = refl
-find_map p f (x ∷ xs) = find_step f x (find (λ x. p (f x)) xs) (find p (map f xs)) (p (f x)) (find_map p f xs)
 
 kept_step : {X Y : Type 0} (f : X → Y) (x : X) (rest : List X) (kept : List Y) (b : Bool) → kept ≡ map f rest → (if b then f x ∷ kept else kept) ≡ map f (if b then x ∷ rest else rest)
 kept_step f x rest kept true is = ap (λ l. f x ∷ l) is
@@ -53,7 +42,7 @@ module _ {K : Type 0} (state : K → KindState) (casts : List (Cast K)) where
   unfolding callers_named_by
   callers_seen =
       filter_agree (λ c. list_any (λ (cast : Casting). contains c cast.callers) (map (casting state) casts)) (λ c. list_any (λ (cast : Cast K). contains c cast.callers) casts)
-      (λ c. any_map (λ (cast : Casting). contains c cast.callers) (casting state) casts) (one_to 16)
+      (λ c. list_any-map (λ (cast : Casting). contains c cast.callers) (casting state) casts) (one_to 16)
 
   -- the same actors of a caller
   pub actors_naming_seen : (c : ℕ) → naming_seen c (map (casting state) casts) ≡ actors_naming c casts
@@ -70,11 +59,11 @@ module _ {K : Type 0} (state : K → KindState) (casts : List (Cast K)) where
   actors_seen =
       actors_rising casts
       ∙ sym (filter_agree (λ a. list_any (λ (cast : Casting). cast.actor == a) (map (casting state) casts)) (λ a. list_any (λ (cast : Cast K). cast.actor == a) casts)
-      (λ a. any_map (λ (cast : Casting). cast.actor == a) (casting state) casts) (one_to 8))
+      (λ a. list_any-map (λ (cast : Casting). cast.actor == a) (casting state) casts) (one_to 8))
 
   -- the cast of an actor
   pub cast_seen : (a : ℕ) → cast_at a (map (casting state) casts) ≡ option_map (casting state) (find (λ (cast : Cast K). cast.actor == a) casts)
-  cast_seen a = find_map (λ (cast : Casting). cast.actor == a) (casting state) casts
+  cast_seen a = find-map (λ (cast : Casting). cast.actor == a) (casting state) casts
 
   -- the same, among the casts by rising actor
   pub cast_rising : (a : ℕ) → All HasNumbers casts → cast_at a (map (casting state) casts) ≡ option_map (casting state) (find (λ (cast : Cast K). cast.actor == a) (by_rising_actor casts))
@@ -98,7 +87,7 @@ steps_seen None = refl
 steps_seen (Some plan) = refl
 
 pub plan_of_seen : (c : ℕ) (plans : List (ℕ × Vec Step)) → plan_of c (map plan_seen plans) ≡ plan_in c plans
-plan_of_seen c plans = ap steps_of (find_map (λ (plan : ℕ × List Step). plan.0 == c) plan_seen plans) ∙ steps_seen (find (λ (plan : ℕ × Vec Step). plan.0 == c) plans)
+plan_of_seen c plans = ap steps_of (find-map (λ (plan : ℕ × List Step). plan.0 == c) plan_seen plans) ∙ steps_seen (find (λ (plan : ℕ × Vec Step). plan.0 == c) plans)
 
 -- ---- parts
 

@@ -9,6 +9,7 @@ use Rattle.std.proofs.lemmas.List.Elements.{All-nil, All-cons}
 use Rattle.std.proofs.lemmas.List.Folds.{find_at, list_any_at, list_any_none}
 use Rattle.std.proofs.lemmas.List.Sums.{passes_at_first}
 use Rattle.std.proofs.lemmas.Option.{slice_get_within, get_or_from_slice_get}
+use Rattle.std.proofs.Math.Bool.{or-false}
 use Rattle.act_rules.specs.History.{contains}
 
 -- ---- pairs
@@ -127,10 +128,6 @@ abbrev pub passes : {X : Type 0} → (X → Bool) → Option X → Bool
 passes p None = false
 passes p (Some x) = p x
 
-or_false : (b : Bool) → (b || false) ≡ b
-or_false true = refl
-or_false false = refl
-
 -- where the keys differ, it is the first one of the key
 pub any_of_key : {X : Type 0} (key : X → ℕ) (p : X → Bool) (a : ℕ) (xs : List X) → AllPairs (λ one other. key one ≢ key other) xs → list_any (λ x. (key x == a) && p x) xs ≡ passes p (find (λ x. key x == a) xs)
 any_of_key key p a [] apart = refl
@@ -138,7 +135,7 @@ any_of_key key p a (x ∷ xs) apart = elim (eqb_tells (key x) a) [
   | inl t ↦
       let others : list_any (λ x. (key x == a) && p x) xs ≡ false = list_any_none (λ x. (key x == a) && p x) xs
       (λ k d below. ap (λ b. b && p (get_or xs k d)) (ne_eqb (key (get_or xs k d)) a (λ same. apart 0 (suc k) d (omega arith) (omega arith) (t.1 ∙ sym same)))) in
-      ap (λ b. (b && p x) || list_any (λ x. (key x == a) && p x) xs) t.0 ∙ ap (λ b. p x || b) others ∙ or_false (p x) ∙ sym (ap (λ b. passes p (if b then Some x else find (λ x. key x == a) xs)) t.0)
+      ap (λ b. (b && p x) || list_any (λ x. (key x == a) && p x) xs) t.0 ∙ ap (λ b. p x || b) others ∙ or-false (p x) ∙ sym (ap (λ b. passes p (if b then Some x else find (λ x. key x == a) xs)) t.0)
   | inr f ↦
       ap (λ b. (b && p x) || list_any (λ x. (key x == a) && p x) xs) f.0 ∙ any_of_key key p a xs (λ i j d before below. apart (suc i) (suc j) d (omega arith) (omega arith))
       ∙ sym (ap (λ b. passes p (if b then Some x else find (λ x. key x == a) xs)) f.0)

@@ -1,30 +1,26 @@
 -- What a draft knows of a step, and the first step of a plan that is refused.
-use Rattle.std.proofs.Common.{◌≡◌, ◌≢◌, ℕ, ◌+◌, ◌-◌, ◌≤◌, ◌<◌, ◌==◌, Bool, true, false, not, if◌then◌else◌, nat_lt, nat_le, List, [], ◌∷◌, ◌++◌, length, filter, map, drop, get_or, Option, Some, None, is_some, Result, Ok, Err, refl, sym, ◌∙◌, ap, subst, arith, rules, append-nil, length-append, inl, inr}
-use Rattle.std.specs.Prelude.{option_map, OnOk}
+use Rattle.std.proofs.Common.{◌≡◌, ℕ, ◌+◌, ◌-◌, ◌≤◌, ◌<◌, Bool, true, false, not, if◌then◌else◌, nat_lt, nat_le, List, [], ◌∷◌, length, map, drop, get_or, Option, Some, None, is_some, Result, Ok, Err, refl, sym, ◌∙◌, ap, arith, length-append}
+use Rattle.std.specs.Prelude.{OnOk}
 use Rattle.std.specs.Result.{is_ok, is_err}
-use Rattle.std.specs.List.{list_all, list_any, fold}
-use Rattle.std.proofs.lemmas.Bool.{ne_eqb, le-leb}
-use Rattle.std.proofs.lemmas.Bool.Decides.{eqb_tells}
+use Rattle.std.specs.List.{list_all, fold}
+use Rattle.std.proofs.lemmas.Bool.{le-leb}
 use Rattle.std.proofs.lemmas.List.{drop_more}
-use Rattle.std.proofs.lemmas.List.Elements.{filter-append}
 use Rattle.act_types.specs.declared.call.Method.{Method}
 use Rattle.act_types.specs.declared.call.Arg.{Arg}
 use Rattle.act_rules.specs.declared.outcome.HandleRefusal.{HandleRefusal}
 use Rattle.act_rules.specs.declared.script.Step.{Step}
 use Rattle.act_rules.specs.declared.script.Step.TheVariants.{Submit, Copy, Release}
-use Rattle.act_rules.specs.Plans.{Progress, nothing_done, holds, occurrences, stepped, is_refused, first_bad, first_bad_from}
-use Rattle.act_rules.specs.Submissions.{needs, copies_held, copy_refusal, handle_refusal, submit_refusal, is_earlier}
+use Rattle.act_rules.specs.Plans.{Progress, nothing_done, holds, stepped, is_refused, first_bad, first_bad_from}
+use Rattle.act_rules.specs.Submissions.{copies_held, copy_refusal, handle_refusal, submit_refusal, is_earlier}
+use Rattle.act_rules.proofs.Ended.{needs-none}
 use Rattle.act_handles.specs.declared.handles.Handle.{Handle}
 use Rattle.act_handles.specs.Handles.{is_of, changed, opened, copies_in, given_of_all, with_copy, with_number, without_copy, number_refusal, or_else, copied, numbered, released}
-use Rattle.act_handles.proofs.Lookups.{copies-opened, given_of_all-opened, copies-with_copy, copies-with_copy-other, copies-without_copy, copies-without_copy-other, copies-with_number}
+use Rattle.act_handles.proofs.Lookups.{copies-opened, given_of_all-opened, copies-with_number}
+use Rattle.act_handles.proofs.Copies.{release_copies, copy_copies}
 use Rattle.act_plans.specs.declared.draft.Draft.{Draft}
 use Rattle.act_plans.specs.Drafts.{IsAfter, GoesOn}
 
 -- ---- what was not refused
-
-needs_both : {R : Type 0} (b : Bool) (r : R) (next : Option R) → needs b r next ≡ None → (b ≡ true) × (next ≡ None)
-needs_both true r next is = (refl, is)
-needs_both false r next is = absurd (cc is)
 
 -- what an answer by its refusal says
 accepted_is : {X : Type 0} (refusal : Option HandleRefusal) (value : X) → is_ok (or_else refusal value) ≡ not (is_some refusal)
@@ -71,9 +67,9 @@ submit_on a method args old new answer few earlier is ok changes counts count =
     let fine : number_refusal old.handles a ≡ None = none_of _ (sym accepted ∙ ap is_ok is ∙ accepted_is (number_refusal old.handles a) _) in
     let handles = ok_changes answer changes accepted in
     let given = ok_changes answer counts accepted in
-    let one = needs_both _ _ _ fine in
-    let two = needs_both _ _ _ one.1 in
-    let three = needs_both _ _ _ two.1 in
+    let one = needs-none _ _ _ fine in
+    let two = needs-none _ _ _ one.1 in
+    let three = needs-none _ _ _ two.1 in
     record {
       told = λ actors p is.
           let none : submit_refusal (copies_in a old.handles) old.count args ≡ None = submit_fine (copies_in a old.handles) old.count (given_of_all old.handles) args (le-leb (length args) 4 few) earlier (is.given ∙ sym is.count) one.0 two.0 three.0 in
@@ -88,46 +84,6 @@ submit_on a method args old new answer few earlier is ok changes counts count =
     }
 
 -- ---- a copy and a release
-
-positive : (n : ℕ) → nat_lt 0 n ≡ true → n ≢ 0
-positive n is none = absurd (cc (sym is ∙ ap (nat_lt 0) none))
-
-copy_holds : (copies : Option ℕ) → copy_refusal copies ≡ None → copies_held copies ≢ 0
-copy_holds copies is = positive (copies_held copies) (needs_both _ _ _ (needs_both _ _ _ is).1).0
-
-occurs_more : (a : ℕ) (xs : List ℕ) → occurrences a (xs ++ a ∷ []) ≡ occurrences a xs + 1
-occurs_more a xs =
-    ap (λ (l : List ℕ). length l) (filter-append (λ b. b == a) xs (a ∷ []))
-    ∙ length-append (filter (λ b. b == a) xs) (filter (λ b. b == a) (a ∷ []))
-    ∙ ap (λ (t : Bool). occurrences a xs + length (if t then a ∷ [] else [])) (let same : (a == a) ≡ true = search rules in same)
-
-occurs_other : (a b : ℕ) (xs : List ℕ) → a ≢ b → occurrences b (xs ++ a ∷ []) ≡ occurrences b xs
-occurs_other a b xs apart =
-    ap (λ (l : List ℕ). length l) (filter-append (λ c. c == b) xs (a ∷ []) ∙ ap (λ (t : Bool). filter (λ c. c == b) xs ++ (if t then a ∷ [] else [])) (ne_eqb a b apart) ∙ append-nil (filter (λ c. c == b) xs))
-
-copy_count : (listed : Bool) (c r c2 : ℕ) → c2 ≡ c + 1 → copies_held (if listed then Some ((1 + c) - r) else None) ≢ 0 → option_map (λ n. n + 1) (if listed then Some ((1 + c) - r) else None) ≡ (if listed then Some ((1 + c2) - r) else None)
-copy_count true c r c2 more some = ap Some (omega (arith, more, some))
-copy_count false c r c2 more some = refl
-
-release_count : (listed : Bool) (c r r2 : ℕ) → r2 ≡ r + 1 → option_map (λ n. n - 1) (if listed then Some ((1 + c) - r) else None) ≡ (if listed then Some ((1 + c) - r2) else None)
-release_count true c r r2 more = ap Some (omega (arith, more))
-release_count false c r r2 more = refl
-
-copy_copies : (handles : List Handle) (a b : ℕ) (actors : List ℕ) (p : Progress) → ((c : ℕ) → copies_in c handles ≡ holds c actors p) → copy_refusal (holds a actors p) ≡ None → copies_in b (with_copy a handles) ≡ holds b actors (stepped p (Copy a))
-copy_copies handles a b actors p same fine =
-    elim (eqb_tells a b) [
-      | inl t ↦ subst (λ (n : ℕ). copies_in n (with_copy a handles) ≡ holds n actors (stepped p (Copy a))) t.1
-          (copies-with_copy a handles ∙ ap (option_map (λ n. n + 1)) (same a) ∙ copy_count (list_any (λ c. c == a) actors) (occurrences a p.copied) (occurrences a p.released) (occurrences a (p.copied ++ a ∷ [])) (occurs_more a p.copied) (copy_holds (holds a actors p) fine))
-      | inr f ↦ copies-with_copy-other a b handles f.1 ∙ same b ∙ ap (λ (n : ℕ). if list_any (λ c. c == b) actors then Some ((1 + n) - occurrences b p.released) else None) (sym (occurs_other a b p.copied f.1))
-    ]
-
-release_copies : (handles : List Handle) (a b : ℕ) (actors : List ℕ) (p : Progress) → ((c : ℕ) → copies_in c handles ≡ holds c actors p) → copies_in b (without_copy a handles) ≡ holds b actors (stepped p (Release a))
-release_copies handles a b actors p same =
-    elim (eqb_tells a b) [
-      | inl t ↦ subst (λ (n : ℕ). copies_in n (without_copy a handles) ≡ holds n actors (stepped p (Release a))) t.1
-          (copies-without_copy a handles ∙ ap (option_map (λ n. n - 1)) (same a) ∙ release_count (list_any (λ c. c == a) actors) (occurrences a p.copied) (occurrences a p.released) (occurrences a (p.released ++ a ∷ [])) (occurs_more a p.released))
-      | inr f ↦ copies-without_copy-other a b handles f.1 ∙ same b ∙ ap (λ (n : ℕ). if list_any (λ c. c == b) actors then Some ((1 + occurrences b p.copied) - n) else None) (sym (occurs_other a b p.released f.1))
-    ]
 
 pub copy_on : (a : ℕ) (old new : Draft) (answer : Result ℕ HandleRefusal) → answer ≡ copied a old.handles → OnOk answer (new.handles ≡ with_copy a old.handles) → new.count ≡ old.count → GoesOn (is_ok answer) (Copy a) old new
 copy_on a old new answer is changes count =

@@ -4,7 +4,7 @@ use Rattle.std.specs.Prelude.{Option, ◌==◌, ◌||◌, not, map}
 use Rattle.std.proofs.lemmas.List.{map-append, append-nil}
 use Rattle.std.proofs.lemmas.List.Elements.{filter-append}
 use Rattle.std.proofs.lemmas.List.Folds.{list_any-append}
-use Rattle.std.proofs.lemmas.Bool.{eqb-true}
+use Rattle.std.proofs.lemmas.Bool.{eqb-true, not-true}
 use Rattle.act_rules.specs.declared.history.RunItem.{RunItem}
 use Rattle.act_rules.specs.declared.event.Event.{Event}
 use Rattle.act_rules.specs.declared.event.Event.TheVariants.{Submit, Copy, Release, Send, Deliver, Run, Collect, AskKill, TakeKill, Tell, Retire}
@@ -25,10 +25,6 @@ contains_more a xs ys h = rw (list_any-append (λ m. m == a) xs ys, h)
 pub needs-none : {R : Type 0} (b : Bool) (r : R) (next : Option R) → needs b r next ≡ None → (b ≡ true) × (next ≡ None)
 needs-none true r next e = (refl, e)
 needs-none false r next e = cc
-
-pub not-true : (b : Bool) → not b ≡ true → b ≡ false
-not-true true e = cc
-not-true false e = refl
 
 -- a run needs a caller, an actor that knows it, and an actor that has not ended
 pub run_needs : (h : History) (a c : ℕ) → refusal_of h (Run a c) ≡ None → (is_caller c h ≡ true) × (names c (cast_of a h) ≡ true) × (is_ended a h ≡ false)

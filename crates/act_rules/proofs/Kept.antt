@@ -3,6 +3,7 @@ use Rattle.std.proofs.Common.{◌≡◌, ℕ, zero, suc, ◌+◌, List, [], ◌�
 use Rattle.std.specs.Prelude.{Option, ◌==◌, filter_map, find, slice_get, option_map, option_and_then}
 use Rattle.std.specs.List.{enumerate_from}
 use Rattle.std.proofs.lemmas.List.Elements.{filter_map-append}
+use Rattle.std.proofs.lemmas.Option.{slice_get-map}
 use Rattle.act_rules.specs.declared.history.RunItem.{RunItem}
 use Rattle.act_types.specs.KindState.{KindState}
 use Rattle.act_rules.specs.RunList.{Answer, after_item, answers_from, answer_at, state_after}
@@ -13,7 +14,7 @@ use Rattle.act_rules.specs.declared.history.Post.TheVariants.{Reply as ReplyPost
 use Rattle.act_rules.specs.History.{Casting, History, runs_of, calls_of, kept_of, opening_of, answer_of, answer_in, first_answer}
 use Rattle.act_rules.specs.Rules.{added}
 use Rattle.act_rules.specs.Consistent.{IsFront}
-use Rattle.act_rules.proofs.Lists.{slice_get_more, slice_get_front, slice_get-map, slice_get-enumerate_from, filter_map-same, All_weaker}
+use Rattle.act_rules.proofs.Lists.{slice_get_more, slice_get_front, slice_get-enumerate_from, filter_map-same, All_weaker}
 use Rattle.act_rules.proofs.Growth.{Grows, added_grows, runs_grow, calls_grow}
 use Rattle.act_rules.proofs.Steps.{IsKept}
 use Rattle.act_rules.proofs.Posts.{IsSoundPost, PostsAreSound, posts_step}

@@ -14,7 +14,7 @@ use Rattle.act_rules.specs.declared.history.Letter.{Letter}
 use Rattle.act_rules.specs.declared.history.Letter.TheVariants.{Call as CallLetter, Note as NoteLetter}
 use Rattle.act_rules.specs.History.{History, calls_of, kept_of, is_caller, is_letter, has_letter, next_item}
 use Rattle.act_rules.specs.Rules.{refusal_of, added, and_also, after_run, call_letter, was_sent, is_last}
-use Rattle.act_rules.proofs.Lists.{slice_get_front, slice_get-filter, slice_get-enumerate_from, All_more, All_weaker, All_at}
+use Rattle.act_rules.proofs.Lists.{slice_get_front, slice_get-filter, slice_get-enumerate_from, All_more, All_weaker, All_at, option_map-none}
 use Rattle.act_rules.proofs.Growth.{Grows, added_grows, after_run_grows, calls_grow, calls_to_grow}
 use Rattle.act_rules.proofs.Ended.{needs-none}
 use Rattle.act_rules.proofs.Posts.{PostsAreSound}
@@ -55,10 +55,6 @@ calls_to-number a calls k call e to =
         both : (b : Bool) → length (filter (λ (c : ℕ × Submission). c.1.actor == a) (take k (enumerate_from (n + 1) xs))) ≡ length (filter (λ (c : Submission). c.actor == a) (take k xs)) → length (cond b ((n, x) ∷ filter (λ (c : ℕ × Submission). c.1.actor == a) (take k (enumerate_from (n + 1) xs))) (filter (λ (c : ℕ × Submission). c.1.actor == a) (take k (enumerate_from (n + 1) xs)))) ≡ length (cond b (x ∷ filter (λ (c : Submission). c.actor == a) (take k xs)) (filter (λ (c : Submission). c.actor == a) (take k xs)))
         both true e = ap suc e
         both false e = e
-
-option_map-none : {A B : Type 0} (f : A → B) (o : Option A) → option_map f o ≡ None → o ≡ None
-option_map-none f None e = refl
-option_map-none f (Some x) e = cc
 
 -- a call that is sent has known arguments
 send_needs : (h : History) (c k : ℕ) (call : Submission) → slice_get (calls_of c h) k ≡ Some call → refusal_of h (Send c k) ≡ None → list_all (is_known (kept_of c h)) call.args ≡ true

@@ -2,6 +2,8 @@ pub mod Steps
 pub mod Terminated
 pub mod Ended
 pub mod Lists
+pub mod Finding
+pub mod RunLists
 pub mod Growth
 pub mod Posts
 pub mod Kept

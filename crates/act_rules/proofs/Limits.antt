@@ -1,7 +1,6 @@
 -- A caller's calls without an answer never are more than their actor's limit.
 use Rattle.std.proofs.Common.{◌≡◌, ℕ, ◌+◌, ◌<◌, ◌≤◌, Bool, true, false, cond, List, [], ◌∷◌, ◌++◌, length, Some, None, refl, ap, sym, ◌∙◌, subst, arith, length-append}
 use Rattle.std.specs.Prelude.{Option, ◌==◌, filter, option_map, is_none, nat_lt}
-use Rattle.std.specs.Option.{option_or}
 use Rattle.std.proofs.lemmas.Bool.{eqb-true, ltb-true}
 use Rattle.std.proofs.lemmas.List.{append-nil}
 use Rattle.std.proofs.lemmas.List.Elements.{filter-append}
@@ -23,7 +22,8 @@ use Rattle.act_rules.proofs.Growth.{Grows, added_grows}
 use Rattle.act_rules.proofs.Posts.{PostsAreSound, posts_step}
 use Rattle.act_rules.proofs.Letters.{kept_extends}
 use Rattle.act_rules.proofs.Settling.{Extends}
-use Rattle.act_rules.proofs.Retired.{calls_to-push, option_map-none}
+use Rattle.act_rules.proofs.Retired.{calls_to-push}
+use Rattle.act_rules.proofs.Lists.{option_map-none, option_or-none_second}
 
 -- ---- what pends
 
@@ -50,7 +50,7 @@ pending_after h g c a grows sound = fewer (kept_of c h) (kept_of c g) (calls_to 
 abbrev pub AreWithin : History → Type 0
 AreWithin h = (c a limit : ℕ) → limit_of c a h ≡ Some limit → unanswered c a h ≤ limit
 
-limit_of-same : (h g : History) (c a : ℕ) → g.casts ≡ h.casts → limit_of c a g ≡ limit_of c a h
+pub limit_of-same : (h g : History) (c a : ℕ) → g.casts ≡ h.casts → limit_of c a g ≡ limit_of c a h
 limit_of-same h g c a casts = ap (λ (l : List Casting). limit_of c a (opening l)) casts
 
 -- where no call is submitted
@@ -60,16 +60,11 @@ calm h g grows sound same within c a limit is =
     let after : unanswered c a g ≤ unanswered c a h = subst (λ (calls : List Submission). unanswered c a g ≤ length (filter (has_none (kept_of c h)) (calls_to a calls))) (ap (under c) same) (pending_after h g c a grows sound) in
     omega arith
 
--- where neither of two refuses, the second doesn't
-second-none : {A : Type 0} (o p : Option A) → option_or o p ≡ None → p ≡ None
-second-none None p e = e
-second-none (Some x) p e = cc
-
 -- a submission is accepted below the limit
 below : (h : History) (c a limit : ℕ) (method : Method) (args : List Arg) → refusal_of h (Submit c a method args) ≡ None → limit_of c a h ≡ Some limit → unanswered c a h < limit
 below h c a limit method args accepted is =
     let whole = option_map-none SubmitRefused (submission_refusal c a args h) (needs-none (is_caller c h) NoCaller (option_map SubmitRefused (submission_refusal c a args h)) accepted).1 in
-    let free = second-none (submit_refusal (copies_of c a h) (length (calls_of c h)) args) (limit_refusal (limit_of c a h) (unanswered c a h)) whole in
+    let free = option_or-none_second (submit_refusal (copies_of c a h) (length (calls_of c h)) args) (limit_refusal (limit_of c a h) (unanswered c a h)) whole in
     let fits : limit_refusal (Some limit) (unanswered c a h) ≡ None = subst (λ (o : Option ℕ). limit_refusal o (unanswered c a h) ≡ None) is free in
     ltb-true (unanswered c a h) limit (needs-none (nat_lt (unanswered c a h) limit) PendingLimit None fits).0
 

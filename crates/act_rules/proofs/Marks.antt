@@ -3,8 +3,9 @@ use Rattle.std.proofs.Common.{◌≡◌, ℕ, ◌+◌, ◌-◌, ◌<◌, ◌==�
 use Rattle.std.proofs.lemmas.Bool.Decides.{nat_tests}
 use Rattle.std.proofs.lemmas.List.{length_push, take_more}
 use Rattle.std.proofs.Math.Seq.{get_or-append_seam, take-append_seam, take-length}
+use Rattle.std.proofs.lemmas.Bool.{and_parts}
 use Rattle.act_rules.specs.Words.{marked_at, closed_at}
-use Rattle.act_rules.proofs.Numbers.{chosen, both}
+use Rattle.act_rules.proofs.Numbers.{chosen}
 
 -- what was marked begins with the mark
 pub marked_is : (bs rest : List ℕ) (mark : ℕ) → marked_at bs mark ≡ Ok rest → bs ≡ mark ∷ rest
@@ -25,7 +26,7 @@ pub closed_is : (bs front : List ℕ) (mark : ℕ) → closed_at bs mark ≡ Ok 
 unfolding closed_at
 closed_is bs front mark h =
     let p = chosen (nat_lt 0 (length bs) && (slice_index bs (length bs - 1) == mark)) (take (length bs - 1) bs) front h in
-    let q = both (nat_lt 0 (length bs)) (slice_index bs (length bs - 1) == mark) p.0 in
+    let q = and_parts (nat_lt 0 (length bs)) (slice_index bs (length bs - 1) == mark) p.0 in
     let some : 0 < length bs = grind (arith, nat_tests) in
     let last : slice_index bs (length bs - 1) ≡ mark = grind (arith, nat_tests) in
     last_is bs some ∙ ap (λ (x : ℕ). take (length bs - 1) bs ++ x ∷ []) last ∙ ap (λ (xs : List ℕ). xs ++ mark ∷ []) p.1

@@ -7,6 +7,7 @@ use Rattle.std.specs.Str.Parse.{digits_value}
 use Rattle.std.proofs.lemmas.Str.Parse.{IsNumeralModel, IsDigitsTest, numerals_by_value}
 use Rattle.std.proofs.lemmas.Fmt.{decimal-digits_value, digits_decimal, digits_value-decimal, first_decimal, decimal_digit, decimal_nonempty}
 use Rattle.std.proofs.lemmas.Bool.Decides.{nat_tests, eqb_tells}
+use Rattle.std.proofs.lemmas.Bool.{and_parts}
 use Rattle.act_rules.specs.declared.script.Wrong.TheVariants.{BadLine}
 use Rattle.act_rules.specs.Words.{is_numeral, number_at, is_integer, fits_int, int_value, int_at}
 
@@ -30,9 +31,6 @@ pub chosen : {A : Type 0} (b : Bool) (x y : A) → cond b (Ok x) (Err BadLine) �
 chosen true x y h = (refl, cc)
 chosen false x y h = cc
 
-pub both : (a b : Bool) → (a && b) ≡ true → (a ≡ true) × (b ≡ true)
-both a b h = grind (arith, nat_tests)
-
 leading : (ds : List ℕ) → is_numeral ds ≡ true → slice_index ds 0 ≡ 48 → length ds ≡ 1
 leading ds h e = grind (arith, nat_tests)
 
@@ -46,7 +44,7 @@ pub number_is_printed : (word : List ℕ) (n : ℕ) → number_at word ≡ Ok n 
 unfolding number_at
 number_is_printed word n h =
     let p = chosen (is_numeral word && nat_lt (digits_value 10 word) (2 ^ 32)) (digits_value 10 word) n h in
-    let q = both (is_numeral word) (nat_lt (digits_value 10 word) (2 ^ 32)) p.0 in
+    let q = and_parts (is_numeral word) (nat_lt (digits_value 10 word) (2 ^ 32)) p.0 in
     let small : digits_value 10 word < 2 ^ 64 = grind (arith, nat_tests) in
     printed word q.0 small ∙ ap decimal p.1
 
@@ -105,7 +103,7 @@ pub int_is_printed : (word : List ℕ) (n : ℤ) → int_at word ≡ Ok n → wo
 unfolding int_at
 int_is_printed word n h =
     let p = chosen (is_integer word && fits_int word) (int_value word) n h in
-    let q = both (is_integer word) (fits_int word) p.0 in
+    let q = and_parts (is_integer word) (fits_int word) p.0 in
     spelled_int word q.0 q.1 ∙ ap signed_decimal p.1
 
 -- ---- and back

@@ -4,7 +4,7 @@ use Rattle.std.specs.Prelude.{Option, ◌==◌, map, slice_get, option_map}
 use Rattle.std.specs.List.{enumerate_from}
 use Rattle.std.proofs.lemmas.Bool.{eqb-true}
 use Rattle.std.proofs.lemmas.List.{map-append, append-nil, length-map}
-use Rattle.std.proofs.lemmas.List.Elements.{filter-append}
+use Rattle.std.proofs.lemmas.Option.{slice_get-map}
 use Rattle.act_rules.specs.declared.history.RunItem.{RunItem}
 use Rattle.act_rules.specs.declared.event.Event.{Event}
 use Rattle.act_rules.specs.declared.event.Event.TheVariants.{Submit, Copy, Release, Send, Deliver, Run, Collect, AskKill, TakeKill, Tell, Retire}
@@ -15,9 +15,10 @@ use Rattle.act_rules.specs.Consistent.{IsFront}
 use Rattle.act_rules.specs.declared.history.Letter.TheVariants.{Call as CallLetter}
 use Rattle.act_rules.specs.History.{History, under, runs_of, calls_of, kept_of, ran_count, has_letter, run_item, next_item}
 use Rattle.act_rules.specs.Rules.{added, after_run}
-use Rattle.act_rules.proofs.Lists.{front_trans, front_next, slice_get-map, slice_get-enumerate_from, IsFront-map, IsFront-enumerate}
+use Rattle.act_rules.proofs.Lists.{front_trans, front_next, slice_get-enumerate_from, IsFront-map, IsFront-enumerate}
 use Rattle.act_rules.proofs.Growth.{Grows, added_grows, calls_grow, calls_to_grow}
 use Rattle.act_rules.proofs.Ended.{under-push}
+use Rattle.act_rules.proofs.RunLists.{items_of-push}
 
 -- ---- what runs next
 
@@ -50,9 +51,6 @@ InOrder h = (a c : ℕ) → IsFront (map numbered (items_of c (runs_of a h))) (n
 
 numbers_grow : (a : ℕ) (xs ys : List Submission) → IsFront xs ys → IsFront (numbers a xs) (numbers a ys)
 numbers_grow a xs ys f = IsFront-enumerate _ _ (IsFront-map (λ (call : ℕ × Submission). call.0) _ _ (calls_to_grow a xs ys f))
-
-items_of-push : (c : ℕ) (items : List RunItem) (item : RunItem) → items_of c (items ++ item ∷ []) ≡ items_of c items ++ cond (item.caller == c) (item ∷ []) []
-items_of-push c items item = filter-append (λ (i : RunItem). i.caller == c) items (item ∷ [])
 
 -- one item more in a run list, of its caller's next call
 order_more : (c : ℕ) (items : List RunItem) (item : RunItem) (all : List (ℕ × ℕ)) → IsFront (map numbered (items_of c items)) all → ((item.caller == c) ≡ true → slice_get all (length (items_of c items)) ≡ Some (numbered item)) → IsFront (map numbered (items_of c (items ++ item ∷ []))) all

@@ -2,7 +2,7 @@
 use Rattle.std.proofs.Common.{◌≡◌, ℕ, ◌+◌, ◌≤◌, Bool, true, false, cond, List, [], ◌∷◌, ◌++◌, length, Some, None, refl, ap, sym, ◌∙◌, subst, arith, length-append, ◌⊎◌, inl, inr, ⊎_elim, ◌-◌}
 use Rattle.std.specs.Prelude.{Option, ◌==◌, ◌||◌, not, map, filter, find, slice_get, is_some}
 use Rattle.std.specs.List.{AllByRecursion, list_all, enumerate_from}
-use Rattle.std.proofs.lemmas.Bool.{eqb-true, and_parts, and_from}
+use Rattle.std.proofs.lemmas.Bool.{eqb-true, and_parts, and_from, or_right}
 use Rattle.std.proofs.lemmas.List.{append-nil, length-map}
 use Rattle.std.proofs.lemmas.List.Folds.{list_any-append}
 use Rattle.std.proofs.lemmas.List.FromFn.{length-enumerate_from}
@@ -38,7 +38,7 @@ IsNamed h call = names call.0 (cast_of call.1.actor h) ≡ true
 abbrev pub AllNamed : History → Type 0
 AllNamed h = AllByRecursion (IsNamed h) h.submitted
 
-copies_named : (c a : ℕ) (h : History) → is_some (copies_of c a h) ≡ true → names c (cast_of a h) ≡ true
+pub copies_named : (c a : ℕ) (h : History) → is_some (copies_of c a h) ≡ true → names c (cast_of a h) ≡ true
 copies_named c a h e = go (names c (cast_of a h)) ((1 + times c a h.copied) - times c a h.released) e
   where
     go : (b : Bool) (n : ℕ) → is_some (cond b (Some n) None) ≡ true → b ≡ true
@@ -84,10 +84,6 @@ retire_needs h a e =
     let first = needs-none (is_some (cast_of a h)) (Handle NoActor) (needs (not (is_ended a h)) ActorEnded (needs (is_drained a h) NotDrained None)) e in
     let second = needs-none (not (is_ended a h)) ActorEnded (needs (is_drained a h) NotDrained None) first.1 in
     (needs-none (is_drained a h) NotDrained None second.1).0
-
-or_right : (a b : Bool) → b ≡ true → (a || b) ≡ true
-or_right true b e = refl
-or_right false b e = e
 
 abbrev pub RetiredDrained : History → Type 0
 RetiredDrained h = (a : ℕ) → is_retired a h ≡ true → is_drained a h ≡ true

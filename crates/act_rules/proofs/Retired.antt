@@ -1,7 +1,6 @@
 -- A retired actor ran every call that was submitted to it.
 use Rattle.std.proofs.Common.{◌≡◌, ℕ, ◌+◌, ◌-◌, Bool, true, false, cond, List, [], ◌∷◌, ◌++◌, length, Some, None, refl, ap, sym, ◌∙◌, arith, length-append}
 use Rattle.std.specs.Prelude.{Option, ◌==◌, ◌&&◌, slice_get, option_map, is_some, nat_lt, nat_le}
-use Rattle.std.specs.Option.{option_or}
 use Rattle.std.specs.List.{AllByRecursion, list_all}
 use Rattle.std.proofs.lemmas.Bool.{eqb-true, eq-eqb, and_parts, and_from}
 use Rattle.std.proofs.lemmas.List.{append-nil}
@@ -20,20 +19,11 @@ use Rattle.act_rules.specs.declared.history.Letter.{Letter}
 use Rattle.act_rules.specs.declared.history.Letter.TheVariants.{Call as CallLetter, Note as NoteLetter}
 use Rattle.act_rules.specs.History.{History, cast_of, names, is_caller, calls_of, under, times, copies_of, limit_of, next_item}
 use Rattle.act_rules.specs.Rules.{unanswered, submission_refusal, refusal_of, added, and_also, after_run, call_letter, is_last}
-use Rattle.act_rules.proofs.Lists.{enumerate_from-append, All_more, All_weaker, All_at}
+use Rattle.act_rules.proofs.Lists.{enumerate_from-append, All_more, All_weaker, All_at, option_map-none, option_or-none}
 use Rattle.act_rules.proofs.Steps.{IsKept}
 use Rattle.act_rules.proofs.Ended.{needs-none, under-push}
 
 -- ---- a caller that holds no copy
-
-pub option_map-none : {A B : Type 0} (f : A → B) (o : Option A) → option_map f o ≡ None → o ≡ None
-option_map-none f None e = refl
-option_map-none f (Some x) e = cc
-
--- where neither of two refuses, the first doesn't
-pub option_or-none : {A : Type 0} (o p : Option A) → option_or o p ≡ None → o ≡ None
-option_or-none None p e = refl
-option_or-none (Some x) p e = cc
 
 -- an accepted submission comes from a holder
 pub submit_needs : (h : History) (c a : ℕ) (method : Method) (args : List Arg) → refusal_of h (Submit c a method args) ≡ None → (is_some (copies_of c a h) ≡ true) × (nat_lt 0 (copies_held (copies_of c a h)) ≡ true)
@@ -62,7 +52,7 @@ IsGone c a h = copies_held (copies_of c a h) ≡ 0
 not_holder : (n : ℕ) → n ≡ 0 → nat_lt 0 n ≡ true → ⊥
 not_holder n zero_copies holds = let bad : nat_lt 0 0 ≡ true = rw zero_copies at holds in cc
 
-times-push : (c a d b : ℕ) (pairs : List (ℕ × ℕ)) → times c a (pairs ++ (d, b) ∷ []) ≡ times c a pairs + cond ((d == c) && (b == a)) 1 0
+pub times-push : (c a d b : ℕ) (pairs : List (ℕ × ℕ)) → times c a (pairs ++ (d, b) ∷ []) ≡ times c a pairs + cond ((d == c) && (b == a)) 1 0
 times-push c a d b pairs =
     rw (filter-append (λ (pair : ℕ × ℕ). (pair.0 == c) && (pair.1 == a)) pairs ((d, b) ∷ []), length-append) (go ((d == c) && (b == a)))
   where

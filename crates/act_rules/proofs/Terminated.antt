@@ -1,19 +1,17 @@
 -- Run lists in which nothing follows a `terminate` that ended the actor.
-use Rattle.std.proofs.Common.{◌≡◌, ℕ, zero, suc, ◌+◌, ◌-◌, ◌<◌, ◌≤◌, true, false, List, [], ◌∷◌, ◌++◌, length, Some, None, refl, ap, sym, ◌∙◌, arith, length-append, ◌⊎◌, inl, inr}
+use Rattle.std.proofs.Common.{◌≡◌, ℕ, zero, suc, ◌+◌, ◌-◌, ◌<◌, ◌≤◌, true, false, List, [], ◌∷◌, ◌++◌, length, Some, None, refl, ap, sym, ◌∙◌, arith, ◌⊎◌, inl, inr}
 use Rattle.std.specs.Prelude.{Option, slice_get}
 use Rattle.std.proofs.lemmas.Bool.{cases_lt}
 use Rattle.std.proofs.lemmas.Option.{slice_get_past}
+use Rattle.std.proofs.lemmas.List.{length_push}
 use Rattle.act_rules.specs.declared.history.RunItem.{RunItem}
 use Rattle.act_rules.specs.RunList.{ends_actor, has_terminated, NothingFollowsAnEnd}
 use Rattle.act_rules.proofs.Lists.{slice_get_last, slice_get_more}
 
-long-push : {A : Type 0} (xs : List A) (x : A) → length (xs ++ x ∷ []) ≡ length xs + 1
-long-push xs x = length-append xs (x ∷ [])
-
 -- the last item decides
 pub has_terminated-push : (items : List RunItem) (item : RunItem) → has_terminated (items ++ item ∷ []) ≡ ends_actor (Some item)
 has_terminated-push items item =
-    let last : length (items ++ item ∷ []) - 1 ≡ length items = (let long = long-push items item in omega (arith, long)) in
+    let last : length (items ++ item ∷ []) - 1 ≡ length items = (let long = length_push items item in omega (arith, long)) in
     ap (λ (n : ℕ). ends_actor (slice_get (items ++ item ∷ []) n)) last ∙ ap ends_actor (slice_get_last items item)
 
 -- nothing has ended the actor yet
@@ -38,7 +36,7 @@ pub nothing_follows-push : (items : List RunItem) (item : RunItem) → NothingFo
 nothing_follows-push items item last on place ends = go (cases_lt place (length items))
   where
     long : length (items ++ item ∷ []) ≡ length items + 1
-    long = long-push items item
+    long = length_push items item
 
     past : length items ≤ place → (place < length (items ++ item ∷ [])) ⊎ (length (items ++ item ∷ []) ≤ place) → length (items ++ item ∷ []) ≡ place + 1
     past from (inl below) = omega (arith, long, from, below)

@@ -3,12 +3,13 @@ use Rattle.std.proofs.Common.{◌≡◌, ℕ, zero, suc, ◌+◌, ◌≤◌, Boo
 use Rattle.std.specs.Prelude.{Option, ◌==◌, map, filter, take, slice_get, option_map}
 use Rattle.std.specs.List.{enumerate_from}
 use Rattle.std.proofs.lemmas.Bool.{eq-eqb}
+use Rattle.std.proofs.lemmas.Option.{slice_get-map}
 use Rattle.act_rules.specs.declared.history.RunItem.{RunItem}
 use Rattle.act_rules.specs.RunList.{items_of}
 use Rattle.act_rules.specs.declared.history.Submission.{Submission}
 use Rattle.act_rules.specs.Submissions.{calls_to}
 use Rattle.act_rules.specs.History.{History, runs_of, calls_of}
-use Rattle.act_rules.proofs.Lists.{slice_get_front, slice_get-map, slice_get-filter, slice_get-enumerate_from}
+use Rattle.act_rules.proofs.Lists.{slice_get_front, slice_get-filter, slice_get-enumerate_from}
 use Rattle.act_rules.proofs.Order.{InOrder, numbered, numbers}
 use Rattle.act_rules.proofs.AsSubmitted.{calls_to-at}
 

@@ -1,5 +1,5 @@
 -- Plain bytes are text.
-use Rattle.std.proofs.Common.{◌≡◌, ℕ, ◌<◌, ◌==◌, ◌&&◌, Bool, true, false, List, [], ◌∷◌, length, get_or, arith, refl, sym, ◌∙◌, inl, inr, true≢false}
+use Rattle.std.proofs.Common.{◌≡◌, ℕ, ◌<◌, ◌==◌, Bool, true, false, List, [], ◌∷◌, length, get_or, arith, refl, sym, ◌∙◌, inl, inr, true≢false}
 use Rattle.std.specs.List.{list_all, onto_first}
 use Rattle.std.specs.Str.{IsAscii, IsUtf8}
 use Rattle.std.proofs.lemmas.List.Folds.{list_all_at}
@@ -7,18 +7,16 @@ use Rattle.std.proofs.lemmas.List.Splits.{slice_split-cons_yes, slice_split-cons
 use Rattle.std.proofs.lemmas.Str.{IsUtf8-from_ascii}
 use Rattle.std.proofs.lemmas.Str.Ascii.{IsAscii-nil, IsAscii-cons}
 use Rattle.std.proofs.lemmas.Bool.Decides.{nat_tests, eqb_tells}
+use Rattle.std.proofs.lemmas.Bool.{and_parts}
 use Rattle.act_rules.specs.Grammar.{is_plain_byte, words_in}
 
 plain_below : (b : ℕ) → is_plain_byte b ≡ true → b < 128
 plain_below b h = grind (arith, nat_tests)
 
-both : (a b : Bool) → (a && b) ≡ true → (a ≡ true) × (b ≡ true)
-both a b h = grind (arith, nat_tests)
-
 plain_ascii : (bs : List ℕ) → list_all is_plain_byte bs ≡ true → IsAscii bs
 plain_ascii [] h = IsAscii-nil
 plain_ascii (b ∷ bs) h =
-    let p = both (is_plain_byte b) (list_all is_plain_byte bs) h in
+    let p = and_parts (is_plain_byte b) (list_all is_plain_byte bs) h in
     IsAscii-cons b bs (plain_below b p.0) (plain_ascii bs p.1)
 
 -- ---- the words of a plain line
@@ -30,7 +28,7 @@ onto_plain b (part ∷ parts) good h = rw good h
 words_plain : (bs : List ℕ) → list_all is_plain_byte bs ≡ true → list_all (list_all is_plain_byte) (words_in bs) ≡ true
 words_plain [] h = refl
 words_plain (b ∷ bs) h =
-    let p = both (is_plain_byte b) (list_all is_plain_byte bs) h in
+    let p = and_parts (is_plain_byte b) (list_all is_plain_byte bs) h in
     let others = words_plain bs p.1 in
     elim (eqb_tells b 32) [
       | inl e ↦ rw (slice_split-cons_yes (λ b. b == 32) b bs e.0) others

@@ -3,7 +3,7 @@ use Rattle.std.proofs.Common.{◌≡◌, ◌≢◌, ℕ, ◌<◌, ◌≤◌, ◌
 use Rattle.std.specs.Prelude.{if◌then◌else◌}
 use Rattle.std.specs.List.{list_any, IsDistinct}
 use Rattle.std.proofs.Math.Dec.{eqb}
-use Rattle.std.proofs.lemmas.Bool.{eqb-true}
+use Rattle.std.proofs.lemmas.Bool.{eqb-true, or_parts}
 use Rattle.std.proofs.lemmas.Bool.Decides.{eqb_tells, Decides-eqb}
 use Rattle.std.proofs.lemmas.List.{get_or-map, length-map, map-append}
 use Rattle.std.proofs.lemmas.List.Elements.{All-cons, All-map, All-push, recursion_from_All}
@@ -19,22 +19,15 @@ use Rattle.act_rules.specs.declared.script.Wrong.TheVariants.{LateActor, TwiceAc
 use Rattle.act_rules.specs.Grammar.{Script, has_twice, role_fault}
 use Rattle.act_rules.specs.Submissions.{IsLimit}
 use Rattle.act_rules.specs.Scripts.{role_casting}
+use Rattle.act_rules.proofs.Lists.{AllPairs-map}
 use Rattle.act_scripts.specs.Roles.{AreFitting, AreSound}
 
 -- ---- no more actors than there are numbers for them
 
-pairs_mapped : {X Y : Type 0} (R : Y → Y → Type 0) (f : X → Y) (xs : List X) → AllPairs (λ x y. R (f x) (f y)) xs → AllPairs R (map f xs)
-pairs_mapped R f [] pairs i j d before within = absurd (omega arith)
-pairs_mapped R f (x ∷ xs) pairs i j d before within =
-    let all : List _ = x ∷ xs in
-    let inside : j < length all = subst (λ n. j < n) (length-map all f) within in
-    subst (λ y. R (get_or (map f all) i d) y) (sym (get_or-map f all j x d inside))
-    (subst (λ y. R y (f (get_or all j x))) (sym (get_or-map f all i x d (omega arith))) (pairs i j x before inside))
-
 pub few_actors : (casts : List Casting) → AreSound casts → length casts ≤ 8
 few_actors casts sound =
     let numbers = map (λ (cast : Casting). cast.actor) casts in
-    let pairs : AllPairs (λ one other. one ≢ other) numbers = pairs_mapped (λ one other. one ≢ other) (λ (cast : Casting). cast.actor) casts sound.actors in
+    let pairs : AllPairs (λ one other. one ≢ other) numbers = AllPairs-map (λ one other. one ≢ other) (λ (cast : Casting). cast.actor) casts sound.actors in
     let valid : All (λ actor. (1 ≤ actor) × (actor ≤ 8)) numbers = All-map (λ actor. (1 ≤ actor) × (actor ≤ 8)) (λ (cast : Casting). cast.actor) casts sound.valid in
     let apart : All (λ actor. eqb 0 actor ≡ false) numbers = λ k d within. let ok = valid k d within in elim (eqb_tells 0 (get_or numbers k d)) [ inl t ↦ absurd (omega arith) | inr f ↦ f.0 ] in
     let distinct : IsDistinct eqb (0 ∷ numbers) = IsDistinct-cons eqb 0 numbers (recursion_from_All (λ actor. eqb 0 actor ≡ false) numbers apart) (IsDistinct-from_AllPairs Decides-eqb numbers pairs) in
@@ -51,10 +44,6 @@ pub sound_fit : (casts : List Casting) → AreSound casts → AreFitting casts
 sound_fit casts sound = record { actors = sound.actors; callers = sound.callers; few = few_actors casts sound; limits = sound.limits }
 
 -- ---- one role more
-
-parts : (a b : Bool) → (a || b) ≡ false → (a ≡ false) × (b ≡ false)
-parts true b e = cc
-parts false b e = (refl, e)
 
 -- what nothing refuses about a role
 pub unrefused : (script : Script) (role : Role) → role_fault script role ≡ None → (list_any (λ other. other.actor == role.actor) script.roles ≡ false) × (has_twice role.callers ≡ false)
@@ -75,7 +64,7 @@ none_sound = record { actors = λ i j d before within. absurd (omega arith); cal
 differ : (callers : List ℕ) → has_twice callers ≡ false → AllPairs (λ one other. one ≢ other) callers
 differ [] none = λ i j d before within. absurd (omega arith)
 differ (c ∷ cs) none =
-    let p = parts (list_any (λ m. m == c) cs) (has_twice cs) none in
+    let p = or_parts (list_any (λ m. m == c) cs) (has_twice cs) none in
     AllPairs-cons (λ one other. one ≢ other) c cs (λ k d within same. true≢false (sym (list_any_at (λ m. m == c) cs k d within (eq-eqb _ _ (sym same))) ∙ p.0)) (differ cs p.1)
 
 no_other : (roles : List Role) (a k : ℕ) (d : Casting) → list_any (λ other. other.actor == a) roles ≡ false → k < length (map role_casting roles) → (get_or (map role_casting roles) k d).actor ≢ a

@@ -1,7 +1,8 @@
 -- Each reply that is due is the answer at its place.
-use Rattle.std.proofs.Common.{◌≡◌, ℕ, zero, suc, ◌+◌, Bool, true, false, cond, List, [], ◌∷◌, Some, None, refl, ap, sym, subst, arith, All}
+use Rattle.std.proofs.Common.{◌≡◌, ℕ, suc, ◌+◌, Bool, true, false, cond, List, [], ◌∷◌, Some, None, refl, ap, sym, subst, arith, All}
 use Rattle.std.specs.Prelude.{◌==◌, Option, map, filter, slice_get}
 use Rattle.std.specs.List.{cons_option, enumerate_from}
+use Rattle.std.proofs.lemmas.List.Elements.{All-cons}
 use Rattle.act_types.specs.KindState.{KindState}
 use Rattle.act_types.specs.declared.message.Notice.{Notice}
 use Rattle.act_types.specs.declared.message.Notice.TheVariants.{Answered}
@@ -9,10 +10,6 @@ use Rattle.act_rules.specs.declared.history.RunItem.{RunItem}
 use Rattle.act_rules.specs.RunList.{Answer, after_item, answers_from, answer_at}
 use Rattle.act_serve.specs.Served.{replies_to, IsAnswer, place_of, RepliesAreDue}
 use Rattle.act_serve.proofs.Logs.{Tells, same, other, tells, replies_from}
-
-all_cons : {X : Type 0} (P : X → Type 0) (x : X) (xs : List X) → P x → All P xs → All P (x ∷ xs)
-all_cons P x xs here more zero d lt = here
-all_cons P x xs here more (suc k) d lt = more k d (omega (arith, lt))
 
 module _ (opening : KindState) (a c : ℕ) (log : List RunItem) where
   all_from : (n : ℕ) (state : KindState) (xs : List RunItem)
@@ -43,7 +40,7 @@ module _ (opening : KindState) (a c : ℕ) (log : List RunItem) where
       }
 
       go : Tells x.caller c → All (IsAnswer opening a c log) rest → All (IsAnswer opening a c log) (cons_option (cond (x.caller == c) (Some notice) None) rest)
-      go (same b e) more = subst (λ (t : Bool). All (IsAnswer opening a c log) (cons_option (cond t (Some notice) None) rest)) (sym b) (all_cons (IsAnswer opening a c log) notice rest (here e) more)
+      go (same b e) more = subst (λ (t : Bool). All (IsAnswer opening a c log) (cons_option (cond t (Some notice) None) rest)) (sym b) (All-cons (IsAnswer opening a c log) notice rest (here e) more)
       go (other b ne) more = subst (λ (t : Bool). All (IsAnswer opening a c log) (cons_option (cond t (Some notice) None) rest)) (sym b) more
 
   pub replies_answer : All (IsAnswer opening a c log) (replies_to opening a log c)

@@ -1,12 +1,13 @@
 -- What an actor holds and what it ran, as letters come and calls run.
-use Rattle.std.proofs.Common.{◌≡◌, ◌≢◌, ℕ, zero, suc, ◌+◌, Bool, true, false, cond, List, [], ◌∷◌, ◌++◌, Option, Some, None, Result, Ok, Err, IfOk, OnErr, inl, inr, length, length-append, append-nil, refl, ap, sym, ◌∙◌, subst, arith}
+use Rattle.std.proofs.Common.{◌≡◌, ◌≢◌, ℕ, suc, ◌+◌, Bool, true, false, cond, List, [], ◌∷◌, ◌++◌, Option, Some, None, Result, Ok, Err, IfOk, OnErr, inl, inr, length, length-append, append-nil, refl, ap, sym, ◌∙◌, subst, arith}
 use Rattle.std.specs.Prelude.{◌==◌, ◌&&◌, nat_lt, map, zip, filter_map, Contains, is_some}
 use Rattle.std.specs.Option.{option_or}
 use Rattle.std.specs.List.{enumerate_from, range_with_len, cons_option}
 use Rattle.std.proofs.lemmas.Bool.{eq-eqb, ne_eqb}
 use Rattle.std.proofs.lemmas.Bool.Decides.{eqb_tells}
 use Rattle.std.proofs.lemmas.List.{map-append}
-use Rattle.std.proofs.lemmas.List.Elements.{All-push, filter-append, Contains-append_left, Contains-push}
+use Rattle.std.proofs.lemmas.List.Elements.{All-push, Contains-append_left, Contains-push}
+use Rattle.std.proofs.Math.Bool.{and-false}
 use Rattle.act_types.specs.KindState.{KindState}
 use Rattle.act_types.specs.declared.message.Packet.{Packet}
 use Rattle.act_types.specs.declared.message.ReleaseNote.{ReleaseNote}
@@ -17,6 +18,8 @@ use Rattle.act_rules.specs.declared.outcome.Arrival.{Arrival}
 use Rattle.act_rules.specs.declared.outcome.Arrival.TheVariants.{New, Repeat, Stranger}
 use Rattle.act_rules.specs.RunList.{Answer, after_item, state_after, answers_from, items_of}
 use Rattle.act_rules.specs.History.{contains}
+use Rattle.act_rules.proofs.Lists.{eq_turned, range_push}
+use Rattle.act_rules.proofs.RunLists.{items_of-push}
 use Rattle.act_inbox.specs.Inbox.{InboxValue, is_call, is_listed, handed_of, was_handed, waiting, waiting_after, next_of, note_of, note_after, note_arrival, came as came_before}
 use Rattle.act_actor.specs.Value.{ActorSeen}
 use Rattle.act_actor.specs.Actor.{item_of, arrival_at, note_arrival_at, HasRun}
@@ -36,23 +39,7 @@ tells x y = elim (eqb_tells x y) [
   | inr f ↦ other f.0 f.1
 ]
 
-flip : (x y : ℕ) → (x == y) ≡ (y == x)
-flip x y = go (tells x y)
-  where
-    go : Tells x y → (x == y) ≡ (y == x)
-    go (same b e) = b ∙ sym (eq-eqb y x (sym e))
-    go (other b e) = b ∙ sym (ne_eqb y x (λ f. e (sym f)))
-
 -- ---- the items of a caller, by number
-
-range_push : (a n : ℕ) → range_with_len a (suc n) ≡ range_with_len a n ++ (a + n) ∷ []
-range_push a zero = let e : a + 0 ≡ a = omega arith in rw e refl
-range_push a (suc n) =
-    let e : (a + 1) + n ≡ a + suc n = omega arith in
-    ap (λ (l : List ℕ). a ∷ l) (range_push (a + 1) n ∙ ap (λ (m : ℕ). range_with_len (a + 1) n ++ m ∷ []) e)
-
-items_more : (c : ℕ) (log : List RunItem) (item : RunItem) → items_of c (log ++ item ∷ []) ≡ items_of c log ++ cond (item.caller == c) (item ∷ []) []
-items_more c log item = filter-append (λ (i : RunItem). i.caller == c) log (item ∷ [])
 
 abbrev AreNumbered : List RunItem → Type 0
 AreNumbered items = map (λ (item : RunItem). item.number) items ≡ range_with_len 0 (length items)
@@ -72,18 +59,18 @@ numbered_more c log item at are = go (tells item.caller c)
   where
     go : Tells item.caller c → AreNumbered (items_of c (log ++ item ∷ []))
     go (same b e) =
-        let now : items_of c (log ++ item ∷ []) ≡ items_of c log ++ item ∷ [] = items_more c log item ∙ ap (λ (x : Bool). items_of c log ++ cond x (item ∷ []) []) b in
+        let now : items_of c (log ++ item ∷ []) ≡ items_of c log ++ item ∷ [] = items_of-push c log item ∙ ap (λ (x : Bool). items_of c log ++ cond x (item ∷ []) []) b in
         subst AreNumbered (sym now) (numbered_push (items_of c log) item (at ∙ ap (λ (d : ℕ). length (items_of d log)) e) are)
     go (other b e) =
-        let now : items_of c (log ++ item ∷ []) ≡ items_of c log = items_more c log item ∙ ap (λ (x : Bool). items_of c log ++ cond x (item ∷ []) []) b ∙ append-nil (items_of c log) in
+        let now : items_of c (log ++ item ∷ []) ≡ items_of c log = items_of-push c log item ∙ ap (λ (x : Bool). items_of c log ++ cond x (item ∷ []) []) b ∙ append-nil (items_of c log) in
         subst AreNumbered (sym now) are
 
 count_more : (c caller n : ℕ) (log : List RunItem) (item : RunItem) → item.caller ≡ caller → n ≡ length (items_of c log) → cond (c == caller) (n + 1) n ≡ length (items_of c (log ++ item ∷ []))
 count_more c caller n log item mine at =
-    ap (λ (b : Bool). cond b (n + 1) n) (flip c caller ∙ ap (λ (d : ℕ). d == c) (sym mine))
+    ap (λ (b : Bool). cond b (n + 1) n) (eq_turned c caller ∙ ap (λ (d : ℕ). d == c) (sym mine))
     ∙ by (item.caller == c)
     ∙ sym (length-append (items_of c log) (cond (item.caller == c) (item ∷ []) []))
-    ∙ ap (λ (l : List RunItem). length l) (sym (items_more c log item))
+    ∙ ap (λ (l : List RunItem). length l) (sym (items_of-push c log item))
   where
     by : (b : Bool) → cond b (n + 1) n ≡ length (items_of c log) + length {A = RunItem} (cond b (item ∷ []) [])
     by true = omega (arith, at)
@@ -184,10 +171,6 @@ fed_arrive callers letters packet before inbox result lanes notes is waits err h
     by (Ok arrival) is waits err c n p e =
         arrived_waits before.id packet before.inbox arrival c n p (λ q. Contains (letters ++ Call packet ∷ []) (Call q) × (q.actor ≡ before.id)) is (sym (waits c n) ∙ e) (old c n p) (λ f. (Contains-push letters (Call packet), f))
     by (Err back) is waits err c n p e = old c n p (ap (λ (x : InboxValue). waiting x c n) (sym err) ∙ e)
-
-and-false : (b : Bool) → (b && false) ≡ false
-and-false true = refl
-and-false false = refl
 
 noted : (note : ReleaseNote) (inbox : InboxValue) (id c : ℕ) (arrival : Arrival) → arrival ≡ note_arrival_at id inbox note → is_listed inbox c ≡ true
     → note_after arrival note inbox c ≡ option_or (note_of inbox c) (note_in id c (Note note))

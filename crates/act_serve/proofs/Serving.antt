@@ -14,6 +14,7 @@ use Rattle.act_types.specs.declared.message.Notice.{Notice}
 use Rattle.act_types.specs.declared.message.Notice.TheVariants.{Answered, Death}
 use Rattle.act_rules.specs.declared.history.RunItem.{RunItem}
 use Rattle.act_rules.specs.RunList.{after_item, state_after, items_of, has_terminated, NothingFollowsAnEnd}
+use Rattle.act_rules.proofs.RunLists.{state_after-push}
 use Rattle.act_inbox.specs.Inbox.{next_of}
 use Rattle.act_actor.specs.Value.{ActorSeen, DeadValue, RetiredSeen}
 use Rattle.act_actor.specs.Actor.{item_of, reply_to, next_call, MayRetire, HasRun, HasRunFrom}
@@ -62,10 +63,6 @@ on_err A B (Err error) f h = f h
 
 -- ---- replies
 
-state_push : (opening : KindState) (items : List RunItem) (item : RunItem) → state_after opening (items ++ item ∷ []) ≡ (after_item (state_after opening items) item).0
-state_push opening [] item = refl
-state_push opening (first ∷ items) item = state_push (after_item opening first).0 items item
-
 differ_at : (xs : List ℕ) (i j e : ℕ) → AllPairs (λ (x : ℕ) (y : ℕ). x ≢ y) xs → i ≢ j → i < length xs → j < length xs → get_or xs i e ≢ get_or xs j e
 differ_at xs i j e apart ne below under = go (order i j)
   where
@@ -86,7 +83,7 @@ module _ (opening : KindState) (lines : List RepliesValue) (caller : ℕ) (reply
       ∙ ap (λ (r : Reply). replies_to opening before.id before.log c ++ cond (ran.item.caller == c) (Answered r ∷ []) []) (sym ran.reply_is)
 
   follows_on : HasRunFrom opening after
-  follows_on = ran.state ∙ ap (λ (state : KindState). (after_item state ran.item).0) from ∙ sym (state_push opening before.log ran.item) ∙ ap (state_after opening) (sym ran.log)
+  follows_on = ran.state ∙ ap (λ (state : KindState). (after_item state ran.item).0) from ∙ sym (state_after-push opening before.log ran.item) ∙ ap (state_after opening) (sym ran.log)
 
   due_here : (seat : Seat ReplyExecValue) (pass : ReplyExecValue) → caller ≡ caller_at lines seat.place → pass.given ≡ seat.pass.given ++ Answered reply ∷ []
       → HasReplies opening lines before.id before.log seat → HasReplies opening lines after.id after.log (record { place = seat.place; pass = pass })

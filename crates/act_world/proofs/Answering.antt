@@ -6,7 +6,7 @@ use Rattle.std.proofs.Math.Bool.{or-false}
 use Rattle.std.proofs.lemmas.Bool.{eq-eqb}
 use Rattle.std.proofs.lemmas.Bool.Decides.{eqb_tells}
 use Rattle.std.proofs.lemmas.List.Folds.{list_any-append}
-use Rattle.act_types.specs.declared.fault.Fault.TheVariants.{NoMethod, BadArgs, Overflow, NoKey, BadAmount, Insufficient, NoItems, NoItem, KindFull, Dependency, ActorDied}
+use Rattle.act_types.specs.declared.fault.Fault.TheVariants.{ActorDied}
 use Rattle.act_types.specs.declared.message.Reply.{Reply}
 use Rattle.act_types.specs.declared.message.Notice.TheVariants.{Answered}
 use Rattle.act_types.specs.KindState.{KindState}
@@ -26,6 +26,7 @@ use Rattle.act_rules.proofs.Table.{or_else, kept_of-collected}
 use Rattle.act_owner.specs.declared.owner.Collected.{Collected}
 use Rattle.act_owner.specs.declared.owner.Collected.TheVariants.{First, Late, Stray}
 use Rattle.act_owner.specs.Owner.{OwnerValue, is_sent, is_to, is_death, is_of_call, collected_reply, after_reply_that}
+use Rattle.act_owner.proofs.Told.{is_death-only}
 use Rattle.act_world.specs.Exchange.{ExchangeValue, told_collected}
 use Rattle.act_world.specs.Value.{SlotSeen}
 use Rattle.act_world.specs.Ties.{IsOwnerOf, is_death_to, reply_as, Ties}
@@ -39,25 +40,11 @@ use Rattle.act_world.proofs.Lists.{get_set-same, get_set-other}
 
 -- ---- a reply is of a call of its caller
 
-death_is : (answer : Answer) → is_death answer ≡ true → answer ≡ Err ActorDied
-death_is (Ok value) e = cc
-death_is (Err NoMethod) e = cc
-death_is (Err BadArgs) e = cc
-death_is (Err Overflow) e = cc
-death_is (Err NoKey) e = cc
-death_is (Err BadAmount) e = cc
-death_is (Err Insufficient) e = cc
-death_is (Err NoItems) e = cc
-death_is (Err NoItem) e = cc
-death_is (Err KindFull) e = cc
-death_is (Err (Dependency k)) e = cc
-death_is (Err ActorDied) e = refl
-
 pub alive_is : (answer : Answer) → answer ≢ Err ActorDied → is_death answer ≡ false
 alive_is answer alive = go (is_death answer) refl
   where
     go : (b : Bool) → is_death answer ≡ b → is_death answer ≡ false
-    go true e = absurd (alive (death_is answer e))
+    go true e = absurd (alive (is_death-only answer e))
     go false e = e
 
 no_run_dies : (h : History) (a place : ℕ) (answer : Answer) → answer_of a place h ≡ Some answer → is_death answer ≡ false

@@ -7,6 +7,7 @@ use Rattle.std.proofs.lemmas.Bool.{eq-eqb}
 use Rattle.std.proofs.lemmas.Bool.Decides.{eqb_tells}
 use Rattle.std.proofs.lemmas.List.{length-map}
 use Rattle.std.proofs.lemmas.List.Folds.{list_any-append}
+use Rattle.std.proofs.lemmas.Option.{slice_get-map}
 use Rattle.act_types.specs.declared.fault.Fault.TheVariants.{ActorDied}
 use Rattle.act_types.specs.declared.message.Notice.TheVariants.{Death}
 use Rattle.act_rules.specs.declared.history.Submission.{Submission}
@@ -15,7 +16,7 @@ use Rattle.act_rules.specs.declared.outcome.Did.TheVariants.{Died as DidDie}
 use Rattle.act_rules.specs.RunList.{Answer}
 use Rattle.act_rules.specs.History.{History, calls_of, kept_of, answer_in, first_answer}
 use Rattle.act_rules.specs.Rules.{was_sent}
-use Rattle.act_rules.proofs.Lists.{slice_get-map, All_at}
+use Rattle.act_rules.proofs.Lists.{All_at, length-zip_same, eq_turned}
 use Rattle.act_rules.proofs.Table.{or_else, kept_of-collected}
 use Rattle.act_handles.specs.Handles.{copies_in}
 use Rattle.act_owner.specs.Owner.{OwnerValue, is_dead as knows_dead, collected, with_death, waits_for, answer_after_death}
@@ -26,7 +27,7 @@ use Rattle.act_world.proofs.Lawful.{IsLawful, IsNamedPost}
 use Rattle.act_world.proofs.Pending.{kept_long, unanswered_is}
 use Rattle.act_world.proofs.Seeing.{is_named}
 use Rattle.act_world.proofs.Sending.{seen_owner}
-use Rattle.act_world.proofs.Lists.{eq_turned, zip_at, zip_long, get_set-other}
+use Rattle.act_world.proofs.Lists.{zip_at, get_set-other}
 use Rattle.act_world.proofs.Tables.{table_is, kept_there}
 use Rattle.act_world.proofs.Heard.{heard, heard_ties, heard_grows, finish, Collects}
 
@@ -55,7 +56,7 @@ death_table h c a owner is = rw (is.calls, is.kept) (table ∙ sym (kept_of-coll
 
     table : map (answer_after_death a) (zip (calls_of c h) (kept_of c h)) ≡ map (λ (call : ℕ × Submission). or_else (first_answer h c call) (answer_in h c call.0 call.1.actor (DeathPost c a))) (enumerate_from 0 (calls_of c h))
     table = table_is (map (answer_after_death a) (zip (calls_of c h) (kept_of c h))) (calls_of c h) (λ (call : ℕ × Submission). or_else (first_answer h c call) (answer_in h c call.0 call.1.actor (DeathPost c a)))
-        (length-map (zip (calls_of c h) (kept_of c h)) (answer_after_death a) ∙ zip_long (calls_of c h) (kept_of c h) (kept_long h c))
+        (length-map (zip (calls_of c h) (kept_of c h)) (answer_after_death a) ∙ length-zip_same (calls_of c h) (kept_of c h) (kept_long h c))
         (λ j x e. slice_get-map (answer_after_death a) (zip (calls_of c h) (kept_of c h)) j ∙ ap (λ (o : Option (Submission × Option Answer)). option_map (answer_after_death a) o) (zip_at (calls_of c h) (kept_of c h) j x (first_answer h c (j, x)) e (kept_there h c j x e))
         ∙ ap (λ (o : Option Answer). Some o) (one_death h c a j x (first_answer h c (j, x))))
 

@@ -12,13 +12,13 @@ use Rattle.act_rules.specs.declared.outcome.Arrival.{Arrival}
 use Rattle.act_rules.specs.declared.outcome.Arrival.TheVariants.{New, Repeat, Stranger}
 use Rattle.act_rules.specs.Submissions.{calls_to}
 use Rattle.act_rules.specs.History.{History, cast_of, names, calls_of, ran_count, has_letter}
+use Rattle.act_rules.proofs.Lists.{length-filter_least}
 use Rattle.act_inbox.specs.Inbox.{is_call, handed_of, waiting, came, arrival_of, waiting_after}
 use Rattle.act_actor.specs.Value.{ActorSeen}
 use Rattle.act_actor.specs.Actor.{arrival_at}
 use Rattle.act_world.specs.Slots.{HasTaken}
 use Rattle.act_world.specs.Ties.{packet_as, packet_of, held_packet, is_note, IsLive}
 use Rattle.act_world.proofs.Lawful.{IsLawful}
-use Rattle.act_world.proofs.Lists.{length-filter_least}
 use Rattle.act_world.proofs.Mail.{has_other, has_again, has_last, brought, held_same}
 
 number_small : (h : History) (c a n : ℕ) (call : ℕ × Submission) → IsLawful h → slice_get (calls_to a (calls_of c h)) n ≡ Some call → nat_lt n 65536 ≡ true

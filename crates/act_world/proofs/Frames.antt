@@ -17,7 +17,7 @@ use Rattle.act_rules.specs.declared.history.Post.{Post}
 use Rattle.act_rules.specs.declared.history.Post.TheVariants.{Reply as ReplyPost, Death as DeathPost}
 use Rattle.act_rules.specs.RunList.{items_of, state_after, has_terminated}
 use Rattle.act_rules.specs.Submissions.{calls_to}
-use Rattle.act_rules.specs.History.{Casting, History, contains, under, cast_of, names, is_caller, calls_of, copies_of, limit_of, runs_of, ran_count, kept_of, is_ended, is_dead, is_retired, has_letter}
+use Rattle.act_rules.specs.History.{Casting, History, contains, under, cast_of, names, is_caller, calls_of, copies_of, runs_of, ran_count, kept_of, is_ended, is_dead, is_retired, has_letter}
 use Rattle.act_rules.specs.Rules.{was_sent}
 use Rattle.act_rules.proofs.Lists.{slice_get_front, All_at}
 use Rattle.act_rules.proofs.Growth.{Grows, calls_grow, runs_grow, calls_to_grow}
@@ -27,7 +27,8 @@ use Rattle.act_rules.proofs.Kept.{answer_of_stays}
 use Rattle.act_rules.proofs.Letters.{IsSoundLetter, kept_extends, has_letter-sound}
 use Rattle.act_rules.proofs.Settling.{arguments_stay}
 use Rattle.act_rules.proofs.Table.{kept_of-same}
-use Rattle.act_inbox.proofs.Finding.{find-Some, find-None, position_or_len-Some}
+use Rattle.act_rules.proofs.Finding.{find-Some, find-None, position_or_len-Some}
+use Rattle.act_rules.proofs.Limits.{limit_of-same}
 use Rattle.act_owner.specs.Owner.{OwnerValue}
 use Rattle.act_actor.specs.Value.{ActorSeen}
 use Rattle.act_world.specs.declared.exchange.Mailed.{Mailed}
@@ -47,9 +48,6 @@ is_caller-same h g c casts = ap (λ (l : List Casting). list_any (λ (cast : Cas
 
 pub names-same : (h g : History) (c a : ℕ) → g.casts ≡ h.casts → names c (cast_of a g) ≡ names c (cast_of a h)
 names-same h g c a casts = ap (names c) (cast_of-same h g a casts)
-
-limit_of-same : (h g : History) (c a : ℕ) → g.casts ≡ h.casts → limit_of c a g ≡ limit_of c a h
-limit_of-same h g c a casts = ap (λ (found : Option Casting). cond (names c found) (option_and_then (λ (cast : Casting). cast.pending) found) None) (cast_of-same h g a casts)
 
 -- ---- callers
 

@@ -3,7 +3,7 @@ use Rattle.std.proofs.Common.{◌≡◌, ℕ, ◌<◌, Bool, true, false, List, 
 use Rattle.std.specs.Prelude.{Option, ◌==◌, ◌||◌, find, slice_get, is_some, not}
 use Rattle.std.specs.List.{enumerate_from}
 use Rattle.std.specs.Option.{option_map_or}
-use Rattle.std.proofs.lemmas.Bool.{eq-eqb, eqb-true}
+use Rattle.std.proofs.lemmas.Bool.{eq-eqb, eqb-true, or_parts}
 use Rattle.act_types.specs.KindState.{KindState}
 use Rattle.act_rules.specs.declared.event.Event.{Event}
 use Rattle.act_rules.specs.declared.event.Event.TheVariants.{Submit, Copy, Release, Send, Deliver, Run, Collect, AskKill, TakeKill, Tell, Retire}
@@ -129,14 +129,10 @@ not_dead h a lawful all uncast =
     ap (λ (b : Bool). b || has_terminated (runs_of a h)) (not_killed h a all uncast)
     ∙ ap has_terminated (no_runs h a (runs_of a h) refl lawful uncast)
 
-left_false : (x y : Bool) → (x || y) ≡ false → x ≡ false
-left_false true y e = cc
-left_false false y e = refl
-
 deaths_are : (h : History) (a : ℕ) (slot : Option SlotSeen) → IsLawful h → KilledHaveCasts h → IsStage h a slot → is_dead a h ≡ option_map_or is_dead_seen slot false
 deaths_are h a None lawful all is = not_dead h a lawful all is
 deaths_are h a (Some Vacant) lawful all is = not_dead h a lawful all is
-deaths_are h a (Some (Runs live)) lawful all is = left_false (is_dead a h) (is_retired a h) is.runs
+deaths_are h a (Some (Runs live)) lawful all is = (or_parts (is_dead a h) (is_retired a h) is.runs).0
 deaths_are h a (Some (Died dead)) lawful all is = is.died
 deaths_are h a (Some (Ended retired)) lawful all is = is.lived
 

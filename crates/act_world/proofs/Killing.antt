@@ -1,8 +1,8 @@
 -- An actor that takes a kill.
 use Rattle.std.proofs.Common.{◌≡◌, ℕ, Bool, true, false, List, [], ◌∷◌, ◌++◌, Some, None, inl, inr, refl, sym, ◌∙◌, subst, Err}
-use Rattle.std.specs.Prelude.{◌==◌, ◌||◌, slice_get, slice_set, unwrap_or}
+use Rattle.std.specs.Prelude.{◌==◌, slice_get, slice_set, unwrap_or}
 use Rattle.std.proofs.Math.Bool.{or-true, or-false}
-use Rattle.std.proofs.lemmas.Bool.{eq-eqb}
+use Rattle.std.proofs.lemmas.Bool.{eq-eqb, or_right, or_left}
 use Rattle.std.proofs.lemmas.Bool.Decides.{eqb_tells}
 use Rattle.std.proofs.lemmas.List.Folds.{list_any-append}
 use Rattle.act_rules.specs.declared.event.Event.TheVariants.{TakeKill}
@@ -30,13 +30,6 @@ contains-last a ns = list_any-append (λ m. m == a) ns (a ∷ []) ∙ (let same 
 
 pub contains-other : (a b : ℕ) (ns : List ℕ) → (a == b) ≡ false → contains b (ns ++ a ∷ []) ≡ contains b ns
 contains-other a b ns apart = list_any-append (λ m. m == b) ns (a ∷ []) ∙ rw apart (or-false (contains b ns))
-
-or_right : (x y : Bool) → y ≡ true → (x || y) ≡ true
-or_right true y e = refl
-or_right false y e = e
-
-or_left : (x y : Bool) → x ≡ true → (x || y) ≡ true
-or_left x y e = rw e refl
 
 -- ---- the actor dies
 

@@ -1,9 +1,9 @@
 -- What every history keeps, beside the laws of the rules: what a world may rely on.
-use Rattle.std.proofs.Common.{◌≡◌, ℕ, zero, suc, ◌+◌, ◌-◌, ◌<◌, ◌≤◌, Bool, true, false, cond, List, [], ◌∷◌, ◌++◌, length, Some, None, inl, inr, refl, ap, sym, ◌∙◌, subst, arith, length-append}
+use Rattle.std.proofs.Common.{◌≡◌, ℕ, zero, suc, ◌+◌, ◌<◌, ◌≤◌, Bool, true, false, cond, List, [], ◌∷◌, ◌++◌, length, Some, None, inl, inr, refl, ap, sym, ◌∙◌, subst, arith, length-append}
 use Rattle.std.specs.Prelude.{Option, ◌==◌, ◌||◌, filter, find, slice_get, option_map, is_some, nat_lt, nat_le}
 use Rattle.std.specs.List.{AllByRecursion, list_all, list_any}
 use Rattle.std.proofs.Math.Bool.{or-false}
-use Rattle.std.proofs.lemmas.Bool.{eqb-true, eq-eqb, ltb-true}
+use Rattle.std.proofs.lemmas.Bool.{eqb-true, eq-eqb, ltb-true, or_right}
 use Rattle.std.proofs.lemmas.Bool.Decides.{leb_tells}
 use Rattle.std.proofs.lemmas.List.{append-nil}
 use Rattle.std.proofs.lemmas.List.Folds.{list_any-append}
@@ -23,16 +23,15 @@ use Rattle.act_rules.specs.declared.outcome.SubmitRefusal.TheVariants.{NoActor a
 use Rattle.act_rules.specs.declared.outcome.WorldRefusal.TheVariants.{Submit as SubmitRefused, NoCaller, Handle, NotDead}
 use Rattle.act_rules.specs.RunList.{items_of}
 use Rattle.act_rules.specs.Submissions.{calls_to, needs, copies_held, submit_refusal, limit_refusal, handle_refusal, is_earlier}
-use Rattle.act_rules.specs.History.{Casting, History, opening, contains, under, times, cast_of, names, is_caller, calls_of, copies_of, limit_of, runs_of, ran_count, has_letter, is_letter, is_dead, next_item}
+use Rattle.act_rules.specs.History.{Casting, History, opening, contains, under, cast_of, names, is_caller, calls_of, copies_of, limit_of, runs_of, ran_count, has_letter, is_letter, is_dead, next_item}
 use Rattle.act_rules.specs.Rules.{unanswered, submission_refusal, refusal_of, added, and_also, after_run, call_letter, is_last, after_all}
-use Rattle.act_rules.proofs.Lists.{All_more, All_weaker, All_at}
+use Rattle.act_rules.proofs.Lists.{All_more, All_weaker, All_at, option_map-none, option_or-none}
 use Rattle.act_rules.proofs.Steps.{IsKept, after_all_keeps}
 use Rattle.act_rules.proofs.Ended.{needs-none, under-push, run_needs}
 use Rattle.act_rules.proofs.Order.{IsNext, next_item_is}
 use Rattle.act_rules.proofs.Unique.{map-slice_get}
 use Rattle.act_rules.proofs.AsSubmitted.{filter-slice_get}
-use Rattle.act_rules.proofs.Retired.{option_map-none, option_or-none}
-use Rattle.act_rules.proofs.RanAll.{Retires, retires_step, AllNamed, world_retires}
+use Rattle.act_rules.proofs.RanAll.{Retires, retires_step, AllNamed, world_retires, copies_named}
 use Rattle.act_rules.proofs.Sound.{IsSound, sound_step, world_sound}
 
 -- ---- no caller submits too much
@@ -190,13 +189,6 @@ pub record AreNamed (h : History) : Type 0 where
   pub mail : AllByRecursion (IsNamedLetter h) h.mail
   pub posts : AllByRecursion (IsNamedPost h) h.posts
 
-copies_named : (c a : ℕ) (h : History) → is_some (copies_of c a h) ≡ true → names c (cast_of a h) ≡ true
-copies_named c a h e = go (names c (cast_of a h)) ((1 + times c a h.copied) - times c a h.released) e
-  where
-    go : (b : Bool) (n : ℕ) → is_some (cond b (Some n) None) ≡ true → b ≡ true
-    go true n e = refl
-    go false n e = cc
-
 release_needs : (h : History) (c a : ℕ) → refusal_of h (Release c a) ≡ None → is_some (copies_of c a h) ≡ true
 release_needs h c a e =
     let copies = copies_of c a h in
@@ -242,14 +234,10 @@ named_step h (TakeKill a) all named accepted = record { mail = named.mail; posts
 named_step h (Tell a c) all named accepted = record { mail = named.mail; posts = All_more (IsNamedPost h) h.posts (DeathPost c a) named.posts (tell_names h a c accepted) }
 named_step h (Retire a) all named accepted = record { mail = named.mail; posts = named.posts }
 
-or_either : (x y : Bool) → y ≡ true → (x || y) ≡ true
-or_either true y f = refl
-or_either false y f = f
-
 named_here : (c : ℕ) (cast : Casting) (casts : List Casting) (found : Option Casting) (here : Bool) → (names c found ≡ true → list_any (λ (one : Casting). contains c one.callers) casts ≡ true)
     → names c (cond here (Some cast) found) ≡ true → (contains c cast.callers || list_any (λ (one : Casting). contains c one.callers) casts) ≡ true
 named_here c cast casts found true rest e = rw e refl
-named_here c cast casts found false rest e = or_either (contains c cast.callers) (list_any (λ (one : Casting). contains c one.callers) casts) (rest e)
+named_here c cast casts found false rest e = or_right (contains c cast.callers) (list_any (λ (one : Casting). contains c one.callers) casts) (rest e)
 
 named_among : (c a : ℕ) (casts : List Casting) → names c (find (λ (cast : Casting). cast.actor == a) casts) ≡ true → list_any (λ (cast : Casting). contains c cast.callers) casts ≡ true
 named_among c a [] e = cc

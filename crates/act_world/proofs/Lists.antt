@@ -1,25 +1,12 @@
 -- Laws of lists: what stands at a place, what is written there, and what a filter leaves.
-use Rattle.std.proofs.Common.{◌≡◌, ◌≢◌, ℕ, zero, suc, true, false, List, [], ◌∷◌, length, Some, inl, inr, refl, ap, sym, ◌∙◌, ◌≤◌, Bool, cond, arith}
-use Rattle.std.specs.Prelude.{slice_get, slice_set, ◌==◌, filter, take, zip}
-use Rattle.std.proofs.lemmas.Bool.{eq-eqb, ne_eqb}
-use Rattle.std.proofs.lemmas.Bool.Decides.{eqb_tells}
-
-pub eq_turned : (m n : ℕ) → (m == n) ≡ (n == m)
-eq_turned m n = elim (eqb_tells m n) [
-  | inl t ↦ t.0 ∙ sym (eq-eqb n m (sym t.1))
-  | inr f ↦ f.0 ∙ sym (ne_eqb n m (λ same. f.1 (sym same)))
-]
+use Rattle.std.proofs.Common.{◌≡◌, ◌≢◌, ℕ, zero, suc, true, false, List, [], ◌∷◌, length, Some, refl, ap, sym, Bool, cond}
+use Rattle.std.specs.Prelude.{slice_get, slice_set, filter, take, zip}
 
 pub zip_at : {X Y : Type 0} (xs : List X) (ys : List Y) (j : ℕ) (x : X) (y : Y) → slice_get xs j ≡ Some x → slice_get ys j ≡ Some y → slice_get (zip xs ys) j ≡ Some (x, y)
 zip_at [] ys j x y e f = cc
 zip_at (z ∷ xs) [] j x y e f = cc
 zip_at (z ∷ xs) (w ∷ ys) zero x y e f = let one : z ≡ x = cc in let two : w ≡ y = cc in rw (one, two) refl
 zip_at (z ∷ xs) (w ∷ ys) (suc j) x y e f = zip_at xs ys j x y e f
-
-pub zip_long : {X Y : Type 0} (xs : List X) (ys : List Y) → length ys ≡ length xs → length (zip xs ys) ≡ length xs
-zip_long [] ys e = refl
-zip_long (x ∷ xs) [] e = absurd (cc)
-zip_long (x ∷ xs) (y ∷ ys) e = ap suc (zip_long xs ys (omega arith))
 
 -- where an element of a filtered list stands in the list, and how many pass before it
 pub record IsRanked {A : Type 0} (p : A → Bool) (xs : List A) (n : ℕ) (x : A) : Type 0 where
@@ -35,14 +22,6 @@ filter_rank {A = A} p (y ∷ xs) n x e = go (p y) refl n (λ (m : ℕ). filter_r
     go true passes zero rest e = record { place = zero; at = e; rank_is = refl }
     go true passes (suc m) rest e = record { place = suc (rest m e).place; at = (rest m e).at; rank_is = rw passes (ap suc (rest m e).rank_is) }
     go false passes n rest e = record { place = suc (rest n e).place; at = (rest n e).at; rank_is = rw passes (rest n e).rank_is }
-
-pub length-filter_least : {X : Type 0} (p : X → Bool) (xs : List X) → length (filter p xs) ≤ length xs
-length-filter_least p [] = omega arith
-length-filter_least p (x ∷ xs) = go (p x) (length-filter_least p xs)
-  where
-    go : (b : Bool) → length (filter p xs) ≤ length xs → length (cond b (x ∷ filter p xs) (filter p xs)) ≤ suc (length xs)
-    go true less = omega arith
-    go false less = omega arith
 
 pub get_set-same : {X : Type 0} (xs : List X) (i : ℕ) (x y : X) → slice_get xs i ≡ Some x → slice_get (slice_set xs i y) i ≡ Some y
 get_set-same [] i x y e = cc

@@ -1,9 +1,8 @@
 -- What an event of a caller leaves in place.
-use Rattle.std.proofs.Common.{◌≡◌, ◌≢◌, ℕ, ◌+◌, Bool, true, false, cond, List, [], ◌∷◌, ◌++◌, length, Some, None, Ok, Err, refl, ap, sym, ◌∙◌, subst, arith, length-append, get_or}
-use Rattle.std.specs.Prelude.{Option, ◌==◌, ◌&&◌, find, position, slice_get, slice_set, option_map, option_and_then, unwrap_or}
+use Rattle.std.proofs.Common.{◌≡◌, ◌≢◌, ℕ, ◌+◌, Bool, true, false, List, [], ◌∷◌, ◌++◌, length, Some, None, Ok, Err, refl, ap, sym, ◌∙◌, subst, arith, get_or}
+use Rattle.std.specs.Prelude.{Option, find, position, slice_get, slice_set, option_map, option_and_then, unwrap_or}
 use Rattle.std.proofs.lemmas.Bool.{eq-eqb, ne_eqb}
 use Rattle.std.proofs.lemmas.List.{set-get_or, append-nil}
-use Rattle.std.proofs.lemmas.List.Elements.{filter-append}
 use Rattle.act_rules.specs.declared.history.Submission.{Submission}
 use Rattle.act_rules.specs.declared.history.Letter.TheVariants.{Call as CallLetter}
 use Rattle.act_rules.specs.declared.event.Event.{Event}
@@ -15,6 +14,7 @@ use Rattle.act_rules.specs.History.{History, contains, under, times, is_caller, 
 use Rattle.act_rules.specs.Rules.{refusal_of, outcome_of, after, was_sent}
 use Rattle.act_rules.proofs.Growth.{Grows}
 use Rattle.act_rules.proofs.Ended.{under-push}
+use Rattle.act_rules.proofs.Retired.{times-push}
 use Rattle.act_handles.specs.Handles.{copies_in, or_else}
 use Rattle.act_owner.specs.Owner.{OwnerValue}
 use Rattle.act_world.specs.Exchange.{ExchangeValue, is_owner}
@@ -114,15 +114,6 @@ sent_stays h g c k None calls mail = refl
 sent_stays h g c k (Some call) calls mail = rw calls (mail call.actor (number_of call.actor k (calls_of c h)))
 
 -- ---- the copies of one handle
-
--- one pair more counts for its caller and its actor alone
-pub times-push : (c a d b : ℕ) (pairs : List (ℕ × ℕ)) → times c a (pairs ++ (d, b) ∷ []) ≡ times c a pairs + cond ((d == c) && (b == a)) 1 0
-times-push c a d b pairs =
-    rw (filter-append (λ (pair : ℕ × ℕ). (pair.0 == c) && (pair.1 == a)) pairs ((d, b) ∷ []), length-append) (go ((d == c) && (b == a)))
-  where
-    go : (same : Bool) → times c a pairs + length {A = ℕ × ℕ} (cond same ((d, b) ∷ []) []) ≡ times c a pairs + cond same 1 0
-    go true = refl
-    go false = refl
 
 pub times-same : (c a : ℕ) (pairs : List (ℕ × ℕ)) → times c a (pairs ++ (c, a) ∷ []) ≡ times c a pairs + 1
 times-same c a pairs = times-push c a c a pairs ∙ rw (eq-eqb c c refl, eq-eqb a a refl) refl

@@ -1,5 +1,5 @@
 -- The callers at the opening.
-use Rattle.std.proofs.Common.{◌≡◌, ◌≢◌, ℕ, zero, suc, ◌+◌, ◌<◌, Bool, true, false, List, [], ◌∷◌, ◌++◌, length, map, filter, take, Option, Some, None, is_some, All, AllPairs, get_or, inl, inr, refl, ap, sym, ◌∙◌, subst, arith}
+use Rattle.std.proofs.Common.{◌≡◌, ◌≢◌, ℕ, suc, ◌+◌, ◌<◌, Bool, true, false, List, [], ◌∷◌, ◌++◌, length, map, filter, take, Option, Some, None, is_some, All, AllPairs, get_or, inl, inr, refl, ap, sym, ◌∙◌, subst, arith}
 use Rattle.std.specs.Prelude.{◌==◌, ◌||◌, if◌then◌else◌, find, position, option_and_then, unwrap_or, slice_get, replicate}
 use Rattle.std.specs.Option.{option_or}
 use Rattle.std.proofs.lemmas.Bool.Decides.{eqb_tells}
@@ -13,10 +13,11 @@ use Rattle.act_types.specs.KindState.{KindState}
 use Rattle.act_rules.specs.Submissions.{IsLimit}
 use Rattle.act_rules.specs.History.{opening, contains, cast_of, names, limit_of, is_caller}
 use Rattle.act_handles.proofs.Lookups.{copies-opened, given-opened}
-use Rattle.act_inbox.proofs.Finding.{find-Some, find-None}
+use Rattle.act_rules.proofs.Finding.{find-Some, find-None}
 use Rattle.act_actor.specs.declared.cast.Cast.{Cast}
 use Rattle.act_actor.specs.Cast.{ActorsDiffer}
 use Rattle.act_owner.specs.Owner.{OwnerValue, opened_with, limit_of as limit_known}
+use Rattle.act_owner.proofs.Told.{none_dead}
 use Rattle.act_world.specs.Value.{is_owner}
 use Rattle.act_world.specs.Ties.{IsOwnerAt, IsOwnerOf}
 use Rattle.act_actor.specs.Casts.{casting, limited, callers_named, actors_naming, limits_naming}
@@ -201,14 +202,8 @@ caller_named state c [] = refl
 caller_named state c (cast ∷ casts) =
     list_any-append (λ m. m == c) cast.callers (callers_named casts) ∙ ap (λ b. contains c cast.callers || b) (caller_named state c casts)
 
--- of which no mark is set
-no_mark : (count a : ℕ) → unwrap_or (slice_get (replicate count false) a) false ≡ false
-no_mark zero a = refl
-no_mark (suc count) zero = refl
-no_mark (suc count) (suc a) = no_mark count a
-
 pub nothing_asked : (a : ℕ) → unwrap_or (slice_get (replicate 9 false) a) false ≡ false
-nothing_asked a = no_mark 9 a
+nothing_asked a = none_dead 9 a
 
 owner_opened : {K : Type 0} (state : K → KindState) (c : ℕ) (casts : List (Cast K)) → ActorsDiffer casts → IsOwnerOf (opening (map (casting state) casts)) c (opened_with c (limits_naming c casts))
 owner_opened state c casts differ = record {
@@ -220,7 +215,7 @@ owner_opened state c casts differ = record {
   marks = refl;
   sent = λ k. refl;
   kept = refl;
-  deaths = λ a. no_mark 9 a;
+  deaths = λ a. none_dead 9 a;
 }
 
 pub owners_opened : {K : Type 0} (state : K → KindState) (casts : List (Cast K)) (owners : List OwnerValue) → ActorsDiffer casts → HasOwners casts (callers_named casts) owners → (c : ℕ) → IsOwnerAt (opening (map (casting state) casts)) c (find (is_owner c) owners)

@@ -15,6 +15,7 @@ use Rattle.act_rules.specs.Rules.{after_run}
 use Rattle.act_rules.proofs.Growth.{after_run_grows}
 use Rattle.act_rules.proofs.Ended.{under-push, ended_by}
 use Rattle.act_rules.proofs.Letters.{IsSoundLetter, has_letter-sound}
+use Rattle.act_rules.proofs.RunLists.{state_after-push}
 use Rattle.act_inbox.specs.Inbox.{handed_of, waiting}
 use Rattle.act_actor.specs.Value.{ActorSeen}
 use Rattle.act_actor.specs.Actor.{item_of, HasRun}
@@ -52,10 +53,6 @@ count_then h a c d item mine =
 
     go : (d == c) ≡ (c == d) → cond (d == c) (ran_count d a h + 1) (ran_count d a h) ≡ ran_count d a h + length {A = RunItem} (cond (item.caller == d) (item ∷ []) [])
     go e = ap (λ (b : Bool). cond b (ran_count d a h + 1) (ran_count d a h)) (e ∙ ap (λ (x : ℕ). x == d) (sym mine)) ∙ by (item.caller == d)
-
-state_push : (state : KindState) (items : List RunItem) (item : RunItem) → state_after state (items ++ item ∷ []) ≡ (after_item (state_after state items) item).0
-state_push state [] item = refl
-state_push state (first ∷ items) item = state_push (after_item state first).0 items item
 
 -- what is held of the other calls stays
 held_then : (h : History) (a c d n : ℕ) (item : RunItem) → IsLawful h → item.caller ≡ c
@@ -103,7 +100,7 @@ live_ran h a c packet live new lawful is ran on = record {
   runs = ended_by_last h a (runs_of a (ran_on h a c (item_of packet))) is.runs ∙ ap has_terminated (sym (log_ran h a c packet live new is ran)) ∙ on;
   id = ran.id ∙ is.id;
   log = log_ran h a c packet live new is ran;
-  state = ran.state ∙ ap (λ (state : KindState). (after_item state (item_of packet)).0) is.state ∙ sym (state_push is.cast.opening (runs_of a h) (item_of packet))
+  state = ran.state ∙ ap (λ (state : KindState). (after_item state (item_of packet)).0) is.state ∙ sym (state_after-push is.cast.opening (runs_of a h) (item_of packet))
       ∙ ap (state_after is.cast.opening) (sym (runs_here h a c (item_of packet)));
   listed = λ d. ran.taken.listed d ∙ is.listed d;
   handed = handed;

@@ -1,5 +1,5 @@
 -- The reply of a call that ran.
-use Rattle.std.proofs.Common.{◌≡◌, ℕ, List, [], ◌∷◌, ◌++◌, length, Some, ap, sym, ◌∙◌}
+use Rattle.std.proofs.Common.{◌≡◌, ℕ, List, length, Some, ap, sym, ◌∙◌}
 use Rattle.std.specs.Prelude.{Option, slice_get, option_map, option_and_then}
 use Rattle.act_types.specs.KindState.{KindState}
 use Rattle.act_types.specs.declared.message.Packet.{Packet}
@@ -7,21 +7,15 @@ use Rattle.act_types.specs.declared.message.Reply.{Reply}
 use Rattle.act_types.specs.declared.message.Notice.TheVariants.{Answered}
 use Rattle.act_rules.specs.declared.history.RunItem.{RunItem}
 use Rattle.act_rules.specs.declared.history.Post.TheVariants.{Reply as ReplyPost}
-use Rattle.act_rules.specs.RunList.{Answer, after_item, answers_from, answer_at, state_after}
+use Rattle.act_rules.specs.RunList.{Answer, after_item, answer_at, state_after}
 use Rattle.act_rules.specs.History.{Casting, History, runs_of, answer_of}
 use Rattle.act_rules.proofs.Lists.{slice_get_last}
-use Rattle.act_rules.proofs.Kept.{answers_from-append, length-answers_from}
+use Rattle.act_rules.proofs.RunLists.{answer_at-push}
 use Rattle.act_actor.specs.Value.{ActorSeen}
 use Rattle.act_actor.specs.Actor.{item_of, reply_to}
 use Rattle.act_world.specs.declared.exchange.Posted.{Posted}
 use Rattle.act_world.specs.Ties.{reply_as, reply_at, posted, IsLive}
 use Rattle.act_world.proofs.RanOn.{ran_on, runs_here}
-
-last_answer : (state : KindState) (items : List RunItem) (item : RunItem) → answer_at state (items ++ item ∷ []) (length items) ≡ Some (after_item (state_after state items) item).1
-last_answer state items item =
-    ap (λ (answers : List Answer). slice_get answers (length items)) (answers_from-append state items (item ∷ []))
-    ∙ ap (λ (n : ℕ). slice_get (answers_from state items ++ (after_item (state_after state items) item).1 ∷ []) n) (sym (length-answers_from state items))
-    ∙ slice_get_last (answers_from state items) (after_item (state_after state items) item).1
 
 -- what the reply tells stands in the history after the run
 pub reply_posted : (h : History) (a c : ℕ) (packet : Packet) (live : ActorSeen) → IsLive h a live → packet.caller ≡ c
@@ -51,7 +45,7 @@ reply_posted h a c packet live is mine =
     answered =
         ap (λ (o : Option Casting). option_and_then (λ (state : KindState). answer_at state (runs_of a g) place) (option_map (λ (cast : Casting). cast.opening) o)) is.cast_is
         ∙ ap (λ (items : List RunItem). answer_at is.cast.opening items place) (runs_here h a c item)
-        ∙ last_answer is.cast.opening (runs_of a h) item
+        ∙ answer_at-push is.cast.opening (runs_of a h) item
 
     same : reply_as c a place item answer ≡ reply_to live packet
     same =

@@ -3,7 +3,7 @@ use Rattle.std.proofs.Common.{◌≡◌, ◌≢◌, ℕ, ◌<◌, Bool, true, fa
 use Rattle.std.specs.Prelude.{Option, Ok, Err, ◌==◌, ◌||◌, not, slice_get, slice_set, is_some}
 use Rattle.std.specs.List.{list_all}
 use Rattle.std.proofs.Math.Bool.{or-false}
-use Rattle.std.proofs.lemmas.Bool.{eqb-true, eq-eqb, ne_eqb, and_parts, and_from, or_parts}
+use Rattle.std.proofs.lemmas.Bool.{eqb-true, eq-eqb, ne_eqb, and_parts, and_from, or_parts, or_right}
 use Rattle.std.proofs.lemmas.List.{map-set}
 use Rattle.std.proofs.lemmas.List.Folds.{list_any-append}
 use Rattle.act_rules.specs.declared.event.Event.TheVariants.{Retire}
@@ -28,16 +28,13 @@ use Rattle.act_world.proofs.Lawful.{IsLawful, world_lawful}
 use Rattle.act_world.proofs.Frames.{same_caller, owners_stay, still_lives, stage_stays}
 use Rattle.act_world.proofs.Changes.{refused_follows, accepted_follows, stages_change, slot_within}
 use Rattle.act_world.proofs.Lists.{set-same}
+use Rattle.act_world.proofs.Killing.{contains-last}
 
 -- ---- drained, as the actor and as the history tells
 
-or_second : (x y : Bool) → y ≡ true → (x || y) ≡ true
-or_second true y e = refl
-or_second false y e = e
-
 all_from_each : (p : ℕ → Bool) (cs : List ℕ) → ((c : ℕ) → contains c cs ≡ true → p c ≡ true) → list_all p cs ≡ true
 all_from_each p [] each = refl
-all_from_each p (x ∷ cs) each = and_from (p x) (list_all p cs) (each x (rw (eq-eqb x x refl) refl)) (all_from_each p cs (λ c e. each c (or_second (x == c) (contains c cs) e)))
+all_from_each p (x ∷ cs) each = and_from (p x) (list_all p cs) (each x (rw (eq-eqb x x refl) refl)) (all_from_each p cs (λ c e. each c (or_right (x == c) (contains c cs) e)))
 
 each_of_all : (p : ℕ → Bool) (cs : List ℕ) → list_all p cs ≡ true → (c : ℕ) → contains c cs ≡ true → p c ≡ true
 each_of_all p [] all c e = cc
@@ -84,9 +81,6 @@ retire_refusal h a known ended drained e f g =
 abbrev without : History → ℕ → History
 without h a = record h { retired = h.retired ++ a ∷ [] }
 
-retired_last : (a : ℕ) (retired : List ℕ) → contains a (retired ++ a ∷ []) ≡ true
-retired_last a retired = list_any-append (λ m. m == a) retired (a ∷ []) ∙ or_second (contains a retired) ((a == a) || false) (rw (eq-eqb a a refl) refl)
-
 retired_other : (a b : ℕ) (retired : List ℕ) → a ≢ b → contains b (retired ++ a ∷ []) ≡ contains b retired
 retired_other a b retired apart =
     list_any-append (λ m. m == b) retired (a ∷ [])
@@ -98,7 +92,7 @@ live_retired h a live retired is same = record {
   cast = is.cast;
   cast_is = is.cast_is;
   lived = (or_parts (is_dead a h) (is_retired a h) is.runs).0;
-  ended = retired_last a h.retired;
+  ended = contains-last a h.retired;
   id = ap (λ (r : RetiredSeen). r.id) same ∙ is.id;
   log = ap (λ (r : RetiredSeen). r.log) same ∙ is.log;
   state = ap (λ (r : RetiredSeen). r.state) same ∙ is.state;

@@ -22,15 +22,16 @@ use Rattle.act_rules.specs.declared.outcome.WorldRefusal.TheVariants.{NoCaller, 
 use Rattle.act_rules.specs.Submissions.{needs, calls_to, number_of, copies_held, submit_refusal, limit_refusal, is_earlier}
 use Rattle.act_rules.specs.History.{History, is_caller, calls_of, limit_of, first_answer, has_letter}
 use Rattle.act_rules.specs.Rules.{unanswered, submission_refusal as history_refusal, refusal_of, outcome_of, was_sent, added, after}
-use Rattle.act_rules.proofs.Lists.{slice_get_more}
+use Rattle.act_rules.proofs.Lists.{slice_get_more, option_or-none}
 use Rattle.act_rules.proofs.Ended.{needs-none, under-push}
 use Rattle.act_rules.proofs.Growth.{added_grows}
 use Rattle.act_rules.proofs.Letters.{IsSoundLetter, has_letter-sound}
-use Rattle.act_rules.proofs.Retired.{option_or-none, calls_to-push}
+use Rattle.act_rules.proofs.Retired.{calls_to-push}
 use Rattle.act_rules.proofs.Table.{kept_of-submitted, death_if, is_death_of, knows_dead}
 use Rattle.act_handles.specs.Handles.{copies_in, given_in, with_number}
 use Rattle.act_handles.proofs.Lookups.{copies-with_number, given-with_number, given-with_number-other}
 use Rattle.act_owner.specs.Owner.{OwnerValue, limit_of as limit_known, pending, submission_refusal, with_call}
+use Rattle.act_owner.proofs.Told.{calls_to-length}
 use Rattle.act_world.specs.Exchange.{ExchangeValue, is_owner}
 use Rattle.act_world.specs.Value.{SlotSeen}
 use Rattle.act_world.specs.Ties.{Ties, IsOwnerOf, is_death_to}
@@ -89,16 +90,6 @@ unset [] zero = refl
 unset [] (suc k) = refl
 unset (mark ∷ marks) zero = refl
 unset (mark ∷ marks) (suc k) = unset marks k
-
--- how many calls go to an actor, with and without their futures
-calls_to-length : (b n : ℕ) (calls : List Submission) → length (filter (λ (call : ℕ × Submission). call.1.actor == b) (enumerate_from n calls)) ≡ length (filter (λ (call : Submission). call.actor == b) calls)
-calls_to-length b n [] = refl
-calls_to-length b n (call ∷ calls) = go (call.actor == b) (calls_to-length b (n + 1) calls)
-  where
-    go : (to : Bool) → length (filter (λ (call : ℕ × Submission). call.1.actor == b) (enumerate_from (n + 1) calls)) ≡ length (filter (λ (call : Submission). call.actor == b) calls)
-        → length (cond to ((n, call) ∷ filter (λ (call : ℕ × Submission). call.1.actor == b) (enumerate_from (n + 1) calls)) (filter (λ (call : ℕ × Submission). call.1.actor == b) (enumerate_from (n + 1) calls))) ≡ length (cond to (call ∷ filter (λ (call : Submission). call.actor == b) calls) (filter (λ (call : Submission). call.actor == b) calls))
-    go true e = ap suc e
-    go false e = e
 
 -- no letter of a call that wasn't submitted is in the mail
 unsent : (h : History) (c b n : ℕ) → IsLawful h → length (calls_to b (calls_of c h)) ≤ n → has_letter (CallLetter c b n) h.mail ≡ false

@@ -1,6 +1,7 @@
 -- A dead actor that tells a caller its death.
 use Rattle.std.proofs.Common.{◌≡◌, ℕ, ◌+◌, Bool, true, false, List, [], ◌∷◌, ◌++◌, length, Some, None, refl, ap, sym, ◌∙◌, subst, Ok, Err, length-append}
 use Rattle.std.specs.Prelude.{◌||◌, find, slice_get}
+use Rattle.std.proofs.lemmas.Bool.{or_parts}
 use Rattle.act_types.specs.declared.message.Notice.TheVariants.{Death}
 use Rattle.act_rules.specs.declared.event.Event.TheVariants.{Tell}
 use Rattle.act_rules.specs.declared.history.Post.TheVariants.{Death as DeathPost}
@@ -27,13 +28,9 @@ use Rattle.act_world.proofs.Frames.{same_caller, owners_stay, mail_stays, replie
 pub unnamed : (h : History) (c a : ℕ) → cast_of a h ≡ None → names c (cast_of a h) ≡ false
 unnamed h c a e = ap (names c) e
 
-or_parts : (x y : Bool) → (x || y) ≡ false → x ≡ false
-or_parts true y e = cc
-or_parts false y e = refl
-
 -- the slot shows whether its actor is dead
 pub dead_is : (h : History) (c a : ℕ) (slot : SlotSeen) → IsStage h a (Some slot) → names c (cast_of a h) ≡ true → is_dead_seen slot ≡ is_dead a h
-dead_is h c a (Runs live) is named = sym (or_parts (is_dead a h) (is_retired a h) is.runs)
+dead_is h c a (Runs live) is named = sym (or_parts (is_dead a h) (is_retired a h) is.runs).0
 dead_is h c a (Died dead) is named = sym is.died
 dead_is h c a (Ended retired) is named = sym is.lived
 dead_is h c a Vacant is named = let none = unnamed h c a is in let bad : true ≡ false = sym named ∙ none in cc

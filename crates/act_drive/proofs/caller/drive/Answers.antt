@@ -1,5 +1,5 @@
 use Rattle.act_handles.specs.Handles.{actors_in}
-use Rattle.act_drive.proofs.Doings.{fresh_calling, fresh_follows, driven_of}
+use Rattle.act_drive.proofs.Done.{fresh_calling, fresh_follows, driven_of}
 use Rattle.act_drive.proofs.caller.drive.Goals as goal
 
 pub run-starved-requires : goal.run-starved-requires

@@ -2,12 +2,13 @@ use Rattle.std.proofs.Common.{rules, ◌≡◌, ℕ, suc, ◌++◌, ◌∷◌, [
 use Rattle.std.specs.List.{range_with_len}
 use Rattle.std.specs.Vec.Iter.{into_iter_items}
 use Rattle.std.proofs.lemmas.List.Elements.{All-push}
+use Rattle.std.proofs.lemmas.List.{nil_from_length}
 use Rattle.act_mailbox.specs.declared.control.Asked.{Asked}
 use Rattle.act_mailbox.specs.Passes.{PutterValue, new_putter}
 use Rattle.act_mailbox.specs.Controls.{ControlValue, starter}
 use Rattle.act_seats.specs.declared.seat.Seat.{Seat}
 use Rattle.act_executor.specs.Work.{IsUnusedStarter}
-use Rattle.act_executor.proofs.Starters.{next_seat, nothing, range_push, all_seated}
+use Rattle.act_executor.proofs.Starters.{next_seat, range_push, all_seated}
 use Rattle.act_executor.proofs.starter.seated.Goals as goal
 
 pub loop-pass-preserved : goal.loop-pass-preserved
@@ -31,5 +32,5 @@ loop-pass-preserved c =
 pub returns-clause-places : goal.returns-clause-places
 returns-clause-places c =
     let inv = c.loop-pass.invariant in
-    let none : into_iter_items c.loop-pass.pass-iterator ≡ [] = nothing _ (sym inv.long ∙ c.in-None.ensures.steps.0) in
+    let none : into_iter_items c.loop-pass.pass-iterator ≡ [] = nil_from_length _ (sym inv.long ∙ c.in-None.ensures.steps.0) in
     inv.places ∙ ap (range_with_len 0) (all_seated c.args.controls.now (length c.loop-pass.seats.items) (sym inv.left ∙ none) inv.short)

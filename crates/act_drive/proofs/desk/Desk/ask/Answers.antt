@@ -2,7 +2,7 @@ use Rattle.std.proofs.Common.{refl, rules, ◌≡◌, ℕ, ◌∙◌, ap, sym, s
 use Rattle.std.proofs.lemmas.List.{length_push}
 use Rattle.act_mailbox.specs.Controls.{ControlValue}
 use Rattle.act_drive.specs.Driven.{bare_ask, HasNamed}
-use Rattle.act_drive.proofs.Doings.{kills_asked, ask_refused, asked_stays, calling_asked, named_more}
+use Rattle.act_drive.proofs.Kills.{kills_asked, ask_refused, asked_stays, calling_asked, named_more}
 use Rattle.act_drive.proofs.desk.Desk.ask.Goals as goal
 
 pub returns-in-Ok-clause-asked : goal.returns-in-Ok-clause-asked

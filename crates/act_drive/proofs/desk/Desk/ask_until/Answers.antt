@@ -1,7 +1,7 @@
 use Rattle.std.proofs.Common.{refl, rules, ◌≡◌, true}
 use Rattle.act_owner.specs.Owner.{is_dead}
 use Rattle.act_drive.proofs.Desks.{stays_trans, waits_trans}
-use Rattle.act_drive.proofs.Doings.{kill_follows, kills_dead}
+use Rattle.act_drive.proofs.Kills.{kill_follows, kills_dead}
 use Rattle.act_drive.proofs.desk.Desk.ask_until.Goals as goal
 
 pub returns-then-is_dead-clause-follows : goal.returns-then-is_dead-clause-follows

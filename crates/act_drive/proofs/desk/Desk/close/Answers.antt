@@ -3,7 +3,7 @@ use Rattle.std.proofs.lemmas.List.{take_all, get_or_default}
 use Rattle.act_rules.specs.Submissions.{copies_held}
 use Rattle.act_handles.specs.Handles.{copies_in}
 use Rattle.act_mailbox.specs.Mails.{MailValue}
-use Rattle.act_drive.proofs.Doings.{winds_trans, none_more}
+use Rattle.act_drive.proofs.Closing.{winds_trans, none_more}
 use Rattle.act_drive.proofs.desk.Desk.close.Goals as goal
 
 pub loop-mail-preserved : goal.loop-mail-preserved

@@ -1,6 +1,6 @@
 use Rattle.std.proofs.Common.{arith}
 use Rattle.act_drive.proofs.Desks.{stays_trans}
-use Rattle.act_drive.proofs.Doings.{kills_long}
+use Rattle.act_drive.proofs.Kills.{kills_long}
 use Rattle.act_drive.proofs.desk.Desk.end_all.Goals as goal
 
 pub end-is_ended-requires : goal.end-is_ended-requires

@@ -2,7 +2,7 @@ use Rattle.std.proofs.Common.{rules, arith, ◌≡◌, ◌<◌, ◌∙◌, ap, �
 use Rattle.act_rules.specs.Submissions.{copies_held}
 use Rattle.act_handles.specs.Handles.{copies_in}
 use Rattle.act_handles.specs.declared.handles.Handle.{Handle}
-use Rattle.act_drive.proofs.Doings.{winds_trans, one_gone}
+use Rattle.act_drive.proofs.Closing.{winds_trans, one_gone}
 use Rattle.act_drive.proofs.desk.Desk.let_go.Goals as goal
 
 pub loop-gone-preserved : goal.loop-gone-preserved

@@ -4,7 +4,10 @@ use Rattle.act_owner.specs.Life.{Released}
 use Rattle.act_handles.specs.Handles.{copies_in, without_copy}
 use Rattle.act_types.specs.declared.message.ReleaseNote.{ReleaseNote}
 use Rattle.act_mailbox.specs.declared.mail.Letter.TheVariants.{Note}
-use Rattle.act_drive.proofs.Doings.{calling_step, calling_noted, last_of, ended_released, release_follows, released_winds, note_stays, not_last}
+use Rattle.act_drive.proofs.OwnChanges.{calling_step, ended_released}
+use Rattle.act_drive.proofs.PlanSteps.{release_follows}
+use Rattle.act_drive.proofs.Notes.{calling_noted, last_of, note_stays, not_last}
+use Rattle.act_drive.proofs.Closing.{released_winds}
 use Rattle.act_drive.proofs.Keeps.{release_returns}
 use Rattle.act_drive.proofs.desk.Desk.release.Goals as goal
 

@@ -2,7 +2,7 @@ use Rattle.std.proofs.Common.{◌≡◌, ◌++◌, ◌∷◌, [], List, append_a
 use Rattle.std.specs.Vec.Iter.{into_iter_items}
 use Rattle.act_rules.specs.declared.script.Step.{Step}
 use Rattle.act_drive.proofs.Desks.{stays_trans}
-use Rattle.act_drive.proofs.Doings.{not_bad, follows_waits}
+use Rattle.act_drive.proofs.PlanSteps.{not_bad, follows_waits}
 use Rattle.act_drive.proofs.desk.Desk.steps.Goals as goal
 
 pub loop-step-preserved : goal.loop-step-preserved

@@ -1,6 +1,8 @@
 use Rattle.std.proofs.Common.{refl}
 use Rattle.act_owner.specs.Life.{Submitted}
-use Rattle.act_drive.proofs.Doings.{calling_step, submit_flags, ended_submitted, submit_follows}
+use Rattle.act_drive.proofs.OwnChanges.{calling_step, ended_submitted}
+use Rattle.act_drive.proofs.PlanSteps.{submit_follows}
+use Rattle.act_drive.proofs.Notes.{submit_flags}
 use Rattle.act_drive.proofs.Keeps.{submit_returns}
 use Rattle.act_drive.proofs.desk.Desk.submit_in_room.Goals as goal
 

@@ -1,4 +1,5 @@
-use Rattle.act_drive.proofs.Doings.{done_of, follows_waits}
+use Rattle.act_drive.proofs.PlanSteps.{follows_waits}
+use Rattle.act_drive.proofs.Done.{done_of}
 use Rattle.act_drive.proofs.desk.Desk.whole.Goals as goal
 
 pub returns-clause-done : goal.returns-clause-done

@@ -1,5 +1,5 @@
 use Rattle.std.proofs.Common.{Some, ap, sym, ◌∙◌}
-use Rattle.act_inbox.proofs.Finding.{find-Some, find-None}
+use Rattle.act_rules.proofs.Finding.{find-Some, find-None}
 use Rattle.act_world.specs.Exchange.{is_owner}
 use Rattle.act_world.proofs.exchange.Exchange.owner.Goals as goal
 

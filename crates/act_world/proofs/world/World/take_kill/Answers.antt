@@ -1,13 +1,12 @@
 use Rattle.std.proofs.Common.{rules, ◌≡◌, List, length, map, Some, ap, sym, ◌∙◌, subst, slice_set}
 use Rattle.std.specs.Prelude.{slice_get, option_map}
-use Rattle.std.proofs.lemmas.Option.{slice_get_read}
+use Rattle.std.proofs.lemmas.Option.{slice_get_read, slice_get-map}
 use Rattle.std.proofs.lemmas.List.{map-set}
 use Rattle.std.proofs.lemmas.Result.{on_err_weaker}
 use Rattle.std.proofs.Math.Seq.{map-set_same}
 use Rattle.act_rules.specs.declared.event.Event.TheVariants as event
 use Rattle.act_rules.specs.Laws.{history}
 use Rattle.act_rules.specs.Rules.{outcome_of, after}
-use Rattle.act_rules.proofs.Lists.{slice_get-map}
 use Rattle.act_world.specs.Value.{SlotSeen, slot_seen, world_seen}
 use Rattle.act_world.specs.Slots.{killed}
 use Rattle.act_world.specs.Ties.{Ties}

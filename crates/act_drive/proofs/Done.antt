@@ -1,0 +1,134 @@
+-- A plan that is done, and the opening.
+use Rattle.std.proofs.Common.{◌≡◌, ◌≢◌, ℕ, zero, suc, ◌+◌, ◌-◌, ◌<◌, ◌==◌, ◌⊎◌, Bool, true, false, if◌then◌else◌, ◌||◌, List, [], ◌∷◌, ◌++◌, length, Option, Some, None, is_some, get_or, refl, sym, ◌∙◌, ap, subst, arith, rules, All, AllPairs, Contains, append-nil, option_to_list, inl, inr}
+use Rattle.std.specs.List.{list_any, list_all}
+use Rattle.std.proofs.lemmas.Bool.{or_right}
+use Rattle.std.proofs.lemmas.List.Elements.{All-weaker}
+use Rattle.act_types.specs.declared.message.Notice.{Notice}
+use Rattle.act_types.specs.declared.message.Notice.TheVariants.{Death}
+use Rattle.act_rules.specs.RunList.{Answer}
+use Rattle.act_rules.specs.declared.script.Step.{Step}
+use Rattle.act_rules.specs.Plans.{Progress, holds, occurrences, done_by, nothing_done}
+use Rattle.act_rules.specs.Submissions.{copies_held, kept_at}
+use Rattle.act_handles.specs.Handles.{copies_in, actors_in}
+use Rattle.act_handles.specs.declared.handles.Handle.{Handle}
+use Rattle.act_handles.proofs.Lookups.{copies-opened}
+use Rattle.act_owner.specs.Owner.{OwnerValue}
+use Rattle.act_owner.specs.Life.{after, Hears}
+use Rattle.act_owner.proofs.Told.{hears_opened}
+use Rattle.act_mailbox.specs.Passes.{PutterValue}
+use Rattle.act_mailbox.specs.Mails.{MailValue}
+use Rattle.act_mailbox.specs.declared.control.Asked.{Asked}
+use Rattle.act_mailbox.specs.declared.mail.Letter.{Letter}
+use Rattle.act_seats.specs.declared.seat.Seat.{Seat}
+use Rattle.act_drive.specs.declared.desk.CallerLines.{CallerLines}
+use Rattle.act_drive.specs.declared.desk.Desk.{Desk}
+use Rattle.act_drive.specs.declared.desk.CallerPasses.{CallerPasses}
+use Rattle.act_drive.specs.Driven.{IsSeat, IsPosting, IsCalling, Stays, Waits, Follows, HasAsked, Winds, IsFresh, IsFreshSeat, HasDone, HasDriven, futures_in, last_note, IsKeeping, posted_in, IsIdle, IsDue, actor_of}
+use Rattle.act_drive.proofs.Keeps.{keeps_opened}
+use Rattle.act_drive.proofs.Desks.{posting_less}
+use Rattle.act_drive.proofs.PlanSteps.{kills_on}
+
+-- ---- a plan
+
+kept_all : (kept : List (Option Answer)) (k : ℕ) → list_all is_some kept ≡ true → k < length kept → is_some (kept_at kept k) ≡ true
+kept_all [] k all below = absurd (omega arith)
+kept_all (None ∷ kept) k all below = absurd (cc all)
+kept_all (Some answer ∷ kept) zero all below = refl
+kept_all (Some answer ∷ kept) (suc k) all below = kept_all kept k all (omega arith)
+
+any_at : (a : ℕ) (xs : List ℕ) (k : ℕ) → k < length xs → get_or xs k a ≡ a → list_any (λ b. b == a) xs ≡ true
+any_at a [] k below here = absurd (omega (arith, below))
+any_at a (x ∷ xs) zero below here = let same : (a == a) ≡ true = search rules in ap (λ (t : Bool). t || list_any (λ b. b == a) xs) (ap (λ (n : ℕ). n == a) here ∙ same)
+any_at a (x ∷ xs) (suc k) below here = or_right (x == a) _ (any_at a xs k (omega (arith, below)) here)
+
+listed_holds : (a : ℕ) (actors : List ℕ) (p : Progress) → Contains actors a → is_some (holds a actors p) ≡ true
+listed_holds a actors p has = ap (λ (t : Bool). is_some (if t then Some ((1 + occurrences a p.copied) - occurrences a p.released) else None)) (any_at a actors has.0 has.1 has.2)
+
+let_go_all : (copies : Option ℕ) → is_some copies ≡ true → copies_held copies ≡ 0 → copies ≡ Some 0
+let_go_all None some none = absurd (cc some)
+let_go_all (Some n) some none = ap Some none
+
+-- what was kept of what is due, with nothing in hand
+due_posted : (mails : List MailValue) (taken : List Notice) (seats : List (Seat (PutterValue Letter Unit))) (hand : Option Letter) (letter : Letter) → hand ≡ None → Contains (posted_in seats ++ option_to_list hand) letter ⊎ IsIdle mails taken seats (actor_of letter) → Contains (posted_in seats) letter ⊎ IsIdle mails taken seats (actor_of letter)
+due_posted mails taken seats hand letter empty is =
+    subst (λ (l : List Letter). Contains l letter ⊎ IsIdle mails taken seats (actor_of letter)) (ap (λ (h : Option Letter). posted_in seats ++ option_to_list h) empty ∙ append-nil (posted_in seats)) is
+
+-- at a seat nothing is idle but after the death
+note_posted : (mails : List MailValue) (taken : List Notice) (seats : List (Seat (PutterValue Letter Unit))) (letter : Letter) (a k : ℕ) (s : Seat (PutterValue Letter Unit)) (d : MailValue) → k < length seats → (get_or mails (get_or seats k s).place d).actor ≡ a → Contains (posted_in seats) letter ⊎ IsIdle mails taken seats a → Contains (posted_in seats) letter ⊎ Contains taken (Death a)
+note_posted mails taken seats letter a k s d below here (inl posted) = inl posted
+note_posted mails taken seats letter a k s d below here (inr (inl dead)) = inr dead
+note_posted mails taken seats letter a k s d below here (inr (inr apart)) = absurd (apart k s below d here)
+
+pub done_of : (lines : CallerLines) (actors : List ℕ) (plan : List Step) (one two three : Desk) → Winds one two → All (λ mail. copies_held (copies_in mail.actor two.owner.handles) ≡ 0) lines.mails.now → Waits two three → IsCalling lines three → list_all is_some three.owner.kept ≡ true → three.hand ≡ None
+    → Follows lines actors plan one → HasDone lines actors plan three.owner three.passes
+done_of lines actors plan one two three winds closed waits calling answered empty f =
+    let mails = lines.mails.now in
+    let taken = three.passes.collects.taken in
+    let seats = three.passes.letters.items in
+    let sent : (letter : Letter) → IsDue three.owner letter → Contains (posted_in seats) letter ⊎ IsIdle mails taken seats (actor_of letter) = λ letter due. due_posted mails taken seats three.hand letter empty (calling.keeps.due letter due) in
+    record {
+      calls = waits.calls ∙ winds.calls ∙ f.calls;
+      answered = λ k below. kept_all three.owner.kept k answered (let places = calling.places in omega (arith, below, places));
+      kills = subst (λ (v : List (Seat (PutterValue Asked ℕ))). All (HasAsked lines.controls.now plan taken) v) (sym (waits.kills ∙ winds.kills))
+          (kills_on lines.controls.now plan plan one.passes.collects.taken taken one.passes.kills.items (λ a. refl) (λ n has. waits.heard n (winds.heard n has)) f.kills);
+      sent = sent;
+      noted = λ k s below d listed.
+          let place = (get_or seats k s).place in
+          let a = (get_or mails place d).actor in
+          let some : is_some (copies_in a three.owner.handles) ≡ true =
+          ap (λ (h : List Handle). is_some (copies_in a h)) waits.handles ∙ (winds.handles a).0 ∙ ap (λ (o : Option ℕ). is_some o) (f.copies a) ∙ listed_holds a actors (done_by actors nothing_done plan) listed in
+          let none : copies_held (copies_in a three.owner.handles) ≡ 0 = ap (λ (h : List Handle). copies_held (copies_in a h)) waits.handles ∙ closed place d (calling.letters k s below).below in
+          note_posted mails taken seats (last_note three.owner a) a k s d below refl (sent (last_note three.owner a) (refl, let_go_all (copies_in a three.owner.handles) some none));
+    }
+
+-- ---- the opening
+
+posting_none : (owner : OwnerValue) (a : ℕ) → IsPosting owner a [] []
+posting_none owner a = record { sent = λ k e below. absurd (omega arith); distinct = λ i j e lt below. absurd (omega arith); marked = λ k e below. absurd (omega arith) }
+
+posting_fresh : (owner : OwnerValue) (a : ℕ) (put : List Letter) → put ≡ [] → IsPosting owner a [] put
+posting_fresh owner a put is = subst (λ (l : List Letter). IsPosting owner a [] l) (sym is) (posting_none owner a)
+
+pub fresh_calling : (lines : CallerLines) (owner : OwnerValue) (passes : CallerPasses) (noted : List Bool) → IsFresh lines owner passes → IsCalling lines (record { owner = owner; passes = passes; hand = None; noted = noted })
+fresh_calling lines owner passes noted fresh =
+    let actors = actors_in owner.handles in
+    record {
+      places = rw fresh.owner_is refl;
+      flags = rw fresh.owner_is refl;
+      hears = subst (λ (l : List Notice). Hears owner l) (sym fresh.unused.taken) (subst (λ (o : OwnerValue). Hears o []) (sym fresh.owner_is) (hears_opened owner.limits owner.id actors));
+      collects = fresh.unused.collects;
+      held = tt;
+      letters = All-weaker (IsFreshSeat lines.mails.now owner.id) (IsSeat lines.mails.now owner []) (λ seat s. record {
+        below = s.below;
+        line = s.line;
+        number = s.number;
+        posting = λ d. posting_fresh owner (get_or lines.mails.now seat.place d).actor seat.pass.put s.put;
+      }) passes.letters.items fresh.unused.letters;
+      kills = fresh.unused.kills;
+      keeps = rw fresh.unused.taken (subst (λ (o : OwnerValue). IsKeeping lines.mails.now o [] passes.letters.items []) (sym fresh.owner_is) (keeps_opened lines.mails.now owner.limits owner.id actors passes.letters.items));
+      names = λ k s below d. subst (λ (l : List Asked). All (λ kill. kill.note ≡ record { caller = owner.id; actor = (get_or lines.controls.now (get_or passes.kills.items k s).place d).actor }) l) (sym (fresh.unused.asked k s below)) (λ i e inside. absurd (omega arith));
+    }
+
+pub fresh_follows : (lines : CallerLines) (owner : OwnerValue) (passes : CallerPasses) (noted : List Bool) → IsFresh lines owner passes → Follows lines (actors_in owner.handles) [] (record { owner = owner; passes = passes; hand = None; noted = noted })
+fresh_follows lines owner passes noted fresh = record {
+  calls = ap (λ (o : OwnerValue). o.calls) fresh.owner_is;
+  copies = λ a. ap (λ (o : OwnerValue). copies_in a o.handles) fresh.owner_is ∙ copies-opened a (actors_in owner.handles);
+  kills = λ k s below d. inl (ap (λ (l : List Asked). length l) (fresh.unused.asked k s below));
+}
+
+pub driven_of : (lines : CallerLines) (plan : List Step) (starved : Bool) (start new : Desk) → IsCalling lines new → Stays start new → (starved ≡ false → HasDone lines (actors_in start.owner.handles) plan new.owner new.passes)
+    → HasDriven lines start.owner start.passes plan (record { owner = new.owner; starved = starved; passes = new.passes })
+driven_of lines plan starved start new calling stay done = record {
+  id = stay.id;
+  limits = stay.limits;
+  stay = stay.passes;
+  letters = λ k s below d.
+      let posting = (calling.letters k s below).posting d in
+      let less = posting_less new.owner _ (option_to_list new.hand) _ posting in (
+        less.sent,
+        subst (λ (l : List Letter). AllPairs (λ one other. one ≢ other) (futures_in l)) (append-nil (get_or new.passes.letters.items k s).pass.put) less.distinct,
+      );
+  hears = calling.hears;
+  names = calling.names;
+  done = done;
+}

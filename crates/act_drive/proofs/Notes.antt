@@ -1,0 +1,84 @@
+-- The mark of a call that is submitted, and the note of a last release.
+use Rattle.std.proofs.Common.{◌≡◌, ◌≢◌, ℕ, ◌-◌, ◌==◌, Bool, true, false, if◌then◌else◌, List, [], ◌∷◌, ◌++◌, length, Option, Some, None, Ok, refl, sym, ◌∙◌, ap, subst, arith, All, AllPairs, append-nil, option_to_list, length-append, inl, inr}
+use Rattle.std.specs.Prelude.{option_map}
+use Rattle.std.proofs.lemmas.Bool.Decides.{eqb_tells}
+use Rattle.std.proofs.lemmas.List.Elements.{All-weaker, filter_map-append}
+use Rattle.act_types.specs.declared.call.Method.{Method}
+use Rattle.act_types.specs.declared.call.Arg.{Arg}
+use Rattle.act_types.specs.declared.message.ReleaseNote.{ReleaseNote}
+use Rattle.act_rules.specs.declared.outcome.HandleRefusal.{HandleRefusal}
+use Rattle.act_rules.specs.Submissions.{calls_to, copies_held, handle_refusal}
+use Rattle.act_handles.specs.Handles.{copies_in, given_in, without_copy, or_else}
+use Rattle.act_handles.specs.declared.handles.Handle.{Handle}
+use Rattle.act_handles.proofs.Lookups.{copies-without_copy}
+use Rattle.act_owner.specs.Owner.{OwnerValue, is_sent, with_call, with_handles, release_note}
+use Rattle.act_owner.specs.Life.{Released, after, Hears}
+use Rattle.act_owner.proofs.Told.{hears_step}
+use Rattle.act_mailbox.specs.declared.mail.Letter.{Letter}
+use Rattle.act_mailbox.specs.declared.mail.Letter.TheVariants.{Note}
+use Rattle.act_drive.specs.declared.desk.CallerLines.{CallerLines}
+use Rattle.act_drive.specs.declared.desk.Desk.{Desk}
+use Rattle.act_drive.specs.Driven.{IsSent, IsSeat, IsPosting, IsCalling, Waits, GoesOn, futures_in, future_of, IsKeeping}
+use Rattle.act_drive.proofs.Keeps.{keeps_noted}
+use Rattle.act_drive.proofs.Desks.{change_on, seats_on, desk_same}
+use Rattle.act_drive.proofs.OwnChanges.{ended_released}
+
+pub ok_of : {X : Type 0} (refusal : Option HandleRefusal) (value x : X) → Ok x ≡ or_else refusal value → refusal ≡ None
+ok_of None value x is = refl
+ok_of (Some r) value x is = absurd (cc is)
+
+pub last_of : (refusal : Option HandleRefusal) (copies : ℕ) (last note : ReleaseNote) → Ok (Some note) ≡ or_else refusal (if copies == 1 then Some last else None) → (copies ≡ 1) × (note ≡ last)
+last_of (Some r) copies last note is = absurd (cc is)
+last_of None copies last note is = elim (eqb_tells copies 1) [
+  | inl t ↦ (t.1, cc (is, ap (λ (b : Bool). or_else None (if b then Some last else None)) t.0))
+  | inr f ↦ absurd (cc (is, ap (λ (b : Bool). or_else None (if b then Some last else None)) f.0))
+]
+
+pub submit_flags : (owner : OwnerValue) (a : ℕ) (method : Method) (args : List Arg) → length owner.sent ≡ length owner.calls → length (with_call owner a method args).sent ≡ length (with_call owner a method args).calls
+submit_flags owner a method args flags = omega (arith, flags, length-append owner.sent (false ∷ []), length-append owner.calls (record { actor = a; method = method; args = args } ∷ []))
+
+one_less : (copies : Option ℕ) → copies_held copies ≡ 1 → copies_held (option_map (λ n. n - 1) copies) ≡ 0
+one_less None is = omega (arith, is)
+one_less (Some n) is = omega (arith, is)
+
+posting_note : (owner : OwnerValue) (a : ℕ) (put : List Letter) (note : ReleaseNote) → IsPosting owner a [] put → IsPosting owner a (Note note ∷ []) put
+posting_note owner a put note is =
+    let all : futures_in (put ++ []) ≡ futures_in (put ++ Note note ∷ []) = ap (λ (l : List Letter). futures_in l) (append-nil put) ∙ sym (filter_map-append future_of put (Note note ∷ []) ∙ append-nil (futures_in put)) in
+    record {
+      sent = is.sent;
+      distinct = subst (λ (l : List ℕ). AllPairs (λ one other. one ≢ other) l) all is.distinct;
+      marked = subst (λ (l : List ℕ). All (λ k. is_sent owner k ≡ true) l) all is.marked;
+    }
+
+-- the last handle is let go, and its note is in hand
+pub calling_noted : (lines : CallerLines) (old new : Desk) (a : ℕ) (note : ReleaseNote) → new.owner ≡ with_handles old.owner (without_copy a old.owner.handles) → new.passes ≡ old.passes → old.hand ≡ None → new.hand ≡ Some (Note note) → note ≡ release_note old.owner a
+    → given_in a old.owner.handles ≡ length (calls_to a old.owner.calls) → copies_held (copies_in a old.owner.handles) ≡ 1 → IsCalling lines old → IsCalling lines new
+calling_noted lines old new a note is passes empty hand told given one calling =
+    let now : OwnerValue = with_handles old.owner (without_copy a old.owner.handles) in
+    let on : GoesOn old.owner now = change_on old.owner (Released a) calling.places (ended_released old.owner a) in
+    let seats : All (IsSeat lines.mails.now old.owner []) old.passes.letters.items = subst (λ (h : Option Letter). All (IsSeat lines.mails.now old.owner (option_to_list h)) old.passes.letters.items) empty calling.letters in
+    let kept : IsKeeping lines.mails.now old.owner old.passes.collects.taken old.passes.letters.items [] = subst (λ (h : Option Letter). IsKeeping lines.mails.now old.owner old.passes.collects.taken old.passes.letters.items (option_to_list h)) empty calling.keeps in
+    let last : note ≡ record { caller = old.owner.id; actor = a; after = length (calls_to a old.owner.calls) } = told ∙ ap (λ (n : ℕ). record { caller = old.owner.id; actor = a; after = n }) given in
+    let mine : IsSent now note.actor (Note note) = subst (λ (n : ReleaseNote). IsSent now n.actor (Note n)) (sym told)
+    (ap (λ (n : ℕ). record { caller = old.owner.id; actor = a; after = n }) given, ap copies_held (copies-without_copy a old.owner.handles) ∙ one_less (copies_in a old.owner.handles) one) in
+    let good : IsCalling lines (record { owner = now; passes = old.passes; hand = Some (Note note); noted = new.noted }) = record {
+      places = calling.places;
+      flags = calling.flags;
+      hears = subst (Hears now) (append-nil old.passes.collects.taken) (hears_step old.owner old.passes.collects.taken (Released a) calling.places calling.hears);
+      collects = calling.collects;
+      held = mine;
+      letters = All-weaker (IsSeat lines.mails.now now []) (IsSeat lines.mails.now now (Note note ∷ [])) (λ seat s. record { below = s.below; line = s.line; number = s.number; posting = λ d. posting_note now _ seat.pass.put note (s.posting d) }) old.passes.letters.items (seats_on lines.mails.now old.owner now [] old.passes.letters.items on seats);
+      kills = calling.kills;
+      keeps = keeps_noted lines.mails.now old.owner old.passes.collects.taken old.passes.letters.items a note (ap Note last) kept;
+      names = calling.names;
+    } in
+    subst (IsCalling lines) (sym (desk_same new _ _ _ is passes hand)) good
+
+pub note_stays : (old between : Desk) (a : ℕ) → Waits old between → release_note between.owner a ≡ release_note old.owner a
+note_stays old between a waits =
+    ap (λ (n : ℕ). record { caller = n; actor = a; after = given_in a between.owner.handles }) waits.stay.id ∙ ap (λ (h : List Handle). record { caller = old.owner.id; actor = a; after = given_in a h }) waits.handles
+
+pub not_last : (copies : Option ℕ) (last : ReleaseNote) → Ok None ≡ or_else (handle_refusal copies) (if copies_held copies == 1 then Some last else None) → copies ≡ Some 1 → ⊥
+not_last copies last told one =
+    let e : Ok None ≡ or_else (handle_refusal (Some 1)) (if copies_held (Some 1) == 1 then Some last else None) = subst (λ (o : Option ℕ). Ok None ≡ or_else (handle_refusal o) (if copies_held o == 1 then Some last else None)) one told in
+    cc e

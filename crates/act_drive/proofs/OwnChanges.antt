@@ -1,0 +1,86 @@
+-- A caller that changes its owner by itself: what stays, and what a submission, a copy and a release do to its copies and calls.
+use Rattle.std.proofs.Common.{◌≡◌, ◌≢◌, ℕ, ◌-◌, ◌==◌, Bool, false, if◌then◌else◌, List, [], ◌∷◌, ◌++◌, length, filter, Option, Some, None, is_some, refl, sym, ◌∙◌, ap, subst, arith, All, append-nil, option_to_list, inl, inr}
+use Rattle.std.specs.Prelude.{option_map}
+use Rattle.std.proofs.lemmas.Bool.{ne_eqb}
+use Rattle.std.proofs.lemmas.Bool.Decides.{eqb_tells}
+use Rattle.std.proofs.lemmas.List.Elements.{filter-append}
+use Rattle.act_types.specs.declared.call.Method.{Method}
+use Rattle.act_types.specs.declared.call.Arg.{Arg}
+use Rattle.act_types.specs.declared.message.Notice.{Notice}
+use Rattle.act_rules.specs.declared.history.Submission.{Submission}
+use Rattle.act_rules.specs.Submissions.{calls_to, copies_held, copy_refusal, submit_refusal}
+use Rattle.act_rules.proofs.Lists.{option_or-none}
+use Rattle.act_rules.proofs.Ended.{needs-none}
+use Rattle.act_handles.specs.Handles.{copies_in, with_copy, with_number, without_copy}
+use Rattle.act_handles.proofs.Lookups.{copies-with_copy-other, copies-without_copy, copies-without_copy-other, copies-with_number}
+use Rattle.act_handles.proofs.Copies.{copy_holds, positive}
+use Rattle.act_owner.specs.Owner.{OwnerValue, submission_refusal}
+use Rattle.act_owner.specs.Life.{Change, after, notices_in, Hears}
+use Rattle.act_owner.proofs.Life.{step}
+use Rattle.act_owner.proofs.Told.{hears_step, calls_to-length}
+use Rattle.act_drive.specs.declared.desk.CallerLines.{CallerLines}
+use Rattle.act_drive.specs.declared.desk.Desk.{Desk}
+use Rattle.act_drive.specs.Driven.{IsCalling, GoesOn, HasNamed}
+use Rattle.act_drive.proofs.Keeps.{Returns, keeps_on}
+use Rattle.act_drive.proofs.Desks.{change_on, held_on, seats_on, desk_same}
+
+-- ---- the owner changes by itself
+
+pub calling_step : (lines : CallerLines) (old new : Desk) (change : Change) → new.owner ≡ after old.owner change → new.passes ≡ old.passes → new.hand ≡ old.hand → notices_in (change ∷ []) ≡ [] → length (after old.owner change).sent ≡ length (after old.owner change).calls
+    → ((b : ℕ) → copies_held (copies_in b old.owner.handles) ≡ 0 → (copies_held (copies_in b (after old.owner change).handles) ≡ 0) × (length (calls_to b (after old.owner change).calls) ≡ length (calls_to b old.owner.calls)))
+    → Returns old.owner (after old.owner change) → IsCalling lines old → IsCalling lines new
+calling_step lines old new change is passes hand quiet flags ended back calling =
+    let now = after old.owner change in
+    let on : GoesOn old.owner now = change_on old.owner change calling.places ended in
+    let later : Desk = record { owner = now; passes = old.passes; hand = old.hand; noted = new.noted } in
+    let good : IsCalling lines later = record {
+      places = (step old.owner change calling.places).places;
+      flags = flags;
+      hears = subst (Hears now) (ap (λ (l : List Notice). old.passes.collects.taken ++ l) quiet ∙ append-nil old.passes.collects.taken) (hears_step old.owner old.passes.collects.taken change calling.places calling.hears);
+      collects = calling.collects;
+      held = held_on old.owner now old.hand on calling.held;
+      letters = seats_on lines.mails.now old.owner now (option_to_list old.hand) old.passes.letters.items on calling.letters;
+      kills = calling.kills;
+      keeps = keeps_on lines.mails.now old.owner now old.passes.collects.taken old.passes.collects.taken old.passes.letters.items (option_to_list old.hand) on back (λ n has. has) calling.keeps;
+      names = subst (λ (n : ℕ). All (HasNamed lines.controls.now n) old.passes.kills.items) (sym on.id) calling.names;
+    } in
+    subst (IsCalling lines) (sym (desk_same new _ _ _ is passes hand)) good
+
+-- ---- what was not refused
+
+submit_holds : (copies : Option ℕ) (count : ℕ) (args : List Arg) → submit_refusal copies count args ≡ None → copies_held copies ≢ 0
+submit_holds copies count args is = positive (copies_held copies) (needs-none _ _ _ (needs-none _ _ _ is).1).0
+
+pub none_of : {X : Type 0} (o : Option X) → is_some o ≡ false → o ≡ None
+none_of None is = refl
+none_of (Some x) is = absurd (cc is)
+
+-- ---- calls and copies
+
+calls_other : (b : ℕ) (calls : List Submission) (call : Submission) → call.actor ≢ b → length (calls_to b (calls ++ call ∷ [])) ≡ length (calls_to b calls)
+calls_other b calls call apart =
+    calls_to-length b 0 (calls ++ call ∷ [])
+    ∙ ap (λ (l : List Submission). length l) (filter-append (λ (c : Submission). c.actor == b) calls (call ∷ []) ∙ ap (λ (t : Bool). filter (λ (c : Submission). c.actor == b) calls ++ (if t then call ∷ [] else [])) (ne_eqb call.actor b apart) ∙ append-nil (filter (λ (c : Submission). c.actor == b) calls))
+    ∙ sym (calls_to-length b 0 calls)
+
+pub ended_submitted : (owner : OwnerValue) (a : ℕ) (method : Method) (args : List Arg) → submission_refusal owner a args ≡ None → (b : ℕ) → copies_held (copies_in b owner.handles) ≡ 0
+    → (copies_held (copies_in b (with_number a owner.handles)) ≡ 0) × (length (calls_to b (owner.calls ++ record { actor = a; method = method; args = args } ∷ [])) ≡ length (calls_to b owner.calls))
+ended_submitted owner a method args accepted b none = (
+  ap copies_held (copies-with_number a b owner.handles) ∙ none,
+  calls_other b owner.calls (record { actor = a; method = method; args = args }) (λ same. submit_holds (copies_in a owner.handles) (length owner.calls) args (option_or-none _ _ accepted) (ap (λ (n : ℕ). copies_held (copies_in n owner.handles)) same ∙ none)),
+)
+
+pub ended_copied : (owner : OwnerValue) (a : ℕ) → copy_refusal (copies_in a owner.handles) ≡ None → (b : ℕ) → copies_held (copies_in b owner.handles) ≡ 0 → (copies_held (copies_in b (with_copy a owner.handles)) ≡ 0) × (length (calls_to b owner.calls) ≡ length (calls_to b owner.calls))
+ended_copied owner a accepted b none =
+    (ap copies_held (copies-with_copy-other a b owner.handles (λ same. copy_holds (copies_in a owner.handles) accepted (ap (λ (n : ℕ). copies_held (copies_in n owner.handles)) same ∙ none))) ∙ none, refl)
+
+less_none : (copies : Option ℕ) → copies_held copies ≡ 0 → copies_held (option_map (λ n. n - 1) copies) ≡ 0
+less_none None none = refl
+less_none (Some n) none = omega (arith, none)
+
+pub ended_released : (owner : OwnerValue) (a : ℕ) (b : ℕ) → copies_held (copies_in b owner.handles) ≡ 0 → (copies_held (copies_in b (without_copy a owner.handles)) ≡ 0) × (length (calls_to b owner.calls) ≡ length (calls_to b owner.calls))
+ended_released owner a b none =
+    elim (eqb_tells a b) [
+      | inl t ↦ (subst (λ (n : ℕ). copies_held (copies_in n (without_copy a owner.handles)) ≡ 0) t.1 (ap copies_held (copies-without_copy a owner.handles) ∙ less_none (copies_in a owner.handles) (ap (λ (n : ℕ). copies_held (copies_in n owner.handles)) t.1 ∙ none)), refl)
+      | inr f ↦ (ap copies_held (copies-without_copy-other a b owner.handles f.1) ∙ none, refl)
+    ]
