@@ -1,5 +1,5 @@
 -- The seats that a list of lines deals, and those of one name among them.
-use Rattle.std.proofs.Common.{◌≡◌, ◌≢◌, ℕ, zero, suc, ◌+◌, ◌<◌, Bool, true, false, cond, List, [], ◌∷◌, ◌++◌, Some, All, Contains, length, map, take, get_or, inl, inr, refl, ap, sym, ◌∙◌, subst, arith, append_assoc, append-nil}
+use Rattle.std.proofs.Common.{◌≡◌, ◌≢◌, ℕ, zero, suc, ◌+◌, ◌<◌, Bool, true, false, cond, List, [], ◌∷◌, ◌++◌, Some, All, Contains, length, map, take, get_or, inl, inr, refl, ap, sym, ◌∙◌, subst, arith, append_assoc, append-nil, length-append}
 use Rattle.std.specs.Prelude.{◌==◌, slice_get, option_map, AllPairs}
 use Rattle.std.proofs.lemmas.Bool.Decides.{eqb_tells}
 use Rattle.std.proofs.lemmas.List.{map-append, map_more, length-map, length-take-le}
@@ -14,6 +14,21 @@ use Rattle.act_seats.specs.declared.seat.Seat.{Seat}
 use Rattle.act_lines.specs.Groups.{seat_at, group_of, seats_from}
 
 -- ---- one line more
+
+-- one more of each of two lists that agree
+pub one_more : {X Z : Type 0} (f : X → Z) (xs longer : List X) (x : X) (zs more : List Z) (z : Z) → map f xs ≡ zs → longer ≡ xs ++ x ∷ [] → more ≡ zs ++ z ∷ [] → f x ≡ z → map f longer ≡ more
+one_more f xs longer x zs more z were pushed also same = ap (map f) pushed ∙ map-append f xs (x ∷ []) ∙ (λ i. were i ++ same i ∷ []) ∙ sym also
+
+-- the next of those that are taken of a list
+pub next_taken : {Y Z : Type 0} (g : Y → Z) (ys : List Y) (place : ℕ) (y : Y) → place < length ys → y ≡ get_or ys place y → map g (take (place + 1) ys) ≡ map g (take place ys) ++ g y ∷ []
+next_taken g ys place y below at = map_more g ys place y below ∙ (λ i. map g (take place ys) ++ g (sym at i) ∷ [])
+
+-- the next of those that are pushed
+pub next_pushed : {Y Z : Type 0} (g : Y → Z) (ys longer : List Y) (y : Y) → longer ≡ ys ++ y ∷ [] → map g longer ≡ map g ys ++ g y ∷ []
+next_pushed g ys longer y pushed = ap (map g) pushed ∙ map-append g ys (y ∷ [])
+
+pub one_longer : {X : Type 0} (xs longer : List X) (x : X) (n : ℕ) → length xs ≡ n → longer ≡ xs ++ x ∷ [] → length longer ≡ n + 1
+one_longer xs longer x n long pushed = omega (arith, long, ap length pushed, length-append xs (x ∷ []))
 
 module _ {P : Type 0} (new : TableId → ℕ → P) where
   seated : (place : ℕ) (line : TableId) (here : List ℕ) → map (seat_at place) (map (new line) here) ≡ map (λ c. seat_at place (new line c)) here

@@ -7,7 +7,7 @@ ghost use Rattle.act_mailbox.specs.Controls.{starter};
 ghost use Rattle.act_mailbox.specs.Passes.{new_putter};
 ghost use Rattle.act_mailbox.specs.Notices.{new_exec};
 ghost use Rattle.act_plans.specs.Parts.{AreMatched};
-ghost use Rattle.act_lines.specs.Groups.{items_of, seats_from};
+ghost use Rattle.act_lines.specs.Groups.{items_of, group_of, seats_from};
 ghost use Rattle.act_lines.specs.Opened.{AreOpened};
 
 use crate::group::{group, pair, seat_all};
@@ -212,6 +212,55 @@ fn caller_numbers(alloc: Global, parts: &[Part]) -> Result<Vec<u8>, NoMemory>
     Ok(numbers)
 }
 
+/// The executors' passes, of which those on the callers' lines are each actor's own.
+fn deal_execs<K>(
+    alloc: Global,
+    casts: &[Cast<K>],
+    letters: Vec<MailExec>,
+    kills: Vec<ControlExec>,
+    seats: Vec<Seat<ReplyExec>>,
+) -> Result<Vec<Seat<ExecPasses>>, NoMemory>
+    requires differ { AllPairs (λ one other. one.actor ≢ other.actor) casts.now }
+    requires long { (length letters.items ≡ length casts.now) × (length kills.items ≡ length casts.now) }
+    ensures places { IfOk result (λ execs. map (λ exec. exec.place) execs.items ≡ range_with_len 0 (length execs.items)) }
+    ensures letters { IfOk result (λ execs. map (λ exec. exec.pass.letters) execs.items ≡ letters.items) }
+    ensures kills { IfOk result (λ execs. map (λ exec. exec.pass.kills) execs.items ≡ kills.items) }
+    ensures notices { IfOk result (λ execs.
+        map (λ exec. exec.pass.notices.items) execs.items ≡
+        map (λ cast. group_of (λ pass. pass.actor) cast.actor seats.items) casts.now) }
+{
+    let actors = actor_numbers(alloc, casts)?;
+    let notices = group(alloc, actors.as_slice(), seats)?;
+    let execs = exec_passes(alloc, letters, kills, notices)?;
+    Ok(execs)
+}
+
+/// The callers' passes, of which those on the actors' lines are each caller's own.
+fn deal_callers(
+    alloc: Global,
+    parts: &[Part],
+    letters: Vec<Seat<MailCaller>>,
+    kills: Vec<Seat<ControlCaller>>,
+    collects: Vec<ReplyCaller>,
+) -> Result<Vec<Seat<CallerPasses>>, NoMemory>
+    requires differ { AllPairs (λ one other. one.caller ≢ other.caller) parts.now }
+    requires long { length collects.items ≡ length parts.now }
+    ensures places { IfOk result (λ callers. map (λ caller. caller.place) callers.items ≡ range_with_len 0 (length callers.items)) }
+    ensures letters { IfOk result (λ callers.
+        map (λ caller. caller.pass.letters.items) callers.items ≡
+        map (λ part. group_of (λ pass. pass.number) part.caller letters.items) parts.now) }
+    ensures kills { IfOk result (λ callers.
+        map (λ caller. caller.pass.kills.items) callers.items ≡
+        map (λ part. group_of (λ pass. pass.number) part.caller kills.items) parts.now) }
+    ensures collects { IfOk result (λ callers. map (λ caller. caller.pass.collects) callers.items ≡ collects.items) }
+{
+    let callers = caller_numbers(alloc, parts)?;
+    let letters = group(alloc, callers.as_slice(), letters)?;
+    let kills = group(alloc, callers.as_slice(), kills)?;
+    let callers = caller_passes(alloc, letters, kills, collects)?;
+    Ok(callers)
+}
+
 /// Opens all lines of a run, with the passes of each executor, of each caller and of the starter.
 pub fn open_lines<K>(alloc: Global, casts: &[Cast<K>], parts: &[Part]) -> Result<Opened, NoMemory>
     requires matched { AreMatched casts.now parts.now }
@@ -220,13 +269,8 @@ pub fn open_lines<K>(alloc: Global, casts: &[Cast<K>], parts: &[Part]) -> Result
     let mails = open_mails(alloc, casts)?;
     let controls = open_controls(alloc, casts)?;
     let replies = open_replies(alloc, parts)?;
-    let actors = actor_numbers(alloc, casts)?;
-    let callers = caller_numbers(alloc, parts)?;
-    let letters = group(alloc, callers.as_slice(), mails.seats)?;
-    let kills = group(alloc, callers.as_slice(), controls.seats)?;
-    let notices = group(alloc, actors.as_slice(), replies.seats)?;
-    let execs = exec_passes(alloc, mails.execs, controls.execs, notices)?;
-    let callers = caller_passes(alloc, letters, kills, replies.callers)?;
+    let execs = deal_execs(alloc, casts, mails.execs, controls.execs, replies.seats)?;
+    let callers = deal_callers(alloc, parts, mails.seats, controls.seats, replies.callers)?;
     let lines = Lines {
         mails: mails.lines,
         controls: controls.lines,

@@ -143,16 +143,16 @@ impl fmt::Display for Did {
             Did::Future(caller, future) => write!(f, "future {caller}.{future}"),
             Did::Copies(copies) => write!(f, "copies {copies}"),
             Did::Mail(place) => write!(f, "mail {place}"),
-            Did::Arrived(arrival) => write!(f, "{arrival}"),
+            Did::Arrived(arrival) => f.write_str(arrival.word()),
             Did::Ran(place, reply) => write!(f, "place {place} reply {reply}"),
-            Did::Gap => write!(f, "gap"),
+            Did::Gap => f.write_str("gap"),
             Did::Kept(caller, future) => write!(f, "kept {caller}.{future}"),
             Did::Late(caller, future) => write!(f, "late {caller}.{future}"),
             Did::Died(answered) => write!(f, "died {answered}"),
-            Did::Asked => write!(f, "asked"),
-            Did::Dead => write!(f, "dead"),
+            Did::Asked => f.write_str("asked"),
+            Did::Dead => f.write_str("dead"),
             Did::Told(reply) => write!(f, "reply {reply}"),
-            Did::Retired => write!(f, "retired"),
+            Did::Retired => f.write_str("retired"),
         }
     }
 }

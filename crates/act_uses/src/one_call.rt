@@ -1,8 +1,9 @@
 //! One call without a world: whoever holds the caller and the actor carries what goes between them.
 
-ghost use Rattle.std.specs.Prelude.{◌≡◌, Some, IfOk};
+ghost use Rattle.std.specs.Prelude.{◌≡◌, [], ◌∷◌, Some, IfOk, OnOk};
 ghost use Rattle.act_rules.specs.RunList.{after_item};
 ghost use Rattle.act_rules.specs.Submissions.{kept_at};
+ghost use Rattle.act_owner.specs.Owner.{opened};
 ghost use Rattle.act_actor.specs.Actor.{item_of};
 ghost use Rattle.act_actor.specs.Seen.{live_seen};
 ghost use Rattle.act_uses.specs.OneCall.{asking, question, asked};
@@ -20,14 +21,18 @@ pub struct Heard<K> {
     pub live: Live<K>,
 }
 
-/// The caller's side: it submits the call and sends it.
-fn sent(alloc: Global, method: Method, value: Value) -> Result<(Owner, Packet), NoMemory>
-    ensures owner { IfOk result (λ sent. sent.0 ≡ asking method value) }
-    ensures packet { IfOk result (λ sent. sent.1 ≡ question method value) }
+/// A new caller submits the call and sends it.
+fn posed(
+    alloc: Global,
+    owner: &mut Owner,
+    method: Method,
+    value: Value,
+) -> Result<Packet, NoMemory>
+    requires { owner.old ≡ opened 1 (1 ∷ []) }
+    ensures owner { OnOk result (owner.new ≡ asking method value) }
+    ensures packet { IfOk result (λ packet. packet ≡ question method value) }
 {
-    let c = CallerId::new(1).unwrap();
     let a = ActorId::new(1).unwrap();
-    let mut owner = Owner::open(alloc, c, &[a])?;
     let mut args = ListOf::new(alloc);
     args.push(Arg::Plain(value))?;
     let Ok(k) = owner.submit(a, method, args) else {
@@ -36,6 +41,18 @@ fn sent(alloc: Global, method: Method, value: Value) -> Result<(Owner, Packet), 
     let Ok(packet) = owner.packet(alloc, k) else {
         return Err(NoMemory);
     };
+    Ok(packet)
+}
+
+/// The caller's side: it is opened, submits the call and sends it.
+fn sent(alloc: Global, method: Method, value: Value) -> Result<(Owner, Packet), NoMemory>
+    ensures owner { IfOk result (λ sent. sent.0 ≡ asking method value) }
+    ensures packet { IfOk result (λ sent. sent.1 ≡ question method value) }
+{
+    let c = CallerId::new(1).unwrap();
+    let a = ActorId::new(1).unwrap();
+    let mut owner = Owner::open(alloc, c, &[a])?;
+    let packet = posed(alloc, &mut owner, method, value)?;
     Ok((owner, packet))
 }
 

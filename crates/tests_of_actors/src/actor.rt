@@ -64,6 +64,25 @@ fn opened_counter(alloc: Global) -> Result<Live<Counter>, NoMemory> {
     Live::open(alloc, ActorId::new(1).unwrap(), &callers, Counter::open())
 }
 
+/// Brings a call, which hasn't come before.
+fn arrive_new<K: Actor>(
+    rt: &impl Abort,
+    alloc: Global,
+    live: &mut Live<K>,
+    row: &Row,
+) -> Result<(), NoMemory> {
+    let packet = packet_of(alloc, row)?;
+    assert_eq!(rt; live.arrive(packet), Ok(Arrival::New));
+    Ok(())
+}
+
+/// Runs the call that comes next, which is this one.
+fn assert_runs<K: Actor>(rt: &impl Abort, live: &mut Live<K>, row: &Row) -> Result<(), NoMemory> {
+    let ran = live.run(CallerId::new(1).unwrap())?;
+    assert_eq!(rt; ran, Some(reply_of(row)));
+    Ok(())
+}
+
 /// Brings each call, which hasn't come before.
 fn arrive_each<K: Actor>(
     rt: &impl Abort,
@@ -72,7 +91,7 @@ fn arrive_each<K: Actor>(
     rows: &[Row],
 ) -> Result<(), NoMemory> {
     for row in rows {
-        assert_eq!(rt; live.arrive(packet_of(alloc, row)?), Ok(Arrival::New));
+        arrive_new(rt, alloc, live, row)?;
     }
     Ok(())
 }
@@ -141,8 +160,8 @@ fn run_in_both<K: Actor>(
     let wanted = runs.then(|| reply_of(row));
     assert_eq!(rt; run_at_once(alloc, live, row)?, wanted);
     if runs {
-        assert_eq!(rt; other.arrive(packet_of(alloc, row)?), Ok(Arrival::New));
-        assert_eq!(rt; other.run(CallerId::new(1).unwrap())?, wanted);
+        arrive_new(rt, alloc, other, row)?;
+        assert_runs(rt, other, row)?;
     }
     assert_alike(rt, alloc, live, other)
 }
@@ -155,12 +174,11 @@ fn not_at_once_before<K: Actor>(
     next: &Row,
     held: &Row,
 ) -> Result<(), NoMemory> {
-    assert_eq!(rt; live.arrive(packet_of(alloc, held)?), Ok(Arrival::New));
+    arrive_new(rt, alloc, live, held)?;
     assert!(rt; !live.holds_none());
-    assert_eq!(rt; run_at_once(alloc, live, next)?, None);
-    assert_eq!(rt; live.arrive(packet_of(alloc, next)?), Ok(Arrival::New));
-    assert_eq!(rt; live.run(CallerId::new(1).unwrap())?, Some(reply_of(next)));
-    Ok(())
+    assert!(rt; run_at_once(alloc, live, next)?.is_none());
+    arrive_new(rt, alloc, live, next)?;
+    assert_runs(rt, live, next)
 }
 
 /// Runs calls of which some may run at once.
@@ -395,12 +413,12 @@ fn run_the_end(rt: &impl Abort, live: &mut Live<Counter>) -> Result<(), NoMemory
     Ok(())
 }
 
-#[test]
-fn ended_in_its_turn(rt: HostRuntime) -> Result<(), Fail> {
-    let alloc = rt.alloc();
-    let a1 = ActorId::new(1).unwrap();
-    let c1 = CallerId::new(1).unwrap();
-    let mut live = opened_counter(alloc)?;
+/// Plays two calls of `terminate` that are refused, and holds one that is not.
+fn play_to_the_end(
+    rt: &impl Abort,
+    alloc: Global,
+    live: &mut Live<Counter>,
+) -> Result<(), NoMemory> {
     let failed = Err(Fault::Dependency(FutureId::new(0)));
     let refused: [Row; 2] = [
         (0, Method::Terminate, &[Given::Int(1)], Err(Fault::BadArgs)),
@@ -411,15 +429,23 @@ fn ended_in_its_turn(rt: HostRuntime) -> Result<(), Fail> {
             failed,
         ),
     ];
-    play(&rt, alloc, &mut live, &refused)?;
-    note(&rt, &mut live, &[(c1, a1, 3, Arrival::New)]);
+    play(rt, alloc, live, &refused)?;
+    let a1 = ActorId::new(1).unwrap();
+    let c1 = CallerId::new(1).unwrap();
+    note(rt, live, &[(c1, a1, 3, Arrival::New)]);
     let none: [Given; 0] = [];
     let held: [Row; 2] = [
         (2, Method::Terminate, &none, Ok(0)),
         (3, Method::Get, &none, Ok(0)),
     ];
-    arrive_each(&rt, alloc, &mut live, &held)?;
-    run_the_end(&rt, &mut live)?;
+    arrive_each(rt, alloc, live, &held)?;
+    run_the_end(rt, live)
+}
+
+#[test]
+fn ended_in_its_turn(rt: HostRuntime) -> Result<(), Fail> {
+    let mut live = opened_counter(rt.alloc())?;
+    play_to_the_end(&rt, rt.alloc(), &mut live)?;
     let Err(live) = live.retire() else {
         panic!(rt; "retired after its end");
     };

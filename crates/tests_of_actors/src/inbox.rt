@@ -33,6 +33,10 @@ fn call_of(alloc: Global, number: u32) -> Result<Packet, NoMemory> {
     packet_of(alloc, CallerId::new(1).unwrap(), number, Method::Add)
 }
 
+fn arrive(rt: &impl Abort, inbox: &mut Inbox, packet: Packet, arrival: Arrival) {
+    assert_eq!(rt; inbox.arrive(packet), Ok(arrival));
+}
+
 /// Brings caller 1's call of this number.
 fn bring(
     rt: &impl Abort,
@@ -41,7 +45,8 @@ fn bring(
     number: u32,
     arrival: Arrival,
 ) -> Result<(), NoMemory> {
-    assert_eq!(rt; inbox.arrive(call_of(alloc, number)?), Ok(arrival));
+    let packet = call_of(alloc, number)?;
+    arrive(rt, inbox, packet, arrival);
     Ok(())
 }
 
@@ -64,7 +69,7 @@ fn bring_each(rt: &impl Abort, alloc: Global, inbox: &mut Inbox) -> Result<(), N
         (c9, 0, Method::Add, Arrival::Stranger, true),
     ] {
         let packet = packet_of(alloc, caller, number, method)?;
-        assert_eq!(rt; inbox.arrive(packet), Ok(arrival));
+        arrive(rt, inbox, packet, arrival);
         assert_eq!(rt; inbox.has_next(c1), has_next);
     }
     Ok(())
@@ -326,7 +331,7 @@ fn bring_to_both(
     if may_pass && passed_by(inbox, &packet) {
         assert_eq!(rt; plain.next(call.caller), Some(call));
     } else {
-        assert_eq!(rt; inbox.arrive(packet), Ok(arrival));
+        arrive(rt, inbox, packet, arrival);
     }
     assert_eq!(rt; inbox.is_empty(), plain.held.is_empty());
     Ok(())

@@ -1,7 +1,7 @@
 //! The worked rows, through the trait.
 
 use act_kinds::{Account, Actor, Boxed, Counter, ListKind, Table};
-use act_types::{Fault, Method, NoMemory, Text, Value};
+use act_types::{Answer, Fault, Method, NoMemory, Text, Value};
 use std::alloc::Global;
 use std::process::Abort;
 use std::test::Fail;
@@ -28,6 +28,33 @@ fn value_of(alloc: Global, word: Word) -> Result<Value, NoMemory> {
     }
 }
 
+/// What the actor answers to a call.
+fn asked<A: Actor>(
+    alloc: Global,
+    actor: &mut A,
+    method: &Method,
+    words: &[Word],
+) -> Result<Answer, NoMemory> {
+    let mut args = Vec::new(alloc);
+    for word in words {
+        args.push(value_of(alloc, *word)?)?;
+    }
+    actor.ask(method, args.as_slice())
+}
+
+fn answer_of(alloc: Global, answer: &Result<Word, Fault>) -> Result<Answer, NoMemory> {
+    match *answer {
+        Ok(word) => Ok(Ok(value_of(alloc, word)?)),
+        Err(fault) => Ok(Err(fault)),
+    }
+}
+
+fn text_of<A: Actor>(alloc: Global, actor: &A) -> Result<String, NoMemory> {
+    let mut text = String::new(alloc);
+    actor.state_text(&mut text)?;
+    Ok(text)
+}
+
 /// Asks each call of the actor in turn.
 fn play<A: Actor>(
     rt: &impl Abort,
@@ -36,18 +63,10 @@ fn play<A: Actor>(
     rows: &[Row],
 ) -> Result<(), NoMemory> {
     for (method, words, answer, state) in rows {
-        let mut args = Vec::new(alloc);
-        for word in *words {
-            args.push(value_of(alloc, *word)?)?;
-        }
-        let answered = actor.ask(method, args.as_slice())?;
-        let wanted = match *answer {
-            Ok(word) => Ok(value_of(alloc, word)?),
-            Err(fault) => Err(fault),
-        };
+        let answered = asked(alloc, actor, method, words)?;
+        let wanted = answer_of(alloc, answer)?;
         assert_eq!(rt; answered, wanted);
-        let mut text = String::new(alloc);
-        actor.state_text(&mut text)?;
+        let text = text_of(alloc, actor)?;
         assert_eq!(rt; text.as_str(), *state);
     }
     Ok(())
@@ -195,34 +214,50 @@ fn full_text(alloc: Global, first: i64) -> Result<String, NoMemory> {
     Ok(text)
 }
 
-#[test]
-fn full_table_rows(rt: HostRuntime) -> Result<(), Fail> {
-    let mut table = Table::open(rt.alloc());
+/// A full table refuses a new key, and takes a new value for an old one.
+fn play_full(
+    rt: &impl Abort,
+    alloc: Global,
+    table: &mut Table,
+    before: &str,
+    after: &str,
+) -> Result<(), NoMemory> {
+    let rows: [Row; 2] = [
+        (
+            Method::Put,
+            &[Word::Text("z"), Word::Int(1)],
+            Err(Fault::KindFull),
+            before,
+        ),
+        (
+            Method::Put,
+            &[Word::Text("a"), Word::Int(1)],
+            Ok(Word::Unit),
+            after,
+        ),
+    ];
+    play(rt, alloc, table, &rows)
+}
+
+/// Puts `a`, and then as many keys as the table takes.
+fn fill_from_first(rt: &impl Abort, alloc: Global, table: &mut Table) -> Result<(), NoMemory> {
     let first: [Row; 1] = [(
         Method::Put,
         &[Word::Text("a"), Word::Int(0)],
         Ok(Word::Unit),
         "table \"a\" 0",
     )];
-    play(&rt, rt.alloc(), &mut table, &first)?;
-    fill(rt.alloc(), &mut table)?;
+    play(rt, alloc, table, &first)?;
+    fill(alloc, table)
+}
+
+#[test]
+fn full_table_rows(rt: HostRuntime) -> Result<(), Fail> {
+    let mut table = Table::open(rt.alloc());
+    fill_from_first(&rt, rt.alloc(), &mut table)?;
     let before = full_text(rt.alloc(), 0)?;
     let after = full_text(rt.alloc(), 1)?;
-    let rows: [Row; 2] = [
-        (
-            Method::Put,
-            &[Word::Text("z"), Word::Int(1)],
-            Err(Fault::KindFull),
-            before.as_str(),
-        ),
-        (
-            Method::Put,
-            &[Word::Text("a"), Word::Int(1)],
-            Ok(Word::Unit),
-            after.as_str(),
-        ),
-    ];
-    play(&rt, rt.alloc(), &mut table, &rows)?;
+    play_full(&rt, rt.alloc(), &mut table, before.as_str(), after.as_str())?;
     Ok(())
 }
 

@@ -4,11 +4,14 @@ ghost use Rattle.std.specs.Prelude.{◌≡◌, ◌≤◌, [], ◌∷◌, IfOk};
 ghost use Rattle.act_plans.specs.Parts.{AreMatched};
 
 use act_actor::Cast;
-use act_lines::open_lines;
+use act_drive::CallerPasses;
+use act_lines::{Opened, open_lines};
 use act_plans::Part;
 use act_seats::Seat;
+use act_serve::ExecPasses;
 use act_types::{ActorId, CallerId, ListOf, NoMemory};
 use std::alloc::{AllocError, Global};
+use std::process::Abort;
 use std::test::Fail;
 
 fn actor(number: u8) -> ActorId
@@ -75,28 +78,63 @@ fn places<P>(alloc: Global, seats: &[Seat<P>]) -> Result<Vec<usize>, AllocError>
     seats.iter().map(|seat| seat.place).collect(alloc)
 }
 
+/// Each executor gives notices at the lines of these places.
+fn assert_execs(
+    rt: &impl Abort,
+    alloc: Global,
+    execs: &[Seat<ExecPasses>],
+    wanted: &[&[usize]],
+) -> Result<(), AllocError> {
+    assert_eq!(rt; execs.len(), wanted.len());
+    for (exec, wanted) in execs.iter().zip(wanted) {
+        let notices = places(alloc, exec.pass.notices.as_slice())?;
+        assert_eq!(rt; notices.as_slice(), *wanted);
+    }
+    Ok(())
+}
+
+/// Each caller posts letters and asks kills at the lines of these places.
+fn assert_callers(
+    rt: &impl Abort,
+    alloc: Global,
+    callers: &[Seat<CallerPasses>],
+    wanted: &[&[usize]],
+) -> Result<(), AllocError> {
+    assert_eq!(rt; callers.len(), wanted.len());
+    for (caller, wanted) in callers.iter().zip(wanted) {
+        let letters = places(alloc, caller.pass.letters.as_slice())?;
+        assert_eq!(rt; letters.as_slice(), *wanted);
+        let kills = places(alloc, caller.pass.kills.as_slice())?;
+        assert_eq!(rt; kills.as_slice(), *wanted);
+    }
+    Ok(())
+}
+
+/// So many lines of each sort, and passes of each starter.
+fn assert_counts(rt: &impl Abort, opened: &Opened) {
+    assert_eq!(rt;
+        (
+            opened.lines.mails.len(),
+            opened.lines.controls.len(),
+            opened.lines.replies.len(),
+            opened.starters.len()
+        ),
+        (2, 2, 3, 2)
+    );
+}
+
 #[test]
 fn two_casts_and_three_callers(rt: HostRuntime) -> Result<(), Fail> {
     let alloc = rt.alloc();
     let (casts, parts) = matched(alloc)?;
     let opened = open_lines(alloc, casts.as_slice(), parts.as_slice())?;
-    assert_eq!(rt; opened.lines.mails.len(), 2);
-    assert_eq!(rt; opened.lines.controls.len(), 2);
-    assert_eq!(rt; opened.lines.replies.len(), 3);
-    assert_eq!(rt; opened.starters.len(), 2);
-    let notices = [[0, 2], [0, 1]];
-    assert_eq!(rt; opened.execs.len(), 2);
-    for (exec, wanted) in opened.execs.iter().zip(&notices) {
-        let found = places(alloc, exec.pass.notices.as_slice())?;
-        assert_eq!(rt; found.as_slice(), wanted.as_slice());
-    }
-    let letters: [&[usize]; 3] = [&[0, 1], &[1], &[0]];
-    assert_eq!(rt; opened.callers.len(), 3);
-    for (caller, wanted) in opened.callers.iter().zip(&letters) {
-        let found = places(alloc, caller.pass.letters.as_slice())?;
-        assert_eq!(rt; found.as_slice(), *wanted);
-        let found = places(alloc, caller.pass.kills.as_slice())?;
-        assert_eq!(rt; found.as_slice(), *wanted);
-    }
+    assert_counts(&rt, &opened);
+    assert_execs(&rt, alloc, opened.execs.as_slice(), &[&[0, 2], &[0, 1]])?;
+    assert_callers(
+        &rt,
+        alloc,
+        opened.callers.as_slice(),
+        &[&[0, 1], &[1], &[0]],
+    )?;
     Ok(())
 }

@@ -2,6 +2,7 @@
 
 use act_types::{CopyOf, FewOf, ListOf, NoMemory, Text, Value};
 use std::alloc::Global;
+use std::process::Abort;
 use std::test::Fail;
 
 /// A list of few with these numbers.
@@ -22,33 +23,46 @@ fn list_of(alloc: Global, numbers: &[i64]) -> Result<ListOf<Value>, NoMemory> {
     Ok(list)
 }
 
+/// Lists that hold these numbers, and nothing else.
+fn assert_hold(rt: &impl Abort, few: &FewOf<Value>, list: &ListOf<Value>, numbers: &[i64]) {
+    let wanted = (numbers.len(), numbers.is_empty());
+    assert_eq!(rt; (few.len(), few.is_empty()), wanted);
+    assert_eq!(rt; (list.len(), list.is_empty()), wanted);
+    assert_eq!(rt; few.as_slice(), list.as_slice());
+}
+
 #[test]
 fn lists_of_none_to_three(rt: HostRuntime) -> Result<(), Fail> {
-    let alloc = rt.alloc();
     let rows: [&[i64]; 4] = [&[], &[7], &[7, 8], &[7, 8, 9]];
     for numbers in rows {
-        let few = few_of(alloc, numbers)?;
-        let list = list_of(alloc, numbers)?;
-        assert_eq!(rt;
-            (few.len(), few.is_empty()),
-            (numbers.len(), numbers.is_empty())
-        );
-        assert_eq!(rt;
-            (list.len(), list.is_empty()),
-            (numbers.len(), numbers.is_empty())
-        );
-        assert_eq!(rt; few.as_slice(), list.as_slice());
+        let few = few_of(rt.alloc(), numbers)?;
+        let list = list_of(rt.alloc(), numbers)?;
+        assert_hold(&rt, &few, &list, numbers);
     }
     Ok(())
+}
+
+/// Whether lists of these numbers are equal.
+fn are_equal(alloc: Global, one: &[i64], other: &[i64]) -> Result<bool, NoMemory> {
+    let one = few_of(alloc, one)?;
+    let other = few_of(alloc, other)?;
+    Ok(one == other)
+}
+
+/// Whether a list of these numbers is equal to its copy.
+fn equals_its_copy(alloc: Global, numbers: &[i64]) -> Result<bool, NoMemory> {
+    let few = few_of(alloc, numbers)?;
+    let copy = few.copy_of(alloc)?;
+    Ok(copy == few)
 }
 
 #[test]
 fn equal_lists(rt: HostRuntime) -> Result<(), Fail> {
     let alloc = rt.alloc();
-    let two = few_of(alloc, &[7, 8])?;
-    assert!(rt; two.copy_of(alloc)? == two);
-    assert!(rt; two != few_of(alloc, &[7, 9])?);
-    assert!(rt; two != few_of(alloc, &[7])?);
+    assert!(rt; equals_its_copy(alloc, &[7, 8])?);
+    assert!(rt; are_equal(alloc, &[7, 8], &[7, 8])?);
+    assert!(rt; !are_equal(alloc, &[7, 8], &[7, 9])?);
+    assert!(rt; !are_equal(alloc, &[7, 8], &[7])?);
     Ok(())
 }
 

@@ -207,22 +207,24 @@ fn assert_known(rt: &impl Abort, owner: &Owner, rows: [(ActorId, bool, u32); 3])
     }
 }
 
-/// The last call goes to an actor that is known to be dead, and doesn't count.
-#[test]
-fn from_the_first_call_to_a_death(rt: HostRuntime) -> Result<(), Fail> {
+/// Of actors 1, 2 and 3 the caller knows the last not at all.
+fn assert_lives_and_dies(rt: &impl Abort, alloc: Global, owner: &mut Owner) {
     let a1 = ActorId::new(1).unwrap();
     let a2 = ActorId::new(2).unwrap();
     let a3 = ActorId::new(3).unwrap();
+    assert_told(rt, alloc, owner, &first_calls());
+    assert_known(rt, owner, [(a1, false, 2), (a2, false, 1), (a3, false, 0)]);
+    assert_told(rt, alloc, owner, &first_answers());
+    assert_known(rt, owner, [(a1, false, 1), (a2, false, 1), (a3, false, 0)]);
+    assert_told(rt, alloc, owner, &a_death());
+    assert_known(rt, owner, [(a1, true, 0), (a2, false, 1), (a3, false, 0)]);
+}
+
+/// The last call goes to an actor that is known to be dead, and doesn't count.
+#[test]
+fn from_the_first_call_to_a_death(rt: HostRuntime) -> Result<(), Fail> {
     let mut owner = opened(rt.alloc())?;
-    assert_told(&rt, rt.alloc(), &mut owner, &first_calls());
-    let rows = [(a1, false, 2), (a2, false, 1), (a3, false, 0)];
-    assert_known(&rt, &owner, rows);
-    assert_told(&rt, rt.alloc(), &mut owner, &first_answers());
-    let rows = [(a1, false, 1), (a2, false, 1), (a3, false, 0)];
-    assert_known(&rt, &owner, rows);
-    assert_told(&rt, rt.alloc(), &mut owner, &a_death());
-    let rows = [(a1, true, 0), (a2, false, 1), (a3, false, 0)];
-    assert_known(&rt, &owner, rows);
+    assert_lives_and_dies(&rt, rt.alloc(), &mut owner);
     Ok(())
 }
 
@@ -300,15 +302,20 @@ fn calls_under_a_limit() -> [(Ask, Told); 13] {
     ]
 }
 
-/// A call counts until its answer is kept, and none does once the actor's death was collected.
-#[test]
-fn a_limit_counts_what_has_no_answer(rt: HostRuntime) -> Result<(), Fail> {
+/// Of actors 1, 2 and 3 the first alone has this limit.
+fn assert_limited(rt: &impl Abort, owner: &Owner, limit: u32) {
     let a1 = ActorId::new(1).unwrap();
     let a2 = ActorId::new(2).unwrap();
     let a3 = ActorId::new(3).unwrap();
-    let mut owner = opened_with_a_limit(rt.alloc(), 1)?;
     let limits = [owner.limit(a1), owner.limit(a2), owner.limit(a3)];
-    assert_eq!(rt; limits, [Some(1), None, None]);
+    assert_eq!(rt; limits, [Some(limit), None, None]);
+}
+
+/// A call counts until its answer is kept, and none does once the actor's death was collected.
+#[test]
+fn a_limit_counts_what_has_no_answer(rt: HostRuntime) -> Result<(), Fail> {
+    let mut owner = opened_with_a_limit(rt.alloc(), 1)?;
+    assert_limited(&rt, &owner, 1);
     assert_told(&rt, rt.alloc(), &mut owner, &calls_under_a_limit());
     Ok(())
 }
@@ -436,21 +443,23 @@ fn assert_stray(
     assert_stands(rt, owner, answers, ready);
 }
 
-#[test]
-fn forged_notices_change_nothing(rt: HostRuntime) -> Result<(), Fail> {
-    let c1 = CallerId::new(1).unwrap();
-    let a2 = ActorId::new(2).unwrap();
-    let k0 = FutureId::new(0);
-    let k1 = FutureId::new(1);
-    let k2 = FutureId::new(2);
-    let mut owner = opened(rt.alloc())?;
-    assert_told(&rt, rt.alloc(), &mut owner, &three_calls());
+/// After three calls each forged notice is stray, and a genuine one isn't.
+fn assert_forged(rt: &impl Abort, alloc: Global, owner: &mut Owner) {
+    let [k0, k1, k2] = [0, 1, 2].map(FutureId::new);
+    assert_told(rt, alloc, owner, &three_calls());
     let answers = [(k0, Some(Ok(Value::Int(5)))), (k1, None), (k2, None)];
     for notice in forged_notices() {
-        assert_stray(&rt, &mut owner, notice, &answers, Some(k2));
+        assert_stray(rt, owner, notice, &answers, Some(k2));
     }
-    let genuine = notice_of(a2, c1, k1, Ok(7));
+    let a2 = ActorId::new(2).unwrap();
+    let genuine = notice_of(a2, owner.id(), k1, Ok(7));
     assert_eq!(rt; owner.collect(genuine), Collected::First(k1));
+}
+
+#[test]
+fn forged_notices_change_nothing(rt: HostRuntime) -> Result<(), Fail> {
+    let mut owner = opened(rt.alloc())?;
+    assert_forged(&rt, rt.alloc(), &mut owner);
     Ok(())
 }
 

@@ -21,23 +21,23 @@ fn assert_answers(rt: &impl Abort, table: &ReplyTable, rows: &[(u32, Option<Answ
     }
 }
 
-#[test]
-fn the_first_answer_stays(rt: HostRuntime) -> Result<(), Fail> {
-    let a1 = ActorId::new(1).unwrap();
-    let a2 = ActorId::new(2).unwrap();
-    let mut table = ReplyTable::new(rt.alloc());
+/// Three futures: of actor 1, of actor 2, and of actor 1 again.
+fn enter_three(rt: &impl Abort, table: &mut ReplyTable) -> Result<(), NoMemory> {
     table.reserve_one()?;
     table.reserve(3)?;
-    table.enter(a1)?;
-    table.enter(a2)?;
-    table.enter(a1)?;
+    for number in [1, 2, 1] {
+        play(rt, table, Step::Enter(ActorId::new(number).unwrap()))?;
+    }
+    Ok(())
+}
+
+/// The first future is answered, and actor 1 dies.
+fn assert_first_stays(rt: &impl Abort, table: &mut ReplyTable) {
+    let a1 = ActorId::new(1).unwrap();
     let first = table.keep(FutureId::new(0), Ok(Value::Int(5)));
     assert_eq!(rt; (first, table.died(a1)), (Kept::First, 1));
-    keep_late(
-        &rt,
-        &mut table,
-        &[(0, Kept::Late), (2, Kept::Late), (9, Kept::Stray)],
-    );
+    let rows = [(0, Kept::Late), (2, Kept::Late), (9, Kept::Stray)];
+    keep_late(rt, table, &rows);
     let died = Some(Err(Fault::ActorDied));
     let rows = [
         (0, Some(Ok(Value::Int(5)))),
@@ -45,8 +45,15 @@ fn the_first_answer_stays(rt: HostRuntime) -> Result<(), Fail> {
         (2, died),
         (9, None),
     ];
-    assert_answers(&rt, &table, &rows);
+    assert_answers(rt, table, &rows);
     assert_eq!(rt; (table.unanswered(), table.count()), (1, 3));
+}
+
+#[test]
+fn the_first_answer_stays(rt: HostRuntime) -> Result<(), Fail> {
+    let mut table = ReplyTable::new(rt.alloc());
+    enter_three(&rt, &mut table)?;
+    assert_first_stays(&rt, &mut table);
     Ok(())
 }
 
@@ -107,31 +114,39 @@ fn shown(table: &ReplyTable) -> (u32, u32) {
     (table.count(), table.unanswered())
 }
 
+/// Enters a future, and once more where memory is refused. From the sixth on it asks for room first.
+fn enter_again(rt: &impl Abort, table: &mut ReplyTable, a: ActorId) -> Result<FutureId, NoMemory> {
+    let before = shown(table);
+    if table.count() > 4 && table.reserve_one().is_err() {
+        assert_eq!(rt; shown(table), before);
+        assert_eq!(rt; table.reserve_one(), Ok(()));
+    }
+    assert!(rt; table.count() < MOST_CALLS);
+    let entered = table.enter(a);
+    if entered.is_err() {
+        assert_eq!(rt; shown(table), before);
+        return table.enter(a);
+    }
+    entered
+}
+
+/// Enters seventeen futures, of which the third alone is answered.
+fn fill(rt: &impl Abort, table: &mut ReplyTable) {
+    let a1 = ActorId::new(1).unwrap();
+    for count in 0..17 {
+        assert_eq!(rt; table.count(), count);
+        assert_eq!(rt; enter_again(rt, table, a1), Ok(FutureId::new(count)));
+        table.keep(FutureId::new(2), Ok(Value::Int(5)));
+    }
+}
+
 /// Memory is refused from outside, at most once.
 #[test]
 fn refused_memory_changes_nothing(rt: HostRuntime) -> Result<(), Fail> {
-    let a1 = ActorId::new(1).unwrap();
     let mut table = ReplyTable::new(rt.alloc());
-    for count in 0..17 {
-        assert_eq!(rt; table.count(), count);
-        let before = shown(&table);
-        if count > 4 && table.reserve_one().is_err() {
-            assert_eq!(rt; shown(&table), before);
-            assert_eq!(rt; table.reserve_one(), Ok(()));
-        }
-        let mut entered = table.enter(a1);
-        if entered.is_err() {
-            assert_eq!(rt; shown(&table), before);
-            entered = table.enter(a1);
-        }
-        assert_eq!(rt; entered, Ok(FutureId::new(count)));
-        table.keep(FutureId::new(2), Ok(Value::Int(5)));
-    }
-    assert_answers(
-        &rt,
-        &table,
-        &[(1, None), (2, Some(Ok(Value::Int(5)))), (16, None)],
-    );
+    fill(&rt, &mut table);
+    let rows = [(1, None), (2, Some(Ok(Value::Int(5)))), (16, None)];
+    assert_answers(&rt, &table, &rows);
     Ok(())
 }
 
@@ -228,6 +243,18 @@ fn assert_waiting(rt: &impl Abort, table: &ReplyTable, futures: &[Plain]) {
     }
 }
 
+/// The table and the plain list have the same answers.
+fn assert_same(rt: &impl Abort, table: &ReplyTable, futures: &[Plain]) {
+    assert_eq!(rt; table.count() as usize, futures.len());
+    for (k, future) in (0..table.count()).zip(futures.iter()) {
+        assert_eq!(rt;
+            table.answer(FutureId::new(k)),
+            future.answer.as_ref(),
+            "at {k}"
+        );
+    }
+}
+
 #[test]
 fn the_same_as_a_plain_list(rt: HostRuntime) -> Result<(), Fail> {
     let mut table = ReplyTable::new(rt.alloc());
@@ -238,13 +265,6 @@ fn the_same_as_a_plain_list(rt: HostRuntime) -> Result<(), Fail> {
         take_step(&rt, &mut table, &mut futures, number)?;
         assert_waiting(&rt, &table, &futures);
     }
-    assert_eq!(rt; table.count() as usize, futures.len());
-    for (k, future) in (0..table.count()).zip(futures.iter()) {
-        assert_eq!(rt;
-            table.answer(FutureId::new(k)),
-            future.answer.as_ref(),
-            "at {k}"
-        );
-    }
+    assert_same(&rt, &table, &futures);
     Ok(())
 }

@@ -80,10 +80,27 @@ fn play(
     Ok(())
 }
 
+/// Plays these rows from no call on, and compares which calls are sent and known at their end.
+fn assert_played(
+    rt: &impl Abort,
+    alloc: Global,
+    rows: &[(Step, Option<FutureId>)],
+    ends: &[(FutureId, bool, bool)],
+) -> Result<(), NoMemory> {
+    let mut resolver = Resolver::new(alloc);
+    play(rt, &mut resolver, rows)?;
+    for (k, sent, known) in ends {
+        assert_eq!(rt;
+            (resolver.is_sent(*k), resolver.is_known(*k)),
+            (*sent, *known)
+        );
+    }
+    Ok(())
+}
+
 #[test]
 fn calls_wait_for_answers(rt: HostRuntime) -> Result<(), Fail> {
     let [c0, c1, c2, c3, c4] = [0, 1, 2, 3, 4].map(FutureId::new);
-    let mut resolver = Resolver::new(rt.alloc());
     let rows: [(Step, Option<FutureId>); 14] = [
         (Step::Reserve(1), None),
         (Step::Enter(&[]), Some(c0)),
@@ -100,16 +117,14 @@ fn calls_wait_for_answers(rt: HostRuntime) -> Result<(), Fail> {
         (Step::Enter(&[c2, c0]), None),
         (Step::Told(c2), Some(c3)),
     ];
-    play(&rt, &mut resolver, &rows)?;
-    for (k, sent, known) in [
+    let ends = [
         (c0, true, true),
         (c1, false, true),
         (c2, true, true),
         (c3, false, true),
         (c4, false, false),
-    ] {
-        assert_eq!(rt; (resolver.is_sent(k), resolver.is_known(k)), (sent, known));
-    }
+    ];
+    assert_played(&rt, rt.alloc(), &rows, &ends)?;
     Ok(())
 }
 
@@ -117,7 +132,6 @@ fn calls_wait_for_answers(rt: HostRuntime) -> Result<(), Fail> {
 #[test]
 fn refused_memory_changes_nothing(rt: HostRuntime) -> Result<(), Fail> {
     let [c0, c1, c5, c9] = [0, 1, 5, 9].map(FutureId::new);
-    let mut resolver = Resolver::new(rt.alloc());
     let rows: [(Step, Option<FutureId>); 14] = [
         (Step::Reserve(2), None),
         (Step::Enter(&[]), Some(c0)),
@@ -134,37 +148,63 @@ fn refused_memory_changes_nothing(rt: HostRuntime) -> Result<(), Fail> {
         (Step::Told(c0), Some(c1)),
         (Step::Sent(c1), Some(FutureId::new(4))),
     ];
-    play(&rt, &mut resolver, &rows)?;
-    for (k, sent, known) in [
+    let ends = [
         (c0, true, true),
         (c1, true, true),
         (c5, false, true),
         (c9, false, false),
-    ] {
-        assert_eq!(rt; (resolver.is_sent(k), resolver.is_known(k)), (sent, known));
+    ];
+    assert_played(&rt, rt.alloc(), &rows, &ends)?;
+    Ok(())
+}
+
+/// Enters a call and so many that wait for it, and tells how many there are.
+fn enter_waiting(rt: &impl Abort, resolver: &mut Resolver, count: u32) -> Result<u32, NoMemory>
+    requires { resolver.old.calls ≡ [] }
+    ensures { IfOk result (λ entered. entered ≡ length resolver.new.calls) }
+{
+    let c0 = FutureId::new(0);
+    resolver.reserve_one()?;
+    let mut entered = take(rt, resolver, 0, &Step::Enter(&[]))?;
+    for _ in 0..count {
+        resolver.reserve_one()?;
+        entered = take(rt, resolver, entered, &Step::Enter(&[c0]))?;
     }
+    Ok(entered)
+}
+
+/// From the second on, each of so many calls is ready in its turn, and is sent.
+fn send_in_turn(rt: &impl Abort, resolver: &mut Resolver, mut entered: u32) -> Result<(), NoMemory>
+    requires { entered ≡ length resolver.old.calls }
+{
+    for number in 1..entered {
+        let k = FutureId::new(number);
+        assert_eq!(rt; resolver.ready(), Some(k));
+        entered = take(rt, resolver, entered, &Step::Sent(k))?;
+    }
+    Ok(())
+}
+
+fn wait_for_one(rt: &impl Abort, resolver: &mut Resolver, count: u32) -> Result<(), NoMemory>
+    requires { resolver.old.calls ≡ [] }
+{
+    let c0 = FutureId::new(0);
+    let entered = enter_waiting(rt, resolver, count)?;
+    assert_eq!(rt;
+        (entered, resolver.ready()),
+        (count.wrapping_add(1), Some(c0))
+    );
+    let entered = take(rt, resolver, entered, &Step::Told(c0))?;
+    send_in_turn(rt, resolver, entered)?;
+    assert_eq!(rt; resolver.ready(), None);
     Ok(())
 }
 
 /// So many calls are past the numbers of a word, and past those of a word of words.
 #[test]
 fn five_thousand_calls_wait_for_one(rt: HostRuntime) -> Result<(), Fail> {
-    let c0 = FutureId::new(0);
     let mut resolver = Resolver::new(rt.alloc());
-    resolver.reserve_one()?;
-    let mut entered = take(&rt, &mut resolver, 0, &Step::Enter(&[]))?;
-    for _ in 0..5000 {
-        resolver.reserve_one()?;
-        entered = take(&rt, &mut resolver, entered, &Step::Enter(&[c0]))?;
-    }
-    assert_eq!(rt; resolver.ready(), Some(c0));
-    entered = take(&rt, &mut resolver, entered, &Step::Told(c0))?;
-    for number in 1..5001 {
-        let k = FutureId::new(number);
-        assert_eq!(rt; resolver.ready(), Some(k));
-        entered = take(&rt, &mut resolver, entered, &Step::Sent(k))?;
-    }
-    assert_eq!(rt; resolver.ready(), None);
+    wait_for_one(&rt, &mut resolver, 5000)?;
     Ok(())
 }
 
@@ -310,6 +350,28 @@ fn enter_all(
     Ok(entered)
 }
 
+/// Takes so many random steps after these calls, in the resolver and in the plain calls.
+fn take_random(
+    rt: &impl Abort,
+    random: &mut Random,
+    resolver: &mut Resolver,
+    calls: &mut Vec<Scanned>,
+    mut entered: u32,
+    steps: u32,
+) -> Result<(), NoMemory>
+    requires { entered ≡ length resolver.old.calls }
+{
+    for _ in 0..steps {
+        let futures = random_futures(random, entered);
+        let step = random_step(random, entered, resolver.ready(), &futures);
+        entered = take(rt, resolver, entered, &step)?;
+        scan_step(rt, calls, &step)?;
+        assert!(rt; calls.len() <= MOST_CALLS as usize);
+        assert_eq!(rt; resolver.ready(), first_ready(calls));
+    }
+    Ok(())
+}
+
 /// Random steps of a resolver and of the plain calls, of which there are so many at first.
 fn random_run(
     rt: &impl Abort,
@@ -320,15 +382,8 @@ fn random_run(
 ) -> Result<(), NoMemory> {
     let mut resolver = Resolver::new(alloc);
     let mut calls = Vec::new(alloc);
-    let mut entered = enter_all(rt, random, &mut resolver, &mut calls, count)?;
-    for _ in 0..steps {
-        let futures = random_futures(random, entered);
-        let step = random_step(random, entered, resolver.ready(), &futures);
-        entered = take(rt, &mut resolver, entered, &step)?;
-        scan_step(rt, &mut calls, &step)?;
-        assert!(rt; calls.len() <= MOST_CALLS as usize);
-        assert_eq!(rt; resolver.ready(), first_ready(&calls));
-    }
+    let entered = enter_all(rt, random, &mut resolver, &mut calls, count)?;
+    take_random(rt, random, &mut resolver, &mut calls, entered, steps)?;
     assert_same(rt, &resolver, &calls);
     Ok(())
 }

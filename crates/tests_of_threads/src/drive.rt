@@ -16,12 +16,13 @@ mod pair;
 mod starved;
 mod station;
 
+use crate::lines::{actor, caller};
 use act_drive::{CallerLines, CallerPasses, Plan, drive};
 use act_owner::Owner;
 use act_rules::Step;
 use act_types::{ActorId, Arg, Fault, FutureId, ListOf, Method, NoMemory, Value};
 use executor::{ExecLines, Way, serve_counter};
-use station::{ExecPasses, Station, actor, caller, opened};
+use station::{ExecPasses, Station, opened};
 use std::alloc::Global;
 use std::sync::Wait;
 use std::test::Fail;
@@ -148,18 +149,25 @@ fn beside<R: Threads + Wait + Sync>(
     )
 }
 
-/// The actor's caller, with no limit.
-fn unlimited(alloc: Global) -> Result<Owner, NoMemory>
+/// The actor's caller. With a limit one of its calls may have no answer.
+fn owner_of(alloc: Global, way: Way) -> Result<Owner, NoMemory>
     ensures { IfOk result (λ owner. owner ≡ opened_under owner.limits 1 (1 ∷ [])) }
 {
-    Owner::open(alloc, caller(), &[actor()])
+    match way {
+        Way::Paces | Way::Leaves => Owner::open_with(alloc, caller(), &[(actor(), Some(1))]),
+        _ => Owner::open(alloc, caller(), &[actor()]),
+    }
 }
 
-/// The actor's caller, of which one call may have no answer.
-fn limited(alloc: Global) -> Result<Owner, NoMemory>
-    ensures { IfOk result (λ owner. owner ≡ opened_under owner.limits 1 (1 ∷ [])) }
+/// What the caller does.
+fn plan_of(alloc: Global, way: Way) -> Result<Plan, NoMemory>
+    ensures { IfOk result (λ plan. first_bad (1 ∷ []) plan.items ≡ None) }
 {
-    Owner::open_with(alloc, caller(), &[(actor(), Some(1))])
+    match way {
+        Way::Holds => call_and_kill(alloc),
+        Way::Repeats | Way::Retires | Way::Leaves => two_calls(alloc),
+        Way::Paces => three_calls(alloc),
+    }
 }
 
 /// Drives a plan against an executor. What the caller keeps, and whether the executor saw all as it
@@ -176,37 +184,35 @@ fn joined<R: Threads + Wait + Sync>(
     requires fits { first_bad (1 ∷ []) plan.items ≡ None }
 {
     let (station, passes, exec) = opened(alloc)?;
-    let Station {
-        mail,
-        control,
-        replies,
-    } = station;
-    let (mails, controls) = ([mail], [control]);
+    let station = &station;
     let lines = CallerLines {
-        mails: &mails,
-        controls: &controls,
-        replies: &replies,
+        mails: &station.mails,
+        controls: &station.controls,
+        replies: &station.replies,
     };
     let exec_lines = ExecLines {
-        mail: &mails[0],
-        control: &controls[0],
-        replies: &replies,
+        mail: &station.mails[0],
+        control: &station.controls[0],
+        replies: &station.replies,
     };
     let caller = (owner, plan, passes);
     let (told, is_right) = beside(rt, alloc, caller, exec, (&lines, &exec_lines), way);
     Ok((told, is_right?))
 }
 
+/// What a caller keeps of the plan of a way, and whether the executor saw all as it should be. A
+/// limit stands where the way is about one.
+fn kept<R: Threads + Wait + Sync>(rt: &R, alloc: Global, way: Way) -> Result<(Told, bool), NoMemory>
+    requires sync { IsSync R.row }
+{
+    let owner = owner_of(alloc, way)?;
+    let plan = plan_of(alloc, way)?;
+    joined(rt, alloc, owner, plan, way)
+}
+
 #[test]
 fn await_holds(rt: HostRuntime) -> Result<(), Fail> {
-    let alloc = rt.alloc();
-    let told = joined(
-        &rt,
-        alloc,
-        unlimited(alloc)?,
-        call_and_kill(alloc)?,
-        Way::Holds,
-    )?;
+    let told = kept(&rt, rt.alloc(), Way::Holds)?;
     let wanted = Told {
         is_starved: false,
         first: Said::Number(1),
@@ -219,14 +225,7 @@ fn await_holds(rt: HostRuntime) -> Result<(), Fail> {
 
 #[test]
 fn repeated_reply(rt: HostRuntime) -> Result<(), Fail> {
-    let alloc = rt.alloc();
-    let told = joined(
-        &rt,
-        alloc,
-        unlimited(alloc)?,
-        two_calls(alloc)?,
-        Way::Repeats,
-    )?;
+    let told = kept(&rt, rt.alloc(), Way::Repeats)?;
     let wanted = Told {
         is_starved: false,
         first: Said::Number(1),
@@ -240,14 +239,7 @@ fn repeated_reply(rt: HostRuntime) -> Result<(), Fail> {
 /// Both calls are posted, and then the note with their number, else the actor would not retire.
 #[test]
 fn ends_with_all_answered(rt: HostRuntime) -> Result<(), Fail> {
-    let alloc = rt.alloc();
-    let told = joined(
-        &rt,
-        alloc,
-        unlimited(alloc)?,
-        two_calls(alloc)?,
-        Way::Retires,
-    )?;
+    let told = kept(&rt, rt.alloc(), Way::Retires)?;
     let wanted = Told {
         is_starved: false,
         first: Said::Number(1),
@@ -262,8 +254,7 @@ fn ends_with_all_answered(rt: HostRuntime) -> Result<(), Fail> {
 /// submitted before that reply is collected: none is refused for it.
 #[test]
 fn limit_waits_for_answers(rt: HostRuntime) -> Result<(), Fail> {
-    let alloc = rt.alloc();
-    let told = joined(&rt, alloc, limited(alloc)?, three_calls(alloc)?, Way::Paces)?;
+    let told = kept(&rt, rt.alloc(), Way::Paces)?;
     let wanted = Told {
         is_starved: false,
         first: Said::Number(1),
@@ -277,8 +268,7 @@ fn limit_waits_for_answers(rt: HostRuntime) -> Result<(), Fail> {
 /// The death of the actor answers the call before, and makes room for the next.
 #[test]
 fn limit_ends_with_the_actor(rt: HostRuntime) -> Result<(), Fail> {
-    let alloc = rt.alloc();
-    let told = joined(&rt, alloc, limited(alloc)?, two_calls(alloc)?, Way::Leaves)?;
+    let told = kept(&rt, rt.alloc(), Way::Leaves)?;
     let wanted = Told {
         is_starved: false,
         first: Said::Died,

@@ -5,4 +5,6 @@
 #[cfg(test)]
 mod drive;
 #[cfg(test)]
+mod lines;
+#[cfg(test)]
 mod serve;

@@ -1,18 +1,20 @@
 //! An actor that serves lines which a test filled.
 
-ghost use Rattle.std.specs.Prelude.{◌≡◌, [], ◌∷◌};
+ghost use Rattle.std.specs.Prelude.{◌≡◌, [], ◌∷◌, slice_index_or};
+ghost use Rattle.act_mailbox.specs.Notices.{RepliesValue};
 ghost use Rattle.act_serve.specs.Turns.{PassesFit, PassesOf, IsUnused};
 
 mod kill_at_place;
 mod station;
 mod two_callers;
 
+use crate::lines::{actor, caller};
 use act_actor::Live;
 use act_kinds::{Actor, Counter};
 use act_mailbox::{Replies, ReplyCaller};
 use act_serve::{Ended, ExecLines, ExecPasses, Finished, Gate, NoGate, serve};
 use act_types::{ActorId, NoMemory, Notice};
-use station::{Posted, Station, actor, caller, opened};
+use station::{Posted, Station, opened};
 use std::alloc::Global;
 use std::process::Abort;
 use std::sync::Wait;
@@ -79,28 +81,22 @@ fn serve_counter<R: Wait, G: Gate>(
 fn served<R: Wait>(
     rt: &R,
     alloc: Global,
-    station: Station,
+    station: &Station,
+    collector: &mut ReplyCaller,
     passes: ExecPasses,
 ) -> Result<(End, Option<Counted>), NoMemory>
-    requires fit { PassesFit station.mail.line station.control.line (station.replies ∷ []) 1 [] passes }
-    requires fresh { IsUnused (station.replies ∷ []) (1 ∷ []) passes }
-    requires collector { station.collector.line ≡ station.replies.line }
+    requires fit { PassesFit station.now.mail.line station.now.control.line station.now.replies 1 [] passes }
+    requires fresh { IsUnused station.now.replies (1 ∷ []) passes }
+    requires collector { (r : RepliesValue) → collector.old.line ≡ (slice_index_or station.now.replies 0 r).line }
 {
-    let Station {
-        mail,
-        control,
-        replies,
-        mut collector,
-        ..
-    } = station;
-    let replies = [replies];
     let lines = ExecLines {
-        mail: &mail,
-        control: &control,
-        replies: &replies,
+        mail: &station.mail,
+        control: &station.control,
+        replies: &station.replies,
     };
     let end = serve_counter(rt, alloc, &lines, passes, &NoGate)?;
-    Ok((end, given(rt, &replies[0], &mut collector)))
+    let given = given(rt, &station.replies[0], collector);
+    Ok((end, given))
 }
 
 /// A counter serves these letters.
@@ -109,9 +105,9 @@ fn served_letters<R: Wait + Abort>(
     alloc: Global,
     letters: &[Posted],
 ) -> Result<(End, Option<Counted>), NoMemory> {
-    let (mut station, passes) = opened(alloc)?;
+    let (mut station, mut collector, passes) = opened(alloc)?;
     assert!(rt; station.post_all(rt, alloc, letters)?);
-    served(rt, alloc, station, passes)
+    served(rt, alloc, &station, &mut collector, passes)
 }
 
 /// A counter serves these letters, and a kill that was asked before.
@@ -120,10 +116,10 @@ fn served_and_killed<R: Wait + Abort>(
     alloc: Global,
     letters: &[Posted],
 ) -> Result<(End, Option<Counted>), NoMemory> {
-    let (mut station, passes) = opened(alloc)?;
+    let (mut station, mut collector, passes) = opened(alloc)?;
     assert!(rt; station.post_all(rt, alloc, letters)?);
     assert!(rt; station.ask_kill(rt));
-    served(rt, alloc, station, passes)
+    served(rt, alloc, &station, &mut collector, passes)
 }
 
 #[test]

@@ -3,26 +3,27 @@
 use act_actor::cast_fits;
 use act_executor::Plan;
 use act_kinds::{Account, Boxed, Counter, ListKind, Table};
+use act_owner::Owner;
 use act_rules::Step;
-use act_types::{ActorId, Arg, CallerId, FutureId, ListOf, Method, NoMemory, Value};
+use act_types::{ActorId, Answer, Arg, CallerId, FutureId, ListOf, Method, NoMemory, Value};
 use act_uses::{
     Kinds, PeaceFault, ask_once, play_part, play_patiently, ran_of, run_in_peace, serve_each_kind,
     world_after,
 };
 use act_world::{Cast, Event, World};
 use std::alloc::Global;
+use std::process::Abort;
 use std::test::Fail;
 
 /// A caller deposits 10, and hears of it.
 fn deposit(alloc: Global, a: ActorId, c: CallerId) -> Result<Vec<Event>, NoMemory> {
-    let mut args = ListOf::new(alloc);
-    args.push(Arg::Plain(Value::Int(10)))?;
-    let mut events = Vec::new(alloc);
-    events.push(Event::Submit(c, a, Method::Deposit, args))?;
-    events.push(Event::Send(c, FutureId::new(0)))?;
-    events.push(Event::Deliver(0))?;
-    events.push(Event::Run(a, c))?;
-    events.push(Event::Collect(0))?;
+    let events = vec![in alloc;
+        Event::Submit(c, a, Method::Deposit, number(alloc, 10)?),
+        Event::Send(c, FutureId::new(0)),
+        Event::Deliver(0),
+        Event::Run(a, c),
+        Event::Collect(0),
+    ]?;
     Ok(events)
 }
 
@@ -130,6 +131,14 @@ fn four_calls(alloc: Global) -> Result<Plan, NoMemory> {
     Ok(plan)
 }
 
+/// The caller's first futures have these numbers for answers.
+fn assert_answers(rt: &impl Abort, owner: &Owner, numbers: [i64; 4]) {
+    for (k, number) in (0..4).zip(numbers) {
+        let wanted: Answer = Ok(Value::Int(number));
+        assert_eq!(rt; owner.answer(FutureId::new(k)), Some(&wanted));
+    }
+}
+
 #[test]
 fn each_kind_answers_in_its_box(rt: HostRuntime) -> Result<(), Fail> {
     let alloc = rt.alloc();
@@ -137,10 +146,7 @@ fn each_kind_answers_in_its_box(rt: HostRuntime) -> Result<(), Fail> {
     let joined = serve_each_kind(&rt, alloc, c1, boxes(alloc)?, four_calls(alloc)?)?;
     assert_eq!(rt; joined.owners.len(), 1);
     for owner in &joined.owners {
-        assert!(rt; matches!(owner.answer(FutureId::new(0)), Some(Ok(Value::Int(5)))));
-        assert!(rt; matches!(owner.answer(FutureId::new(1)), Some(Ok(Value::Int(0)))));
-        assert!(rt; matches!(owner.answer(FutureId::new(2)), Some(Ok(Value::Int(10)))));
-        assert!(rt; matches!(owner.answer(FutureId::new(3)), Some(Ok(Value::Int(1)))));
+        assert_answers(&rt, owner, [5, 0, 10, 1]);
     }
     Ok(())
 }

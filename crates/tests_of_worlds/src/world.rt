@@ -65,12 +65,8 @@ fn event_of(alloc: Global, step: Step) -> Result<Event, NoMemory> {
     })
 }
 
-fn cast_of<K: Actor>(
-    alloc: Global,
-    actor: ActorId,
-    names: &[CallerId],
-    kind: K,
-) -> Result<Cast<K>, NoMemory> {
+fn cast_of<K: Actor>(alloc: Global, role: Role<K>) -> Result<Cast<K>, NoMemory> {
+    let (actor, names, kind) = role;
     let mut callers = ListOf::new(alloc);
     for c in names {
         callers.push(*c)?;
@@ -216,6 +212,71 @@ fn end_of<K: Actor>(
     Ok(text)
 }
 
+/// The world ends so after these rows.
+fn assert_end<K: Actor>(
+    rt: &impl Abort,
+    alloc: Global,
+    casts: Vec<Cast<K>>,
+    rows: &[Row],
+    shown: (&[CallerId], &[ActorId]),
+    wanted: &str,
+) -> Result<(), NoMemory> {
+    let world = played(rt, alloc, casts, rows)?;
+    let (callers, actors) = shown;
+    let end = end_of(alloc, &world, callers, actors)?;
+    assert_eq!(rt; end.as_str(), wanted);
+    world.consistent();
+    Ok(())
+}
+
+/// An actor, the callers that may call it, and its kind.
+type Role<'a, K> = (ActorId, &'a [CallerId], K);
+
+fn one_cast<K: Actor>(alloc: Global, role: Role<K>) -> Result<Vec<Cast<K>>, NoMemory> {
+    let mut casts = Vec::new(alloc);
+    casts.push(cast_of(alloc, role)?)?;
+    Ok(casts)
+}
+
+fn limited_cast<K: Actor>(
+    alloc: Global,
+    role: Role<K>,
+    limit: u32,
+) -> Result<Vec<Cast<K>>, NoMemory> {
+    let mut cast = cast_of(alloc, role)?;
+    cast.pending = Some(limit);
+    let mut casts = Vec::new(alloc);
+    casts.push(cast)?;
+    Ok(casts)
+}
+
+fn two_casts<K: Actor>(
+    alloc: Global,
+    one: Role<K>,
+    two: Role<K>,
+) -> Result<Vec<Cast<K>>, NoMemory> {
+    let mut casts = one_cast(alloc, one)?;
+    casts.push(cast_of(alloc, two)?)?;
+    Ok(casts)
+}
+
+/// Actors 1 and 2, each in a box, of which the second is caller 1's alone.
+fn boxed_casts<A: Actor + Send + 'static, B: Actor + Send + 'static>(
+    alloc: Global,
+    callers: &[CallerId],
+    one: A,
+    two: B,
+) -> Result<Vec<Cast<Boxed>>, NoMemory> {
+    let one: Boxed = Box::new(alloc, one)?;
+    let two: Boxed = Box::new(alloc, two)?;
+    let [a1, a2] = [ActorId::new(1).unwrap(), ActorId::new(2).unwrap()];
+    two_casts(
+        alloc,
+        (a1, callers, one),
+        (a2, &[CallerId::new(1).unwrap()], two),
+    )
+}
+
 /// A call that waits for an answer isn't sent, a later one waits at its actor, and another caller's
 /// passes it. Memory is refused from outside, at most once.
 #[test]
@@ -226,11 +287,7 @@ fn another_caller_passes(rt: HostRuntime) -> Result<(), Fail> {
     let a1 = ActorId::new(1).unwrap();
     let a2 = ActorId::new(2).unwrap();
     let [k0, k1, k2] = [FutureId::new(0), FutureId::new(1), FutureId::new(2)];
-    let one: Boxed = Box::new(alloc, Counter::open())?;
-    let two: Boxed = Box::new(alloc, Counter::open())?;
-    let mut casts = Vec::new(alloc);
-    casts.push(cast_of(alloc, a1, &[c1, c2], one)?)?;
-    casts.push(cast_of(alloc, a2, &[c1], two)?)?;
+    let casts = boxed_casts(alloc, &[c1, c2], Counter::open(), Counter::open())?;
     let rows = [
         (
             Step::Submit(c1, a2, Method::Add, Given::Int(7)),
@@ -270,12 +327,10 @@ fn another_caller_passes(rt: HostRuntime) -> Result<(), Fail> {
         (Step::Collect(2), Ok(Did::Kept(c1, k1))),
         (Step::Collect(3), Ok(Did::Kept(c1, k2))),
     ];
-    let world = played(&rt, alloc, casts, &rows)?;
-    let end = end_of(alloc, &world, &[c1, c2], &[a1, a2])?;
     let wanted = "c1.0 a2 = 7\nc1.1 a1 = 107\nc1.2 a1 = 108\nc2.0 a1 = 100\n\
         a1 live counter 108\na1.0 c2.0 add 100\na1.1 c1.1 add 7\na1.2 c1.2 add 1\n\
         a2 live counter 7\na2.0 c1.0 add 7\n";
-    assert_eq!(rt; end.as_str(), wanted);
+    assert_end(&rt, alloc, casts, &rows, (&[c1, c2], &[a1, a2]), wanted)?;
     Ok(())
 }
 
@@ -288,11 +343,7 @@ fn one_packet_for_good(rt: HostRuntime) -> Result<(), Fail> {
     let a1 = ActorId::new(1).unwrap();
     let a2 = ActorId::new(2).unwrap();
     let [k0, k1] = [FutureId::new(0), FutureId::new(1)];
-    let one: Boxed = Box::new(alloc, Counter::open())?;
-    let two: Boxed = Box::new(alloc, ListKind::open(alloc))?;
-    let mut casts = Vec::new(alloc);
-    casts.push(cast_of(alloc, a1, &[c1], one)?)?;
-    casts.push(cast_of(alloc, a2, &[c1], two)?)?;
+    let casts = boxed_casts(alloc, &[c1], Counter::open(), ListKind::open(alloc))?;
     let rows = [
         (
             Step::Submit(c1, a1, Method::Add, Given::Int(5)),
@@ -317,11 +368,9 @@ fn one_packet_for_good(rt: HostRuntime) -> Result<(), Fail> {
         (Step::Run(a2, c1), Ok(Did::Ran(0, 2))),
         (Step::Collect(2), Ok(Did::Kept(c1, k1))),
     ];
-    let world = played(&rt, alloc, casts, &rows)?;
-    let end = end_of(alloc, &world, &[c1], &[a1, a2])?;
     let wanted = "c1.0 a1 = ActorDied\nc1.1 a2 = Dependency(0)\n\
         a1 dead\na1.0 c1.0 add 5\na2 live list\na2.0 c1.1 push !0\n";
-    assert_eq!(rt; end.as_str(), wanted);
+    assert_end(&rt, alloc, casts, &rows, (&[c1], &[a1, a2]), wanted)?;
     Ok(())
 }
 
@@ -334,8 +383,7 @@ fn release_and_retire(rt: HostRuntime) -> Result<(), Fail> {
     let a1 = ActorId::new(1).unwrap();
     let k0 = FutureId::new(0);
     let kind: Boxed = Box::new(alloc, Counter::open())?;
-    let mut casts = Vec::new(alloc);
-    casts.push(cast_of(alloc, a1, &[c1], kind)?)?;
+    let casts = one_cast(alloc, (a1, &[c1], kind))?;
     let rows = [
         (
             Step::Submit(c1, a1, Method::Add, Given::Int(2)),
@@ -356,10 +404,8 @@ fn release_and_retire(rt: HostRuntime) -> Result<(), Fail> {
         (Step::Deliver(0), Err(WorldRefusal::ActorEnded)),
         (Step::Collect(0), Ok(Did::Kept(c1, k0))),
     ];
-    let world = played(&rt, alloc, casts, &rows)?;
-    let end = end_of(alloc, &world, &[c1], &[a1])?;
     let wanted = "c1.0 a1 = 2\na1 retired counter 2\na1.0 c1.0 add 2\n";
-    assert_eq!(rt; end.as_str(), wanted);
+    assert_end(&rt, alloc, casts, &rows, (&[c1], &[a1]), wanted)?;
     Ok(())
 }
 
@@ -371,8 +417,7 @@ fn ran_and_yet_died(rt: HostRuntime) -> Result<(), Fail> {
     let c1 = CallerId::new(1).unwrap();
     let a1 = ActorId::new(1).unwrap();
     let [k0, k1] = [FutureId::new(0), FutureId::new(1)];
-    let mut casts = Vec::new(alloc);
-    casts.push(cast_of(alloc, a1, &[c1], Counter::open())?)?;
+    let casts = one_cast(alloc, (a1, &[c1], Counter::open()))?;
     let rows = [
         (
             Step::Submit(c1, a1, Method::Add, Given::Int(5)),
@@ -400,11 +445,8 @@ fn ran_and_yet_died(rt: HostRuntime) -> Result<(), Fail> {
         (Step::Release(c1, a1), Ok(Did::Mail(1))),
         (Step::Deliver(1), Err(WorldRefusal::ActorEnded)),
     ];
-    let world = played(&rt, alloc, casts, &rows)?;
-    let end = end_of(alloc, &world, &[c1], &[a1])?;
     let wanted = "c1.0 a1 = ActorDied\nc1.1 a1 = ActorDied\na1 dead\na1.0 c1.0 add 5\n";
-    assert_eq!(rt; end.as_str(), wanted);
-    world.consistent();
+    assert_end(&rt, alloc, casts, &rows, (&[c1], &[a1]), wanted)?;
     Ok(())
 }
 
@@ -416,10 +458,7 @@ fn pending_limit(rt: HostRuntime) -> Result<(), Fail> {
     let c1 = CallerId::new(1).unwrap();
     let a1 = ActorId::new(1).unwrap();
     let [k0, k1, k2] = [FutureId::new(0), FutureId::new(1), FutureId::new(2)];
-    let mut cast = cast_of(alloc, a1, &[c1], Counter::open())?;
-    cast.pending = Some(2);
-    let mut casts = Vec::new(alloc);
-    casts.push(cast)?;
+    let casts = limited_cast(alloc, (a1, &[c1], Counter::open()), 2)?;
     let rows = [
         (
             Step::Submit(c1, a1, Method::Add, Given::Int(1)),
@@ -446,10 +485,8 @@ fn pending_limit(rt: HostRuntime) -> Result<(), Fail> {
             Ok(Did::Future(c1, k2)),
         ),
     ];
-    let world = played(&rt, alloc, casts, &rows)?;
-    let end = end_of(alloc, &world, &[c1], &[a1])?;
     let wanted = "c1.0 a1 = 1\nc1.1 a1 ?\nc1.2 a1 ?\na1 live counter 1\na1.0 c1.0 add 1\n";
-    assert_eq!(rt; end.as_str(), wanted);
+    assert_end(&rt, alloc, casts, &rows, (&[c1], &[a1]), wanted)?;
     Ok(())
 }
 
@@ -462,9 +499,11 @@ fn terminate_in_turn(rt: HostRuntime) -> Result<(), Fail> {
     let [a1, a2] = [ActorId::new(1).unwrap(), ActorId::new(2).unwrap()];
     let [k0, k1, k2] = [FutureId::new(0), FutureId::new(1), FutureId::new(2)];
     let [k3, k4] = [FutureId::new(3), FutureId::new(4)];
-    let mut casts = Vec::new(alloc);
-    casts.push(cast_of(alloc, a1, &[c1], Counter::open())?)?;
-    casts.push(cast_of(alloc, a2, &[c1], Counter::open())?)?;
+    let casts = two_casts(
+        alloc,
+        (a1, &[c1], Counter::open()),
+        (a2, &[c1], Counter::open()),
+    )?;
     let rows = [
         (
             Step::Submit(c1, a1, Method::Add, Given::Int(5)),
@@ -508,12 +547,10 @@ fn terminate_in_turn(rt: HostRuntime) -> Result<(), Fail> {
         (Step::Collect(3), Ok(Did::Kept(c1, k3))),
         (Step::Collect(4), Ok(Did::Kept(c1, k4))),
     ];
-    let world = played(&rt, alloc, casts, &rows)?;
-    let end = end_of(alloc, &world, &[c1], &[a1, a2])?;
     let wanted =
         "c1.0 a1 = 5\nc1.1 a1 = unit\nc1.2 a1 = ActorDied\nc1.3 a2 = BadArgs\nc1.4 a2 = 2\n\
         a1 dead\na1.0 c1.0 add 5\na1.1 c1.1 terminate\n\
         a2 live counter 2\na2.0 c1.3 terminate 1\na2.1 c1.4 add 2\n";
-    assert_eq!(rt; end.as_str(), wanted);
+    assert_end(&rt, alloc, casts, &rows, (&[c1], &[a1, a2]), wanted)?;
     Ok(())
 }

@@ -218,38 +218,68 @@ fn assert_empty<R: Wait + Abort>(
     );
 }
 
-/// What a run of both leaves: the kill that the executor took, and what the caller was told.
-fn run_both<R: Threads + Wait + Sync + Abort>(
-    rt: &R,
-    alloc: Global,
-    live: Live<Counter>,
-    note: KillNote,
-) -> Result<(KillNote, Notice), NoMemory>
-    requires sync { IsSync R.row }
-    requires actor { (live_seen ⟦<Counter as Actor>⟧.state live).id ≡ 8 }
+/// The lines of actor 8 and caller 1.
+#[derive(Drop)]
+struct Lines {
+    control: Control,
+    replies: Replies,
+}
+
+/// The lines, and the passes on them.
+fn opened(alloc: Global) -> Result<(Lines, ExecPasses, CallerPasses), NoMemory>
+    ensures kills { IfOk result (λ opened. (opened.1.kills.line ≡ opened.0.control.line) × (opened.1.kills.actor ≡ 8)) }
+    ensures notices { IfOk result (λ opened. opened.1.notices ≡ new_exec opened.0.replies.line 8) }
+    ensures asker { IfOk result (λ opened. opened.2.kills.line ≡ opened.0.control.line) }
+    ensures collector { IfOk result (λ opened. opened.2.notices.line ≡ opened.0.replies.line) }
 {
     let (control, kills, ask) = opened_control(alloc)?;
     let (replies, notices, collector) = opened_replies(alloc)?;
-    let executor = ExecPasses { kills, notices };
     let asker = CallerPasses {
         kills: ask,
         notices: collector,
     };
-    let (served, driven) = serve_and_drive(rt, &control, &replies, (executor, live), (asker, note));
+    Ok((
+        Lines { control, replies },
+        ExecPasses { kills, notices },
+        asker,
+    ))
+}
+
+/// What a run of both leaves: the kill that the executor took, and what the caller was told.
+fn run_both<R: Threads + Wait + Sync + Abort>(
+    rt: &R,
+    lines: &Lines,
+    executor: (ExecPasses, Live<Counter>),
+    caller: (CallerPasses, KillNote),
+) -> (KillNote, Notice)
+    requires sync { IsSync R.row }
+    requires kills { executor.0.kills.line ≡ lines.now.control.line }
+    requires actor { (live_seen ⟦<Counter as Actor>⟧.state executor.1).id ≡ executor.0.kills.actor }
+    requires notices { executor.0.notices ≡ new_exec lines.now.replies.line executor.0.kills.actor }
+    requires asker { caller.0.kills.line ≡ lines.now.control.line }
+    requires collector { caller.0.notices.line ≡ lines.now.replies.line }
+{
+    let (served, driven) = serve_and_drive(rt, &lines.control, &lines.replies, executor, caller);
     let (mut executor, taken) = served;
     let (mut asker, told) = driven;
-    assert_empty(rt, &control, &replies, &mut executor, &mut asker);
-    Ok((taken, told))
+    assert_empty(
+        rt,
+        &lines.control,
+        &lines.replies,
+        &mut executor,
+        &mut asker,
+    );
+    (taken, told)
 }
 
 #[test]
 fn an_executor_in_a_thread(rt: HostRuntime) -> Result<(), Fail> {
     let actor = ActorId::new(8).unwrap();
     let caller = CallerId::new(1).unwrap();
-    let alloc = rt.alloc();
-    let live = Live::open(alloc, actor, &[caller], Counter::open())?;
+    let live = Live::open(rt.alloc(), actor, &[caller], Counter::open())?;
+    let (lines, executor, asker) = opened(rt.alloc())?;
     let note = KillNote { caller, actor };
-    let (taken, told) = run_both(&rt, alloc, live, note)?;
+    let (taken, told) = run_both(&rt, &lines, (executor, live), (asker, note));
     assert_eq!(rt; taken, note);
     assert_eq!(rt; told, Notice::Death(actor));
     Ok(())

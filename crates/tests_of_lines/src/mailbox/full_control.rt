@@ -229,14 +229,21 @@ fn assert_fills_and_empties<R: Wait + Abort>(
     assert_next(rt, control, starter, executor, live, (17, 17), 0);
 }
 
+/// The line is actor 1's, and the passes are the starter's and caller 2's.
+fn assert_names(rt: &impl Abort, control: &Control, pass: &ControlCaller, starter: &ControlCaller) {
+    assert_eq!(rt;
+        (control.actor().number(), starter.number(), pass.number()),
+        (1, 0, 2)
+    );
+}
+
 #[test]
 fn full_and_empty(rt: HostRuntime) -> Result<(), Fail> {
     let actor = ActorId::new(1).unwrap();
     let caller = CallerId::new(2).unwrap();
     let live = Live::open(rt.alloc(), actor, &[caller], Counter::open())?;
     let (control, mut pass, mut starter, mut executor) = opened(rt.alloc())?;
-    assert_eq!(rt; control.actor(), actor);
-    assert_eq!(rt; (starter.number(), pass.number()), (0, 2));
+    assert_names(&rt, &control, &pass, &starter);
     assert_fills_and_empties(&rt, &control, &mut pass, &mut starter, &mut executor, &live);
     Ok(())
 }

@@ -189,8 +189,7 @@ fn full_and_empty(rt: HostRuntime) -> Result<(), Fail> {
     }];
     let death = ActorId::new(8).unwrap();
     let (replies, mut pass, mut collector) = opened(rt.alloc())?;
-    assert_eq!(rt; replies.caller().number(), 1);
-    assert_eq!(rt; pass.actor(), death);
+    assert_eq!(rt; (replies.caller().number(), pass.actor()), (1, death));
     assert_fills(&rt, &replies, &mut pass, &mut collector, &log);
     assert!(rt;
         replies

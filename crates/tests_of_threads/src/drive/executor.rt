@@ -6,7 +6,8 @@ ghost use Rattle.act_rules.specs.Consistent.{IsFront};
 ghost use Rattle.act_actor.specs.Seen.{live_seen};
 ghost use Rattle.act_mailbox.specs.Notices.{new_exec, IsReply, NamesPlace};
 
-use super::station::{ExecPasses, actor, caller};
+use super::station::ExecPasses;
+use crate::lines::{actor, caller};
 use act_actor::Live;
 use act_kinds::{Actor, Counter};
 use act_mailbox::{Control, ControlExec, Letter, Mail, MailExec, Replies, ReplyExec};
@@ -159,26 +160,39 @@ pub(super) fn run_one<R: Wait, K: Actor>(
     give_times(rt, alloc, live, line, gives, &reply, times)
 }
 
+/// Tells the actor's death.
+pub(super) fn tell_death<R: Wait, K: Actor>(
+    rt: &R,
+    line: &Replies,
+    gives: &mut ReplyExec,
+    live: &Live<K>,
+)
+    requires line { gives.old.line ≡ line.now.line }
+    requires actor { gives.old.actor ≡ (live_seen K.state live.now).id }
+    requires grown { IsFront gives.old.seen (live_seen K.state live.now).log }
+    requires alive { All IsReply gives.old.given }
+{
+    let _ = line.give(rt, gives, live.log(), Notice::Death(live.id()));
+}
+
 /// An executor of the way `Holds`. Whether it saw no kill before it ran the call.
 fn hold<R: Wait, K: Actor>(
     rt: &R,
     alloc: Global,
-    mut live: Live<K>,
+    live: &mut Live<K>,
     lines: &ExecLines,
-    mut passes: ExecPasses,
+    passes: &mut ExecPasses,
 ) -> Result<bool, NoMemory>
-    requires live { ((live_seen K.state live).id ≡ 1) × ((live_seen K.state live).log ≡ []) }
-    requires letters { passes.letters.line ≡ lines.now.mail.now.line }
-    requires kills { (passes.kills.line ≡ lines.now.control.now.line) × (passes.kills.actor ≡ 1) }
-    requires gives { passes.gives ≡ new_exec lines.now.replies.now.line 1 }
+    requires live { ((live_seen K.state live.old).id ≡ 1) × ((live_seen K.state live.old).log ≡ []) }
+    requires letters { passes.old.letters.line ≡ lines.now.mail.now.line }
+    requires kills { (passes.old.kills.line ≡ lines.now.control.now.line) × (passes.old.kills.actor ≡ 1) }
+    requires gives { passes.old.gives ≡ new_exec lines.now.replies.now.line 1 }
 {
-    take_one(rt, lines.mail, &mut passes.letters, &mut live);
-    let is_quiet = sees_none(rt, lines.control, &mut passes.kills, &live);
-    run_one(rt, alloc, &mut live, lines.replies, &mut passes.gives, 1)?;
-    take_kill(rt, lines.control, &mut passes.kills, &live);
-    let _ = lines
-        .replies
-        .give(rt, &mut passes.gives, live.log(), Notice::Death(actor()));
+    take_one(rt, lines.mail, &mut passes.letters, live);
+    let is_quiet = sees_none(rt, lines.control, &mut passes.kills, live);
+    run_one(rt, alloc, live, lines.replies, &mut passes.gives, 1)?;
+    take_kill(rt, lines.control, &mut passes.kills, live);
+    tell_death(rt, lines.replies, &mut passes.gives, live);
     Ok(is_quiet)
 }
 
@@ -186,80 +200,107 @@ fn hold<R: Wait, K: Actor>(
 fn repeat<R: Wait, K: Actor>(
     rt: &R,
     alloc: Global,
-    mut live: Live<K>,
+    live: &mut Live<K>,
     lines: &ExecLines,
-    mut passes: ExecPasses,
+    passes: &mut ExecPasses,
 ) -> Result<bool, NoMemory>
-    requires live { ((live_seen K.state live).id ≡ 1) × ((live_seen K.state live).log ≡ []) }
-    requires letters { passes.letters.line ≡ lines.now.mail.now.line }
-    requires gives { passes.gives ≡ new_exec lines.now.replies.now.line 1 }
+    requires live { ((live_seen K.state live.old).id ≡ 1) × ((live_seen K.state live.old).log ≡ []) }
+    requires letters { passes.old.letters.line ≡ lines.now.mail.now.line }
+    requires gives { passes.old.gives ≡ new_exec lines.now.replies.now.line 1 }
 {
-    take_one(rt, lines.mail, &mut passes.letters, &mut live);
-    take_one(rt, lines.mail, &mut passes.letters, &mut live);
-    run_one(rt, alloc, &mut live, lines.replies, &mut passes.gives, 2)?;
-    run_one(rt, alloc, &mut live, lines.replies, &mut passes.gives, 0)?;
-    let _ = lines
-        .replies
-        .give(rt, &mut passes.gives, live.log(), Notice::Death(actor()));
+    take_one(rt, lines.mail, &mut passes.letters, live);
+    take_one(rt, lines.mail, &mut passes.letters, live);
+    run_one(rt, alloc, live, lines.replies, &mut passes.gives, 2)?;
+    run_one(rt, alloc, live, lines.replies, &mut passes.gives, 0)?;
+    tell_death(rt, lines.replies, &mut passes.gives, live);
     Ok(live.log().len() == 2)
 }
 
-/// An executor of the way `Retires`. Whether the actor retired.
-fn retire<R: Wait, K: Actor>(
+/// An executor of the way `Retires`. Whether the actor may retire.
+fn drain<R: Wait, K: Actor>(
     rt: &R,
     alloc: Global,
-    mut live: Live<K>,
+    live: &mut Live<K>,
     lines: &ExecLines,
-    mut passes: ExecPasses,
+    passes: &mut ExecPasses,
 ) -> Result<bool, NoMemory>
-    requires live { ((live_seen K.state live).id ≡ 1) × ((live_seen K.state live).log ≡ []) }
-    requires letters { passes.letters.line ≡ lines.now.mail.now.line }
-    requires gives { passes.gives ≡ new_exec lines.now.replies.now.line 1 }
+    requires live { ((live_seen K.state live.old).id ≡ 1) × ((live_seen K.state live.old).log ≡ []) }
+    requires letters { passes.old.letters.line ≡ lines.now.mail.now.line }
+    requires gives { passes.old.gives ≡ new_exec lines.now.replies.now.line 1 }
 {
     for _ in 0..3u32 {
-        take_one(rt, lines.mail, &mut passes.letters, &mut live);
+        take_one(rt, lines.mail, &mut passes.letters, live);
     }
-    run_one(rt, alloc, &mut live, lines.replies, &mut passes.gives, 1)?;
-    run_one(rt, alloc, &mut live, lines.replies, &mut passes.gives, 1)?;
-    Ok(live.retire().is_ok())
+    run_one(rt, alloc, live, lines.replies, &mut passes.gives, 1)?;
+    run_one(rt, alloc, live, lines.replies, &mut passes.gives, 1)?;
+    Ok(live.drained())
 }
 
-/// An executor of the way `Paces`. Whether the actor retired.
+/// An executor of the way `Paces`. Whether the actor may retire.
 fn pace<R: Wait, K: Actor>(
     rt: &R,
     alloc: Global,
-    mut live: Live<K>,
+    live: &mut Live<K>,
     lines: &ExecLines,
-    mut passes: ExecPasses,
+    passes: &mut ExecPasses,
 ) -> Result<bool, NoMemory>
-    requires live { ((live_seen K.state live).id ≡ 1) × ((live_seen K.state live).log ≡ []) }
-    requires letters { passes.letters.line ≡ lines.now.mail.now.line }
-    requires gives { passes.gives ≡ new_exec lines.now.replies.now.line 1 }
+    requires live { ((live_seen K.state live.old).id ≡ 1) × ((live_seen K.state live.old).log ≡ []) }
+    requires letters { passes.old.letters.line ≡ lines.now.mail.now.line }
+    requires gives { passes.old.gives ≡ new_exec lines.now.replies.now.line 1 }
 {
     for _ in 0..3u32 {
-        take_one(rt, lines.mail, &mut passes.letters, &mut live);
-        run_one(rt, alloc, &mut live, lines.replies, &mut passes.gives, 1)?;
+        take_one(rt, lines.mail, &mut passes.letters, live);
+        run_one(rt, alloc, live, lines.replies, &mut passes.gives, 1)?;
     }
-    take_one(rt, lines.mail, &mut passes.letters, &mut live);
-    Ok(live.retire().is_ok())
+    take_one(rt, lines.mail, &mut passes.letters, live);
+    Ok(live.drained())
 }
 
 /// An executor of the way `Leaves`. Whether it ran no call.
 fn leave<R: Wait, K: Actor>(
     rt: &R,
-    mut live: Live<K>,
+    live: &mut Live<K>,
     lines: &ExecLines,
-    mut passes: ExecPasses,
+    passes: &mut ExecPasses,
 ) -> bool
-    requires live { ((live_seen K.state live).id ≡ 1) × ((live_seen K.state live).log ≡ []) }
-    requires letters { passes.letters.line ≡ lines.now.mail.now.line }
-    requires gives { passes.gives ≡ new_exec lines.now.replies.now.line 1 }
+    requires live { ((live_seen K.state live.old).id ≡ 1) × ((live_seen K.state live.old).log ≡ []) }
+    requires letters { passes.old.letters.line ≡ lines.now.mail.now.line }
+    requires gives { passes.old.gives ≡ new_exec lines.now.replies.now.line 1 }
 {
-    take_one(rt, lines.mail, &mut passes.letters, &mut live);
-    let _ = lines
-        .replies
-        .give(rt, &mut passes.gives, live.log(), Notice::Death(actor()));
+    take_one(rt, lines.mail, &mut passes.letters, live);
+    tell_death(rt, lines.replies, &mut passes.gives, live);
     live.log().is_empty()
+}
+
+/// An executor of this way. Whether all was as it should be before the actor retires, if it does.
+fn act<R: Wait, K: Actor>(
+    rt: &R,
+    alloc: Global,
+    live: &mut Live<K>,
+    lines: &ExecLines,
+    passes: &mut ExecPasses,
+    way: Way,
+) -> Result<bool, NoMemory>
+    requires live { ((live_seen K.state live.old).id ≡ 1) × ((live_seen K.state live.old).log ≡ []) }
+    requires letters { passes.old.letters.line ≡ lines.now.mail.now.line }
+    requires kills { (passes.old.kills.line ≡ lines.now.control.now.line) × (passes.old.kills.actor ≡ 1) }
+    requires gives { passes.old.gives ≡ new_exec lines.now.replies.now.line 1 }
+{
+    match way {
+        Way::Holds => hold(rt, alloc, live, lines, passes),
+        Way::Repeats => repeat(rt, alloc, live, lines, passes),
+        Way::Retires => drain(rt, alloc, live, lines, passes),
+        Way::Paces => pace(rt, alloc, live, lines, passes),
+        Way::Leaves => Ok(leave(rt, live, lines, passes)),
+    }
+}
+
+/// Whether the actor retires, if its way is to.
+fn ends<K: Actor>(live: Live<K>, way: Way) -> bool {
+    match way {
+        Way::Retires | Way::Paces => live.retire().is_ok(),
+        Way::Holds | Way::Repeats | Way::Leaves => true,
+    }
 }
 
 /// A counter's executor. Whether all was as it should be.
@@ -267,19 +308,15 @@ pub(super) fn serve_counter<R: Wait>(
     rt: &R,
     alloc: Global,
     lines: &ExecLines,
-    passes: ExecPasses,
+    mut passes: ExecPasses,
     way: Way,
 ) -> Result<bool, NoMemory>
     requires letters { passes.letters.line ≡ lines.now.mail.now.line }
     requires kills { (passes.kills.line ≡ lines.now.control.now.line) × (passes.kills.actor ≡ 1) }
     requires gives { passes.gives ≡ new_exec lines.now.replies.now.line 1 }
 {
-    let live = Live::open(alloc, actor(), &[caller()], Counter::open())?;
-    match way {
-        Way::Holds => hold(rt, alloc, live, lines, passes),
-        Way::Repeats => repeat(rt, alloc, live, lines, passes),
-        Way::Retires => retire(rt, alloc, live, lines, passes),
-        Way::Paces => pace(rt, alloc, live, lines, passes),
-        Way::Leaves => Ok(leave(rt, live, lines, passes)),
-    }
+    let mut live = Live::open(alloc, actor(), &[caller()], Counter::open())?;
+    let is_right = act(rt, alloc, &mut live, lines, &mut passes, way)?;
+    let has_ended = ends(live, way);
+    Ok(is_right && has_ended)
 }

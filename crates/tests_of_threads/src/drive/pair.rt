@@ -7,12 +7,10 @@ ghost use Rattle.act_mailbox.specs.Notices.{new_exec};
 ghost use Rattle.act_mailbox.specs.Passes.{new_putter, new_taker};
 ghost use Rattle.act_drive.specs.Driven.{IsUnused};
 
-use super::station::{ExecPasses, actor, caller};
+use super::station::ExecPasses;
+use crate::lines::{Lines, actor, caller, opened_lines};
 use act_drive::CallerPasses;
-use act_mailbox::{
-    Control, ControlCaller, ControlExec, Mail, MailCaller, MailExec, Replies, ReplyCaller,
-    ReplyExec,
-};
+use act_mailbox::{Control, ControlCaller, Mail, MailCaller, Replies, ReplyCaller, ReplyExec};
 use act_seats::Seat;
 use act_types::{ActorId, NoMemory};
 use std::alloc::Global;
@@ -21,33 +19,6 @@ pub(super) fn other() -> ActorId
     ensures { result ≡ 2 }
 {
     ActorId::new(2).unwrap()
-}
-
-/// The mail line of an actor and caller 1, and the passes on it.
-pub(super) fn opened_mail(
-    alloc: Global,
-    a: ActorId,
-) -> Result<(Mail, MailCaller, MailExec), NoMemory>
-    ensures caller { IfOk result (λ opened. opened.1 ≡ new_putter opened.0.line 1) }
-    ensures exec { IfOk result (λ opened. opened.2.line ≡ opened.0.line) }
-{
-    let (mail, mut posts, letters) = Mail::open(alloc, a, &[caller()])?;
-    let post = posts.pop().unwrap();
-    Ok((mail, post, letters))
-}
-
-/// The control line of an actor and caller 1, and the passes on it.
-pub(super) fn opened_control(
-    alloc: Global,
-    a: ActorId,
-) -> Result<(Control, ControlCaller, ControlExec), NoMemory>
-    ensures actor { IfOk result (λ opened. opened.0.actor ≡ a) }
-    ensures caller { IfOk result (λ opened. opened.1 ≡ new_putter opened.0.line 1) }
-    ensures exec { IfOk result (λ opened. (opened.2.line ≡ opened.0.line) × (opened.2.actor ≡ a)) }
-{
-    let (control, mut asks, _starter, kills) = Control::open(alloc, a, &[caller()])?;
-    let ask = asks.pop().unwrap();
-    Ok((control, ask, kills))
 }
 
 fn opened_replies(alloc: Global) -> Result<(Replies, ReplyCaller, ReplyExec, ReplyExec), NoMemory>
@@ -59,36 +30,6 @@ fn opened_replies(alloc: Global) -> Result<(Replies, ReplyCaller, ReplyExec, Rep
     let second = gives.pop().unwrap();
     let first = gives.pop().unwrap();
     Ok((replies, collects, first, second))
-}
-
-/// The lines of an actor, and the passes on them.
-#[derive(Drop)]
-struct Opened {
-    mail: Mail,
-    post: MailCaller,
-    letters: MailExec,
-    control: Control,
-    ask: ControlCaller,
-    kills: ControlExec,
-}
-
-fn opened_lines(alloc: Global, a: ActorId) -> Result<Opened, NoMemory>
-    ensures actor { IfOk result (λ opened. opened.control.actor ≡ a) }
-    ensures post { IfOk result (λ opened. opened.post ≡ new_putter opened.mail.line 1) }
-    ensures ask { IfOk result (λ opened. opened.ask ≡ new_putter opened.control.line 1) }
-    ensures letters { IfOk result (λ opened. opened.letters.line ≡ opened.mail.line) }
-    ensures kills { IfOk result (λ opened. (opened.kills.line ≡ opened.control.line) × (opened.kills.actor ≡ a)) }
-{
-    let (mail, post, letters) = opened_mail(alloc, a)?;
-    let (control, ask, kills) = opened_control(alloc, a)?;
-    Ok(Opened {
-        mail,
-        post,
-        letters,
-        control,
-        ask,
-        kills,
-    })
 }
 
 /// Room for the seats of the caller's passes.
@@ -148,37 +89,43 @@ fn seated(
     }
 }
 
-/// The lines of actors 1 and 2 and caller 1, and the passes of both executors.
+/// The lines of actors 1 and 2 and caller 1.
 #[derive(Drop)]
 pub(super) struct Pair {
     pub(super) mails: [Mail; 2],
     pub(super) controls: [Control; 2],
     pub(super) replies: Replies,
+}
+
+/// The passes of the caller and of both executors.
+#[derive(Drop)]
+pub(super) struct Passes {
+    pub(super) caller: CallerPasses,
     pub(super) exec: ExecPasses,
     pub(super) other_exec: ExecPasses,
 }
 
 fn paired(
     room: Room,
-    one: Opened,
-    two: Opened,
+    one: Lines,
+    two: Lines,
     replies: (Replies, ReplyCaller, ReplyExec, ReplyExec),
-) -> (Pair, CallerPasses)
+) -> (Pair, Passes)
     requires empty { (room.letters.items ≡ []) × (room.kills.items ≡ []) }
     requires room { (vec_len room.letters + 2 ≤ vec_capacity room.letters) × (vec_len room.kills + 2 ≤ vec_capacity room.kills) }
     requires actors { (one.control.actor ≡ 1) × (two.control.actor ≡ 2) }
     requires posts { (one.post ≡ new_putter one.mail.line 1) × (two.post ≡ new_putter two.mail.line 1) }
     requires asks { (one.ask ≡ new_putter one.control.line 1) × (two.ask ≡ new_putter two.control.line 1) }
     requires collects { replies.1 ≡ new_taker replies.0.line (1 ∷ 2 ∷ []) }
-    ensures caller { IsUnused result.0.mails result.0.controls result.0.replies 1 result.1 }
+    ensures caller { IsUnused result.0.mails result.0.controls result.0.replies 1 result.1.caller }
     ensures mails { result.0.mails ≡ one.mail ∷ two.mail ∷ [] }
     ensures controls { result.0.controls ≡ one.control ∷ two.control ∷ [] }
     ensures replies { result.0.replies ≡ replies.0 }
-    ensures exec { result.0.exec ≡ record { letters = one.letters; kills = one.kills; gives = replies.2 } }
-    ensures other_exec { result.0.other_exec ≡ record { letters = two.letters; kills = two.kills; gives = replies.3 } }
+    ensures exec { result.1.exec ≡ record { letters = one.letters; kills = one.kills; gives = replies.2 } }
+    ensures other_exec { result.1.other_exec ≡ record { letters = two.letters; kills = two.kills; gives = replies.3 } }
 {
     let (replies, collects, gives, other_gives) = replies;
-    let passes = seated(room, (one.post, two.post), (one.ask, two.ask), collects);
+    let caller = seated(room, (one.post, two.post), (one.ask, two.ask), collects);
     let exec = ExecPasses {
         letters: one.letters,
         kills: one.kills,
@@ -193,6 +140,9 @@ fn paired(
         mails: [one.mail, two.mail],
         controls: [one.control, two.control],
         replies,
+    };
+    let passes = Passes {
+        caller,
         exec,
         other_exec,
     };
@@ -200,15 +150,15 @@ fn paired(
 }
 
 /// The lines, and the passes of the caller.
-pub(super) fn opened_pair(alloc: Global) -> Result<(Pair, CallerPasses), NoMemory>
-    ensures caller { IfOk result (λ opened. IsUnused opened.0.mails opened.0.controls opened.0.replies 1 opened.1) }
+pub(super) fn opened_pair(alloc: Global) -> Result<(Pair, Passes), NoMemory>
+    ensures caller { IfOk result (λ opened. IsUnused opened.0.mails opened.0.controls opened.0.replies 1 opened.1.caller) }
     ensures exec { IfOk result (λ opened.
-        let mails = opened.0.mails in let controls = opened.0.controls in let exec = opened.0.exec in
+        let mails = opened.0.mails in let controls = opened.0.controls in let exec = opened.1.exec in
         (m : MailValue) (k : ControlValue) → (exec.letters.line ≡ (slice_index_or mails 0 m).line) ×
         (exec.kills.line ≡ (slice_index_or controls 0 k).line) × (exec.kills.actor ≡ 1) ×
         (exec.gives ≡ new_exec opened.0.replies.line 1)) }
     ensures other_exec { IfOk result (λ opened.
-        let mails = opened.0.mails in let controls = opened.0.controls in let exec = opened.0.other_exec in
+        let mails = opened.0.mails in let controls = opened.0.controls in let exec = opened.1.other_exec in
         (m : MailValue) (k : ControlValue) → (exec.letters.line ≡ (slice_index_or mails 1 m).line) ×
         (exec.kills.line ≡ (slice_index_or controls 1 k).line) × (exec.kills.actor ≡ 2) ×
         (exec.gives ≡ new_exec opened.0.replies.line 2)) }

@@ -9,10 +9,11 @@ ghost use Rattle.act_owner.specs.Owner.{opened as opened_owner};
 ghost use Rattle.act_mailbox.specs.Notices.{new_exec, IsReply};
 ghost use Rattle.act_drive.specs.Driven.{IsUnused};
 
-use super::executor::{ExecLines, run_one};
-use super::pair::{Pair, opened_pair, other};
-use super::station::{ExecPasses, actor, caller};
+use super::executor::{ExecLines, run_one, tell_death};
+use super::pair::{Passes, opened_pair, other};
+use super::station::ExecPasses;
 use super::{Said, add, answer_of};
+use crate::lines::{actor, caller};
 use act_actor::Live;
 use act_drive::{CallerLines, CallerPasses, Plan, drive};
 use act_kinds::{Actor, Counter};
@@ -54,50 +55,37 @@ fn take_in<R: Wait, K: Actor>(
     }
 }
 
-/// Tells the actor's death.
-fn tell_death<R: Wait, K: Actor>(rt: &R, line: &Replies, gives: &mut ReplyExec, live: &Live<K>)
-    requires line { gives.old.line ≡ line.now.line }
-    requires actor { gives.old.actor ≡ (live_seen K.state live.now).id }
-    requires grown { IsFront gives.old.seen (live_seen K.state live.now).log }
-    requires alive { All IsReply gives.old.given }
-{
-    let _ = line.give(rt, gives, live.log(), Notice::Death(live.id()));
-}
-
 /// Serves until all is drained, and whether it was. A kill, want of memory or the last look ends it
 /// before, and its death is told.
 fn attend<R: Wait, K: Actor>(
     rt: &R,
     alloc: Global,
-    mut live: Live<K>,
+    live: &mut Live<K>,
     lines: &ExecLines,
-    mut passes: ExecPasses,
+    passes: &mut ExecPasses,
 ) -> bool
-    requires log { (live_seen K.state live).log ≡ [] }
-    requires letters { passes.letters.line ≡ lines.now.mail.now.line }
-    requires kills { (passes.kills.line ≡ lines.now.control.now.line) × (passes.kills.actor ≡ (live_seen K.state live).id) }
-    requires gives { passes.gives ≡ new_exec lines.now.replies.now.line (live_seen K.state live).id }
+    requires log { (live_seen K.state live.old).log ≡ [] }
+    requires letters { passes.old.letters.line ≡ lines.now.mail.now.line }
+    requires kills { (passes.old.kills.line ≡ lines.now.control.now.line) × (passes.old.kills.actor ≡ (live_seen K.state live.old).id) }
+    requires gives { passes.old.gives ≡ new_exec lines.now.replies.now.line (live_seen K.state live.old).id }
 {
     for _ in 0..LOOKS {
-        if lines.control.take(rt, &mut passes.kills, &live).is_some() {
+        if lines.control.take(rt, &mut passes.kills, live).is_some() {
             break;
         }
-        let Ok(has_come) = take_in(rt, lines.mail, &mut passes.letters, &mut live) else {
+        let Ok(has_come) = take_in(rt, lines.mail, &mut passes.letters, live) else {
             break;
         };
-        let ran = run_one(rt, alloc, &mut live, lines.replies, &mut passes.gives, 1);
+        let ran = run_one(rt, alloc, live, lines.replies, &mut passes.gives, 1);
         if ran.is_err() {
             break;
         }
-        if !has_come {
-            match live.retire() {
-                Ok(_) => return true,
-                Err(back) => live = back,
-            }
+        if !has_come && live.drained() {
+            return true;
         }
         thread::yield_now();
     }
-    tell_death(rt, lines.replies, &mut passes.gives, &live);
+    tell_death(rt, lines.replies, &mut passes.gives, live);
     false
 }
 
@@ -114,7 +102,10 @@ fn attend_counter<R: Wait>(
     requires gives { passes.gives ≡ new_exec lines.now.replies.now.line a }
 {
     match Live::open(alloc, a, &[caller()], Counter::open()) {
-        Ok(live) => attend(rt, alloc, live, lines, passes),
+        Ok(mut live) => {
+            let is_drained = attend(rt, alloc, &mut live, lines, &mut passes);
+            live.retire().is_ok() && is_drained
+        }
         Err(_) => {
             let death = Notice::Death(a);
             let _ = lines.replies.give(rt, &mut passes.gives, &[], death);
@@ -209,35 +200,32 @@ fn joined<R: Threads + Wait + Sync>(rt: &R, alloc: Global) -> Result<(Left, (boo
     let plan = one_call_each(alloc)?;
     let owner = Owner::open(alloc, caller(), &[actor(), other()])?;
     let (pair, passes) = opened_pair(alloc)?;
-    let Pair {
-        mails,
-        controls,
-        replies,
+    let Passes {
+        caller,
         exec,
         other_exec,
-    } = pair;
-    let replies = &replies;
+    } = passes;
     let lines = CallerLines {
-        mails: &mails,
-        controls: &controls,
-        replies,
+        mails: &pair.mails,
+        controls: &pair.controls,
+        replies: &pair.replies,
     };
     let exec_lines = ExecLines {
-        mail: &mails[0],
-        control: &controls[0],
-        replies,
+        mail: &pair.mails[0],
+        control: &pair.controls[0],
+        replies: &pair.replies,
     };
     let other_lines = ExecLines {
-        mail: &mails[1],
-        control: &controls[1],
-        replies,
+        mail: &pair.mails[1],
+        control: &pair.controls[1],
+        replies: &pair.replies,
     };
     Ok(thread::join(
         rt,
         move || -> Left
             requires { (owner ≡ opened_owner 1 (1 ∷ 2 ∷ [])) × (first_bad (1 ∷ 2 ∷ []) plan.items ≡ None) ×
-                IsUnused lines.mails.now lines.controls.now lines.replies.now 1 passes }
-        { driven(rt, alloc, owner, plan, &lines, passes) },
+                IsUnused lines.mails.now lines.controls.now lines.replies.now 1 caller }
+        { driven(rt, alloc, owner, plan, &lines, caller) },
         move || -> (bool, bool)
             requires { ((exec.letters.line ≡ exec_lines.mail.now.line) × (exec.kills.line ≡ exec_lines.control.now.line) ×
                 (exec.kills.actor ≡ 1) × (exec.gives ≡ new_exec exec_lines.replies.now.line 1)) ×

@@ -1,25 +1,26 @@
 //! The lines between one actor and one caller.
 
-ghost use Rattle.std.specs.Prelude.{◌≡◌, [], ◌∷◌, IfOk};
+ghost use Rattle.std.specs.Prelude.{◌≡◌, [], ◌∷◌, slice_index_or, IfOk};
+ghost use Rattle.act_mailbox.specs.Mails.{MailValue};
+ghost use Rattle.act_mailbox.specs.Controls.{ControlValue};
 ghost use Rattle.act_mailbox.specs.Notices.{new_exec};
-ghost use Rattle.act_mailbox.specs.Passes.{new_taker};
 ghost use Rattle.act_drive.specs.Driven.{IsUnused};
 
-use super::pair::{opened_control, opened_mail};
+use crate::lines::{actor, caller, opened_lines, opened_replies};
 use act_drive::CallerPasses;
 use act_mailbox::{
     Control, ControlCaller, ControlExec, Mail, MailCaller, MailExec, Replies, ReplyCaller,
     ReplyExec,
 };
 use act_seats::Seat;
-use act_types::{ActorId, CallerId, NoMemory};
+use act_types::NoMemory;
 use std::alloc::Global;
 
 /// The lines of actor 1 and caller 1.
 #[derive(Drop)]
 pub(super) struct Station {
-    pub(super) mail: Mail,
-    pub(super) control: Control,
+    pub(super) mails: [Mail; 1],
+    pub(super) controls: [Control; 1],
     pub(super) replies: Replies,
 }
 
@@ -29,27 +30,6 @@ pub(super) struct ExecPasses {
     pub(super) letters: MailExec,
     pub(super) kills: ControlExec,
     pub(super) gives: ReplyExec,
-}
-
-pub(super) fn actor() -> ActorId
-    ensures { result ≡ 1 }
-{
-    ActorId::new(1).unwrap()
-}
-
-pub(super) fn caller() -> CallerId
-    ensures { result ≡ 1 }
-{
-    CallerId::new(1).unwrap()
-}
-
-fn opened_replies(alloc: Global) -> Result<(Replies, ReplyExec, ReplyCaller), NoMemory>
-    ensures exec { IfOk result (λ opened. opened.1 ≡ new_exec opened.0.line 1) }
-    ensures caller { IfOk result (λ opened. opened.2 ≡ new_taker opened.0.line (1 ∷ [])) }
-{
-    let (replies, mut gives, collects) = Replies::open(alloc, caller(), &[actor()])?;
-    let pass = gives.pop().unwrap();
-    Ok((replies, pass, collects))
 }
 
 /// The caller's passes, at the place of its one actor.
@@ -82,25 +62,26 @@ fn seated(
 
 /// The lines, and the passes of the caller and of the executor.
 pub(super) fn opened(alloc: Global) -> Result<(Station, CallerPasses, ExecPasses), NoMemory>
-    ensures caller { IfOk result (λ opened. IsUnused (opened.0.mail ∷ []) (opened.0.control ∷ []) opened.0.replies 1 opened.1) }
-    ensures letters { IfOk result (λ opened. opened.2.letters.line ≡ opened.0.mail.line) }
-    ensures kills { IfOk result (λ opened. (opened.2.kills.line ≡ opened.0.control.line) × (opened.2.kills.actor ≡ 1)) }
-    ensures gives { IfOk result (λ opened. opened.2.gives ≡ new_exec opened.0.replies.line 1) }
+    ensures caller { IfOk result (λ opened. IsUnused opened.0.mails opened.0.controls opened.0.replies 1 opened.1) }
+    ensures exec { IfOk result (λ opened.
+        let mails = opened.0.mails in let controls = opened.0.controls in let exec = opened.2 in
+        (m : MailValue) (k : ControlValue) → (exec.letters.line ≡ (slice_index_or mails 0 m).line) ×
+        (exec.kills.line ≡ (slice_index_or controls 0 k).line) × (exec.kills.actor ≡ 1) ×
+        (exec.gives ≡ new_exec opened.0.replies.line 1)) }
 {
-    let (mail, post, letters) = opened_mail(alloc, actor())?;
-    let (control, ask, kills) = opened_control(alloc, actor())?;
-    let (replies, gives, collects) = opened_replies(alloc)?;
-    let passes = seated(alloc, post, ask, collects)?;
+    let lines = opened_lines(alloc, actor())?;
+    let (replies, gives, collects) = opened_replies(alloc, caller())?;
+    let passes = seated(alloc, lines.post, lines.ask, collects)?;
     Ok((
         Station {
-            mail,
-            control,
+            mails: [lines.mail],
+            controls: [lines.control],
             replies,
         },
         passes,
         ExecPasses {
-            letters,
-            kills,
+            letters: lines.letters,
+            kills: lines.kills,
             gives,
         },
     ))

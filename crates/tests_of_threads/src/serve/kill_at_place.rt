@@ -1,12 +1,14 @@
 //! A kill that comes between two calls.
 
-ghost use Rattle.std.specs.Prelude.{◌≡◌, [], ◌∷◌};
+ghost use Rattle.std.specs.Prelude.{◌≡◌, [], ◌∷◌, slice_index_or};
 ghost use Rattle.std.specs.Thread.{IsSync};
+ghost use Rattle.act_mailbox.specs.Notices.{RepliesValue};
 ghost use Rattle.act_serve.specs.Turns.{PassesFit, PassesOf, IsUnused};
 
-use super::station::{Station, actor, caller, opened};
+use super::station::{Station, opened};
 use super::{Counted, End, given, serve_counter};
-use act_mailbox::{Control, ControlCaller};
+use crate::lines::{actor, caller};
+use act_mailbox::{Control, ControlCaller, ReplyCaller};
 use act_serve::{ExecLines, ExecPasses, Gate};
 use act_types::{ActorId, KillNote, NoMemory};
 use std::alloc::Global;
@@ -66,23 +68,22 @@ fn killed_at<R: Threads + Wait + Sync>(
     alloc: Global,
     place: u32,
     station: Station,
+    collector: &mut ReplyCaller,
     passes: ExecPasses,
 ) -> Result<(End, Option<Counted>, bool), NoMemory>
     requires sync { IsSync R.row }
-    requires fit { PassesFit station.mail.line station.control.line (station.replies ∷ []) 1 [] passes }
-    requires fresh { IsUnused (station.replies ∷ []) (1 ∷ []) passes }
+    requires fit { PassesFit station.mail.line station.control.line station.replies 1 [] passes }
+    requires fresh { IsUnused station.replies (1 ∷ []) passes }
     requires ask { station.ask.line ≡ station.control.line }
-    requires collector { station.collector.line ≡ station.replies.line }
+    requires collector { (r : RepliesValue) → collector.old.line ≡ (slice_index_or station.replies 0 r).line }
 {
     let Station {
         mail,
         control,
         replies,
         ask,
-        mut collector,
         ..
     } = station;
-    let replies = [replies];
     let lines = ExecLines {
         mail: &mail,
         control: &control,
@@ -103,7 +104,7 @@ fn killed_at<R: Threads + Wait + Sync>(
             requires { ask.line ≡ control.now.line }
         { ask_at(rt, gate, control, ask) },
     );
-    Ok((end?, given(rt, &replies[0], &mut collector), is_asked))
+    Ok((end?, given(rt, &replies[0], collector), is_asked))
 }
 
 /// A counter that has 24 calls is killed at a place of its log.
@@ -114,9 +115,9 @@ fn killed_after_calls<R: Threads + Wait + Sync + Abort>(
 ) -> Result<(End, Option<Counted>, bool), NoMemory>
     requires sync { IsSync R.row }
 {
-    let (mut station, passes) = opened(alloc)?;
+    let (mut station, mut collector, passes) = opened(alloc)?;
     assert!(rt; station.post_calls(rt, alloc, 24)?);
-    killed_at(rt, alloc, place, station, passes)
+    killed_at(rt, alloc, place, station, &mut collector, passes)
 }
 
 #[test]

@@ -1,13 +1,11 @@
 //! The lines between one actor and one caller.
 
-ghost use Rattle.std.specs.Prelude.{◌≡◌, [], ◌∷◌, IfOk};
-ghost use Rattle.act_mailbox.specs.Notices.{new_exec};
+ghost use Rattle.std.specs.Prelude.{◌≡◌, [], ◌∷◌, slice_index_or, IfOk};
+ghost use Rattle.act_mailbox.specs.Notices.{RepliesValue};
 ghost use Rattle.act_serve.specs.Turns.{PassesFit, IsUnused};
 
-use act_mailbox::{
-    Control, ControlCaller, ControlExec, Letter, Mail, MailCaller, MailExec, Replies, ReplyCaller,
-    ReplyExec,
-};
+use crate::lines::{actor, caller, opened_lines, opened_replies};
+use act_mailbox::{Control, ControlCaller, Letter, Mail, MailCaller, Replies, ReplyCaller};
 use act_seats::Seat;
 use act_serve::ExecPasses;
 use act_types::{
@@ -17,95 +15,40 @@ use act_types::{
 use std::alloc::Global;
 use std::sync::Wait;
 
-/// The lines of actor 1 and caller 1, and the caller's passes.
+/// The lines of actor 1 and caller 1, and the caller's passes on its mail and its control.
 #[derive(Drop)]
 pub(super) struct Station {
     pub(super) mail: Mail,
     pub(super) control: Control,
-    pub(super) replies: Replies,
+    pub(super) replies: [Replies; 1],
     pub(super) post: MailCaller,
     pub(super) ask: ControlCaller,
-    pub(super) collector: ReplyCaller,
 }
 
-pub(super) fn actor() -> ActorId
-    ensures { result ≡ 1 }
-{
-    ActorId::new(1).unwrap()
-}
-
-pub(super) fn caller() -> CallerId
-    ensures { result ≡ 1 }
-{
-    CallerId::new(1).unwrap()
-}
-
-fn opened_mail(alloc: Global) -> Result<(Mail, MailCaller, MailExec), NoMemory>
-    ensures post { IfOk result (λ opened. (opened.1.line ≡ opened.0.line) × (opened.1.number ≡ 1)) }
-    ensures letters { IfOk result (λ opened. (opened.2.line ≡ opened.0.line) × (opened.2.taken ≡ [])) }
-{
-    let (mail, mut posts, letters) = Mail::open(alloc, actor(), &[caller()])?;
-    let post = posts.pop().unwrap();
-    Ok((mail, post, letters))
-}
-
-fn opened_control(alloc: Global) -> Result<(Control, ControlCaller, ControlExec), NoMemory>
-    ensures ask { IfOk result (λ opened. opened.1.line ≡ opened.0.line) }
-    ensures line { IfOk result (λ opened. (opened.2.line ≡ opened.0.line) × (opened.2.actor ≡ 1)) }
-    ensures unused { IfOk result (λ opened. (opened.2.taken ≡ []) × (opened.2.lengths ≡ [])) }
-{
-    let (control, mut asks, _starter, kills) = Control::open(alloc, actor(), &[caller()])?;
-    let ask = asks.pop().unwrap();
-    Ok((control, ask, kills))
-}
-
-/// A caller's line of notices, with its pass and that of actor 1.
-pub(super) fn opened_replies(
-    alloc: Global,
-    caller: CallerId,
-) -> Result<(Replies, ReplyExec, ReplyCaller), NoMemory>
-    ensures exec { IfOk result (λ opened. opened.1 ≡ new_exec opened.0.line 1) }
-    ensures caller { IfOk result (λ opened. opened.0.caller ≡ caller) }
-    ensures collector { IfOk result (λ opened. opened.2.line ≡ opened.0.line) }
-{
-    let (replies, mut gives, collector) = Replies::open(alloc, caller, &[actor()])?;
-    let pass = gives.pop().unwrap();
-    Ok((replies, pass, collector))
-}
-
-/// The pass of the one line, at its place.
-fn seated(alloc: Global, pass: ReplyExec) -> Result<Vec<Seat<ReplyExec>>, NoMemory>
-    ensures { IfOk result (λ seats. seats.items ≡ record { place = 0; pass = pass } ∷ []) }
-{
-    let mut seats = Vec::new(alloc);
-    seats.push(Seat { place: 0, pass })?;
-    Ok(seats)
-}
-
-/// The lines, and the passes of the executor.
-pub(super) fn opened(alloc: Global) -> Result<(Station, ExecPasses), NoMemory>
+/// The lines, and the passes of the collector and of the executor.
+pub(super) fn opened(alloc: Global) -> Result<(Station, ReplyCaller, ExecPasses), NoMemory>
     ensures post { IfOk result (λ opened. (opened.0.post.line ≡ opened.0.mail.line) × (opened.0.post.number ≡ 1)) }
     ensures ask { IfOk result (λ opened. opened.0.ask.line ≡ opened.0.control.line) }
-    ensures collector { IfOk result (λ opened. opened.0.collector.line ≡ opened.0.replies.line) }
-    ensures fit { IfOk result (λ opened. PassesFit opened.0.mail.line opened.0.control.line (opened.0.replies ∷ []) 1 [] opened.1) }
-    ensures fresh { IfOk result (λ opened. IsUnused (opened.0.replies ∷ []) (1 ∷ []) opened.1) }
+    ensures collector { IfOk result (λ opened. (r : RepliesValue) → opened.1.line ≡ (slice_index_or opened.0.replies 0 r).line) }
+    ensures fit { IfOk result (λ opened. PassesFit opened.0.mail.line opened.0.control.line opened.0.replies 1 [] opened.2) }
+    ensures fresh { IfOk result (λ opened. IsUnused opened.0.replies (1 ∷ []) opened.2) }
 {
-    let (mail, post, letters) = opened_mail(alloc)?;
-    let (control, ask, kills) = opened_control(alloc)?;
+    let mut notices = Vec::with_capacity(alloc, 1)?;
+    let lines = opened_lines(alloc, actor())?;
     let (replies, pass, collector) = opened_replies(alloc, caller())?;
-    let notices = seated(alloc, pass)?;
+    notices.push_reserved(Seat { place: 0, pass });
     Ok((
         Station {
-            mail,
-            control,
-            replies,
-            post,
-            ask,
-            collector,
+            mail: lines.mail,
+            control: lines.control,
+            replies: [replies],
+            post: lines.post,
+            ask: lines.ask,
         },
+        collector,
         ExecPasses {
-            letters,
-            kills,
+            letters: lines.letters,
+            kills: lines.kills,
             notices,
         },
     ))

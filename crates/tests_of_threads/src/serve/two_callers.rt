@@ -1,10 +1,12 @@
 //! An actor with two callers, one of which terminates it.
 
-ghost use Rattle.std.specs.Prelude.{◌≡◌, [], ◌∷◌, IfOk};
+ghost use Rattle.std.specs.Prelude.{◌≡◌, [], ◌∷◌, slice_index_or, IfOk};
+ghost use Rattle.act_mailbox.specs.Notices.{RepliesValue};
 ghost use Rattle.act_serve.specs.Turns.{PassesFit, PassesOf, IsUnused};
 
-use super::station::{actor, call, caller, opened_replies, terminate};
+use super::station::{call, terminate};
 use super::{Counted, End, end_of, given};
+use crate::lines::{actor, caller, opened_replies};
 use act_actor::Live;
 use act_kinds::Counter;
 use act_mailbox::{
@@ -24,21 +26,32 @@ fn second() -> CallerId
     CallerId::new(2).unwrap()
 }
 
-/// A caller's line of notices, and its passes.
-#[derive(Drop)]
-struct Caller {
-    replies: Replies,
-    post: MailCaller,
-    collector: ReplyCaller,
-}
-
-/// The lines of actor 1 and callers 1 and 2.
+/// The lines of actor 1 and callers 1 and 2, and the callers' passes on its mail.
 #[derive(Drop)]
 struct Pair {
     mail: Mail,
     control: Control,
-    first: Caller,
-    second: Caller,
+    replies: [Replies; 2],
+    first: MailCaller,
+    second: MailCaller,
+}
+
+/// The callers' passes on their lines of notices.
+#[derive(Drop)]
+struct Collectors {
+    first: ReplyCaller,
+    second: ReplyCaller,
+}
+
+/// The mail and control lines, and the passes on them.
+#[derive(Drop)]
+struct BothLines {
+    mail: Mail,
+    first: MailCaller,
+    second: MailCaller,
+    letters: MailExec,
+    control: Control,
+    kills: ControlExec,
 }
 
 fn opened_mail(alloc: Global) -> Result<(Mail, MailCaller, MailCaller, MailExec), NoMemory>
@@ -60,63 +73,63 @@ fn opened_control(alloc: Global) -> Result<(Control, ControlExec), NoMemory>
     Ok((control, kills))
 }
 
-/// The passes of the two lines, at their places.
-fn seated(
-    alloc: Global,
-    first: ReplyExec,
-    second: ReplyExec,
-) -> Result<Vec<Seat<ReplyExec>>, NoMemory>
-    ensures { IfOk result (λ seats. seats.items ≡ record { place = 0; pass = first } ∷ record { place = 1; pass = second } ∷ []) }
+fn opened_both(alloc: Global) -> Result<BothLines, NoMemory>
+    ensures first { IfOk result (λ opened. (opened.first.line ≡ opened.mail.line) × (opened.first.number ≡ 1)) }
+    ensures second { IfOk result (λ opened. (opened.second.line ≡ opened.mail.line) × (opened.second.number ≡ 2)) }
+    ensures letters { IfOk result (λ opened. (opened.letters.line ≡ opened.mail.line) × (opened.letters.taken ≡ [])) }
+    ensures kills { IfOk result (λ opened. (opened.kills.line ≡ opened.control.line) × (opened.kills.actor ≡ 1)) }
+    ensures unused { IfOk result (λ opened. (opened.kills.taken ≡ []) × (opened.kills.lengths ≡ [])) }
 {
-    let mut seats = Vec::new(alloc);
-    seats.push(Seat {
-        place: 0,
-        pass: first,
-    })?;
-    seats.push(Seat {
-        place: 1,
-        pass: second,
-    })?;
-    Ok(seats)
+    let (mail, first, second, letters) = opened_mail(alloc)?;
+    let (control, kills) = opened_control(alloc)?;
+    Ok(BothLines {
+        mail,
+        first,
+        second,
+        letters,
+        control,
+        kills,
+    })
 }
 
-/// The lines, and the passes of the executor.
-fn opened(alloc: Global) -> Result<(Pair, ExecPasses), NoMemory>
-    ensures first { IfOk result (λ opened. (opened.0.first.post.line ≡ opened.0.mail.line) × (opened.0.first.post.number ≡ 1)) }
-    ensures second { IfOk result (λ opened. (opened.0.second.post.line ≡ opened.0.mail.line) × (opened.0.second.post.number ≡ 2)) }
-    ensures collectors { IfOk result (λ opened.
-        (opened.0.first.collector.line ≡ opened.0.first.replies.line) ×
-        (opened.0.second.collector.line ≡ opened.0.second.replies.line)) }
-    ensures fit { IfOk result (λ opened.
-        PassesFit opened.0.mail.line opened.0.control.line
-        (opened.0.first.replies ∷ opened.0.second.replies ∷ []) 1 [] opened.1) }
-    ensures fresh { IfOk result (λ opened. IsUnused (opened.0.first.replies ∷ opened.0.second.replies ∷ []) (1 ∷ 2 ∷ []) opened.1) }
+/// The lines, and the passes of the collectors and of the executor.
+fn opened(alloc: Global) -> Result<(Pair, Collectors, ExecPasses), NoMemory>
+    ensures first { IfOk result (λ opened. (opened.0.first.line ≡ opened.0.mail.line) × (opened.0.first.number ≡ 1)) }
+    ensures second { IfOk result (λ opened. (opened.0.second.line ≡ opened.0.mail.line) × (opened.0.second.number ≡ 2)) }
+    ensures first_collector { IfOk result (λ opened. (r : RepliesValue) →
+        opened.1.first.line ≡ (slice_index_or opened.0.replies 0 r).line) }
+    ensures second_collector { IfOk result (λ opened. (r : RepliesValue) →
+        opened.1.second.line ≡ (slice_index_or opened.0.replies 1 r).line) }
+    ensures fit { IfOk result (λ opened. PassesFit opened.0.mail.line opened.0.control.line opened.0.replies 1 [] opened.2) }
+    ensures fresh { IfOk result (λ opened. IsUnused opened.0.replies (1 ∷ 2 ∷ []) opened.2) }
 {
-    let (mail, first_post, second_post, letters) = opened_mail(alloc)?;
-    let (control, kills) = opened_control(alloc)?;
-    let (first_line, first_pass, first_collector) = opened_replies(alloc, caller())?;
-    let (second_line, second_pass, second_collector) = opened_replies(alloc, second())?;
-    let notices = seated(alloc, first_pass, second_pass)?;
-    let first = Caller {
-        replies: first_line,
-        post: first_post,
-        collector: first_collector,
-    };
-    let second = Caller {
-        replies: second_line,
-        post: second_post,
-        collector: second_collector,
-    };
+    let mut notices = Vec::with_capacity(alloc, 2)?;
+    let lines = opened_both(alloc)?;
+    let (first, first_pass, first_collector) = opened_replies(alloc, caller())?;
+    let (other, other_pass, second_collector) = opened_replies(alloc, second())?;
+    notices.push_reserved(Seat {
+        place: 0,
+        pass: first_pass,
+    });
+    notices.push_reserved(Seat {
+        place: 1,
+        pass: other_pass,
+    });
     Ok((
         Pair {
-            mail,
-            control,
-            first,
-            second,
+            mail: lines.mail,
+            control: lines.control,
+            replies: [first, other],
+            first: lines.first,
+            second: lines.second,
+        },
+        Collectors {
+            first: first_collector,
+            second: second_collector,
         },
         ExecPasses {
-            letters,
-            kills,
+            letters: lines.letters,
+            kills: lines.kills,
             notices,
         },
     ))
@@ -166,28 +179,37 @@ fn serve_both<R: Wait>(
 }
 
 /// How the actor ended, and what each of the callers was given.
+fn ended<R: Wait>(
+    rt: &R,
+    alloc: Global,
+    pair: &Pair,
+    collectors: &mut Collectors,
+    passes: ExecPasses,
+) -> Result<(End, [Option<Counted>; 2]), NoMemory>
+    requires fit { PassesFit pair.now.mail.line pair.now.control.line pair.now.replies 1 [] passes }
+    requires fresh { IsUnused pair.now.replies (1 ∷ 2 ∷ []) passes }
+    requires first { (r : RepliesValue) → collectors.old.first.line ≡ (slice_index_or pair.now.replies 0 r).line }
+    requires second { (r : RepliesValue) → collectors.old.second.line ≡ (slice_index_or pair.now.replies 1 r).line }
+{
+    let lines = ExecLines {
+        mail: &pair.mail,
+        control: &pair.control,
+        replies: &pair.replies,
+    };
+    let end = serve_both(rt, alloc, &lines, passes)?;
+    let one = given(rt, &pair.replies[0], &mut collectors.first);
+    let other = given(rt, &pair.replies[1], &mut collectors.second);
+    Ok((end, [one, other]))
+}
+
+/// A counter serves two callers, one of which terminates it.
 fn served_both<R: Wait + Abort>(
     rt: &R,
     alloc: Global,
 ) -> Result<(End, [Option<Counted>; 2]), NoMemory> {
-    let (pair, passes) = opened(alloc)?;
-    let Pair {
-        mail,
-        control,
-        mut first,
-        mut second,
-    } = pair;
-    assert!(rt; fill(rt, alloc, &mail, &mut first.post, &mut second.post)?);
-    let replies = [first.replies, second.replies];
-    let lines = ExecLines {
-        mail: &mail,
-        control: &control,
-        replies: &replies,
-    };
-    let end = serve_both(rt, alloc, &lines, passes)?;
-    let one = given(rt, &replies[0], &mut first.collector);
-    let other = given(rt, &replies[1], &mut second.collector);
-    Ok((end, [one, other]))
+    let (mut pair, mut collectors, passes) = opened(alloc)?;
+    assert!(rt; fill(rt, alloc, &pair.mail, &mut pair.first, &mut pair.second)?);
+    ended(rt, alloc, &pair, &mut collectors, passes)
 }
 
 /// The other caller has a call in the actor's inbox and one in its mail, and is given its death

@@ -8,6 +8,6 @@ returns-clause-fit c = record {
   control_is = search rules;
   actor_is = search rules;
   looked = search rules;
-  seats = seated_alone c.in_ok-replies.replies c.in_ok-replies.pass c.in_ok-notices.notices.items (search rules) (search rules);
-  differ = alone_differs c.in_ok-replies.replies c.in_ok-replies.pass c.in_ok-notices.notices.items (search rules);
+  seats = seated_alone c.in_ok-replies.replies c.in_ok-replies.pass _ (search rules) (search rules);
+  differ = alone_differs c.in_ok-replies.replies c.in_ok-replies.pass _ (search rules);
 }

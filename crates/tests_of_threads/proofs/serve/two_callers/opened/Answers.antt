@@ -8,6 +8,6 @@ returns-clause-fit c = record {
   control_is = search rules;
   actor_is = search rules;
   looked = search rules;
-  seats = seated_both c.in_ok-first_line.first_line c.in_ok-second_line.second_line c.in_ok-first_line.first_pass c.in_ok-second_line.second_pass c.in_ok-notices.notices.items (search rules) (search rules) (search rules);
-  differ = both_differ c.in_ok-first_line.first_line c.in_ok-second_line.second_line c.in_ok-first_line.first_pass c.in_ok-second_line.second_pass c.in_ok-notices.notices.items (search rules) (search rules) (search rules);
+  seats = seated_both c.in_ok-first.first c.in_ok-other.other c.in_ok-first.first_pass c.in_ok-other.other_pass _ (search rules) (search rules) (search rules);
+  differ = both_differ c.in_ok-first.first c.in_ok-other.other c.in_ok-first.first_pass c.in_ok-other.other_pass _ (search rules) (search rules) (search rules);
 }

@@ -1,5 +1,5 @@
 use Rattle.std.proofs.Common.{◌≡◌, length}
-use Rattle.tests_of_owners.proofs.resolver.random_run.Given as goal
+use Rattle.tests_of_owners.proofs.resolver.take_random.Given as goal
 
 -- so many calls were entered
 abbrev pub invariant-loop : goal.invariant-loop

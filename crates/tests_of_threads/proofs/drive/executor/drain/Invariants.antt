@@ -1,6 +1,6 @@
 use Rattle.std.proofs.Common.{◌≡◌}
 use Rattle.act_actor.specs.Seen.{live_seen}
-use Rattle.tests_of_threads.proofs.drive.executor.retire.Given as goal
+use Rattle.tests_of_threads.proofs.drive.executor.drain.Given as goal
 
 abbrev pub invariant-loop : goal.invariant-loop
 invariant-loop g l = record {
