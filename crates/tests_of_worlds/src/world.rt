@@ -212,11 +212,11 @@ fn end_of<K: Actor>(
     Ok(text)
 }
 
-/// The world ends so after these rows.
-fn assert_end<K: Actor>(
+/// A world of boxed kinds ends so after these rows.
+fn assert_end(
     rt: &impl Abort,
     alloc: Global,
-    casts: Vec<Cast<K>>,
+    casts: Vec<Cast<Boxed>>,
     rows: &[Row],
     shown: (&[CallerId], &[ActorId]),
     wanted: &str,
@@ -225,7 +225,6 @@ fn assert_end<K: Actor>(
     let (callers, actors) = shown;
     let end = end_of(alloc, &world, callers, actors)?;
     assert_eq!(rt; end.as_str(), wanted);
-    world.consistent();
     Ok(())
 }
 
@@ -260,21 +259,26 @@ fn two_casts<K: Actor>(
     Ok(casts)
 }
 
-/// Actors 1 and 2, each in a box, of which the second is caller 1's alone.
-fn boxed_casts<A: Actor + Send + 'static, B: Actor + Send + 'static>(
+fn boxed_counter(alloc: Global) -> Result<Boxed, NoMemory> {
+    let counter: Boxed = Box::new(alloc, Counter::open())?;
+    Ok(counter)
+}
+
+fn boxed_list(alloc: Global) -> Result<Boxed, NoMemory> {
+    let list: Boxed = Box::new(alloc, ListKind::open(alloc))?;
+    Ok(list)
+}
+
+/// Actors 1 and 2, of which the second is caller 1's alone.
+fn boxed_casts(
     alloc: Global,
     callers: &[CallerId],
-    one: A,
-    two: B,
+    one: Boxed,
+    two: Boxed,
 ) -> Result<Vec<Cast<Boxed>>, NoMemory> {
-    let one: Boxed = Box::new(alloc, one)?;
-    let two: Boxed = Box::new(alloc, two)?;
     let [a1, a2] = [ActorId::new(1).unwrap(), ActorId::new(2).unwrap()];
-    two_casts(
-        alloc,
-        (a1, callers, one),
-        (a2, &[CallerId::new(1).unwrap()], two),
-    )
+    let c1 = CallerId::new(1).unwrap();
+    two_casts(alloc, (a1, callers, one), (a2, &[c1], two))
 }
 
 /// A call that waits for an answer isn't sent, a later one waits at its actor, and another caller's
@@ -287,7 +291,12 @@ fn another_caller_passes(rt: HostRuntime) -> Result<(), Fail> {
     let a1 = ActorId::new(1).unwrap();
     let a2 = ActorId::new(2).unwrap();
     let [k0, k1, k2] = [FutureId::new(0), FutureId::new(1), FutureId::new(2)];
-    let casts = boxed_casts(alloc, &[c1, c2], Counter::open(), Counter::open())?;
+    let casts = boxed_casts(
+        alloc,
+        &[c1, c2],
+        boxed_counter(alloc)?,
+        boxed_counter(alloc)?,
+    )?;
     let rows = [
         (
             Step::Submit(c1, a2, Method::Add, Given::Int(7)),
@@ -343,7 +352,7 @@ fn one_packet_for_good(rt: HostRuntime) -> Result<(), Fail> {
     let a1 = ActorId::new(1).unwrap();
     let a2 = ActorId::new(2).unwrap();
     let [k0, k1] = [FutureId::new(0), FutureId::new(1)];
-    let casts = boxed_casts(alloc, &[c1], Counter::open(), ListKind::open(alloc))?;
+    let casts = boxed_casts(alloc, &[c1], boxed_counter(alloc)?, boxed_list(alloc)?)?;
     let rows = [
         (
             Step::Submit(c1, a1, Method::Add, Given::Int(5)),
@@ -382,8 +391,7 @@ fn release_and_retire(rt: HostRuntime) -> Result<(), Fail> {
     let c1 = CallerId::new(1).unwrap();
     let a1 = ActorId::new(1).unwrap();
     let k0 = FutureId::new(0);
-    let kind: Boxed = Box::new(alloc, Counter::open())?;
-    let casts = one_cast(alloc, (a1, &[c1], kind))?;
+    let casts = one_cast(alloc, (a1, &[c1], boxed_counter(alloc)?))?;
     let rows = [
         (
             Step::Submit(c1, a1, Method::Add, Given::Int(2)),
@@ -445,8 +453,11 @@ fn ran_and_yet_died(rt: HostRuntime) -> Result<(), Fail> {
         (Step::Release(c1, a1), Ok(Did::Mail(1))),
         (Step::Deliver(1), Err(WorldRefusal::ActorEnded)),
     ];
+    let world = played(&rt, alloc, casts, &rows)?;
+    let end = end_of(alloc, &world, &[c1], &[a1])?;
     let wanted = "c1.0 a1 = ActorDied\nc1.1 a1 = ActorDied\na1 dead\na1.0 c1.0 add 5\n";
-    assert_end(&rt, alloc, casts, &rows, (&[c1], &[a1]), wanted)?;
+    assert_eq!(rt; end.as_str(), wanted);
+    world.consistent();
     Ok(())
 }
 
@@ -485,8 +496,10 @@ fn pending_limit(rt: HostRuntime) -> Result<(), Fail> {
             Ok(Did::Future(c1, k2)),
         ),
     ];
+    let world = played(&rt, alloc, casts, &rows)?;
+    let end = end_of(alloc, &world, &[c1], &[a1])?;
     let wanted = "c1.0 a1 = 1\nc1.1 a1 ?\nc1.2 a1 ?\na1 live counter 1\na1.0 c1.0 add 1\n";
-    assert_end(&rt, alloc, casts, &rows, (&[c1], &[a1]), wanted)?;
+    assert_eq!(rt; end.as_str(), wanted);
     Ok(())
 }
 
@@ -547,10 +560,12 @@ fn terminate_in_turn(rt: HostRuntime) -> Result<(), Fail> {
         (Step::Collect(3), Ok(Did::Kept(c1, k3))),
         (Step::Collect(4), Ok(Did::Kept(c1, k4))),
     ];
+    let world = played(&rt, alloc, casts, &rows)?;
+    let end = end_of(alloc, &world, &[c1], &[a1, a2])?;
     let wanted =
         "c1.0 a1 = 5\nc1.1 a1 = unit\nc1.2 a1 = ActorDied\nc1.3 a2 = BadArgs\nc1.4 a2 = 2\n\
         a1 dead\na1.0 c1.0 add 5\na1.1 c1.1 terminate\n\
         a2 live counter 2\na2.0 c1.3 terminate 1\na2.1 c1.4 add 2\n";
-    assert_end(&rt, alloc, casts, &rows, (&[c1], &[a1, a2]), wanted)?;
+    assert_eq!(rt; end.as_str(), wanted);
     Ok(())
 }
