@@ -13,7 +13,7 @@ use Rattle.act_handles.specs.Handles.{copies_in, actors_in}
 use Rattle.act_handles.specs.declared.handles.Handle.{Handle}
 use Rattle.act_handles.proofs.Lookups.{copies-opened}
 use Rattle.act_owner.specs.Owner.{OwnerValue}
-use Rattle.act_owner.specs.Life.{after, Hears}
+use Rattle.act_owner.specs.Life.{Hears}
 use Rattle.act_owner.proofs.Told.{hears_opened}
 use Rattle.act_mailbox.specs.Passes.{PutterValue}
 use Rattle.act_mailbox.specs.Mails.{MailValue}

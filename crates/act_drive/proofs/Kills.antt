@@ -16,7 +16,6 @@ use Rattle.act_rules.specs.declared.script.Step.TheVariants.{Kill}
 use Rattle.act_rules.specs.Plans.{Progress, holds, nothing_done, kills_to}
 use Rattle.act_handles.specs.Handles.{copies_in}
 use Rattle.act_owner.specs.Owner.{OwnerValue}
-use Rattle.act_owner.specs.Life.{after}
 use Rattle.act_mailbox.specs.Passes.{PutterValue}
 use Rattle.act_mailbox.specs.Controls.{ControlValue}
 use Rattle.act_mailbox.specs.declared.control.Asked.{Asked}

@@ -12,7 +12,7 @@ use Rattle.act_handles.specs.Handles.{copies_in, given_in, without_copy, or_else
 use Rattle.act_handles.specs.declared.handles.Handle.{Handle}
 use Rattle.act_handles.proofs.Lookups.{copies-without_copy}
 use Rattle.act_owner.specs.Owner.{OwnerValue, is_sent, with_call, with_handles, release_note}
-use Rattle.act_owner.specs.Life.{Released, after, Hears}
+use Rattle.act_owner.specs.Life.{Released, Hears}
 use Rattle.act_owner.proofs.Told.{hears_step}
 use Rattle.act_mailbox.specs.declared.mail.Letter.{Letter}
 use Rattle.act_mailbox.specs.declared.mail.Letter.TheVariants.{Note}

@@ -14,7 +14,6 @@ use Rattle.act_handles.specs.Handles.{copies_in, with_copy, without_copy}
 use Rattle.act_handles.proofs.Lookups.{copies-with_number}
 use Rattle.act_handles.proofs.Copies.{release_copies, copy_copies}
 use Rattle.act_owner.specs.Owner.{OwnerValue, with_call, with_handles}
-use Rattle.act_owner.specs.Life.{after}
 use Rattle.act_owner.proofs.Life.{step}
 use Rattle.act_mailbox.specs.Passes.{PutterValue}
 use Rattle.act_mailbox.specs.Controls.{ControlValue}

@@ -1,5 +1,5 @@
 -- The casts of a counter, a table, an account and a list fit, and so does one plan that isn't too long: what is left to fail is the run.
-use Rattle.std.proofs.Common.{◌≡◌, ◌≢◌, ◌<◌, ℕ, Bool, true, false, List, [], ◌∷◌, map, length, get_or, None, refl, ap, sym, ◌∙◌, subst, arith}
+use Rattle.std.proofs.Common.{◌≡◌, ◌≢◌, ◌<◌, ℕ, true, false, List, [], ◌∷◌, map, length, get_or, refl, ap, sym, ◌∙◌, subst, arith}
 use Rattle.std.specs.Prelude.{All, AllPairs}
 use Rattle.std.specs.Global.{Vec}
 use Rattle.std.specs.List.{list_all, list_any}
@@ -14,7 +14,6 @@ use Rattle.act_actor.specs.declared.cast.Cast.{Cast}
 use Rattle.act_actor.specs.Cast.{CallersDiffer, IsFitting}
 use Rattle.act_actor.specs.Casts.{casting}
 use Rattle.act_plans.specs.Parts.{PlansFit, most_steps}
-use Rattle.act_executor.specs.declared.run.RunFault.{RunFault}
 use Rattle.act_executor.specs.Runs.{plan_seen, IsFault}
 use Rattle.act_uses.specs.declared.peaceful.Kinds.{Kinds}
 use Rattle.act_uses.specs.declared.peaceful.PeaceFault.{PeaceFault}

@@ -22,12 +22,7 @@ pub struct Heard<K> {
 }
 
 /// A new caller submits the call and sends it.
-fn posed(
-    alloc: Global,
-    owner: &mut Owner,
-    method: Method,
-    value: Value,
-) -> Result<Packet, NoMemory>
+fn posed(alloc: Global, owner: &mut Owner, method: Method, value: Value) -> Result<Packet, NoMemory>
     requires { owner.old ≡ opened 1 (1 ∷ []) }
     ensures owner { OnOk result (owner.new ≡ asking method value) }
     ensures packet { IfOk result (λ packet. packet ≡ question method value) }

@@ -1,4 +1,4 @@
-use Rattle.std.proofs.Common.{◌≡◌, refl, ap, ◌∙◌}
+use Rattle.std.proofs.Common.{refl, ap, ◌∙◌}
 use denote.Param.Object.{read_made}
 use Rattle.act_types.specs.KindState.{KindState, CounterAt, AccountAt}
 use Rattle.ray_actors.proofs.run_script.OwnLists.{own-1, at-1-1, at-1-3}

@@ -1,4 +1,4 @@
-use Rattle.std.proofs.Common.{rules, ◌≡◌, ◌∙◌, [], sym, string_bytes, arith}
+use Rattle.std.proofs.Common.{rules, ◌≡◌, ◌∙◌, [], sym, string_bytes}
 use Rattle.std.specs.Vec.Iter.{into_iter_items}
 use Rattle.std.proofs.lemmas.List.{nil_from_length}
 use Rattle.act_world.specs.Value.{world_seen}
