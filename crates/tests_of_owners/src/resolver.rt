@@ -350,7 +350,8 @@ fn enter_all(
     Ok(entered)
 }
 
-/// Takes so many random steps after these calls, in the resolver and in the plain calls.
+/// Takes so many random steps after these calls, in the resolver and in the plain calls, and
+/// compares both after each.
 fn take_random(
     rt: &impl Abort,
     random: &mut Random,
@@ -366,8 +367,7 @@ fn take_random(
         let step = random_step(random, entered, resolver.ready(), &futures);
         entered = take(rt, resolver, entered, &step)?;
         scan_step(rt, calls, &step)?;
-        assert!(rt; calls.len() <= MOST_CALLS as usize);
-        assert_eq!(rt; resolver.ready(), first_ready(calls));
+        assert_same(rt, resolver, calls);
     }
     Ok(())
 }
@@ -383,9 +383,7 @@ fn random_run(
     let mut resolver = Resolver::new(alloc);
     let mut calls = Vec::new(alloc);
     let entered = enter_all(rt, random, &mut resolver, &mut calls, count)?;
-    take_random(rt, random, &mut resolver, &mut calls, entered, steps)?;
-    assert_same(rt, &resolver, &calls);
-    Ok(())
+    take_random(rt, random, &mut resolver, &mut calls, entered, steps)
 }
 
 #[test]
