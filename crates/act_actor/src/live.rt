@@ -11,7 +11,7 @@ ghost use Rattle.act_types.specs.KindState.{KindState};
 ghost use Rattle.act_types.specs.Texts.{state_text};
 ghost use Rattle.act_rules.specs.RunList.{after_item, answer_at, has_terminated};
 ghost use Rattle.act_rules.specs.declared.outcome.Arrival.TheVariants.{New};
-ghost use Rattle.act_inbox.specs.Inbox.{IsOpened, note_of, waiting, note_after, waiting_after, IsTakenIn, HoldsNone};
+ghost use Rattle.act_inbox.specs.Inbox.{IsOpened, note_of, waiting, held_at, note_after, waiting_after, held_after, IsTakenIn, HoldsNone};
 ghost use Rattle.act_actor.specs.Cast.{CallersDiffer};
 ghost use Rattle.act_actor.specs.Actor.{item_of, reply_to, arrival_at, note_arrival_at, next_call, with_call, MayRetire, RunsAtOnce, HasRun, HasRunFrom};
 ghost use Rattle.act_actor.specs.Seen.{live_seen, retired_seen};
@@ -150,6 +150,13 @@ impl<K: Actor> Live<K> {
         self.log.as_slice()
     }
 
+    /// Its kind, to look at. Only a call that it runs changes it.
+    pub fn kind(&self) -> &K
+        ensures { K.state result.now ≡ (live_seen K.state self.now).state }
+    {
+        &self.kind
+    }
+
     /// Appends the state's text, or leaves the text as it was.
     pub fn state_text(&self, text: &mut String) -> Result<(), NoMemory>
         ensures ok { OnOk result (string_bytes text.new ≡ string_bytes text.old ++ state_text (live_seen K.state self.now).state) }
@@ -170,6 +177,9 @@ impl<K: Actor> Live<K> {
         ensures waiting { let before = (live_seen K.state self.old).inbox in
             let after = (live_seen K.state self.new).inbox in
             IfOk result (λ arrival. (caller number : ℕ) → waiting after caller number ≡ waiting_after arrival packet before caller number) }
+        ensures held { let before = (live_seen K.state self.old).inbox in
+            let after = (live_seen K.state self.new).inbox in
+            IfOk result (λ arrival. (caller number : ℕ) → held_at after caller number ≡ held_after arrival packet before caller number) }
         ensures elsewhere { packet.actor ≢ (live_seen K.state self.old).id → live_seen K.state self.new ≡ live_seen K.state self.old }
         ensures unless_new { IfOk result (λ arrival. arrival ≢ New → live_seen K.state self.new ≡ live_seen K.state self.old) }
         ensures last { let before = live_seen K.state self.old in OnErr result (arrival_at before.id before.inbox packet ≡ New) }
@@ -187,6 +197,9 @@ impl<K: Actor> Live<K> {
         requires is_new { let before = live_seen K.state self.old in arrival_at before.id before.inbox packet ≡ New }
         ensures same { let after = live_seen K.state self.new in after ≡ record (live_seen K.state self.old) { inbox = after.inbox } }
         ensures taken { OnOk result (IsTakenIn packet New (live_seen K.state self.old).inbox (live_seen K.state self.new).inbox) }
+        ensures held { let before = (live_seen K.state self.old).inbox in
+            let after = (live_seen K.state self.new).inbox in
+            OnOk result ((caller number : ℕ) → held_at after caller number ≡ held_after New packet before caller number) }
         ensures back { IfErr result (λ back. back ≡ packet) }
         ensures err { OnErr result (live_seen K.state self.new ≡ live_seen K.state self.old) }
     {

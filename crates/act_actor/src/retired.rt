@@ -39,6 +39,13 @@ impl<K: Actor> Retired<K> {
         self.log.as_slice()
     }
 
+    /// Its kind, as its last call left it.
+    pub fn kind(&self) -> &K
+        ensures { K.state result.now ≡ (retired_seen K.state self.now).state }
+    {
+        &self.kind
+    }
+
     /// Appends the state's text, or leaves the text as it was.
     pub fn state_text(&self, text: &mut String) -> Result<(), NoMemory>
         ensures ok { OnOk result (string_bytes text.new ≡ string_bytes text.old ++ state_text (retired_seen K.state self.now).state) }

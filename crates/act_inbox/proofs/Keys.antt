@@ -54,6 +54,9 @@ updates_at old new number slot updates count = updates.0 count ∙ ap (λ b. if 
 both_same : (a b c d : ℕ) → a ≡ b → c ≡ d → ((a == b) && (c == d)) ≡ true
 both_same a b c d e f = grind (arith, nat_tests)
 
+pub is_same_itself : (caller number : ℕ) → is_same caller number caller number ≡ true
+is_same_itself caller number = both_same caller caller number number refl refl
+
 -- a packet of the caller and number is that call
 pub is_call_from : (caller number : ℕ) (packet : Packet) → packet.caller ≡ caller → packet.number ≡ number → is_call caller number packet ≡ true
 is_call_from caller number packet of_caller numbered = both_same packet.caller caller packet.number number of_caller numbered

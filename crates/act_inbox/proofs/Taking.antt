@@ -1,5 +1,5 @@
 -- What handing out a caller's next call does.
-use Rattle.std.proofs.Common.{◌≡◌, ℕ, ◌∷◌, ◌+◌, ◌<◌, ◌≤◌, Option, Some, None, Bool, true, false, ◌==◌, if◌then◌else◌, refl, sym, ◌∙◌, ap, subst, arith, get_or, inl, inr, find, position, All, eq-eqb}
+use Rattle.std.proofs.Common.{◌≡◌, ℕ, List, ◌∷◌, ◌+◌, ◌<◌, ◌≤◌, Option, Some, None, Bool, true, false, ◌==◌, if◌then◌else◌, refl, sym, ◌∙◌, ap, subst, arith, get_or, inl, inr, find, position, All, eq-eqb}
 use Rattle.std.specs.Prelude.{slice_set, is_some, IsSome}
 use Rattle.std.proofs.Math.Seq.{map-set_same}
 use Rattle.std.proofs.lemmas.Bool.{lt-ltb, ltb-true, ltb-false}
@@ -41,6 +41,16 @@ module _ (old : InboxValue) (caller place : ℕ) (lane : Lane) (packet : Packet)
 
   pub next_found : Some packet ≡ next_of old caller
   next_found = sym (listed_next old caller lane listed ∙ found)
+
+  -- what is held of a call after this one went out
+  pub held_out : (new : List Packet) → find (is_call caller lane.handed) new ≡ None
+      → ((other number : ℕ) → is_call other number packet ≡ false → find (is_call other number) new ≡ find (is_call other number) old.held)
+      → (other number : ℕ) (b : Bool) → is_call other number packet ≡ b → find (is_call other number) new ≡ (if b then None else find (is_call other number) old.held)
+  held_out new gone others other number false is = others other number is
+  held_out new gone others other number true is =
+      let is_mine = mine in
+      let theirs = is_call_tells other number packet is in
+      rw (sym theirs.0 ∙ is_mine.1, sym theirs.1 ∙ is_mine.2) gone
 
   module _ (new : InboxValue) (written : Lane) (written_stands : written ≡ get_or old.lanes place written)
       (lanes : new.lanes ≡ slice_set old.lanes place (one_more written))

@@ -50,6 +50,10 @@ note_of inbox caller = slice_index_or inbox.notes caller None
 abbrev pub waiting : InboxValue → ℕ → ℕ → Option Packet
 waiting inbox caller number = if was_handed inbox caller number then None else find (is_call caller number) inbox.held
 
+-- the packet of a call, if it is held, whether or not the call was handed out
+abbrev pub held_at : InboxValue → ℕ → ℕ → Option Packet
+held_at inbox caller number = find (is_call caller number) inbox.held
+
 -- the caller's next call, if it came
 abbrev pub next_of : InboxValue → ℕ → Option Packet
 next_of inbox caller = if is_listed inbox caller then waiting inbox caller (handed_of inbox caller) else None
@@ -77,6 +81,16 @@ abbrev pub waiting_after : Arrival → Packet → InboxValue → ℕ → ℕ →
 waiting_after New packet inbox caller number = if is_call caller number packet then Some packet else waiting inbox caller number
 waiting_after Repeat packet inbox caller number = waiting inbox caller number
 waiting_after Stranger packet inbox caller number = waiting inbox caller number
+
+-- what is held of a call after another packet came
+abbrev pub held_after : Arrival → Packet → InboxValue → ℕ → ℕ → Option Packet
+held_after New packet inbox caller number = if is_call caller number packet then Some packet else held_at inbox caller number
+held_after Repeat packet inbox caller number = held_at inbox caller number
+held_after Stranger packet inbox caller number = held_at inbox caller number
+
+-- what is held of a call after a packet was handed out
+abbrev pub held_without : Packet → InboxValue → ℕ → ℕ → Option Packet
+held_without packet inbox caller number = if is_call caller number packet then None else held_at inbox caller number
 
 -- the packet came, which was this to the inbox, and nothing else changed
 pub record IsTakenIn (packet : Packet) (arrival : Arrival) (old new : InboxValue) : Type 0 where

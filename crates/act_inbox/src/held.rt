@@ -100,6 +100,7 @@ impl HeldCalls {
         ensures value { result ≡ find (is_call caller number) self.old }
         ensures others { IfSome result (λ packet. (other count : ℕ) → is_call other count packet ≡ false
             → find (is_call other count) self.new ≡ find (is_call other count) self.old) }
+        ensures gone { find (is_call caller number) self.new ≡ None }
         ensures numbered { All (λ each. each.number < MOST_CALLS) self.old → All (λ each. each.number < MOST_CALLS) self.new }
         ensures none { IfNone result (self.new ≡ self.old) }
     {

@@ -2,7 +2,7 @@
 
 ghost use Rattle.std.specs.Prelude.{◌≡◌, ◌↔◌, ◌≢◌, ℕ, None, Some, slice_index_or, ◌≤◌, ◌==◌, All, AllPairs, map, position, is_some, IfOk, OnOk, IfErr, OnErr, IfSome, IfNone, option_copied, IsTrue};
 ghost use Rattle.act_rules.specs.declared.outcome.Arrival.TheVariants.{New};
-ghost use Rattle.act_inbox.specs.Inbox.{InboxValue, is_lane_of, is_call, lane_at_first, is_listed, handed_of, note_of, waiting, next_of, arrival_of, note_arrival, waiting_after, note_after, holding, HoldsNone, IsNextToCome, IsOpened, IsTakenIn, IsNextTaken, IsDrained};
+ghost use Rattle.act_inbox.specs.Inbox.{InboxValue, is_lane_of, is_call, lane_at_first, is_listed, handed_of, note_of, waiting, next_of, arrival_of, note_arrival, waiting_after, held_at, held_after, held_without, note_after, holding, HoldsNone, IsNextToCome, IsOpened, IsTakenIn, IsNextTaken, IsDrained};
 
 use crate::held::{CALLER_NUMBERS, HeldCalls};
 use act_rules::Arrival;
@@ -87,6 +87,8 @@ impl Inbox {
         ensures notes { self.new.notes ≡ self.old.notes }
         ensures waiting { IfOk result (λ arrival.
             (caller number : ℕ) → waiting self.new caller number ≡ waiting_after arrival packet self.old caller number) }
+        ensures held { IfOk result (λ arrival.
+            (caller number : ℕ) → held_at self.new caller number ≡ held_after arrival packet self.old caller number) }
         ensures unless_new { IfOk result (λ arrival. arrival ≢ New → self.new ≡ self.old) }
         // Memory is asked for where the packet is new, and there alone.
         ensures last { OnErr result (arrival_of self.old packet ≡ New) }
@@ -105,6 +107,8 @@ impl Inbox {
     pub fn hold(&mut self, packet: Packet) -> Result<(), Packet>
         requires is_new { arrival_of self.old packet ≡ New }
         ensures taken { OnOk result (IsTakenIn packet New self.old self.new) }
+        ensures held { OnOk result ((caller number : ℕ) →
+            held_at self.new caller number ≡ held_after New packet self.old caller number) }
         ensures back { IfErr result (λ back. back ≡ packet) }
         ensures err { OnErr result (self.new ≡ self.old) }
     {
@@ -182,6 +186,8 @@ impl Inbox {
         ensures value { result ≡ next_of self.old caller }
         ensures none { IfNone result (self.new ≡ self.old) }
         ensures taken { IfSome result (λ packet. IsNextTaken caller packet self.old self.new) }
+        ensures held { IfSome result (λ packet.
+            (other number : ℕ) → held_at self.new other number ≡ held_without packet self.old other number) }
     {
         let place = place_of_lane(&self.lanes, caller)?;
         let packet = self.held.remove(caller, self.lanes[place].handed)?;

@@ -2,7 +2,7 @@ use Rattle.std.proofs.Common.{◌≡◌, ◌<◌, ℕ, Some, None, sym, ◌∙�
 use Rattle.std.specs.Prelude.{slice_set}
 use Rattle.std.proofs.lemmas.List.{length-set}
 use Rattle.act_inbox.specs.Value.{key_of}
-use Rattle.act_inbox.proofs.Keys.{is_same, key_at, key_of-set, key_of-kept, updates_at, names, held_same, none_held, one_held, held_gone, found_gone, all_after}
+use Rattle.act_inbox.proofs.Keys.{is_same, is_same_itself, key_at, key_of-set, key_of-kept, updates_at, names, held_same, none_held, one_held, held_gone, found_gone, all_after}
 use Rattle.act_inbox.proofs.held.HeldCalls.remove.Goals as goal
 use Rattle.act_inbox.proofs.held.HeldCalls.remove.Goals.{After-remove-2}
 
@@ -18,6 +18,12 @@ returns-in_err-key-clause-value c =
     let keys = c.self.inside.keys.items in
     let at : key_of keys c.args.caller c.args.number ≡ None = key_at keys c.number.result c.index_mut.result.now (omega (arith, c.self.invariant.one_each)) c.index_mut.ensures.value c.args.caller c.args.number c.number.ensures.value ∙ sym c.in_err-key.ensures.value in
     c.from_residual.ensures ∙ rw (← c.self.view_is) (sym (none_held c.self.inside.packets keys c.self.invariant c.args.caller c.args.number at))
+
+pub returns-in_err-key-clause-gone : goal.returns-in_err-key-clause-gone
+returns-in_err-key-clause-gone c =
+    let keys = c.self.inside.keys.items in
+    let at : key_of keys c.args.caller c.args.number ≡ None = key_at keys c.number.result c.index_mut.result.now (omega (arith, c.self.invariant.one_each)) c.index_mut.ensures.value c.args.caller c.args.number c.number.ensures.value ∙ sym c.in_err-key.ensures.value in
+    none_held c.self.inside.packets keys c.self.invariant c.args.caller c.args.number at
 
 pub remove-requires-2 : goal.remove-requires-2
 remove-requires-2 c = let named = names c.self.inside.packets c.self.inside.keys.items c.self.invariant c.args.caller c.args.number c.in_ok-key.key
@@ -45,6 +51,11 @@ pub returns-clause-others : goal.returns-clause-others
 returns-clause-others c =
     rw (← c.self.view_is) (found_gone c.self.inside.packets c.remove-2.new.self c.self.inside.keys.items (slice_set c.self.inside.keys.items c.number.result c.remove.new.self) c.remove-2.result c.args.caller c.args.number c.in_ok-key.key
     c.self.invariant (at c) c.remove-2.ensures.value c.remove-2.ensures.updates (length-set _ _ _) (unkeyed c))
+
+pub returns-clause-gone : goal.returns-clause-gone
+returns-clause-gone c =
+    none_held c.remove-2.new.self (slice_set c.self.inside.keys.items c.number.result c.remove.new.self) (invariant_of-self-2 c) c.args.caller c.args.number
+    (rw (is_same_itself c.args.caller c.args.number) at (unkeyed c c.args.caller c.args.number))
 
 pub returns-clause-numbered : goal.returns-clause-numbered
 returns-clause-numbered c = λ all.
