@@ -8,6 +8,7 @@
 mod event;
 mod history;
 mod laws;
+mod memory;
 mod outcome;
 mod rows;
 mod script;
