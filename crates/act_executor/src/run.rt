@@ -30,7 +30,9 @@ use act_seats::Seat;
 use act_serve::{ExecPasses, Finished, Gate};
 use act_tasks::{Refusal, run_both};
 use act_types::{CallerId, NoMemory};
-use std::alloc::Global;
+use std::alloc::{AllocError, AllocFailed, Global};
+use std::error::Error;
+use std::fmt;
 use std::sync::Wait;
 use std::thread::Threads;
 
@@ -57,6 +59,44 @@ impl From<NoMemory> for RunFault {
         RunFault::NoMemory
     }
 }
+
+impl From<AllocError> for RunFault {
+    ghost use Rattle.std.specs.Prelude.{◌≡◌};
+    ghost use Rattle.act_executor.specs.declared.run.RunFault.TheVariants as fault;
+
+    ghost from_gives = { λ _ result. result ≡ fault.NoMemory };
+
+    fn from(error: AllocError) -> RunFault {
+        RunFault::from(NoMemory::from(error))
+    }
+}
+
+impl<T: Drop> From<AllocFailed<T>> for RunFault {
+    ghost use Rattle.std.specs.Prelude.{◌≡◌};
+    ghost use Rattle.act_executor.specs.declared.run.RunFault.TheVariants as fault;
+
+    ghost from_gives = { λ _ result. result ≡ fault.NoMemory };
+
+    fn from(failed: AllocFailed<T>) -> RunFault {
+        RunFault::from(NoMemory::from(failed))
+    }
+}
+
+impl fmt::Display for RunFault {
+    fn fmt<W: fmt::Write>(&self, f: &mut fmt::Formatter<W>) -> fmt::Result {
+        match self {
+            RunFault::TooMany => f.write_str("too many callers or actors"),
+            RunFault::BadPlan(caller, place) => write!(
+                f,
+                "the step of {caller} at place {place} would be refused"
+            ),
+            RunFault::NoThread => f.write_str("no thread"),
+            RunFault::NoMemory => f.write_str("no memory"),
+        }
+    }
+}
+
+impl Error for RunFault {}
 
 impl From<Refusal> for RunFault {
     ghost use Rattle.std.specs.Prelude.{◌≡◌};

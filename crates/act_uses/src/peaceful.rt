@@ -14,7 +14,7 @@ use act_kinds::{Actor, Boxed};
 use act_plans::MOST_STEPS;
 use act_rules::Step;
 use act_types::{ActorId, CallerId, ListOf, Method, NoMemory};
-use std::alloc::Global;
+use std::alloc::{AllocError, AllocFailed, Global};
 use std::sync::Wait;
 use std::thread::Threads;
 
@@ -69,6 +69,30 @@ impl From<NoMemory> for PeaceFault {
 
     fn from(_error: NoMemory) -> PeaceFault {
         PeaceFault::Run(RunFault::NoMemory)
+    }
+}
+
+impl From<AllocError> for PeaceFault {
+    ghost use Rattle.std.specs.Prelude.{◌≡◌};
+    ghost use Rattle.act_executor.specs.declared.run.RunFault.TheVariants as run;
+    ghost use Rattle.act_uses.specs.declared.peaceful.PeaceFault.TheVariants as fault;
+
+    ghost from_gives = { λ _ result. result ≡ fault.Run run.NoMemory };
+
+    fn from(error: AllocError) -> PeaceFault {
+        PeaceFault::from(RunFault::from(error))
+    }
+}
+
+impl<T: Drop> From<AllocFailed<T>> for PeaceFault {
+    ghost use Rattle.std.specs.Prelude.{◌≡◌};
+    ghost use Rattle.act_executor.specs.declared.run.RunFault.TheVariants as run;
+    ghost use Rattle.act_uses.specs.declared.peaceful.PeaceFault.TheVariants as fault;
+
+    ghost from_gives = { λ _ result. result ≡ fault.Run run.NoMemory };
+
+    fn from(failed: AllocFailed<T>) -> PeaceFault {
+        PeaceFault::from(RunFault::from(failed))
     }
 }
 

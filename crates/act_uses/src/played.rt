@@ -26,6 +26,17 @@ pub enum PartFault {
     Stopped(u32),
 }
 
+impl From<ScriptFault> for PartFault {
+    ghost use Rattle.std.specs.Prelude.{◌≡◌};
+    ghost use Rattle.act_uses.specs.declared.played.PartFault.TheVariants as part;
+
+    ghost from_gives = { λ fault result. result ≡ part.Script fault };
+
+    fn from(fault: ScriptFault) -> PartFault {
+        PartFault::Script(fault)
+    }
+}
+
 /// The events that bytes spell.
 fn events_in(alloc: Global, bytes: &[u8]) -> Result<ListOf<Event>, ScriptFault>
     ensures events { IfOk result (λ events. (script : Spelled) → spelled Play bytes.now ≡ Ok script → events ≡ script.events) }
@@ -68,10 +79,7 @@ pub fn play_part<K: Actor>(
     // A fault with its line is the script's first one.
     ensures fault { IfErr result (λ fault. IsFaultOf fault (spelled Play bytes.now)) }
 {
-    let events = match events_in(alloc, bytes) {
-        Ok(events) => events,
-        Err(fault) => return Err(PartFault::Script(fault)),
-    };
+    let events = events_in(alloc, bytes)?;
     let part = first(events.as_slice(), count);
     if !world.has_room(part.len()) {
         return Err(PartFault::NoRoom);
