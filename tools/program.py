@@ -3,6 +3,8 @@
 The proved program is the one that the gate leaves. Where none stands, or a source is newer, an unproved one is
 built once and kept in .built/. Stale is judged by the crates that the program stands on, as crates.txt lists them.
 """
+import contextlib
+import itertools
 import os
 import pathlib
 import sys
@@ -17,6 +19,7 @@ CODE = ["src"]
 PROVED_CODE = ["src", "specs", "proofs"]
 LONGEST_SCRIPT = 1_048_576
 WRONG_WORDS = 2
+WRITE_FAILED = 4
 
 
 class Stop(Exception):
@@ -28,9 +31,13 @@ class Stop(Exception):
 
 
 def say(tool, text):
-    """One line on the standard error, where there is one."""
-    if sys.stderr is not None:
-        print(f"{tool}: {text}", file=sys.stderr, flush=True)
+    """One line on the standard error. Where that is closed the line is lost, and nothing else."""
+    note(f"{tool}: {text}\n")
+
+
+def note(text):
+    with contextlib.suppress(OSError):
+        os.write(2, text.encode())
 
 
 def ended(tool, main):
@@ -62,11 +69,10 @@ def crates_of(name, crates):
 
 
 def files_of(parts):
-    """Every file in these folders of the crates that the program stands on."""
-    for crate in crates_of(NAME, listed()):
-        for part in parts:
-            for folder, _, names in os.walk(CRATES / crate / part):
-                yield from (os.path.join(folder, name) for name in names)
+    """Every source in these folders of the crates that the program stands on."""
+    folders = [CRATES / crate / part for crate in crates_of(NAME, listed()) for part in parts]
+    for folder, _, names in itertools.chain.from_iterable(map(os.walk, folders)):
+        yield from (os.path.join(folder, name) for name in names if name.endswith((".rt", ".antt")))
 
 
 def is_fresh(program, parts):
@@ -101,17 +107,36 @@ def must_stand(program):
     return program
 
 
-# Scripts.
+# What comes in and goes out.
 
 
-def script_in(path):
-    """The bytes of a script, from the standard input where the path is `-`. Of one that is too long a byte too many."""
+def bytes_in(path, most=-1):
+    """The bytes of a file, or of the standard input where the path is `-`, up to so many."""
     try:
-        if path != "-":
-            with open(path, "rb") as file:
-                return file.read(LONGEST_SCRIPT + 1)
-        return sys.stdin.buffer.read(LONGEST_SCRIPT + 1)
+        if path == "-":
+            return sys.stdin.buffer.read(most)
+        with open(path, "rb") as file:
+            return file.read(most)
     except AttributeError:
         raise Stop("the standard input is closed") from None
     except (OSError, ValueError) as why:
         raise Stop(f"can't read {path}: {getattr(why, 'strerror', None) or why}") from None
+
+
+def script_in(path):
+    """The bytes of a script. Of one that is too long a byte too many, which tells the program so."""
+    return bytes_in(path, LONGEST_SCRIPT + 1)
+
+
+def write_out(text):
+    """Writes all of it to the standard output."""
+    left = text.encode()
+    try:
+        while left:
+            left = left[os.write(1, left) :]
+    except OSError as why:
+        raise Stop(f"write failed: {why.strerror}", WRITE_FAILED) from None
+
+
+def asks_for_help(words):
+    return words in (["--help"], ["-h"])

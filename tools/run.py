@@ -7,12 +7,15 @@ Without FILE, or where it is `-`, the script is read from the standard input. Th
 output, and notes to the standard error. The status is the program's: 0; 1 for a script fault; 2 for wrong words,
 and for a file that can't be read; 3 for no memory or no thread; 4 where reading or writing failed.
 """
+import os
 import subprocess
 import sys
 
 import program
 
-USAGE = "usage: ./run play|threads [FILE]    (without FILE, or where it is `-`, the standard input)"
+USAGE = "usage: ./run play|threads [FILE]    (without FILE, or where it is `-`, the standard input)\n"
+# An unproved program ends so where one of the kit's checks stops it, and not with the status of a script fault.
+CHECKED = dict(os.environ, ASAN_OPTIONS="exitcode=70")
 FOR_BOTH = {b"actor", b"submit", b"copy", b"release", b"kill"}
 
 
@@ -21,13 +24,12 @@ def first_words(script):
     return {line.split(b" ")[0] for line in script.split(b"\n") if line and not line.startswith(b"#")}
 
 
-def note_on_unsent(script):
-    """What is told of a script that was played to its end without a call that was sent, else nothing."""
+def tell_unsent(tool, script):
+    """Of a script that was played: says so where no call was ever sent, as in one for threads."""
     words = first_words(script)
-    if b"submit" not in words or b"send" in words:
-        return ""
-    like_threads = "; the script looks like one for threads: ./run threads FILE" if words <= FOR_BOTH else ""
-    return "no call was ever sent, since no line says `send`" + like_threads
+    if b"submit" in words and b"send" not in words:
+        like_threads = "; the script looks like one for threads: ./run threads FILE" if words <= FOR_BOTH else ""
+        program.say(tool, "no call was ever sent, since no line says `send`" + like_threads)
 
 
 def explanation(script, mode):
@@ -41,22 +43,26 @@ def explanation(script, mode):
 
 def run(tool, mode, script, output=None):
     """Runs the program, and tells what a reader of the report may miss. Its status, and what it wrote to a pipe."""
-    done = subprocess.run([program.kept(tool), mode], input=script, stdout=output)
+    command = [program.kept(tool), mode]
+    # Where nobody reads on, the program is to say so, and not to be ended by the signal.
+    done = subprocess.run(command, input=script, stdout=output, env=CHECKED, restore_signals=False)
     if done.returncode < 0:
         raise program.Stop(f"the program was ended by signal {-done.returncode}", 128 - done.returncode)
-    note = note_on_unsent(script) if done.returncode == 0 and mode == "play" else ""
-    if note:
-        program.say(tool, note)
+    if done.returncode == 0 and mode == "play":
+        tell_unsent(tool, script)
     if done.returncode == 1:
-        sys.stderr.write(explanation(script, mode))
+        program.note(explanation(script, mode))
     return done.returncode, done.stdout
 
 
 def main():
     words = sys.argv[1:]
+    if program.asks_for_help(words):
+        program.write_out(__doc__)
+        return 0
     is_silent = len(words) == 1 and sys.stdin is not None and sys.stdin.isatty()
     if len(words) not in (1, 2) or words[0] not in ("play", "threads") or is_silent:
-        print(USAGE, file=sys.stderr)
+        program.note(USAGE)
         return program.WRONG_WORDS
     script = program.script_in(words[1] if len(words) == 2 else "-")
     return run("run", words[0], script)[0]
