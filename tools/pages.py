@@ -24,7 +24,7 @@ def version():
 def faults_of_versions(wanted):
     """The places that don't name this version, or name another."""
     for place in VERSIONED:
-        named = set(re.findall(r"(?<![\d.])\d+\.\d+\.\d+(?![\d.])", (TOP / place).read_text()))
+        named = set(re.findall(r"(?<![\d.])\d+\.\d+\.\d+(?!\.?\d)", (TOP / place).read_text()))
         if named != {wanted}:
             yield f"{place} names the versions {sorted(named)}, and CHANGELOG.md {wanted}"
 
