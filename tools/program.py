@@ -100,11 +100,16 @@ def kept(tool):
     return UNPROVED
 
 
-def must_stand(program):
-    """The program, which a tool that takes no other needs."""
-    if not program.exists():
-        raise Stop(f"{program} is not built: run `rt ci` first", 1)
-    return program
+def proved(tool, path=PROVED):
+    """The path of a program of the gate, for a tool that takes no other."""
+    if not path.exists():
+        sys.exit(f"{tool}: {path} is not built: run `rt ci` first")
+    return path.resolve()
+
+
+def program_of(tool, path):
+    """The program that the words of a tool name, else the one that a run takes."""
+    return proved(tool, path) if path else kept(tool)
 
 
 # What comes in and goes out.
