@@ -3,8 +3,9 @@
 
     ./draw SCRIPT [REPORT] > PICTURE.svg
 
-REPORT is what `./run play SCRIPT` writes, and `-` reads it from standard input. Without it `./run play`
-is called. The picture goes to standard output, and the same script and report give the same bytes.
+REPORT is what `./run play SCRIPT` writes; without it the script is played as `./run play` does. `-` in the place
+of one of the two reads it from the standard input. The picture goes to the standard output, and the same script
+and report give the same bytes.
 
 Time goes downwards: each event has a row, with its place and its line of the script at the left. Each
 caller and each actor has a lane, callers left of actors. What goes from one side to the other leaves its
@@ -26,7 +27,8 @@ words are cut, and a pointer held over them shows them whole; over a line it sho
 notice, and where it began and ended.
 
 Statuses: 0; 1 for a script fault, of which there is nothing to draw; 2 for wrong words, for a file that
-can't be read, and for a report that isn't one of the script; else that of `./run`.
+can't be read, and for a report that isn't one of the script; 4 where the picture can't be written; else that of
+`./run`.
 """
 import pathlib
 import re
@@ -35,18 +37,16 @@ import sys
 from dataclasses import dataclass, field
 from xml.sax.saxutils import escape, quoteattr
 
-TOP = pathlib.Path(__file__).resolve().parent.parent
-USAGE = "usage: ./draw SCRIPT [REPORT]"
+import program
+import run as runs
+
+USAGE = "usage: ./draw SCRIPT [REPORT]    (where one of them is `-`, the standard input)\n"
 
 # What stands in the script and in the report.
 
 
-class NoPicture(Exception):
+class NoPicture(program.Stop):
     """Why there is nothing to draw, and the status."""
-
-    def __init__(self, why, status=2):
-        super().__init__(why)
-        self.status = status
 
 
 @dataclass
@@ -586,33 +586,31 @@ def picture(script, report, name):
 # The tool.
 
 
-def bytes_of(path):
-    try:
-        return sys.stdin.buffer.read() if path == "-" else pathlib.Path(path).read_bytes()
-    except OSError as why:
-        raise NoPicture(f"can't read {path}: {why.strerror}") from None
-
-
-def played(path):
-    """The report that ./run gives; its notes go to standard error."""
-    done = subprocess.run([TOP / "run", "play", pathlib.Path(path).resolve()], stdout=subprocess.PIPE)
-    if done.returncode > 1:
-        raise NoPicture("./run gave no report", done.returncode)
-    return done.stdout
+def played(script):
+    """The report that the program gives."""
+    status, report = runs.run("draw", "play", script, subprocess.PIPE)
+    if status > 1:
+        raise NoPicture("the program gave no report", status)
+    return report
 
 
 def main():
     paths = sys.argv[1:]
-    try:
-        if len(paths) not in (1, 2) or paths[0].startswith("-"):
-            raise NoPicture(USAGE)
-        script = bytes_of(paths[0])
-        report = bytes_of(paths[1]) if len(paths) == 2 else played(paths[0])
-        sys.stdout.write(picture(script, report, pathlib.Path(paths[0]).name))
-    except NoPicture as why:
-        print(why if str(why) == USAGE else f"draw: {why}", file=sys.stderr)
-        sys.exit(why.status)
+    if program.asks_for_help(paths):
+        program.write_out(__doc__)
+        return 0
+    if len(paths) not in (1, 2) or paths[0].startswith("-") and paths[0] != "-":
+        program.note(USAGE)
+        return program.WRONG_WORDS
+    script = program.script_in(paths[0])
+    report = program.bytes_in(paths[1]) if len(paths) == 2 else played(script)
+    name = "standard input" if paths[0] == "-" else pathlib.Path(paths[0]).name
+    drawn = picture(script, report, name)
+    if len(paths) == 2:
+        runs.tell_unsent("draw", script)
+    program.write_out(drawn)
+    return 0
 
 
 if __name__ == "__main__":
-    main()
+    program.ended("draw", main)

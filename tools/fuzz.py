@@ -19,11 +19,10 @@ import sys
 import tempfile
 
 import reading_of_rules as reading
+from program import TOP, program_of
 
-TOP = pathlib.Path(__file__).resolve().parent.parent
 ROWS = TOP / "crates/ray_actors/rows"
 CUT = ROWS / "one_packet_for_good.actors"
-PROGRAM = TOP / "crates/ray_actors/out/ray_actors"
 
 MOST_SHOWN = 5
 
@@ -522,12 +521,11 @@ def main():
     options = argparse.ArgumentParser(description=__doc__.splitlines()[0])
     options.add_argument("--seed", type=int, default=1)
     options.add_argument("--count", type=int, default=600)
-    options.add_argument("--program", type=pathlib.Path, default=PROGRAM)
+    options.add_argument("--program", type=pathlib.Path, help="run this one, and not the one that ./run takes")
     chosen = options.parse_args()
     if chosen.count < 100:
         options.error("fewer than 100 scripts don't come to all that they should try")
-    if not chosen.program.exists():
-        sys.exit(f"fuzz: {chosen.program} is not built: run `rt ci` first")
+    chosen.program = program_of("fuzz", chosen.program)
     rows, failures = worked_rows()
     random_scripts = {f"script {place} of seed {chosen.seed}": random_script(chosen.seed, place) for place in range(chosen.count)}
     whole = CUT.read_bytes()
@@ -535,7 +533,7 @@ def main():
     misses = dict(near_misses())
     failures += too_seldom(random_scripts.values())
     print("".join(f"{failure}\n" for failure in failures), end="")
-    failed = len(failures) + differences(chosen.program.resolve(), random_scripts | misses | cuts)
+    failed = len(failures) + differences(chosen.program, random_scripts | misses | cuts)
     passed = rows + len(FLOORS) + len(random_scripts) + len(misses) + len(cuts) - failed
     print(f"fuzz: {passed} passed, {failed} failed")
     sys.exit(1 if failed else 0)

@@ -32,7 +32,8 @@ import sys
 import tempfile
 from dataclasses import dataclass
 
-TOP = pathlib.Path(__file__).resolve().parent.parent
+from program import TOP, proved
+
 PROGRAM = TOP / "crates/ray_bench/out/ray_bench"
 SOURCES = TOP / "tools/peers"
 REGISTRY = "/usr/share/cargo/registry"  # Debian's crates
@@ -228,8 +229,7 @@ def chosen_options():
         chosen.calls, chosen.turns, chosen.rounds = SMALL_CALLS, 1, 1
     if min(chosen.calls, chosen.turns, chosen.rounds) < 1:
         options.error("calls, turns and rounds are 1 or more")
-    if not chosen.program.exists():
-        sys.exit(f"peers: {chosen.program} is not built: run `rt ci` first")
+    chosen.program = proved("peers", chosen.program)
     return chosen
 
 
@@ -237,7 +237,7 @@ def main():
     chosen = chosen_options()
     with tempfile.TemporaryDirectory(prefix="peers-") as folder:
         peers, missing = build_peers(folder)
-        contenders = contenders_of(chosen.program.resolve(), peers)
+        contenders = contenders_of(chosen.program, peers)
         load_before = load()
         rates, wrong = measure(contenders, chosen.calls, chosen.turns, chosen.rounds)
         show(rates, contenders, chosen, load_before)

@@ -16,7 +16,6 @@ rules, and no program is needed. Pictures of random scripts, whose reports the r
 import argparse
 import collections
 import copy
-import pathlib
 import re
 import subprocess
 import sys
@@ -25,11 +24,10 @@ import xml.etree.ElementTree as xml
 import draw
 import fuzz
 import reading_of_rules as reading
+from program import TOP, kept
 
-TOP = pathlib.Path(__file__).resolve().parent.parent
 EXAMPLES = TOP / "examples"
 PICTURES = TOP / "docs/pictures"
-PROGRAM = TOP / "crates/ray_actors/out/ray_actors"
 RANDOM_SCRIPTS = 40
 SVG = "{http://www.w3.org/2000/svg}"
 
@@ -44,12 +42,12 @@ def examples():
     return [path for path in sorted(EXAMPLES.glob("*.actors")) if is_played(path)]
 
 
-def report_of(path, by_reading):
-    """The report of an example, which has no fault."""
-    if by_reading:
+def report_of(path, program):
+    """The report of an example, which has no fault. Without a program the reading makes it."""
+    if program is None:
         report, status = reading.play(path.read_bytes())
     else:
-        done = subprocess.run([PROGRAM, "play"], input=path.read_bytes(), stdout=subprocess.PIPE, timeout=60)
+        done = subprocess.run([program, "play"], input=path.read_bytes(), stdout=subprocess.PIPE, timeout=60)
         report, status = done.stdout, done.returncode
     if status != 0:
         sys.exit(f"pictures: {path.name} has the status {status}")
@@ -191,9 +189,8 @@ def main():
     options.add_argument("--check", action="store_true")
     options.add_argument("--reading", action="store_true", help="make the reports by the second reading of the rules")
     chosen = options.parse_args()
-    if not chosen.reading and not PROGRAM.exists():
-        sys.exit(f"pictures: {PROGRAM} is not built: run `rt ci` first, or give --reading")
-    reports = {path: report_of(path, chosen.reading) for path in examples()}
+    program = None if chosen.reading else kept("pictures")
+    reports = {path: report_of(path, program) for path in examples()}
     if not chosen.check:
         PICTURES.mkdir(exist_ok=True)
         for path, report in reports.items():

@@ -20,6 +20,7 @@ import sys
 import tempfile
 
 import measure
+from program import PROVED, proved
 
 SOURCE = measure.TOP / "tools/peers/plain_play.rs"
 TURNS = 15
@@ -87,16 +88,15 @@ def main():
     options = argparse.ArgumentParser(description=__doc__.splitlines()[0])
     options.add_argument("--turns", type=int, default=TURNS)
     options.add_argument("--small", action="store_true", help="short scripts and one turn")
-    options.add_argument("--program", type=pathlib.Path, default=measure.PROGRAM)
+    options.add_argument("--program", type=pathlib.Path, default=PROVED)
     chosen = options.parse_args()
-    if not chosen.program.exists():
-        sys.exit(f"plain_play: {chosen.program} is not built: run `rt ci` first")
+    chosen.program = proved("plain_play", chosen.program)
     with tempfile.TemporaryDirectory(prefix="plain-play-") as folder:
         plain = build_plain(folder)
         if not plain:
             print("plain_play: rustc is not there, so nothing was measured")
             return
-        runners = [runner_in(folder, "proved", chosen.program.resolve()), runner_in(folder, "plain", plain)]
+        runners = [runner_in(folder, "proved", chosen.program), runner_in(folder, "plain", plain)]
         wrong = list(compare_all(runners, 1 if chosen.small else chosen.turns, chosen.small))
     print(f"Load of the machine, over the last minute: {os.getloadavg()[0]:.2f}, of {os.cpu_count()} cores.")
     print("".join(f"{each}\n" for each in wrong), end="")

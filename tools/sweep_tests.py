@@ -17,7 +17,8 @@ import sys
 import tempfile
 from itertools import chain
 
-from refusing import HANGS, TOP, Refusing
+from program import TOP
+from refusing import HANGS, Refusing
 
 PARTS = [("tests_of_actors", "inbox"), ("tests_of_owners", "replies"), ("tests_of_owners", "resolver"), ("tests_of_owners", "owner"), ("tests_of_actors", "actor")]
 TESTS = [(crate, f"{part}::refused_memory_changes_nothing") for crate, part in PARTS]

@@ -26,14 +26,13 @@ import tempfile
 
 import fuzz
 import reading_of_rules as reading
+from program import TOP, program_of
 
-TOP = pathlib.Path(__file__).resolve().parent.parent
 ROWS = TOP / "crates/ray_actors/thread_rows"
 EXAMPLES = TOP / "examples"
 KILL = ROWS / "kill.actors"
 END = ROWS / "terminate_waits_its_turn.actors"
 LIMITS = [ROWS / f"limit_{name}.actors" for name in ["of_one", "and_a_chain_over_two_actors", "before_a_kill"]]
-PROGRAM = TOP / "crates/ray_actors/out/ray_actors"
 
 AT_ONCE = 4
 MOST_SECONDS = 60
@@ -723,18 +722,17 @@ def chosen_options():
     options.add_argument("--kills", type=int, default=50, help="how many runs of the worked kill")
     options.add_argument("--ends", type=int, default=200, help="how many runs of the worked end that waits its turn")
     options.add_argument("--limits", type=int, default=200, help="how many runs of each worked limit")
-    options.add_argument("--program", type=pathlib.Path, default=PROGRAM)
+    options.add_argument("--program", type=pathlib.Path, help="run this one, and not the one that ./run takes")
     chosen = options.parse_args()
     if chosen.count < 100:
         options.error("fewer than 100 scripts don't come to all that they should try")
-    if not chosen.program.exists():
-        sys.exit(f"threads: {chosen.program} is not built: run `rt ci` first")
+    chosen.program = program_of("threads", chosen.program)
     return chosen
 
 
 def main():
     chosen = chosen_options()
-    program = chosen.program.resolve()
+    program = chosen.program
     scripts = scripts_of(chosen.seed, chosen.count)
     right, wrong = judge_scripts(program, scripts)
     seldom = list(too_seldom(right))
