@@ -1,0 +1,219 @@
+#!/usr/bin/env python3
+"""Says in plain words what is wrong with a script: its fault, or in a play the events that are refused.
+
+    ./explain play|threads [FILE]
+
+FILE is a script; without one, or with `-`, it is read from standard input. Of a faulty script the first fault is told
+as the program tells it, with the line as it stands, a mark under what is wrong, the reason, and the line as it would
+be right where that is plain. Bytes that can't be printed are shown as \\t, \\r or \\x and two digits. Of a play without
+a fault each refused event is listed, with its number, its line and what the refusal means there.
+
+Nothing is built or run: the fault and the refusals are those of the second reading of the rules
+(tools/reading_of_rules.py), and tools/explained.py compares them with the program's.
+Statuses: 0 where nothing is wrong, or events are refused; 1 for a script fault; 2 for wrong words, for a file that
+can't be read, and where the text can't be written.
+"""
+import dataclasses
+import os
+import sys
+
+import explain_refusals
+import reading_of_rules as reading
+from explain_lines import Finding, Line, finding_in, righted
+
+USAGE = "usage: ./explain play|threads [FILE]"
+MODES = ("play", "threads")
+MOST_SHOWN = 100  # of a line this many bytes are shown
+MOST_BEFORE = 60  # and of them so many before a mark
+MOST_QUOTED = 60
+SHOWN_AS = {ord("\t"): "\\t", ord("\r"): "\\r"}
+
+
+# Lines, as they are shown.
+
+
+def shown(byte):
+    return chr(byte) if 0x20 <= byte <= 0x7E else SHOWN_AS.get(byte, f"\\x{byte:02x}")
+
+
+def marked(line, begin, end):
+    """A line as it stands, or the part of it that is marked, and the mark under it."""
+    first = max(0, begin - MOST_BEFORE) if len(line) > MOST_SHOWN else 0
+    last = min(len(line), first + MOST_SHOWN)
+    head, tail = ".. " if first else "", " .." if last < len(line) else ""
+    columns = [shown(byte) for byte in line[first:last]]
+    before = len(head) + len("".join(columns[: begin - first])) + max(0, begin - last)
+    width = max(1, len("".join(columns[begin - first : end - first])))
+    yield "  " + head + "".join(columns) + tail
+    yield "  " + " " * before + "^" + "~" * (width - 1)
+
+
+def quoted(line):
+    text = "".join(map(shown, line))
+    return text if len(text) <= MOST_QUOTED else text[:MOST_QUOTED] + " .."
+
+
+# The faults.
+
+
+def found_at(line, place, why, right=None):
+    """A finding at one word of a line."""
+    begin = sum(len(word) + 1 for word in line.split(b" ")[:place])
+    return Finding(begin, begin + len(line.split(b" ")[place]), why, right)
+
+
+def of_bad_line(lines, number, mode, data):
+    line = Line(lines[number - 1].decode("latin-1"), mode, data)
+    return dataclasses.replace(finding_in(line), better=righted(line))
+
+
+def of_late_actor(lines, number, mode, data):
+    first, event = next((at, line) for at, line in enumerate(lines, 1) if line and not line.startswith((b"#", b"actor ")))
+    why = f"all actor lines stand before the first other line, which is line {first}: {quoted(event)}. Move this one above it"
+    return found_at(lines[number - 1], 0, why)
+
+
+def of_twice_actor(lines, number, mode, data):
+    line = lines[number - 1]
+    actor = line.split(b" ")[1]
+    first, earlier = next((at, each) for at, each in enumerate(lines, 1) if each.startswith(b"actor %s " % actor))
+    why = f"line {first} is of {actor.decode()} already: {quoted(earlier)}. One line of an actor names all its callers"
+    return found_at(line, 1, why)
+
+
+def of_twice_caller(lines, number, mode, data):
+    line = lines[number - 1]
+    words = line.decode().split(" ")
+    second = next(place for place, word in enumerate(words) if word in words[3:place])
+    right = " ".join([*words[:3], *dict.fromkeys(words[3:])])
+    return found_at(line, second, f"{words[second]} stands twice in this line, and once is enough", right)
+
+
+def of_bad_plan(lines, number, mode, data):
+    refusal = explain_refusals.refusal_of_step(reading.read_script(data, reading.THREAD_FORMS), number)
+    return found_at(lines[number - 1], refusal.word, f"this step would be refused ({refusal.name}), so nothing is run: {refusal.why}")
+
+
+OF_FAULTS = {
+    "BadLine": of_bad_line,
+    "LateActor": of_late_actor,
+    "TwiceActor": of_twice_actor,
+    "TwiceCaller": of_twice_caller,
+    "BadPlan": of_bad_plan,
+}
+
+
+def fault_of(mode, data):
+    """The fault of a script, or none."""
+    try:
+        reading.read_script(data) if mode == "play" else reading.read_plans(data)
+    except reading.ScriptFault as fault:
+        return fault
+    return None
+
+
+def finding_of(fault, mode, data):
+    """What is wrong with the line of a fault; its `better` is the line as it would be right."""
+    return OF_FAULTS[fault.name](data.split(b"\n"), fault.line, mode, data)
+
+
+def told_fault(fault, mode, data):
+    """The lines that tell a fault."""
+    yield f"line {fault.line}: {fault.name}"
+    if fault.name == "TooLong":
+        yield f"the script has more than {reading.LONGEST_SCRIPT} bytes, which is the most; so none of its lines was read"
+        return
+    finding = finding_of(fault, mode, data)
+    yield from marked(data.split(b"\n")[fault.line - 1], finding.begin, finding.end)
+    yield finding.why
+    if finding.better:
+        yield f"Right would be: {finding.better}"
+
+
+def fault_text(mode, data):
+    """What ./run says of a faulty script; nothing of one without a fault."""
+    fault = fault_of(mode, data)
+    return "".join(f"{line}\n" for line in told_fault(fault, mode, data)) if fault else ""
+
+
+# Scripts without a fault.
+
+
+def told_play(data):
+    """The lines that tell the refused events of a play, or that there is none."""
+    script = reading.read_script(data)
+    lines = data.split(b"\n")
+    count = explain_refusals.counted(len(script.events), "event")
+    refused = list(explain_refusals.refusals(script))
+    if not refused:
+        yield f"no fault, and of {count} none is refused" if script.events else "no fault, and no event"
+        return
+    yield f"no fault; of {count} {len(refused)} {'is' if len(refused) == 1 else 'are'} refused:"
+    for each in refused:
+        yield f"event {each.place}, line {each.line}: {quoted(lines[each.line - 1])}"
+        yield f"  refused {each.name}: {each.why}"
+
+
+def told_threads(data):
+    script = reading.read_script(data, reading.THREAD_FORMS)
+    steps = explain_refusals.counted(len(script.events), "step")
+    callers = {spelt[0] for _, spelt in script.events}
+    yield f"no fault: the plans of {explain_refusals.counted(len(callers), 'caller')} have {steps}, and none would be refused"
+
+
+def explained(mode, data):
+    """The text of a script, and the status."""
+    text = fault_text(mode, data)
+    if text:
+        return text, 1
+    return "".join(f"{line}\n" for line in (told_play if mode == "play" else told_threads)(data)), 0
+
+
+# The command.
+
+
+class Stopped(Exception):
+    """Why nothing is told."""
+
+
+def bytes_of(path):
+    """The bytes of a script, as far as it takes to see that it is too long."""
+    try:
+        with os.fdopen(os.dup(0), "rb") if path == "-" else open(path, "rb") as script:
+            return script.read(reading.LONGEST_SCRIPT + 1)
+    except OSError as why:
+        raise Stopped(f"explain: can't read {'standard input' if path == '-' else path}: {why.strerror}") from None
+
+
+def write(text):
+    """Writes to standard output, which may be closed."""
+    rest = text.encode()
+    try:
+        while rest:
+            rest = rest[os.write(1, rest) :]
+    except OSError as why:
+        raise Stopped(f"explain: can't write: {why.strerror}") from None
+
+
+def explain(words):
+    """Does the command, and gives the status."""
+    if words in (["--help"], ["-h"]):
+        write(__doc__)
+        return 0
+    if len(words) not in (1, 2) or words[0] not in MODES:
+        raise Stopped(USAGE)
+    text, status = explained(words[0], bytes_of(words[1] if len(words) == 2 else "-"))
+    write(text)
+    return status
+
+
+def main():
+    try:
+        sys.exit(explain(sys.argv[1:]))
+    except Stopped as why:
+        print(why, file=sys.stderr)
+        sys.exit(2)
+
+
+if __name__ == "__main__":
+    main()
