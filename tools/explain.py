@@ -20,6 +20,7 @@ import sys
 import explain_refusals
 import reading_of_rules as reading
 from explain_lines import Finding, Line, finding_in, righted
+from explain_refusals import counted
 
 USAGE = "usage: ./explain play|threads [FILE]"
 MODES = ("play", "threads")
@@ -103,70 +104,66 @@ OF_FAULTS = {
 }
 
 
-def fault_of(mode, data):
-    """The fault of a script, or none."""
-    try:
-        reading.read_script(data) if mode == "play" else reading.read_plans(data)
-    except reading.ScriptFault as fault:
-        return fault
-    return None
+@dataclasses.dataclass
+class Told:
+    """What is told of a script, line by line; and of a faulty one its fault, and what is wrong with the line."""
 
+    lines: list
+    fault: reading.ScriptFault = None
+    finding: Finding = None
 
-def finding_of(fault, mode, data):
-    """What is wrong with the line of a fault; its `better` is the line as it would be right."""
-    return OF_FAULTS[fault.name](data.split(b"\n"), fault.line, mode, data)
+    def text(self):
+        return "".join(f"{line}\n" for line in self.lines)
+
+    def status(self):
+        return 1 if self.fault else 0
 
 
 def told_fault(fault, mode, data):
-    """The lines that tell a fault."""
-    yield f"line {fault.line}: {fault.name}"
     if fault.name == "TooLong":
-        yield f"the script has more than {reading.LONGEST_SCRIPT} bytes, which is the most; so none of its lines was read"
-        return
-    finding = finding_of(fault, mode, data)
-    yield from marked(data.split(b"\n")[fault.line - 1], finding.begin, finding.end)
-    yield finding.why
-    if finding.better:
-        yield f"Right would be: {finding.better}"
-
-
-def fault_text(mode, data):
-    """What ./run says of a faulty script; nothing of one without a fault."""
-    fault = fault_of(mode, data)
-    return "".join(f"{line}\n" for line in told_fault(fault, mode, data)) if fault else ""
+        why = f"the script has more than {reading.LONGEST_SCRIPT} bytes, which is the most; so none of its lines was read"
+        return Told([f"line {fault.line}: {fault.name}", why], fault)
+    lines = data.split(b"\n")
+    finding = OF_FAULTS[fault.name](lines, fault.line, mode, data)
+    right = [f"Right would be: {finding.better}"] if finding.better else []
+    shown = marked(lines[fault.line - 1], finding.begin, finding.end)
+    return Told([f"line {fault.line}: {fault.name}", *shown, finding.why, *right], fault, finding)
 
 
 # Scripts without a fault.
 
 
-def told_play(data):
-    """The lines that tell the refused events of a play, or that there is none."""
-    script = reading.read_script(data)
-    lines = data.split(b"\n")
-    count = explain_refusals.counted(len(script.events), "event")
+def told_play(script, lines):
+    """The refused events of a play, or that there is none."""
+    count = counted(len(script.events), "event")
     refused = list(explain_refusals.refusals(script))
     if not refused:
-        yield f"no fault, and of {count} none is refused" if script.events else "no fault, and no event"
-        return
-    yield f"no fault; of {count} {len(refused)} {'is' if len(refused) == 1 else 'are'} refused:"
+        return Told([f"no fault, and of {count} none is refused" if script.events else "no fault, and no event"])
+    told = [f"no fault; of {count} {len(refused)} {'is' if len(refused) == 1 else 'are'} refused:"]
     for each in refused:
-        yield f"event {each.place}, line {each.line}: {quoted(lines[each.line - 1])}"
-        yield f"  refused {each.name}: {each.why}"
+        told.append(f"event {each.place}, line {each.line}: {quoted(lines[each.line - 1])}")
+        told.append(f"  refused {each.name}: {each.why}")
+    return Told(told)
 
 
-def told_threads(data):
-    script = reading.read_script(data, reading.THREAD_FORMS)
-    steps = explain_refusals.counted(len(script.events), "step")
-    callers = {spelt[0] for _, spelt in script.events}
-    yield f"no fault: the plans of {explain_refusals.counted(len(callers), 'caller')} have {steps}, and none would be refused"
+def told_plans(world):
+    return Told([f"no fault: {counted(len(world.callers), 'caller')}, and no step of a plan would be refused"])
 
 
 def explained(mode, data):
-    """The text of a script, and the status."""
-    text = fault_text(mode, data)
-    if text:
-        return text, 1
-    return "".join(f"{line}\n" for line in (told_play if mode == "play" else told_threads)(data)), 0
+    """What is to be told of a script."""
+    try:
+        if mode == "play":
+            return told_play(reading.read_script(data), data.split(b"\n"))
+        return told_plans(reading.read_plans(data))
+    except reading.ScriptFault as fault:
+        return told_fault(fault, mode, data)
+
+
+def fault_text(mode, data):
+    """What ./run says of a faulty script; nothing of one without a fault."""
+    told = explained(mode, data)
+    return told.text() if told.fault else ""
 
 
 # The command.
@@ -202,9 +199,9 @@ def explain(words):
         return 0
     if len(words) not in (1, 2) or words[0] not in MODES:
         raise Stopped(USAGE)
-    text, status = explained(words[0], bytes_of(words[1] if len(words) == 2 else "-"))
-    write(text)
-    return status
+    told = explained(words[0], bytes_of(words[1] if len(words) == 2 else "-"))
+    write(told.text())
+    return told.status()
 
 
 def main():

@@ -177,26 +177,25 @@ def column_of(lines):
 
 def wrong_of(mistake):
     """What is wrong with the explanation of a mistake, if anything is."""
-    text, status = explain.explained(mistake.mode, mistake.script)
-    lines = text.splitlines()
-    if (lines[0], status) != (mistake.fault, 1):
+    told = explain.explained(mistake.mode, mistake.script)
+    lines, text = told.lines, told.text()
+    if (lines[0], told.status()) != (mistake.fault, 1):
         yield f"'{mistake.fault}' is due"
     if column_of(lines) != mistake.column:
         yield f"the mark is due in column {mistake.column}, and stands in {column_of(lines)}"
     if mistake.right != next((line.partition(": ")[2] for line in lines if line.startswith("Right would be: ")), None):
         yield f"right would be {mistake.right}"
     yield from (f"'{word}' is missing" for word in mistake.words if word not in text)
-    fault = explain.fault_of(mistake.mode, mistake.script)
-    if fault and fault.name == "BadLine" and explain.finding_of(fault, mistake.mode, mistake.script).is_general:
+    if told.finding and told.finding.is_general:
         yield "the reason tells what is due, and no more"
 
 
 def wrong_of_refusal(script, name, words):
     """What is wrong with the last two lines that tell the refusals of a play."""
-    text, status = explain.explained("play", script)
-    event, sentence = text.splitlines()[-2:]
+    told = explain.explained("play", script)
+    event, sentence = told.lines[-2:]
     line = script.count(10) + 1
-    if status or not re.fullmatch(f"event [0-9]+, line {line}: {script.decode().splitlines()[-1]}", event):
+    if told.status() or not re.fullmatch(f"event [0-9]+, line {line}: {script.decode().splitlines()[-1]}", event):
         yield f"the event of line {line} is due, with status 0"
     if not sentence.startswith(f"  refused {name}: "):
         yield f"'refused {name}' is due"
@@ -234,28 +233,23 @@ def refused_by_explain(text):
     return [(int(event), int(line), name) for event, line, name in told]
 
 
-def difference(mode, script, got, text):
+def difference(mode, script, got, told):
     """What differs between the program and the explanation, or nothing."""
     report, status = got
     if status not in (0, 1):
         return f"the program ends with {status}"
-    told = text.partition("\n")[0] if re.match("line [0-9]+: ", text) else None
-    due = report.decode().rstrip("\n") if status == 1 else None
-    if told != due:
-        return f"the program finds {due}, and ./explain {told}"
-    if mode == "play" and status == 0 and refused_by_program(script, report) != refused_by_explain(text):
-        return f"the program refuses {refused_by_program(script, report)}, and ./explain {refused_by_explain(text)}"
+    fault = report.decode().rstrip("\n") if status == 1 else None
+    if fault != (told.lines[0] if told.fault else None):
+        return f"the program finds {fault}, and ./explain {told.lines[0]}"
+    if mode == "play" and not fault and refused_by_program(script, report) != refused_by_explain(told.text()):
+        return f"the program refuses {refused_by_program(script, report)}, and ./explain {refused_by_explain(told.text())}"
     return None
 
 
-def with_line_righted(script, text):
-    """The script with the faulty line as ./explain tells that it would be right; nothing where it tells none."""
-    fault = re.match("line ([0-9]+): ", text)
-    right = re.search("^Right would be: (.*)$", text, re.M)
-    if not fault or not right:
-        return None
+def with_line_righted(script, told):
+    """The script with the faulty line as ./explain tells that it would be right."""
     lines = script.split(b"\n")
-    lines[int(fault[1]) - 1] = right[1].encode()
+    lines[told.fault.line - 1] = told.finding.better.encode()
     return b"\n".join(lines)
 
 
@@ -296,13 +290,11 @@ class Comparison:
         if self.failed <= MOST_SHOWN:
             show(name, mode, script, why)
 
-    def count(self, mode, script, text):
-        """Notes what a script came to, for the shares that are printed."""
-        fault = explain.fault_of(mode, script)
-        if fault:
-            self.faults[fault.name] += 1
-            self.general += fault.name == "BadLine" and explain.finding_of(fault, mode, script).is_general
-        self.refusals.update(name for *_, name in refused_by_explain(text))
+    def count(self, told):
+        """Notes what a script came to."""
+        self.faults.update([told.fault.name] if told.fault else [])
+        self.general += told.finding is not None and told.finding.is_general
+        self.refusals.update(name for *_, name in refused_by_explain(told.text()))
 
     def runs(self, mode, scripts):
         with concurrent.futures.ThreadPoolExecutor(max_workers=AT_ONCE) as pool:
@@ -312,12 +304,11 @@ class Comparison:
         """The scripts as one mode reads them."""
         righted = {}
         for (name, script), got in zip(scripts.items(), self.runs(mode, scripts.values())):
-            text = explain.explained(mode, script)[0]
-            self.judge(name, mode, script, difference(mode, script, got, text))
-            self.count(mode, script, text)
-            right = with_line_righted(script, text)
-            if right is not None:
-                righted[name] = right, text.partition("\n")[0]
+            told = explain.explained(mode, script)
+            self.judge(name, mode, script, difference(mode, script, got, told))
+            self.count(told)
+            if told.finding and told.finding.better:
+                righted[name] = with_line_righted(script, told), told.lines[0]
         self.compare_righted(mode, righted)
 
     def compare_righted(self, mode, righted):
@@ -345,7 +336,7 @@ def by_command():
     """Each check of the command, as those of the tables."""
     usage = (2, "", f"{explain.USAGE}\n")
     faulty = ROLE + b"take a9"
-    told = explain.explained("play", faulty)[0]
+    told = explain.explained("play", faulty).text()
     for words in [], ["played"], ["play", "a", "b"], ["--play"], ["threads", "-", "-"]:
         yield f"the words {words}", run_command(words) == usage
     for words in ["play"], ["play", "-"]:
