@@ -15,6 +15,7 @@ can't be read, and where the text can't be written.
 """
 import dataclasses
 import os
+import signal
 import sys
 
 import explain_refusals
@@ -22,6 +23,7 @@ import reading_of_rules as reading
 from explain_lines import Finding, Line, finding_in, righted
 from explain_refusals import counted
 
+UNSENT = "But no call is ever sent, so this looks like a script for threads: ./run threads"
 USAGE = "usage: ./explain play|threads [FILE]"
 MODES = ("play", "threads")
 MOST_SHOWN = 100  # of a line this many bytes are shown
@@ -133,13 +135,20 @@ def told_fault(fault, mode, data):
 # Scripts without a fault.
 
 
+def looks_like_threads(script):
+    """Whether calls are submitted and none is ever sent, as in scripts for threads."""
+    verbs = {verb for verb, _ in script.events}
+    return "submit" in verbs and verbs <= set(reading.COMMON_FORMS)
+
+
 def told_play(script, lines):
     """The refused events of a play, or that there is none."""
     count = counted(len(script.events), "event")
     refused = list(explain_refusals.refusals(script))
+    hint = f". {UNSENT}" if looks_like_threads(script) else ""
     if not refused:
-        return Told([f"no fault, and of {count} none is refused" if script.events else "no fault, and no event"])
-    told = [f"no fault; of {count} {len(refused)} {'is' if len(refused) == 1 else 'are'} refused:"]
+        return Told([f"no fault, and of {count} none is refused{hint}" if script.events else "no fault, and no event"])
+    told = [f"no fault; of {count} {len(refused)} {'is' if len(refused) == 1 else 'are'} refused{hint or ':'}"]
     for each in refused:
         told.append(f"event {each.place}, line {each.line}: {quoted(lines[each.line - 1])}")
         told.append(f"  refused {each.name}: {each.why}")
@@ -205,6 +214,7 @@ def explain(words):
 
 
 def main():
+    signal.signal(signal.SIGINT, signal.SIG_DFL)  # a key that stops it shows no trace
     try:
         sys.exit(explain(sys.argv[1:]))
     except Stopped as why:

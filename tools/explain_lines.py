@@ -7,7 +7,7 @@ import difflib
 import itertools
 import re
 import unicodedata
-from dataclasses import dataclass
+from dataclasses import dataclass, replace
 
 import reading_of_rules as reading
 
@@ -80,8 +80,8 @@ class Line:
 
 def near(word, names):
     """The name that is the nearest to the word, or that alone begins with it; none where none is near."""
-    longer = [name for name in names if word and name.startswith(word.lower())]
-    if len(longer) == 1:
+    longer = [name for name in names if name.startswith(word.lower())]
+    if len(longer) == 1 and len(word) > 1:
         return longer[0]
     return next(iter(difflib.get_close_matches(word.lower(), sorted(names), 1, NEAR_ENOUGH)), None)
 
@@ -214,6 +214,7 @@ NAMES = {
     reading.read_limit: ("LIMIT", "a limit (1 to 65536)"),
     reading.read_argument: ("ARG", "an argument"),
 }  # fmt: skip
+SAMPLES = {reading.read_actor: "a1", reading.read_caller: "c1", reading.read_kind: "list", reading.read_method: "get"}
 TAILS = {"actor": ["CALLER .."], "submit": ["ARG .."]}
 NUMBER_MEANS = {
     "send": "the number of a future of the caller",
@@ -270,8 +271,8 @@ def odd_verb(line):
     if word.lower() in line.forms:
         return line.at(0, f"capital letters aren't small ones: '{word.lower()}'", [word.lower()])
     if re.match("//|;|--|%|/[*]", word):
-        return Finding(0, len(word), "a comment begins with #, as the first byte of its line", f"# {line.text.lstrip('/;-%* ')}")
-    if re.fullmatch("[0-9]+:", word):
+        return Finding(0, len(word), "a comment begins with #, as the first byte of its line", f"# {line.text.lstrip('/;-%* ')}".rstrip())
+    if re.fullmatch("[0-9]+:|[ac][0-9]+[.][0-9]+", word):
         return line.at(0, f"'{word}' begins a line of a report, and no line of a script")
     if line.words[1:2] and line.words[1] in line.forms:
         return line.at(0, f"the line's first word is '{line.words[1]}'", [line.words[1], word], 2)
@@ -347,7 +348,7 @@ def too_many(line, place):
 
 def odd_word_at(line, place, read):
     """Why the word doesn't spell what is due there."""
-    for look in comment_behind, SORTS[read], with_comma, moved, left_out:
+    for look in comment_behind, SORTS[read], with_comma, swapped, not_named, left_out:
         finding = look(line, place)
         if finding:
             return finding
@@ -370,24 +371,26 @@ def with_comma(line, place):
     return line.at(place, f"words are divided by a space alone, without a '{word[-1]}'", instead, len(instead))
 
 
-def moved(line, place):
-    """Words that stand in the other order, or one that isn't named here."""
-    words = line.words
-    if place + 1 < len(words):
-        swapped = line.with_text(" ".join([*words[:place], words[place + 1], words[place], *words[place + 2 :]]))
-        if swapped.is_good():
-            why = f"'{words[place]}' and '{words[place + 1]}' stand in the wrong order. {line.form()}"
-            return line.at(place, why, swapped.words[place : place + 2], 2)
-    dropped = line.with_text(" ".join([*words[:place], *words[place + 1 :]]))
-    return line.at(place, f"'{words[place]}' has no place here. {line.form()}", []) if dropped.is_good() else None
+def swapped(line, place):
+    """Two words that stand in the other order."""
+    one, other = line.words[place], "".join(line.words[place + 1 : place + 2])
+    found = line.at(place, f"'{one}' and '{other}' stand in the wrong order. {line.form()}", [other, one], 2)
+    return found if line.with_text(found.better).is_good() else None
+
+
+def not_named(line, place):
+    """A word that this line has no place for."""
+    found = line.at(place, f"'{line.words[place]}' has no place here. {line.form()}", [])
+    return found if line.with_text(found.better).is_good() else None
 
 
 def left_out(line, place):
     """A word that is missing before this one."""
-    read = line.forms[line.words[0]][place - 1] if place <= len(line.forms[line.words[0]]) else None
-    sample = {reading.read_actor: "a1", reading.read_caller: "c1", reading.read_kind: "list", reading.read_method: "get"}.get(read)
-    whole = line.with_text(" ".join([*line.words[:place], sample or "", *line.words[place:]]))
-    return line.at(place, f"{NAMES[read][1]} is missing before '{line.words[place]}'. {line.form()}") if whole.is_good() else None
+    due = line.forms[line.words[0]][place - 1 : place]
+    if not due or due[0] not in SAMPLES:
+        return None
+    whole = line.with_text(" ".join([*line.words[:place], SAMPLES[due[0]], *line.words[place:]]))
+    return line.at(place, f"{NAMES[due[0]][1]} is missing before '{line.words[place]}'. {line.form()}") if whole.is_good() else None
 
 
 # Callers and actors.
@@ -405,12 +408,17 @@ def odd_id(letter, most, noun):
             return line.at(place, f"'{word}' is no {noun}, its number is missing: {known}")
         if word == "max":
             return limit_at_its_place(line, place)
-        if place == 3 and near(word, ["max"]):
-            return line.at(place, f"'{word}' is no caller; the nearest word that can stand here is 'max', before a limit", ["max"])
-        if re.match(f"{letter}[0-9]+[^0-9a-z]+{letter}?[0-9]+$", word):
-            return line.at(place, f"a {noun} is named by itself, with a space between two, and not as a range")
-        if not number:
-            return None
+        if place == 3 and near(word.partition("=")[0], ["max"]):
+            why = f"'{word}' is no caller; the nearest word that can stand here is 'max', before a limit"
+            return line.at(place, why, ["max", *filter(None, [word.partition("=")[2]])])
+        if re.fullmatch(f"{letter}[0-9]+(-|[.][.]+){letter}?[0-9]+", word):
+            return line.at(place, f"each {noun} is named by itself, with a space between two, and not as a range")
+        two = re.fullmatch(f"({letter}[0-9]+)[.,:;/](.+)", word)
+        if two:
+            return line.at(place, f"'{word}' is two words, and between two words stands one space", [two[1], two[2]])
+        finding = word.isdigit() and (swapped(line, place) or left_out(line, place))
+        if finding or not number:
+            return finding or None
         if better is None:
             return line.at(place, f"'{word}' is no {noun}: {known}")
         return line.at(place, f"{odd_spelling(word, letter)}, so '{word}' is no {noun}", [better])
@@ -430,15 +438,14 @@ def odd_spelling(word, letter):
 
 
 def limit_at_its_place(line, place):
-    """A limit that doesn't stand behind the kind."""
+    """A limit that doesn't stand behind the kind, or a second one."""
     if line.words[0] != "actor":
         return None
-    if line.words[3] == "max" and place > 3:
-        return line.at(place, "a role has one limit, behind its kind", [], len(line.words[place : place + 2]))
-    role = [*line.words[:place], *line.words[place + 2 :]]
-    better = [*role[1:3], "max", *line.words[place + 1 : place + 2], *role[3:]]
-    found = line.at(place, "a limit stands behind the kind. The form is: actor ACTOR KIND max LIMIT CALLER ..", words=len(line.words[place : place + 2]))
-    return Finding(found.begin, found.end, found.why, " ".join(["actor", *better]))
+    limit, rest = line.words[place : place + 2], [*line.words[:place], *line.words[place + 2 :]]
+    if line.words[3:4] == ["max"] and place > 3:
+        return line.at(place, "a role has one limit, behind its kind", [], len(limit))
+    found = line.at(place, "a limit stands behind the kind. The form is: actor ACTOR KIND max LIMIT CALLER ..", words=len(limit))
+    return replace(found, better=" ".join([*rest[:3], *limit, *rest[3:]]))
 
 
 # Kinds and methods.
@@ -455,7 +462,7 @@ def odd_name(line, place, names, noun, known):
 
 def odd_kind(line, place):
     kinds = "the kinds are " + ", ".join(reading.KINDS)
-    found = odd_name(line, place, reading.KINDS, "kind", kinds) or moved(line, place)
+    found = odd_name(line, place, reading.KINDS, "kind", kinds) or swapped(line, place) or left_out(line, place)
     return found or line.at(place, f"'{line.words[place]}' is no kind: {kinds}")
 
 
@@ -477,7 +484,7 @@ def odd_method(line, place):
     kind = line.kind_of(line.words[2])
     own = [*reading.KINDS[kind].methods, reading.END] if kind else reading.METHODS
     if near(word, own) or not near(word, reading.METHODS):
-        found = odd_name(line, place, own, "method", methods_of(line)) or moved(line, place)
+        found = odd_name(line, place, own, "method", methods_of(line)) or swapped(line, place)
     else:
         found = odd_name(line, place, reading.METHODS, "method", methods_of(line))
     if not found and word in line.forms:
@@ -522,7 +529,7 @@ def odd_digits(word, least, most):
 
 
 def shortened(word):
-    return word if len(word) <= 40 else f"{word[:30]}.. ({len(word)} digits)"
+    return word if len(word) <= 40 else f"{word[:30]}.. ({len(word)} bytes)"
 
 
 def odd_place(line, place):
@@ -557,9 +564,18 @@ def odd_argument(line, place):
         finding = look(line, place)
         if finding:
             return finding
-    word = line.words[place]
+    word, method = line.words[place], line.words[3]
+    if form_of_argument(line, place) == "n":
+        return line.at(place, f"'{shortened(word)}' is no number, and {method} takes a number there")
     better = [f'"{word}"'] if len(word) <= LONGEST_TEXT else None
-    return line.at(place, f"{shortened(word)} is no argument. A text stands between two quotes", better)
+    return line.at(place, f"'{shortened(word)}' is no argument. A text stands between two quotes", better)
+
+
+def form_of_argument(line, place):
+    """What the method takes at that place of the line, as the kinds tell it; nothing where that isn't known."""
+    kind = line.kind_of(line.words[2])
+    forms = reading.KINDS[kind].methods.get(line.words[3], ("",))[0] if kind else ""
+    return forms[place - 4 : place - 3]
 
 
 def odd_text(line, place):
@@ -619,6 +635,8 @@ def odd_value(line, place):
     told = odd_number(word, reading.LEAST_INT, reading.LARGEST_INT)
     if told:
         return line.at(place, told[0], told[1] and [told[1]])
+    if re.fullmatch(r"[(].+[)]|\[.+\]|[{].+[}]|<.+>", word):
+        return line.at(place, "an argument has no brackets", [word[1:-1]])
     if word.lower() in ("unit", "none", "null", "nil", "()"):
         return line.at(place, f"'{word}' is no value; the value of nothing is written as unit", ["unit"])
     if word.lower() in ("true", "false"):

@@ -13,6 +13,7 @@ import argparse
 import collections
 import concurrent.futures
 import pathlib
+import random
 import re
 import subprocess
 import sys
@@ -212,6 +213,22 @@ def by_table():
     yield "the table of refusals", [f"{refusal} is missing" for refusal in sorted(missing)]
 
 
+# Scripts of words that stand anywhere, most of them wrong.
+
+ODD_WORDS = [*reading.PLAY_FORMS, "await", *reading.KINDS, "add", "get", "put", "inc", "max", "max=2", "c1", "c2", "c17", "c01", "C1", "c", "caller1"]
+ODD_WORDS += ["a1", "a2", "a9", "a1.add", "c1.0", "@c1.0", "@0", "@", "@-1", "c1,c2", "c1-c3", "c1,", "0", "5", "05", "+5", "-0", "-1", "1.5", "0x1"]
+ODD_WORDS += ["1_000", "1e3", "9" * 30, '"k"', '"k', 'k"', "'k'", "'k", '""', '"', "“k”", '"%s"' % ("x" * 65), "x" * 70, "é", "unit", "Unit", "true", "()", "(5)"]
+ODD_WORDS += ["add(5)", "[", "#", "#x", "//", ";", "--", "0:", "=", "", "\t", "\r", "\0", "\ufeff", "\u00a0"]
+
+
+def odd_script(seed, place):
+    """A script of up to two roles and a few lines of odd words."""
+    chance = random.Random(f"odd {seed}.{place}")
+    lines = ["actor a1 counter c1", "actor a2 table max 1 c1 c2"][: chance.randint(0, 2)]
+    lines += [" ".join(chance.choices(ODD_WORDS, k=chance.randint(1, 7))) for _ in range(chance.randint(1, 2))]
+    return "\n".join(lines).encode(*chance.choice([["utf-8"], ["latin-1", "replace"]]))
+
+
 # The comparison with the program.
 
 
@@ -259,6 +276,7 @@ def scripts_of(seed, count):
     whole = fuzz.CUT.read_bytes()
     scripts |= {f"{fuzz.CUT.name} cut after {length} bytes": whole[:length] for length in range(len(whole) + 1)}
     scripts |= dict(fuzz.near_misses())
+    scripts |= {f"odd words {place} of seed {seed}": odd_script(seed, place) for place in range(count)}
     scripts |= {f"for threads, {name}": script for name, script in threads.scripts_of(seed, count // 3).items()}
     scripts |= {f"worked play {path.stem}": path.read_bytes() for path in sorted(fuzz.ROWS.glob("*.actors"))}
     scripts |= {f"example {path.stem}": path.read_bytes() for path in sorted(threads.EXAMPLES.glob("*.actors"))}
