@@ -94,7 +94,8 @@ def of_twice_caller(lines, number, mode, data):
 
 def of_bad_plan(lines, number, mode, data):
     refusal = explain_refusals.refusal_of_step(reading.read_script(data, reading.THREAD_FORMS), number)
-    return found_at(lines[number - 1], refusal.word, f"this step would be refused ({refusal.name}), so nothing is run: {refusal.why}")
+    why = f"this step would be refused ({refusal.name}), so nothing is run: {refusal.why}"
+    return found_at(lines[number - 1], refusal.word, why)
 
 
 OF_FAULTS = {
@@ -169,10 +170,9 @@ def explained(mode, data):
         return told_fault(fault, mode, data)
 
 
-def fault_text(mode, data):
-    """What ./run says of a faulty script; nothing of one without a fault."""
-    told = explained(mode, data)
-    return told.text() if told.fault else ""
+def explain(data, mode):
+    """The same as text, for those who tell it in passing, as ./run does of a faulty script."""
+    return explained(mode, data).text()
 
 
 # The command.
@@ -201,8 +201,8 @@ def write(text):
         raise Stopped(f"explain: can't write: {why.strerror}") from None
 
 
-def explain(words):
-    """Does the command, and gives the status."""
+def command(words):
+    """Does what the words ask for, and gives the status."""
     if words in (["--help"], ["-h"]):
         write(__doc__)
         return 0
@@ -216,7 +216,7 @@ def explain(words):
 def main():
     signal.signal(signal.SIGINT, signal.SIG_DFL)  # a key that stops it shows no trace
     try:
-        sys.exit(explain(sys.argv[1:]))
+        sys.exit(command(sys.argv[1:]))
     except Stopped as why:
         print(why, file=sys.stderr)
         sys.exit(2)

@@ -86,6 +86,14 @@ def near(word, names):
     return next(iter(difflib.get_close_matches(word.lower(), sorted(names), 1, NEAR_ENOUGH)), None)
 
 
+def shortened(word):
+    return word if len(word) <= 40 else f"{word[:30]}.. ({len(word)} bytes)"
+
+
+def named(word):
+    return f"'{shortened(word)}'"
+
+
 # Bytes that aren't plain.
 
 
@@ -135,8 +143,9 @@ def tab(line, at):
         return None
     end = at + len(text[at:]) - len(text[at:].lstrip("\t"))
     if line.is_comment():
-        return Finding(at, end, "a tab has no place in a script, in a comment neither", text.replace("\t", " "))
-    return Finding(at, end, "a tab divides no words: between two words stands one space", " ".join(re.split("[ \t]+", text.strip(" \t"))))
+        return Finding(at, end, "a tab has no place in a script, not even in a comment", text.replace("\t", " "))
+    better = " ".join(re.split("[ \t]+", text.strip(" \t")))
+    return Finding(at, end, "a tab divides no words: between two words stands one space", better)
 
 
 def odd_character(line, at):
@@ -167,9 +176,11 @@ def plain(text):
 
 
 def odd_control(line, at):
-    byte = ord(line.text[at])
-    name = "a zero byte" if byte == 0 else f"the control byte 0x{byte:02x}" if byte < 0x20 or byte == 0x7F else f"the byte 0x{byte:02x}"
-    return Finding(at, at + 1, f"{name} is no plain text: a line has bytes from 0x20 to 0x7E alone", line.text[:at] + line.text[at + 1 :])
+    byte = line.text[at]
+    sort = "control byte" if byte < " " or byte == "\x7f" else "byte"
+    name = "a zero byte" if byte == "\0" else f"the {sort} 0x{ord(byte):02x}"
+    without = line.text[:at] + line.text[at + 1 :]
+    return Finding(at, at + 1, f"{name} is no plain text: a line has bytes from 0x20 to 0x7E alone", without)
 
 
 # Length and spaces.
@@ -189,6 +200,7 @@ def odd_space(line):
     if not found:
         return None
     begin, end = found.span()
+    count = "a space stands" if end - begin == 1 else f"{end - begin} spaces stand"
     rest = line.text.strip(" ")
     if not rest:
         return Finding(0, end, "a line of spaces alone is no empty line: take them out", "")
@@ -197,9 +209,9 @@ def odd_space(line):
     if begin == 0:
         why = "a line begins with its first word, without a space before it"
     elif end == len(line.text):
-        why = f"{'a space stands' if end - begin == 1 else f'{end - begin} spaces stand'} behind the last word, and the line ends with it"
+        why = f"{count} behind the last word, and the line ends with it"
     else:
-        why = f"{end - begin} spaces stand between two words, and one is right"
+        why = f"{count} between two words, and one is right"
     return Finding(begin, end, why, " ".join(rest.split()))
 
 
@@ -271,7 +283,8 @@ def odd_verb(line):
     if word.lower() in line.forms:
         return line.at(0, f"capital letters aren't small ones: '{word.lower()}'", [word.lower()])
     if re.match("//|;|--|%|/[*]", word):
-        return Finding(0, len(word), "a comment begins with #, as the first byte of its line", f"# {line.text.lstrip('/;-%* ')}".rstrip())
+        better = f"# {line.text.lstrip('/;-%* ')}".rstrip()
+        return Finding(0, len(word), "a comment begins with #, as the first byte of its line", better)
     if re.fullmatch("[0-9]+:|[ac][0-9]+[.][0-9]+", word):
         return line.at(0, f"'{word}' begins a line of a report, and no line of a script")
     if line.words[1:2] and line.words[1] in line.forms:
@@ -281,17 +294,17 @@ def odd_verb(line):
 
 def unknown_verb(line, other):
     word = line.words[0]
+    why = f"no line begins with {named(word)}"
     nearest = near(word, line.forms)
     if nearest:
-        return line.at(0, f"no line begins with '{word}'; the nearest word that is known is '{nearest}'", [nearest])
+        return line.at(0, f"{why}; the nearest word that is known is '{nearest}'", [nearest])
     abroad = near(word, FORMS[other])
     if abroad:
-        return line.at(0, f"no line begins with '{word}'; the nearest word, '{abroad}', stands in scripts for {other} alone")
+        return line.at(0, f"{why}; the nearest word, '{abroad}', stands in scripts for {other} alone")
     sort = word_elsewhere(word)
     if sort:
-        return line.at(0, f"no line begins with '{word}', {sort}")
-    known = ", ".join(line.forms)
-    return line.at(0, f"no line begins with '{word}'. Lines of a script for {line.mode} begin with: {known}", is_general=True)
+        return line.at(0, f"{why}, {sort}")
+    return line.at(0, f"{why}. Lines of a script for {line.mode} begin with: {', '.join(line.forms)}", is_general=True)
 
 
 def word_elsewhere(word):
@@ -342,7 +355,7 @@ def too_many(line, place):
     if behind:
         return behind
     count = len(line.words) - place
-    told = f"'{line.words[place]}' is a word too many" if count == 1 else f"{count} words are too many"
+    told = f"{named(line.words[place])} is a word too many" if count == 1 else f"{count} words are too many"
     return line.at(place, f"{told}. {line.form()}", [], count)
 
 
@@ -353,7 +366,7 @@ def odd_word_at(line, place, read):
         if finding:
             return finding
     due = NUMBER_MEANS[line.words[0]] if read == reading.read_number else NAMES[read][1]
-    return line.at(place, f"'{line.words[place]}' stands where {due} is due. {line.form()}", is_general=True)
+    return line.at(place, f"{named(line.words[place])} stands where {due} is due. {line.form()}", is_general=True)
 
 
 def comment_behind(line, place):
@@ -380,7 +393,7 @@ def swapped(line, place):
 
 def not_named(line, place):
     """A word that this line has no place for."""
-    found = line.at(place, f"'{line.words[place]}' has no place here. {line.form()}", [])
+    found = line.at(place, f"{named(line.words[place])} has no place here. {line.form()}", [])
     return found if line.with_text(found.better).is_good() else None
 
 
@@ -390,7 +403,8 @@ def left_out(line, place):
     if not due or due[0] not in SAMPLES:
         return None
     whole = line.with_text(" ".join([*line.words[:place], SAMPLES[due[0]], *line.words[place:]]))
-    return line.at(place, f"{NAMES[due[0]][1]} is missing before '{line.words[place]}'. {line.form()}") if whole.is_good() else None
+    why = f"{NAMES[due[0]][1]} is missing before '{line.words[place]}'. {line.form()}"
+    return line.at(place, why) if whole.is_good() else None
 
 
 # Callers and actors.
@@ -420,7 +434,7 @@ def odd_id(letter, most, noun):
         if finding or not number:
             return finding or None
         if better is None:
-            return line.at(place, f"'{word}' is no {noun}: {known}")
+            return line.at(place, f"{named(word)} is no {noun}: {known}")
         return line.at(place, f"{odd_spelling(word, letter)}, so '{word}' is no {noun}", [better])
 
     return look
@@ -463,7 +477,7 @@ def odd_name(line, place, names, noun, known):
 def odd_kind(line, place):
     kinds = "the kinds are " + ", ".join(reading.KINDS)
     found = odd_name(line, place, reading.KINDS, "kind", kinds) or swapped(line, place) or left_out(line, place)
-    return found or line.at(place, f"'{line.words[place]}' is no kind: {kinds}")
+    return found or line.at(place, f"{named(line.words[place])} is no kind: {kinds}")
 
 
 def methods_of(line):
@@ -480,7 +494,8 @@ def odd_method(line, place):
     called = re.fullmatch(r"(\w+)[(](.*)[)]", " ".join(line.words[place:]))
     if called:
         why = "a method has no brackets: its arguments stand behind it, with a space before each"
-        return line.at(place, why, [called[1], *re.split("[, ]+", called[2])] if called[2] else [called[1]], len(line.words) - place)
+        arguments = filter(None, re.split("[, ]+", called[2]))
+        return line.at(place, why, [called[1], *arguments], len(line.words) - place)
     kind = line.kind_of(line.words[2])
     own = [*reading.KINDS[kind].methods, reading.END] if kind else reading.METHODS
     if near(word, own) or not near(word, reading.METHODS):
@@ -489,7 +504,7 @@ def odd_method(line, place):
         found = odd_name(line, place, reading.METHODS, "method", methods_of(line))
     if not found and word in line.forms:
         return line.at(place, f"'{word}' is no method, it begins a line of its own: {form_of(word, line.forms)}")
-    return found or line.at(place, f"'{word}' is no method ({methods_of(line)})")
+    return found or line.at(place, f"{named(word)} is no method ({methods_of(line)})")
 
 
 # Numbers.
@@ -528,10 +543,6 @@ def odd_digits(word, least, most):
     return f"{shortened(word)} is above {most}, the largest number{'' if most > reading.LARGEST_LIMIT else ' of a limit'}", None
 
 
-def shortened(word):
-    return word if len(word) <= 40 else f"{word[:30]}.. ({len(word)} bytes)"
-
-
 def odd_place(line, place):
     """Looks at a word where a number without a sign is due."""
     word = line.words[place]
@@ -553,7 +564,7 @@ def odd_limit(line, place):
     told = odd_number(word, 0, reading.LARGEST_LIMIT)
     if told:
         return line.at(place, f"{told[0]}: limits are 1 to {reading.LARGEST_LIMIT}", told[1] and [told[1]])
-    return line.at(place, f"'{word}' stands where the limit is due, 1 to {reading.LARGEST_LIMIT}: actor ACTOR KIND max LIMIT CALLER ..")
+    return line.at(place, f"{named(word)} stands where {NAMES[reading.read_limit][1]} is due. {line.form()}")
 
 
 # Arguments.
@@ -566,9 +577,9 @@ def odd_argument(line, place):
             return finding
     word, method = line.words[place], line.words[3]
     if form_of_argument(line, place) == "n":
-        return line.at(place, f"'{shortened(word)}' is no number, and {method} takes a number there")
+        return line.at(place, f"{named(word)} is no number, and {method} takes a number there")
     better = [f'"{word}"'] if len(word) <= LONGEST_TEXT else None
-    return line.at(place, f"'{shortened(word)}' is no argument. A text stands between two quotes", better)
+    return line.at(place, f"{named(word)} is no argument. A text stands between two quotes", better)
 
 
 def form_of_argument(line, place):

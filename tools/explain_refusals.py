@@ -72,7 +72,9 @@ def there_are(what, count):
     """How many notices or letters there are, whose places count from 0."""
     if count == 0:
         return f"there is no {what} so far"
-    return f"there is one {what} so far, at place 0" if count == 1 else f"there are {count} {what}s so far, at the places 0 to {count - 1}"
+    if count == 1:
+        return f"there is one {what} so far, at place 0"
+    return f"there are {count} {what}s so far, at the places 0 to {count - 1}"
 
 
 def calls_of(past, caller):
@@ -94,7 +96,8 @@ def since(past, actor):
 
 def no_caller(past, event):
     known = listed("c", past.world.callers)
-    return event.places[CALLER], f"no actor line names c{event.caller}; {'they name ' + known if known else 'the script has none'}"
+    named = f"they name {known}" if known else "the script has none"
+    return event.places[CALLER], f"no actor line names c{event.caller}; {named}"
 
 
 def no_actor(past, event):
@@ -120,7 +123,8 @@ def too_many_args(past, event):
 
 def bad_future(past, event):
     calls = len(past.world.callers[event.caller].calls)
-    place, future = next((place, each.number) for place, each in enumerate(event.spelt[3], 4) if isinstance(each, reading.Future) and each.number >= calls)
+    futures = [(place, each.number) for place, each in enumerate(event.spelt[3], 4) if isinstance(each, reading.Future)]
+    place, future = next(each for each in futures if each[1] >= calls)
     own = f"@{future} would be this call itself, and" if future == calls else f"@{future} is none of c{event.caller}'s calls:"
     return place, f"{own} an argument is the future of an earlier call; {calls_of(past, event.caller)}"
 
@@ -130,10 +134,12 @@ def too_many_copies(past, event):
 
 
 def pending_limit(past, event):
-    pending = [call.spelled_future() for call in past.world.callers[event.caller].calls_to(event.actor) if call.kept is None]
+    calls = past.world.callers[event.caller].calls_to(event.actor)
+    pending = [call.spelled_future() for call in calls if call.kept is None]
     shown = " ".join(pending[:MOST_NAMED]) + (" .." if len(pending) > MOST_NAMED else "")
-    limit = past.world.actors[event.actor].limit
-    why = f"a{event.actor} takes at most {counted(limit, 'call')} of a caller without an answer, and {shown} {'has' if len(pending) == 1 else 'have'} none"
+    most = counted(past.world.actors[event.actor].limit, "call")
+    have = "has" if len(pending) == 1 else "have"
+    why = f"a{event.actor} takes at most {most} of a caller without an answer, and {shown} {have} none"
     return event.places[ACTOR], f"{why}: collect a reply first"
 
 
@@ -142,9 +148,10 @@ def no_future(past, event):
 
 
 def not_ready(past, event):
-    calls = past.world.callers[event.caller].calls
-    waits = next(each.number for each in calls[event.number].arguments if isinstance(each, reading.Future) and calls[each.number].kept is None)
-    why = f"the argument @{waits} of c{event.caller}.{event.number} has no answer yet: collect the reply to c{event.caller}.{waits} first"
+    calls, name = past.world.callers[event.caller].calls, f"c{event.caller}"
+    futures = [each.number for each in calls[event.number].arguments if isinstance(each, reading.Future)]
+    waits = next(future for future in futures if calls[future].kept is None)
+    why = f"the argument @{waits} of {name}.{event.number} has no answer yet: collect the reply to {name}.{waits} first"
     return event.places[NUMBER], why
 
 
@@ -165,7 +172,8 @@ def no_reply(past, event):
 def actor_ended(past, event):
     if event.verb == "deliver":
         actor = past.world.mail[event.number].actor
-        return event.places[NUMBER], f"letter {event.number} is to a{actor}, and {since(past, actor)}: nothing arrives there any more"
+        why = f"letter {event.number} is to a{actor}, and {since(past, actor)}: nothing arrives there any more"
+        return event.places[NUMBER], why
     return event.places[ACTOR], f"{since(past, event.actor)}, and does nothing any more"
 
 
@@ -190,12 +198,15 @@ def what_is_due(past, name, caller):
     actor = past.world.actors[name]
     copies, ran = past.world.callers[caller].copies[name], actor.ran_of(caller)
     if copies:
-        return f"c{caller} still holds {copies} {'copy' if copies == 1 else 'copies'} of its handle ('release c{caller} a{name}')"
+        noun = "copy" if copies == 1 else "copies"
+        return f"c{caller} still holds {copies} {noun} of its handle ('release c{caller} a{name}')"
     if caller not in actor.notes:
-        is_note = lambda letter: isinstance(letter, reading.Note) and (letter.caller, letter.actor) == (caller, name)
-        place = next(place for place, letter in enumerate(past.world.mail) if is_note(letter))
+        notes = [(place, letter) for place, letter in enumerate(past.world.mail) if isinstance(letter, reading.Note)]
+        place = next(place for place, note in notes if (note.caller, note.actor) == (caller, name))
         return f"the note of c{caller}'s last release, letter {place}, hasn't arrived ('deliver {place}')"
-    return None if ran == actor.notes[caller] else f"of {counted(actor.notes[caller], 'call')} of c{caller} to it {ran or 'none'} ran"
+    if ran == actor.notes[caller]:
+        return None
+    return f"of {counted(actor.notes[caller], 'call')} of c{caller} to it {ran or 'none'} ran"
 
 
 # `TooManyCalls` is not here: no script is long enough for so many submissions.

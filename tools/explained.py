@@ -102,7 +102,7 @@ MISTAKES = {
     "a limit of zero": bad_line(b"", b"actor a1 counter max 0 c1", 22, ["1 or more", "leave 'max' out"]),
     "a limit above all": bad_line(b"", b"actor a1 counter max 65537 c1", 22, ["above 65536", "1 to 65536"]),
     "a limit behind the callers": bad_line(b"", b"actor a1 counter c1 max 2", 21, ["limit stands behind the kind"], "actor a1 counter max 2 c1"),
-    "no limit behind max": bad_line(b"", b"actor a1 counter max c1", 22, ["'c1'", "limit is due", "1 to 65536"]),
+    "no limit behind max": bad_line(b"", b"actor a1 counter max c1", 22, ["'c1' stands where a limit (1 to 65536) is due"]),
     "a caller above all": bad_line(ROLE, b"submit c17 a1 get", 8, ["'c17' is no caller", "c1 to c16"]),
     "an actor above all": bad_line(ROLE, b"submit c1 a9 get", 11, ["'a9' is no actor", "a1 to a8"]),
     "a caller with a zero": bad_line(ROLE, b"submit c01 a1 get", 8, ["no zero", "'c01'"], "submit c1 a1 get"),
@@ -229,6 +229,10 @@ def odd_script(seed, place):
     return "\n".join(lines).encode(*chance.choice([["utf-8"], ["latin-1", "replace"]]))
 
 
+def odd_scripts(seed, count):
+    return {f"odd words {place} of seed {seed}": odd_script(seed, place) for place in range(count)}
+
+
 # The comparison with the program.
 
 
@@ -276,7 +280,6 @@ def scripts_of(seed, count):
     whole = fuzz.CUT.read_bytes()
     scripts |= {f"{fuzz.CUT.name} cut after {length} bytes": whole[:length] for length in range(len(whole) + 1)}
     scripts |= dict(fuzz.near_misses())
-    scripts |= {f"odd words {place} of seed {seed}": odd_script(seed, place) for place in range(count)}
     scripts |= {f"for threads, {name}": script for name, script in threads.scripts_of(seed, count // 3).items()}
     scripts |= {f"worked play {path.stem}": path.read_bytes() for path in sorted(fuzz.ROWS.glob("*.actors"))}
     scripts |= {f"example {path.stem}": path.read_bytes() for path in sorted(threads.EXAMPLES.glob("*.actors"))}
@@ -291,10 +294,11 @@ def show(name, mode, script, why):
 
 
 class Comparison:
-    """Runs the program on scripts, and counts what is right and what differs."""
+    """Runs the program on scripts, in both modes, and counts what is right and what differs."""
 
-    def __init__(self, program):
+    def __init__(self, program, scripts):
         self.program = program
+        self.scripts = scripts
         self.passed = self.failed = 0
         self.faults = collections.Counter()
         self.refusals = collections.Counter()
@@ -314,14 +318,19 @@ class Comparison:
         self.general += told.finding is not None and told.finding.is_general
         self.refusals.update(name for *_, name in refused_by_explain(told.text()))
 
+    def compare(self):
+        for mode in RUNS:
+            self.compare_mode(mode)
+        return self
+
     def runs(self, mode, scripts):
         with concurrent.futures.ThreadPoolExecutor(max_workers=AT_ONCE) as pool:
             yield from pool.map(lambda script: RUNS[mode](self.program, script), scripts)
 
-    def compare(self, mode, scripts):
+    def compare_mode(self, mode):
         """The scripts as one mode reads them."""
         righted = {}
-        for (name, script), got in zip(scripts.items(), self.runs(mode, scripts.values())):
+        for (name, script), got in zip(self.scripts.items(), self.runs(mode, self.scripts.values())):
             told = explain.explained(mode, script)
             self.judge(name, mode, script, difference(mode, script, got, told))
             self.count(told)
@@ -339,6 +348,11 @@ class Comparison:
         """The faults and refusals that no script came to."""
         missing = [name for name in [*explain.OF_FAULTS, "TooLong"] if not self.faults[name]]
         return missing + [name for name in explain_refusals.SENTENCES if not self.refusals[name]]
+
+    def share(self):
+        """How often a reason tells what is due, and nothing of what stands there."""
+        lines = self.faults["BadLine"]
+        return f"{self.general} of {lines} bad lines are told by what is due there alone ({self.general / max(1, lines):.1%})"
 
 
 # The command line.
@@ -384,15 +398,14 @@ def main():
     checks = [*by_table(), *((f"./explain with {name}", [] if is_well else ["told otherwise"]) for name, is_well in by_command())]
     wrong = {name: why for name, why in checks if why}
     print("".join(f"{name}: {'; '.join(why)}\n" for name, why in wrong.items()), end="")
-    comparison = Comparison(chosen.program.resolve())
-    scripts = scripts_of(chosen.seed, chosen.count)
-    for mode in RUNS:
-        comparison.compare(mode, scripts)
-    seldom = comparison.too_seldom()
+    program = chosen.program.resolve()
+    damaged = Comparison(program, scripts_of(chosen.seed, chosen.count)).compare()
+    odd = Comparison(program, odd_scripts(chosen.seed, chosen.count)).compare()
+    seldom = damaged.too_seldom()
     print("".join(f"no script came to {name}\n" for name in seldom), end="")
-    share = comparison.general / max(1, comparison.faults["BadLine"])
-    print(f"explained: {comparison.general} of {comparison.faults['BadLine']} bad lines ({share:.1%}) are told by what is due there alone")
-    passed, failed = comparison.passed + len(checks) - len(wrong), comparison.failed + len(wrong) + len(seldom)
+    print(f"explained: of the damaged scripts {damaged.share()}, of those of odd words {odd.share()}")
+    passed = damaged.passed + odd.passed + len(checks) - len(wrong)
+    failed = damaged.failed + odd.failed + len(wrong) + len(seldom)
     print(f"explained: {passed} passed, {failed} failed")
     sys.exit(1 if failed else 0)
 
