@@ -71,16 +71,17 @@ def of_bad_line(lines, number, mode, data):
 
 
 def of_late_actor(lines, number, mode, data):
-    first, event = next((at, line) for at, line in enumerate(lines, 1) if line and not line.startswith((b"#", b"actor ")))
-    why = f"all actor lines stand before the first other line, which is line {first}: {quoted(event)}. Move this one above it"
-    return found_at(lines[number - 1], 0, why)
+    others = ((at, line) for at, line in enumerate(lines, 1) if line and not line.startswith((b"#", b"actor ")))
+    first, event = next(others)
+    why = f"all actor lines stand before the first other line, which is line {first}: {quoted(event)}"
+    return found_at(lines[number - 1], 0, f"{why}. Move this one above it")
 
 
 def of_twice_actor(lines, number, mode, data):
     line = lines[number - 1]
     actor = line.split(b" ")[1]
     first, earlier = next((at, each) for at, each in enumerate(lines, 1) if each.startswith(b"actor %s " % actor))
-    why = f"line {first} is of {actor.decode()} already: {quoted(earlier)}. One line of an actor names all its callers"
+    why = f"line {first} is of {actor.decode()} already: {quoted(earlier)}. An actor has one line, which names all its callers"
     return found_at(line, 1, why)
 
 
@@ -124,7 +125,7 @@ class Told:
 
 def told_fault(fault, mode, data):
     if fault.name == "TooLong":
-        why = f"the script has more than {reading.LONGEST_SCRIPT} bytes, which is the most; so none of its lines was read"
+        why = f"the script has more than {reading.LONGEST_SCRIPT} bytes, the most, so none of its lines was read"
         return Told([f"line {fault.line}: {fault.name}", why], fault)
     lines = data.split(b"\n")
     finding = OF_FAULTS[fault.name](lines, fault.line, mode, data)

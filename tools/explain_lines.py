@@ -102,7 +102,7 @@ def odd_byte(line):
     if at is None:
         return None
     if is_wide(line.data):
-        why = "the script is in UTF-16, with two bytes for each letter. Save it as plain text (ASCII, or UTF-8 without a mark)"
+        why = "the script looks like UTF-16, with two bytes for each letter. Save it as plain text (ASCII)"
         return Finding(at, at + 1, why)
     for look in order_mark, carriage_return, tab, odd_character:
         finding = look(line, at)
@@ -120,7 +120,7 @@ def order_mark(line, at):
     if not line.text.startswith(ORDER_MARK, at):
         return None
     end = at + len(ORDER_MARK)
-    why = "these three bytes are a mark of byte order, which editors hide. Save the script as UTF-8 without a mark (BOM)"
+    why = "these three bytes are a mark of byte order (BOM), which editors hide. Save the script as UTF-8 without it"
     return Finding(at, end, why, line.text[:at] + line.text[end:])
 
 
@@ -129,8 +129,8 @@ def carriage_return(line, at):
     if text[at] != "\r":
         return None
     if text[at:].strip("\r"):
-        old = "" if b"\n" in line.data else ": all lines of this script end so"
-        return Finding(at, at + 1, f"a CR (carriage return) is no line end{old}. A line ends with the one byte LF")
+        old = "" if b"\n" in line.data else ", and all lines of this script end so: tr '\\r' '\\n' < FILE"
+        return Finding(at, at + 1, f"a CR (carriage return) is no line end, LF is{old}")
     ends = line.data.count(b"\r\n")
     count = f"; {ends} lines of the script end so" if ends > 1 else ""
     why = f"the line end has two bytes, CR LF, and LF alone is right{count}. Without CR: tr -d '\\r' < FILE"
@@ -448,7 +448,9 @@ def odd_spelling(word, letter):
         return "capital letters aren't small ones"
     if word.endswith(","):
         return "words are divided by a space alone"
-    return "a number has no zero before its first digit" if word[1:].isdigit() else f"the letter {letter} and a number name one"
+    if word[1:].isdigit():
+        return "a number has no zero before its first digit"
+    return f"the letter {letter} and a number name one"
 
 
 def limit_at_its_place(line, place):
@@ -458,7 +460,8 @@ def limit_at_its_place(line, place):
     limit, rest = line.words[place : place + 2], [*line.words[:place], *line.words[place + 2 :]]
     if line.words[3:4] == ["max"] and place > 3:
         return line.at(place, "a role has one limit, behind its kind", [], len(limit))
-    found = line.at(place, "a limit stands behind the kind. The form is: actor ACTOR KIND max LIMIT CALLER ..", words=len(limit))
+    why = "a limit stands behind the kind. The form is: actor ACTOR KIND max LIMIT CALLER .."
+    found = line.at(place, why, words=len(limit))
     return replace(found, better=" ".join([*rest[:3], *limit, *rest[3:]]))
 
 
@@ -471,7 +474,9 @@ def odd_name(line, place, names, noun, known):
     if word.lower() in names:
         return line.at(place, f"capital letters aren't small ones, so '{word}' is no {noun}", [word.lower()])
     nearest = near(word, names)
-    return line.at(place, f"'{word}' is no {noun}; the nearest is '{nearest}' ({known})", [nearest]) if nearest else None
+    if nearest is None:
+        return None
+    return line.at(place, f"{named(word)} is no {noun}; the nearest is '{nearest}' ({known})", [nearest])
 
 
 def odd_kind(line, place):
@@ -540,7 +545,7 @@ def odd_digits(word, least, most):
         return "0 has no minus before it", better
     if word.lstrip("-").startswith("0") and len(word) > 1:
         return "a number has no zero before its first digit", better
-    return f"{shortened(word)} is above {most}, the largest number{'' if most > reading.LARGEST_LIMIT else ' of a limit'}", None
+    return f"{shortened(word)} is above {most}, the largest number here", None
 
 
 def odd_place(line, place):
@@ -560,7 +565,8 @@ def odd_place(line, place):
 def odd_limit(line, place):
     word = line.words[place]
     if re.fullmatch("0+", word):
-        return line.at(place, "a limit is 1 or more: an actor of limit 0 could take no call. Without a limit, leave 'max' out")
+        why = "a limit is 1 or more: with 0 no call could come in. For an actor without a limit, leave 'max' and the limit out"
+        return line.at(place, why)
     told = odd_number(word, 0, reading.LARGEST_LIMIT)
     if told:
         return line.at(place, f"{told[0]}: limits are 1 to {reading.LARGEST_LIMIT}", told[1] and [told[1]])
@@ -632,8 +638,9 @@ def odd_future(line, place):
         return line.at(place, f"a future of {caller} is written as @ and its number alone", [f"@{named[2]}"])
     if not word.startswith("@"):
         return None
-    if word == "@" and line.words[place + 1 : place + 2] and line.words[place + 1].isdigit():
-        return line.at(place, "the number of a future stands right behind @, without a space", [f"@{line.words[place + 1]}"], 2)
+    number = "".join(line.words[place + 1 : place + 2])
+    if word == "@" and number.isdigit():
+        return line.at(place, "the number of a future stands right behind @, without a space", [f"@{number}"], 2)
     told = odd_number(word[1:], 0, reading.LARGEST_NUMBER)
     if told:
         return line.at(place, f"{told[0]}, and behind @ stands the number of a future", told[1] and [f"@{told[1]}"])

@@ -125,12 +125,13 @@ def bad_future(past, event):
     calls = len(past.world.callers[event.caller].calls)
     futures = [(place, each.number) for place, each in enumerate(event.spelt[3], 4) if isinstance(each, reading.Future)]
     place, future = next(each for each in futures if each[1] >= calls)
-    own = f"@{future} would be this call itself, and" if future == calls else f"@{future} is none of c{event.caller}'s calls:"
-    return place, f"{own} an argument is the future of an earlier call; {calls_of(past, event.caller)}"
+    own = "would be this call itself" if future == calls else f"is none of c{event.caller}'s calls"
+    return place, f"@{future} {own}, and an argument is the future of an earlier call; {calls_of(past, event.caller)}"
 
 
 def too_many_copies(past, event):
-    return 0, f"c{event.caller} holds {reading.MOST_COPIES} copies of the handle of a{event.actor}, and that is the most"
+    why = f"c{event.caller} holds {reading.MOST_COPIES} copies of the handle of a{event.actor}, and that is the most"
+    return 0, why
 
 
 def pending_limit(past, event):

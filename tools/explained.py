@@ -64,7 +64,7 @@ def bad_step(steps, column, words, head=ROLE):
 
 MISTAKES = {
     "a line end of two bytes": bad_line(ROLE, b"submit c1 a1 get\r\nsend c1 0\r\n", 17, ["two bytes", "CR LF", "2 lines", "tr -d"], "submit c1 a1 get"),
-    "line ends of one CR": bad_line(b"", ROLE[:-1] + b"\rsubmit c1 a1 get\r", 20, ["CR", "no line end", "LF"]),
+    "line ends of one CR": bad_line(b"", ROLE[:-1] + b"\rsubmit c1 a1 get\r", 20, ["CR", "no line end", "LF is", "tr"]),
     "a tab": bad_line(ROLE, b"submit c1 a1\tget", 13, ["tab", "one space"], "submit c1 a1 get"),
     "a tab in a comment": bad_line(ROLE, b"#\tadds", 2, ["tab", "comment"], "# adds"),
     "two spaces": bad_line(ROLE, b"submit c1  a1 get", 10, ["2 spaces", "one is right"], "submit c1 a1 get"),
@@ -99,7 +99,7 @@ MISTAKES = {
     "a text too long": bad_line(TABLE, b'submit c1 a1 get "%s"' % (b"x" * 65), 18, ["65 bytes", "64 is the most"]),
     "a text with a space": bad_line(TABLE, b'submit c1 a1 put "my key" 5', 18, ["no space in it"], 'submit c1 a1 put "my_key" 5'),
     "a text of no bytes": bad_line(TABLE, b'submit c1 a1 get ""', 18, ["1 to 64 bytes", "none"]),
-    "a limit of zero": bad_line(b"", b"actor a1 counter max 0 c1", 22, ["1 or more", "leave 'max' out"]),
+    "a limit of zero": bad_line(b"", b"actor a1 counter max 0 c1", 22, ["1 or more", "leave 'max' and the limit out"]),
     "a limit above all": bad_line(b"", b"actor a1 counter max 65537 c1", 22, ["above 65536", "1 to 65536"]),
     "a limit behind the callers": bad_line(b"", b"actor a1 counter c1 max 2", 21, ["limit stands behind the kind"], "actor a1 counter max 2 c1"),
     "no limit behind max": bad_line(b"", b"actor a1 counter max c1", 22, ["'c1' stands where a limit (1 to 65536) is due"]),
