@@ -3,29 +3,28 @@
 
     ./explain play|threads [FILE]
 
-FILE is a script; without one, or with `-`, it is read from standard input. Of a faulty script the first fault is told
-as the program tells it, with the line as it stands, a mark under what is wrong, the reason, and the line as it would
-be right where that is plain. Bytes that can't be printed are shown as \\t, \\r or \\x and two digits. Of a play without
-a fault each refused event is listed, with its number, its line and what the refusal means there.
+Without FILE, or where it is `-`, the script is read from the standard input. Of a faulty script the first fault is
+told as the program tells it, with the line as it stands, a mark under what is wrong, the reason, and the line as it
+would be right where that is plain. Bytes that can't be printed are shown as \\t, \\r or \\x and two digits. Of a play
+without a fault each refused event is listed, with its number, its line and what the refusal means there.
 
 Nothing is built or run: the fault and the refusals are those of the second reading of the rules
 (tools/reading_of_rules.py), and tools/explained.py compares them with the program's.
-Statuses: 0 where nothing is wrong, or events are refused; 1 for a script fault; 2 for wrong words, for a file that
-can't be read, and where the text can't be written.
+Statuses: 0 where nothing is wrong, or events are refused; 1 for a script fault; 2 for wrong words, and for a file
+that can't be read; 4 where writing failed.
 """
 import dataclasses
-import os
-import signal
 import sys
 
+import explain_lines
 import explain_refusals
+import program
 import reading_of_rules as reading
 from explain_lines import Finding, Line, finding_in, righted
 from explain_refusals import counted
 
 UNSENT = "But no call is ever sent, so this looks like a script for threads: ./run threads"
-USAGE = "usage: ./explain play|threads [FILE]"
-MODES = ("play", "threads")
+USAGE = "usage: ./explain play|threads [FILE]    (without FILE, or where it is `-`, the standard input)\n"
 MOST_SHOWN = 100  # of a line this many bytes are shown
 MOST_BEFORE = 60  # and of them so many before a mark
 MOST_QUOTED = 60
@@ -179,49 +178,19 @@ def explain(data, mode):
 # The command.
 
 
-class Stopped(Exception):
-    """Why nothing is told."""
-
-
-def bytes_of(path):
-    """The bytes of a script, as far as it takes to see that it is too long."""
-    try:
-        with os.fdopen(os.dup(0), "rb") if path == "-" else open(path, "rb") as script:
-            return script.read(reading.LONGEST_SCRIPT + 1)
-    except OSError as why:
-        raise Stopped(f"explain: can't read {'standard input' if path == '-' else path}: {why.strerror}") from None
-
-
-def write(text):
-    """Writes to standard output, which may be closed."""
-    rest = text.encode()
-    try:
-        while rest:
-            rest = rest[os.write(1, rest) :]
-    except OSError as why:
-        raise Stopped(f"explain: can't write: {why.strerror}") from None
-
-
-def command(words):
-    """Does what the words ask for, and gives the status."""
-    if words in (["--help"], ["-h"]):
-        write(__doc__)
+def main():
+    words = sys.argv[1:]
+    if program.asks_for_help(words):
+        program.write_out(__doc__)
         return 0
-    if len(words) not in (1, 2) or words[0] not in MODES:
-        raise Stopped(USAGE)
-    told = explained(words[0], bytes_of(words[1] if len(words) == 2 else "-"))
-    write(told.text())
+    is_silent = len(words) == 1 and sys.stdin is not None and sys.stdin.isatty()
+    if len(words) not in (1, 2) or words[0] not in explain_lines.FORMS or is_silent:
+        program.note(USAGE)
+        return program.WRONG_WORDS
+    told = explained(words[0], program.script_in(words[1] if len(words) == 2 else "-"))
+    program.write_out(told.text())
     return told.status()
 
 
-def main():
-    signal.signal(signal.SIGINT, signal.SIG_DFL)  # a key that stops it shows no trace
-    try:
-        sys.exit(command(sys.argv[1:]))
-    except Stopped as why:
-        print(why, file=sys.stderr)
-        sys.exit(2)
-
-
 if __name__ == "__main__":
-    main()
+    program.ended("explain", main)

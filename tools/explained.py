@@ -16,18 +16,18 @@ import pathlib
 import random
 import re
 import subprocess
-import sys
 import tempfile
 from dataclasses import dataclass
 
 import explain
 import explain_refusals
 import fuzz
+import program
 import reading_of_rules as reading
+import run
 import threads
+from program import TOP
 
-TOP = pathlib.Path(__file__).resolve().parent.parent
-PROGRAM = TOP / "crates/ray_actors/out/ray_actors"
 RUNS = {"play": fuzz.run, "threads": threads.run}
 AT_ONCE = 4
 MOST_SHOWN = 5
@@ -194,7 +194,7 @@ def wrong_of(mistake):
 def wrong_of_refusal(script, name, words):
     """What is wrong with the last two lines that tell the refusals of a play."""
     told = explain.explained("play", script)
-    event, sentence = told.lines[-2:]
+    event, sentence = ["", *told.lines][-2:]
     line = script.count(10) + 1
     if told.status() or not re.fullmatch(f"event [0-9]+, line {line}: {script.decode().splitlines()[-1]}", event):
         yield f"the event of line {line} is due, with status 0"
@@ -296,8 +296,8 @@ def show(name, mode, script, why):
 class Comparison:
     """Runs the program on scripts, in both modes, and counts what is right and what differs."""
 
-    def __init__(self, program, scripts):
-        self.program = program
+    def __init__(self, path, scripts):
+        self.path = path
         self.scripts = scripts
         self.passed = self.failed = 0
         self.faults = collections.Counter()
@@ -325,7 +325,7 @@ class Comparison:
 
     def runs(self, mode, scripts):
         with concurrent.futures.ThreadPoolExecutor(max_workers=AT_ONCE) as pool:
-            yield from pool.map(lambda script: RUNS[mode](self.program, script), scripts)
+            yield from pool.map(lambda script: RUNS[mode](self.path, script), scripts)
 
     def compare_mode(self, mode):
         """The scripts as one mode reads them."""
@@ -366,7 +366,7 @@ def run_command(words, script=b"", folder=TOP, output=subprocess.PIPE):
 
 def by_command():
     """Each check of the command, as those of the tables."""
-    usage = (2, "", f"{explain.USAGE}\n")
+    usage = (2, "", explain.USAGE)
     faulty = ROLE + b"take a9"
     told = explain.explained("play", faulty).text()
     for words in [], ["played"], ["play", "a", "b"], ["--play"], ["threads", "-", "-"]:
@@ -378,7 +378,8 @@ def by_command():
     yield "a folder", run_command(["play", "."]) == (2, "", "explain: can't read .: Is a directory\n")
     yield "no file", run_command(["play", "none"]) == (2, "", "explain: can't read none: No such file or directory\n")
     with open("/dev/full", "wb") as full:
-        yield "a full output", run_command(["play"], faulty, output=full)[::2] == (2, "explain: can't write: No space left on device\n")
+        yield "a full output", run_command(["play"], faulty, output=full)[::2] == (4, "explain: write failed: No space left on device\n")
+    yield "what ./run tells of a faulty script", run.explanation(faulty, "play") == told
     yield "--help", run_command(["--help"]) == (0, explain.__doc__, "")
 
 
@@ -386,29 +387,26 @@ def chosen_options():
     options = argparse.ArgumentParser(description=__doc__.splitlines()[0])
     options.add_argument("--seed", type=int, default=1)
     options.add_argument("--count", type=int, default=600, help="how many random scripts of events; of threads a third")
-    options.add_argument("--program", type=pathlib.Path, default=PROGRAM)
-    chosen = options.parse_args()
-    if not chosen.program.exists():
-        sys.exit(f"explained: {chosen.program} is not built: run `rt ci` first")
-    return chosen
+    options.add_argument("--program", type=pathlib.Path, default=program.PROVED)
+    return options.parse_args()
 
 
 def main():
     chosen = chosen_options()
+    path = program.must_stand(chosen.program.resolve())
     checks = [*by_table(), *((f"./explain with {name}", [] if is_well else ["told otherwise"]) for name, is_well in by_command())]
     wrong = {name: why for name, why in checks if why}
     print("".join(f"{name}: {'; '.join(why)}\n" for name, why in wrong.items()), end="")
-    program = chosen.program.resolve()
-    damaged = Comparison(program, scripts_of(chosen.seed, chosen.count)).compare()
-    odd = Comparison(program, odd_scripts(chosen.seed, chosen.count)).compare()
+    damaged = Comparison(path, scripts_of(chosen.seed, chosen.count)).compare()
+    odd = Comparison(path, odd_scripts(chosen.seed, chosen.count)).compare()
     seldom = damaged.too_seldom()
     print("".join(f"no script came to {name}\n" for name in seldom), end="")
     print(f"explained: of the damaged scripts {damaged.share()}, of those of odd words {odd.share()}")
     passed = damaged.passed + odd.passed + len(checks) - len(wrong)
     failed = damaged.failed + odd.failed + len(wrong) + len(seldom)
     print(f"explained: {passed} passed, {failed} failed")
-    sys.exit(1 if failed else 0)
+    return 1 if failed else 0
 
 
 if __name__ == "__main__":
-    main()
+    program.ended("explained", main)
