@@ -111,7 +111,7 @@ MISTAKES = {
     "caller and actor in the other order": bad_line(ROLE, b"run c1 a1", 5, ["'c1' and 'a1'", "wrong order", "run ACTOR CALLER"], "run a1 c1"),
     "a comment behind a line": bad_line(ROLE, b"submit c1 a1 get # how much", 18, ["comment", "a line of its own"], "submit c1 a1 get"),
     "a comment with other signs": bad_line(ROLE, b"// how much", 1, ["comment begins with #"], "# how much"),
-    "a line of threads in play": bad_line(ROLE, b"submit c1 a1 get\nawait c1 0"[17:], 1, ["'await'", "this is a script for threads: ./run threads"]),
+    "a line of threads in play": bad_line(ROLE, b"await c1 0", 1, ["'await'", "this is a script for threads: ./run threads"]),
     "a line of play in threads": bad_line(ROLE, b"send c1 0", 1, ["'send'", "this is a script for play: ./run play"], mode="threads"),
     "lines of both modes": bad_line(ROLE, b"await c1 0\nsend c1 0", 1, ["'await' is a line of scripts for threads", "'send' is a line of play"]),
     "a missing argument": bad_line(ROLE, b"send c1", 9, ["ends where the number of a future", "send CALLER NUMBER"]),
