@@ -129,8 +129,8 @@ def told_fault(fault, mode, data):
     lines = data.split(b"\n")
     finding = OF_FAULTS[fault.name](lines, fault.line, mode, data)
     right = [f"Right would be: {finding.better}"] if finding.better else []
-    shown = marked(lines[fault.line - 1], finding.begin, finding.end)
-    return Told([f"line {fault.line}: {fault.name}", *shown, finding.why, *right], fault, finding)
+    line = marked(lines[fault.line - 1], finding.begin, finding.end)
+    return Told([f"line {fault.line}: {fault.name}", *line, finding.why, *right], fault, finding)
 
 
 # Scripts without a fault.

@@ -503,10 +503,8 @@ def odd_method(line, place):
         return line.at(place, why, [called[1], *arguments], len(line.words) - place)
     kind = line.kind_of(line.words[2])
     own = [*reading.KINDS[kind].methods, reading.END] if kind else reading.METHODS
-    if near(word, own) or not near(word, reading.METHODS):
-        found = odd_name(line, place, own, "method", methods_of(line)) or swapped(line, place)
-    else:
-        found = odd_name(line, place, reading.METHODS, "method", methods_of(line))
+    names = own if near(word, own) else reading.METHODS
+    found = odd_name(line, place, names, "method", methods_of(line)) or swapped(line, place)
     if not found and word in line.forms:
         return line.at(place, f"'{word}' is no method, it begins a line of its own: {form_of(word, line.forms)}")
     return found or line.at(place, f"{named(word)} is no method ({methods_of(line)})")
@@ -631,11 +629,11 @@ def better_text(inner):
 def odd_future(line, place):
     """A future as an argument, with or without its mark, that isn't spelled right."""
     word, caller = line.words[place], line.words[1]
-    named = re.fullmatch("@?(c[0-9]+)[.]([0-9]+)", word)
-    if named and named[1] != caller:
+    owned = re.fullmatch("@?(c[0-9]+)[.]([0-9]+)", word)
+    if owned and owned[1] != caller:
         return line.at(place, f"an argument is a future of the submitting caller alone, and {caller} submits here")
-    if named:
-        return line.at(place, f"a future of {caller} is written as @ and its number alone", [f"@{named[2]}"])
+    if owned:
+        return line.at(place, f"a future of {caller} is written as @ and its number alone", [f"@{owned[2]}"])
     if not word.startswith("@"):
         return None
     number = "".join(line.words[place + 1 : place + 2])
