@@ -133,11 +133,11 @@ SIGNS = {
     "handle": (dot_at, "a handle is copied or released"),
     "urgent": (dot_at, "a kill is asked, or a death told"),
     "refused": (dot_at, "refused: nothing changes"),
-    "gap": (square_at, "a run that lacks the next call"),
-    "run": (lambda x, y, _: box_at(x - 17, y, "0: …") + text_at(x - 8, y, "0: …"), "a run: its place, and its call"),
-    "dead": (bar_at, "the actor is dead from here"),
-    "retired": (bar_at, "the actor has retired from here"),
-    "after": (lambda x, y, _: line_at(x, y - 8, y + 8, "after"), "an actor that has ended"),
+    "gap": (square_at, "gap: the next call isn't there"),
+    "run": (lambda x, y, _: box_at(x - 17, y, "0: …") + text_at(x - 8, y, "0: …"), "a run: its place and its call"),
+    "dead": (bar_at, "the actor dies"),
+    "retired": (bar_at, "the actor retires"),
+    "after": (lambda x, y, _: line_at(x, y - 8, y + 8, "after"), "the actor has ended"),
 }
 SIGN_OF = {"kill": "urgent", "tell": "urgent"}
 
@@ -168,11 +168,11 @@ class Look:
 
 LOOKS = [
     Look("letter", COOL, "", "tip", "a letter, sent and delivered"),
-    Look("letter repeat", COOL, "dashed", "tip", "a letter that had arrived before"),
+    Look("letter repeat", COOL, "dashed", "tip", "repeat: the letter had arrived"),
     Look("letter turned away", [GREY], "dashed", "cross", "a letter to an actor that had ended"),
     Look("letter lost", COOL, "", "cross", "a letter that never arrives"),
-    Look("reply", WARM, "", "tip", "a reply, from its run to its caller"),
-    Look("reply late", WARM, "dashed", "tip", "a reply whose call has its answer"),
+    Look("reply", WARM, "", "tip", "a reply, sent and collected"),
+    Look("reply late", WARM, "dashed", "tip", "late: its call has an answer already"),
     Look("reply lost", WARM, "stub", "", "a reply that nobody collects"),
     Look("death", [RED], "", "tip", "a death, told and collected"),
     Look("death lost", [RED], "stub", "", "a death that nobody collects"),

@@ -21,7 +21,8 @@ added twice, or in which one ends a row too low, must be refused.
 
 The reports are those of the proved program; with `--reading` they are made by the second reading of the
 rules, and no program is needed. Pictures of random scripts, whose reports the reading makes, must be sound,
-too: some of a few lanes and some of 16 callers and 8 actors, whole and cut.
+too: some of a few lanes and some of 16 callers and 8 actors, whole and cut. It also fails where the first
+line of an example, of events or for threads, doesn't end with the command that runs it.
 """
 import argparse
 import collections
@@ -58,6 +59,17 @@ def is_played(path):
 
 def examples():
     return [path for path in sorted(EXAMPLES.glob("*.actors")) if is_played(path)]
+
+
+def wrong_heads():
+    """The examples whose first line doesn't end with the command that runs them, and how many examples there are."""
+    commands = {path: f"./run {'play' if is_played(path) else 'threads'} examples/{path.name}" for path in EXAMPLES.glob("*.actors")}
+    wrong = [path for path, command in commands.items() if not re.fullmatch(f"#.* {re.escape(command)}", first_line(path))]
+    return len(commands), [f"{path.stem}: its first line doesn't name {commands[path]}" for path in wrong]
+
+
+def first_line(path):
+    return path.read_text().partition("\n")[0]
 
 
 def report_of(path, by_reading):
@@ -436,10 +448,9 @@ def checked(reports):
         if not there.exists() or there.read_bytes() != text.encode():
             wrong.append(f"{path.stem}: docs/pictures has another picture, or none; tools/pictures.py draws it anew")
         checks, failures = checks + made + 1, failures + wrong
-    made, wrong = cut_failures()
-    checks, failures = checks + made, failures + wrong
-    made, wrong = random_failures()
-    return checks + made, failures + wrong
+    for made, wrong in wrong_heads(), cut_failures(), random_failures():
+        checks, failures = checks + made, failures + wrong
+    return checks, failures
 
 
 def main():
