@@ -6,14 +6,15 @@
 With `--check` nothing is written: it fails where a picture isn't, byte for byte, what is drawn now, where
 one is missing or too many, and where a picture isn't sound. It is sound where it parses as XML and
 
-  - has a row for each of its events, and a lane for each caller and actor at which one of them happens;
+  - has a row for each of its events, with its line, the words at its lane and the reason of a refusal;
+  - has a lane for each caller and actor at which one of the events happens;
   - names all other callers and actors as left out;
   - has exactly one line for each delivery, collection and taken kill that the report tells, which goes from
     lane to lane and from row to row; where it is cut, from the upper edge or to the lower one. A line that
     would go through from edge to edge is counted in its words instead;
   - has exactly one stub for each letter, notice and kill that arrives nowhere;
   - explains in its legend just the colours, dashes, dots and other signs that it has;
-  - is at most 1000 pixels wide, and no words of it stand on others or outside.
+  - is at most 1000 pixels wide, and no words of it stand on others, or outside, or in the way of others.
 
 This check reads the script, the report and the picture, and shares no code with the drawing. It is tried
 itself: a picture from which a line, a lane, a sample of the legend or a name was taken, to which a line was
@@ -46,6 +47,7 @@ RANDOM_SCRIPTS = 40
 CROWDS = 5
 CROWDED = 210  # lines
 CUTS = 4
+LEAST_LETTERS = 8  # of a line
 MOST_WIDTH = 1000
 LETTER = 7.22  # as wide as a letter of the pictures' font is
 SVG = "{http://www.w3.org/2000/svg}"
@@ -191,22 +193,24 @@ def edges_of(picture):
 
 
 def way_of(element):
-    """The points at which the way of a line begins and ends; whether it begins and whether it ends along a row."""
+    """Of the way of a line the points from left to right or back, and the two heights; whether it begins and ends along a row."""
     (way,) = (path.get("d") for path in element.iter(SVG + "path") if path.get("class") == "way")
-    x, y, along, far, bottom, target = re.fullmatch(r"M(\d+),(\d+)( H\d+)? L(\d+),(\d+)(?: H(\d+))?", way).groups()
-    return (int(x), int(y)), (int(target or far), int(bottom)), bool(along), bool(target)
+    x, top, near, far, bottom, target = re.fullmatch(r"M(\d+),(\d+)(?: H(\d+))? L(\d+),(\d+)(?: H(\d+))?", way).groups()
+    return [int(each) for each in (x, near, far, target) if each], (int(top), int(bottom)), bool(near), bool(target)
 
 
 def line_of(element, lanes, heights, edges):
     """What the check of a line compares: its sort, its places, its lanes; nothing where it isn't drawn from row to row."""
     begin, end = int(element.get("data-begin")), int(element.get("data-end"))
-    (x, top), (target, bottom), begins, ends = way_of(element)
+    points, (top, bottom), begins, ends = way_of(element)
+    x, *_, target = points
+    goes_on = points in (sorted(points), sorted(points, reverse=True))
     named = {place: name for name, place in lanes.items()}
     from_row = begins and heights.get(begin) == top and x in named
     from_edge = not begins and begin not in heights and top in edges and top < min(heights.values())
     to_row = ends and heights.get(end) == bottom and target in named
     to_edge = not ends and end not in heights and bottom in edges and bottom > max(heights.values())
-    if (from_row or from_edge) and (to_row or to_edge):
+    if goes_on and (from_row or from_edge) and (to_row or to_edge):
         return classes(element)[1], begin, end, named[x] if from_row else None, named[target] if to_row else None
     return None
 
@@ -245,11 +249,17 @@ def looks_in(element, dashes=""):
 
 
 def words_of(picture):
-    """Of each text the height, the begin and the end."""
+    """Of each text the height of its middle, the begin, the end and the words."""
     for text in picture.iter(SVG + "text"):
         width = len(text.text or "") * LETTER
         begin = int(text.get("x")) - {"start": 0, "middle": width / 2, "end": width}[text.get("text-anchor") or "start"]
-        yield int(text.get("y")), begin, begin + width
+        yield int(text.get("y")) - 4, begin, begin + width, text.text or ""
+
+
+def leaders_of(picture):
+    """Of each way from words to a lane its distance from the left, and its two heights."""
+    for leader in of_class(picture, "leader"):
+        yield int(leader.get("x1")), int(leader.get("y1")), int(leader.get("y2"))
 
 
 # Whether a picture is sound.
@@ -259,6 +269,28 @@ def rows_unsound(picture, told):
     heights = heights_of(picture)
     if sorted(heights) != list(told.shown) or sorted(heights.values()) != list(dict.fromkeys(heights.values())):
         yield "it has not one row for each event, one below the other"
+
+
+def stands_for(shown, words):
+    """Whether a text is these words, or their begin and a sign that they were cut."""
+    return shown == words or shown.endswith("…") and words.startswith(shown[:-1])
+
+
+def texts_unsound(picture, told):
+    """Each row has its place, its line and, where the event is one of a lane, words there; a refusal is told."""
+    words = collections.defaultdict(list)
+    for y, _, _, text in sorted(words_of(picture)):
+        words[y].append(text)
+    for place, y in heights_of(picture).items():
+        number, line, *others = words[y]
+        whole, outcome = " ".join(told.events[place]), told.outcomes[place]
+        line, refused, reason = line.partition("  refused ")
+        if number != str(place) or not stands_for(line, whole) or len(line) < min(LEAST_LETTERS, len(whole)):
+            yield f"'{line}' stands in the row of '{whole}'"
+        if len(others) != (told.lane_of(place) is not None):
+            yield f"in the row of '{whole}' stands {others}"
+        if outcome.startswith("refused ") and not any(stands_for(each, outcome) for each in [(refused + reason).strip(), *others]):
+            yield f"'{outcome}' isn't told of '{whole}'"
 
 
 def lanes_unsound(picture, told):
@@ -297,15 +329,18 @@ def words_unsound(picture, _):
     if width > MOST_WIDTH:
         yield f"it is {width} pixels wide"
     words = sorted(words_of(picture))
-    outside = [each for each in words if each[1] < 0 or each[2] > width]
-    on_others = [each for each, after in zip(words, words[1:]) if each[0] == after[0] and each[2] > after[1] + 1]
-    if outside or on_others:
-        yield f"words at {outside} stand outside, and at {on_others} on others"
+    yield from (f"'{each}' stands outside" for _, begin, end, each in words if begin < 0 or end > width)
+    for (y, _, end, each), (next_y, begin, _, other) in zip(words, words[1:]):
+        if y == next_y and end > begin + 1:
+            yield f"'{each}' stands on '{other}'"
+    for x, top, bottom in leaders_of(picture):
+        crossed = [each for y, begin, end, each in words if top < y < bottom and begin < x < end]
+        yield from (f"the way from other words to their lane crosses '{each}'" for each in crossed)
 
 
 def unsound(picture, told):
     """Why a picture isn't the one of this script and report; nothing where it is."""
-    checks = rows_unsound, lanes_unsound, lines_unsound, legend_unsound, words_unsound
+    checks = rows_unsound, texts_unsound, lanes_unsound, lines_unsound, legend_unsound, words_unsound
     return next((why for check in checks for why in check(picture, told)), None)
 
 
@@ -380,7 +415,18 @@ class Crowd(fuzz.Author):
         return "\n".join(self.lines) + "\n"
 
 
+def long_words():
+    """Sixteen callers of eight tables, each of which puts a long text and gets it."""
+    text = '"%s"' % ("x" * 64)
+    yield from (f"actor a{actor} table max 65536 " + " ".join(f"c{caller}" for caller in range(1, 17)) for actor in range(1, 9))
+    for place in range(32):
+        caller, call = place // 2 + 1, place % 2
+        yield f"submit c{caller} a{caller % 8 + 1} " + ("get " if call else "put ") + text + ("" if call else f" {text}")
+        yield from (f"send c{caller} {call}", f"deliver {place}", f"run a{caller % 8 + 1} c{caller}", f"collect {place}")
+
+
 def random_scripts():
+    yield "long words", "".join(f"{line}\n" for line in long_words()).encode()
     for place in range(RANDOM_SCRIPTS):
         yield f"random script {place}", fuzz.random_script("pictures", place)
     for place in range(CROWDS):
