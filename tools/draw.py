@@ -3,8 +3,9 @@
 
     ./draw [--events A..B] SCRIPT [REPORT] > PICTURE.svg
 
-REPORT is what `./run play SCRIPT` writes; without it the script is played. One of the two may be `-`, for
-standard input. The picture goes to standard output, and the same script and report give the same bytes.
+REPORT is what `./run play SCRIPT` writes; without it the script is played as `./run play` does. `-` in the
+place of one of the two reads it from the standard input. The picture goes to the standard output, and the
+same script and report give the same bytes.
 
 Time goes downwards: each event has a row, with its place and its line of the script at the left. Each
 caller and each actor has a lane, callers left of actors. What goes from one side to the other leaves its
@@ -37,7 +38,6 @@ Statuses: 0; 1 for a script fault, of which there is nothing to draw; 2 for wron
 can't be read, and for a report that isn't one of the script; 4 where the picture can't be written; else
 that of the program.
 """
-import argparse
 import pathlib
 import re
 import subprocess
@@ -48,12 +48,13 @@ from dataclasses import dataclass
 from functools import partial
 from xml.sax.saxutils import escape, quoteattr
 
+import program
+import run as runs
 from layout import AT_THE_END, BESIDE, EDGE, LEGEND_WIDTH, LEVEL, NAME, ROW, ROWS_TO_A_HEADING, SPACE
 from layout import Layout, cut, highest, letters_in, width_of
-from story import NoStory, Passage, Story, read_run, sends_no_call
+from story import Passage, Story, read_run
 
-TOP = pathlib.Path(__file__).resolve().parent.parent
-USAGE = "./draw [--events A..B] SCRIPT [REPORT] > PICTURE.svg"
+USAGE = "usage: ./draw [--events A..B] SCRIPT [REPORT]    (where one of them is `-`, the standard input)\n"
 
 # Colours.
 
@@ -456,51 +457,22 @@ class Picture:
 # The tool.
 
 
-def drawn(run, name, events=None):
-    """The picture of a run, as text: of all its events, or of a range. Raises NoStory."""
+def picture(script, report, name, events=None):
+    """The picture of a run, as text: of all its events, or of a range. Raises Stop."""
+    run = read_run(script, report)
     count = len(run.events)
     shown = range(count) if events is None else events
     if shown.stop > count:
-        raise NoStory(f"the run has no event {shown.stop - 1}: it has {count}, numbered from 0")
+        raise program.Stop(f"the run has no event {shown.stop - 1}: it has {count}, numbered from 0")
     return "\n".join(line for line in Picture(Story(run), shown, name).svg() if line) + "\n"
 
 
-def picture(script, report, name, events=None):
-    return drawn(read_run(script, report), name, events)
-
-
-def bytes_of(path):
-    try:
-        with open(0 if path == "-" else path, "rb") as file:
-            return file.read()
-    except OSError as why:
-        raise NoStory(f"can't read {path}: {why.strerror}") from None
-
-
 def played(script):
-    """The report that ./run gives; its notes go to standard error."""
-    done = subprocess.run([TOP / "run", "play", "/dev/stdin"], input=script, stdout=subprocess.PIPE)
-    if done.returncode > 1:
-        raise NoStory("./run gave no report", done.returncode)
-    return done.stdout
-
-
-def events_of(word):
-    """The places A to B, both among them."""
-    bounds = re.fullmatch(r"(\d{1,9})\.\.(\d{1,9})", word, re.ASCII)
-    if not bounds or int(bounds[1]) > int(bounds[2]):
-        raise argparse.ArgumentTypeError(f"'{word}' is no A..B, with numbers of events and A not above B")
-    return range(int(bounds[1]), int(bounds[2]) + 1)
-
-
-def arguments():
-    summary = __doc__.splitlines()[0]
-    more = "The head of tools/draw.py tells what a picture shows."
-    options = argparse.ArgumentParser("draw", USAGE, summary, more)
-    options.add_argument("--events", metavar="A..B", type=events_of, help="draw these events alone, as the report numbers them")
-    options.add_argument("script", metavar="SCRIPT", help="a script of events; - for standard input")
-    options.add_argument("report", metavar="REPORT", nargs="?", help="what ./run play SCRIPT writes; else the script is played")
-    return options.parse_args()
+    """The report that the program gives."""
+    status, report = runs.run("draw", "play", script, subprocess.PIPE)
+    if status > 1:
+        raise program.Stop("the program gave no report", status)
+    return report
 
 
 def plain(name):
@@ -508,27 +480,34 @@ def plain(name):
     return "".join(letter if letter.isprintable() else "?" for letter in name)
 
 
-def write(text):
-    try:
-        with open(1, "wb", closefd=False) as output:
-            output.write(text.encode())
-    except OSError as why:
-        raise NoStory(f"can't write the picture: {why.strerror}", 4) from None
+def without_events(words):
+    """The words without `--events A..B`, and the places A to B, both among them, or nothing where they aren't named."""
+    if "--events" not in words:
+        return words, None
+    at = words.index("--events")
+    bounds = re.fullmatch(r"(\d{1,9})\.\.(\d{1,9})", "".join(words[at + 1 : at + 2]), re.ASCII)
+    if not bounds or int(bounds[1]) > int(bounds[2]):
+        return [], None
+    return words[:at] + words[at + 2 :], range(int(bounds[1]), int(bounds[2]) + 1)
 
 
 def main():
-    chosen = arguments()
-    name = "standard input" if chosen.script == "-" else plain(pathlib.Path(chosen.script).name)
-    try:
-        script = bytes_of(chosen.script)
-        run = read_run(script, bytes_of(chosen.report) if chosen.report else played(script))
-        if sends_no_call(run):
-            print(f"draw: no call was ever sent; {name} looks like a script for threads: ./run threads", file=sys.stderr)
-        write(drawn(run, name, chosen.events))
-    except NoStory as why:
-        print(f"draw: {why}", file=sys.stderr)
-        sys.exit(why.status)
+    if program.asks_for_help(sys.argv[1:]):
+        program.write_out(__doc__)
+        return 0
+    paths, events = without_events(sys.argv[1:])
+    if len(paths) not in (1, 2) or any(path.startswith("-") and path != "-" for path in paths) or paths == ["-", "-"]:
+        program.note(USAGE)
+        return program.WRONG_WORDS
+    script = program.script_in(paths[0])
+    report = program.bytes_in(paths[1]) if len(paths) == 2 else played(script)
+    name = "standard input" if paths[0] == "-" else plain(pathlib.Path(paths[0]).name)
+    drawn = picture(script, report, name, events)
+    if len(paths) == 2:
+        runs.tell_unsent("draw", script)
+    program.write_out(drawn)
+    return 0
 
 
 if __name__ == "__main__":
-    main()
+    program.ended("draw", main)

@@ -6,15 +6,9 @@ for each letter, reply, death and kill that went from a lane to another.
 import re
 from dataclasses import dataclass, field
 
+from program import Stop
+
 # What stands in the script and in the report.
-
-
-class NoStory(Exception):
-    """Why there is nothing to tell, and the status."""
-
-    def __init__(self, why, status=2):
-        super().__init__(why)
-        self.status = status
 
 
 @dataclass
@@ -69,7 +63,7 @@ def read_summary(run, line):
     elif end:
         run.ends[end[1]] = end[2]
     else:
-        raise NoStory(f"the report has the line '{line:.60}', which no report has there")
+        raise Stop(f"the report has the line '{line:.60}', which no report has there")
 
 
 def read_run(script, report):
@@ -77,25 +71,20 @@ def read_run(script, report):
     roles, events = read_script(script)
     lines = lines_of(report)
     if lines[-1]:
-        raise NoStory("the report's last line has no end")
+        raise Stop("the report's last line has no end")
     if re.fullmatch(r"line \d+: \w+", lines[0]):
-        raise NoStory(f"nothing to draw, the script has a fault: {lines[0]}", 1)
+        raise Stop(f"nothing to draw, the script has a fault: {lines[0]}", 1)
     run = Run(roles)
     for place, (words, line) in enumerate(zip(events, lines)):
         head, _, outcome = line.partition(": ")
         if head != str(place) or not outcome:
-            raise NoStory(f"the report isn't of this script: '{line:.60}' where the outcome of event {place} is due")
+            raise Stop(f"the report isn't of this script: '{line:.60}' where the outcome of event {place} is due")
         run.events.append(Event(place, words, outcome))
     if len(run.events) < len(events):
-        raise NoStory("the report isn't of this script: it has too few outcomes")
+        raise Stop("the report isn't of this script: it has too few outcomes")
     for line in lines[len(events) : -1]:
         read_summary(run, line)
     return run
-
-
-def sends_no_call(run):
-    """Whether calls were submitted and no line sends one, as where a script for threads is played."""
-    return bool(run.answers) and not any(event.words[0] == "send" for event in run.events)
 
 
 # What happened. A lane is named by its caller or its actor.
@@ -124,7 +113,7 @@ class Mark:
     text: str
 
 
-class Mismatch(NoStory):
+class Mismatch(Stop):
     def __init__(self, event):
         super().__init__(f"the report isn't of this script: '{event.outcome:.60}' for '{' '.join(event.words):.60}'")
 
