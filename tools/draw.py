@@ -334,20 +334,24 @@ class Picture:
 
     # The lanes.
 
-    def lane(self, name):
-        x, at = self.at.lanes[name], self.at
-        ended = self.story.ended.get(name, self.shown.stop)
-        top, bottom = at.lanes_begin - 4, at.lanes_end
-        middle = at.height_of(ended) if ended in self.shown else top if ended < self.shown.start else bottom
-        parts = (top, middle, "lane"), (middle, bottom, "after")
-        drawn = "".join(line_at(x, *part) for part in parts if part[0] < part[1])
-        return f'<g class="of_lane" data-lane="{name}">{drawn}</g>'
+    def end_of(self, lane):
+        """The height at which its actor ends, or the lane itself."""
+        place = self.story.ended.get(lane, self.shown.stop)
+        if place in self.shown:
+            return self.at.height_of(place)
+        return self.at.lanes_begin if place < self.shown.start else self.at.lanes_end
+
+    def lane(self, lane):
+        x, end = self.at.lanes[lane], self.end_of(lane)
+        parts = (self.at.lanes_begin, end, "lane"), (end, self.at.lanes_end, "after")
+        drawn = "".join(line_at(x, top, bottom, sort) for top, bottom, sort in parts if top < bottom)
+        return f'<g class="of_lane" data-lane="{lane}">{drawn}</g>'
 
     def name_of(self, lane):
         """Over the first row, and short again after each few rows."""
         x, label = self.at.lanes[lane], self.at.names[lane]
-        y = self.at.lanes_begin - 14 - LEVEL * label.level
-        yield line_at(x, y + 8, self.at.lanes_begin - 4, "leader") if label.level else ""
+        y = self.at.lanes_begin - 10 - LEVEL * label.level
+        yield line_at(x, y + 8, self.at.lanes_begin, "leader") if label.level else ""
         yield text_at(x, y, label.words, "head", label.anchor)
         again = self.at.short_names[lane]
         for place in self.shown[ROWS_TO_A_HEADING::ROWS_TO_A_HEADING]:

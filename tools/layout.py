@@ -13,7 +13,7 @@ CHARACTER = 7.3
 ROW = 20
 EDGE = 12
 NAME = 18  # the middle of the picture's name
-HEAD = 62  # where the rows begin, if the names of the lanes stand in one level
+HEAD = 58  # where the lanes begin, if the names of the lanes stand in one level
 LEVEL = 14  # from a level to the next
 BESIDE = 9  # from a lane to its words
 SPACE = 14  # from a line of the script to words at a lane
@@ -216,7 +216,7 @@ class Layout:
     def place_rows(self):
         """Where the rows and the lanes begin and end, and the two edges where events are cut off."""
         self.lanes_begin = HEAD + LEVEL * highest(self.names)
-        self.rows_begin = self.lanes_begin + (ROW if self.shown.start else 0)
+        self.rows_begin = self.lanes_begin + (ROW if self.shown.start else 4)
         self.rows_end = self.rows_begin + ROW * len(self.shown) + self.headings_above(len(self.shown) - 1)
         self.lanes_end = self.rows_end + (ROW if self.shown.stop < len(self.story.run.events) else 4)
         self.upper_edge = self.rows_begin - ROW // 2

@@ -64,14 +64,14 @@ def examples():
 
 
 def wrong_heads():
-    """The examples whose first line doesn't end with the command that runs them, and how many examples there are."""
-    commands = {path: f"./run {'play' if is_played(path) else 'threads'} examples/{path.name}" for path in EXAMPLES.glob("*.actors")}
-    wrong = [path for path, command in commands.items() if not re.fullmatch(f"#.* {re.escape(command)}", first_line(path))]
-    return len(commands), [f"{path.stem}: its first line doesn't name {commands[path]}" for path in wrong]
-
-
-def first_line(path):
-    return path.read_text().partition("\n")[0]
+    """How many examples there are, and those whose first line doesn't end with the command that runs them."""
+    failures, paths = [], list(EXAMPLES.glob("*.actors"))
+    for path in paths:
+        command = f"./run {'play' if is_played(path) else 'threads'} examples/{path.name}"
+        first = path.read_text().partition("\n")[0]
+        if not re.fullmatch(f"# .*: {re.escape(command)}", first):
+            failures.append(f"{path.stem}: its first line is '{first}', and doesn't end with {command}")
+    return len(paths), failures
 
 
 def report_of(path, by_reading):
