@@ -36,6 +36,15 @@ class Place(NamedTuple):
     first: int
     last: int
 
+    def module(self):
+        """The words of its module's path."""
+        words = self.file.removeprefix("src/").removesuffix(".rt").split("/")
+        return [] if words in (["lib"], ["main"]) else words
+
+    def proofs(self):
+        """The folder of what is written of its proof."""
+        return "/".join(["proofs", *self.module(), *filter(None, ["".join(self.owner)]), self.name])
+
 
 class Edit:
     """One file of edits, in a folder of its crate."""
@@ -80,15 +89,15 @@ class Edit:
 
     def places(self):
         """The functions that it changes, or None where it changes more than functions and their proofs."""
-        texts, found = {}, set()
+        texts, found, others = {}, set(), set()
         for pair in self.pairs():
             text = texts.get(pair.file) or (self.folder / pair.file).read_text()
-            if pair.file.startswith("src/") and not pair.old.startswith("use "):
+            if not pair.file.startswith("src/"):
+                others.add(str(Path(pair.file).parent))
+            elif not pair.old.startswith("use "):
                 found.add(place_at(pair.file, text, text.index(pair.old)))
-            elif pair.file.startswith("specs/"):
-                return None
             texts[pair.file] = text.replace(pair.old, pair.new)
-        return None if None in found else found
+        return None if None in found or others - {place.proofs() for place in found} else found
 
 
 def place_at(file, text, at):

@@ -113,12 +113,11 @@ class Trial:
 
 def symbols_of(symbols, crate, place):
     """What the prover names the function that stands at this place."""
-    parts = place.file.removeprefix("src/").removesuffix(".rt").split("/")
-    module = [crate, *(parts if parts not in (["lib"], ["main"]) else [])]
+    module, owner = [crate, *place.module()], "".join(place.owner)
     for symbol in symbols:
-        *above, owner, name = ["", *symbol.split("::")]
-        above, owners = ([*above, owner][1:], "") if not place.owner else (above[1:], owner)
-        if above == module and name == place.name and owners.startswith("".join(place.owner)):
+        *above, name = symbol.split("::")
+        named = above.pop() if owner and len(above) > 1 else ""
+        if above == module and name == place.name and named.startswith(owner):
             yield symbol
 
 
