@@ -23,6 +23,7 @@ import shutil
 import signal
 import subprocess
 import sys
+import textwrap
 import time
 from concurrent.futures import ThreadPoolExecutor
 from contextlib import contextmanager
@@ -35,10 +36,11 @@ SHARE = 20
 OF_THE_GATE = re.compile(r"(?:rt: )?must-fail (\w+/\S+\.edit): (.*)")
 HEAD = """# Further wrong bodies
 
-`tools/more_edits.py` makes this page. It lists the edits of `more-must-fail/`, for which the gate has no time, and the
-function in which the prover refuses each. Each run of `./test` tries a twentieth of them, which changes with the commit.
-The edits of `must-fail/` aren't listed: the gate tries them all.
+`tools/more_edits.py` makes this page. It lists the edits of `more-must-fail/`, for which the gate has no time, each with
+the function that it changes. Each run of `./test` tries a twentieth of them, which changes with the commit. The edits of
+`must-fail/` aren't listed: the gate tries them all.
 """
+COUNTS = re.compile(r"Refused: (\d+) of (\d+)\.")
 
 
 def output_of(*command):
@@ -125,16 +127,6 @@ def gate():
 # All further edits, and the page.
 
 
-def try_edits(crates, jobs):
-    """What came of the further edits of these crates, by crate."""
-    tried = {}
-    kit()
-    with ThreadPoolExecutor(jobs) as pool:
-        for crate, found in zip(crates, pool.map(try_those_of, crates)):
-            tried[crate] = found
-    return tried
-
-
 def try_those_of(crate):
     edits, found = edits_in(MORE, [crate]), []
     for each in try_crate(crate, edits):
@@ -157,22 +149,32 @@ def row(tried):
     return f"- {tried.edit.path.stem}: {told}" + ("" if tried.is_refused else ", **not refused**")
 
 
-def write_page(tried):
-    """Writes the sections of these crates anew, and keeps those of the others that have further edits."""
+def write_section(crate, tried):
+    """Writes the section of this crate anew, and keeps those of the others that have further edits."""
     commit, version = output_of("git", "rev-parse", "--short=12", "HEAD"), output_of("rt", "version")
     stamp = f"{time.strftime('%Y-%m-%d', time.gmtime())}, commit {commit}, {version}"
     old = re.split(r"^(?=## )", PAGE.read_text(), flags=re.M)[1:] if PAGE.exists() else []
-    sections = {text.split()[1]: text for text in old}
-    sections.update({crate: section(crate, found, stamp) for crate, found in tried.items()})
+    sections = {**{text.split()[1]: text.rstrip("\n") + "\n" for text in old}, crate: section(crate, tried, stamp)}
     have = sorted({edit.crate for edit in edits_in(MORE)})
-    PAGE.write_text("\n".join([HEAD, *(sections[crate].rstrip("\n") + "\n" for crate in have if crate in sections)]))
+    kept = [sections[crate] for crate in have if crate in sections]
+    PAGE.write_text("\n".join([HEAD, summary(kept, [crate for crate in have if crate not in sections]), *kept]))
+
+
+def summary(sections, missing):
+    """How many edits were refused in all, and of which crates none was tried."""
+    refused, tried = (sum(map(int, counts)) for counts in zip(*(COUNTS.search(text).groups() for text in sections)))
+    untried = f" Not tried yet: those of {', '.join(missing)}." if missing else ""
+    return textwrap.fill(f"In all {refused} of {tried} were refused.{untried}", 119) + "\n"
 
 
 def try_and_write(crates, jobs):
     """Whether each further edit of these crates is refused."""
-    tried = try_edits(crates, jobs)
-    write_page(tried)
-    every = [each for found in tried.values() for each in found]
+    every = []
+    kit()
+    with ThreadPoolExecutor(jobs) as pool:
+        for crate, tried in zip(crates, pool.map(try_those_of, crates)):
+            write_section(crate, tried)
+            every += tried
     failed = [each for each in every if not each.is_refused]
     for each in failed:
         print(f"more_edits: {each.edit.name}: not refused: {each.told}")

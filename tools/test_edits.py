@@ -3,6 +3,7 @@
 import tempfile
 import unittest
 from pathlib import Path
+from unittest import mock
 
 import more_edits
 import trying
@@ -130,6 +131,20 @@ class Gate(unittest.TestCase):
     def test_what_was_not_tried_is_told(self):
         self.assertEqual(len([*more_edits.gate_faults(self.GOOD[:1], self.WANTED)]), 1)
         self.assertEqual(len([*more_edits.gate_faults(self.GOOD, {"low/a.edit"})]), 1)
+
+
+class Page(Scratch):
+    def test_a_section_is_written_anew_and_others_stay(self):
+        edit = self.edit(GOOD)
+        page = self.crate / "edits.md"
+        patches = {"PAGE": page, "edits_in": lambda _: [edit, Edit(self.crate.parent / "high" / MORE / "a.edit")]}
+        with mock.patch.multiple(more_edits, output_of=lambda *_: "abc", **patches):
+            more_edits.write_section("low", [trying.Tried(edit, False, "still proved")])
+            self.assertIn("In all 0 of 1 were refused. Not tried yet: those of high.", page.read_text())
+            self.assertIn("- longer: `len` in src/few.rt, **not refused**", page.read_text())
+            more_edits.write_section("low", [trying.Tried(edit, True, "src/few.rt:5:5: ..")])
+        self.assertIn("In all 1 of 1 were refused.", page.read_text())
+        self.assertNotIn("not refused", page.read_text())
 
 
 class Share(Scratch):
