@@ -64,9 +64,11 @@ class Trial:
 
     def prepare(self):
         """Builds what the crate uses, and checks the crate as it stands. Returns whether it is proved."""
-        lower = [it for it in self.crate.below() if not it.is_built()]
-        if any(it.build_rlib(ONE_JOB, anew=False) for it in lower):
-            return False
+        with open(f"{self.kept}.log", "w") as log:
+            for lower in self.crate.below():
+                lower.out = log
+                if lower.build_rlib(ONE_JOB, anew=False):
+                    return False
         if self.crate.has_kept():
             shutil.copytree(f"{self.crate.folder}/out/incremental", self.kept)
         ran = kit().checked(self.crate, {}, ONE_JOB, self.kept)
