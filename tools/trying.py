@@ -114,12 +114,12 @@ class Trial:
 
 
 def symbols_of(symbols, crate, place):
-    """What the prover names the function that stands at this place."""
+    """What the prover names the function that stands at this place. A method goes by the module of its type."""
     module, owner = [crate, *place.module()], "".join(place.owner)
     for symbol in symbols:
         *above, name = symbol.split("::")
-        named = above.pop() if owner and len(above) > 1 else ""
-        if above == module and name == place.name and named.startswith(owner):
+        is_there = above[-1].startswith(owner) if owner and len(above) > 1 else above == module
+        if name == place.name and is_there:
             yield symbol
 
 
