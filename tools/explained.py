@@ -280,7 +280,7 @@ def scripts_of(seed, count):
     whole = fuzz.CUT.read_bytes()
     scripts |= {f"{fuzz.CUT.name} cut after {length} bytes": whole[:length] for length in range(len(whole) + 1)}
     scripts |= dict(fuzz.near_misses())
-    scripts |= {f"for threads, {name}": script for name, script in threads.scripts_of(seed, count // 3).items()}
+    scripts |= {f"for threads, {name}": script for name, script in (threads.random_scripts(seed, count // 3) | threads.worked_scripts()).items()}
     scripts |= {f"worked play {path.stem}": path.read_bytes() for path in sorted(fuzz.ROWS.glob("*.actors"))}
     scripts |= {f"example {path.stem}": path.read_bytes() for path in sorted(threads.EXAMPLES.glob("*.actors"))}
     scripts |= {f"the mistake {name}": mistake.script for name, mistake in MISTAKES.items()}
