@@ -217,7 +217,7 @@ def edges_of(picture):
 
 
 def way_of(element):
-    """Of the way of a line the points from left to right or back, and the two heights; whether it begins and ends along a row."""
+    """Of the way of a line its places from left to right, its two heights, and whether it begins and ends along a row."""
     (way,) = (path.get("d") for path in element.iter(SVG + "path") if path.get("class") == "way")
     x, top, near, far, bottom, target = re.fullmatch(r"M(\d+),(\d+)(?: H(\d+))? L(\d+),(\d+)(?: H(\d+))?", way).groups()
     return [int(each) for each in (x, near, far, target) if each], (int(top), int(bottom)), bool(near), bool(target)
@@ -248,16 +248,20 @@ def stub_of(element, lanes, heights):
     return classes(element)[1], place if heights.get(place) == y else None, lane
 
 
+def middle_of(sign):
+    return float(sign.get("x")) + float(sign.get("width")) / 2, float(sign.get("y")) + float(sign.get("height")) / 2
+
+
 def signs_in(picture):
     """Of each sign that isn't in the legend its class, and the point at a lane where it stands."""
     for sign in picture:
-        sort, number = sign.get("class") or "", lambda name: float(sign.get(name))
+        sort = sign.get("class") or ""
         if sign.tag == SVG + "circle":
-            yield sort, number("cx"), number("cy")
+            yield sort, float(sign.get("cx")), float(sign.get("cy"))
         elif sort.startswith("dot"):
-            yield sort, number("x") + number("width") / 2, number("y") + number("height") / 2
+            yield sort, *middle_of(sign)
         elif sort == "box":
-            yield sort, number("x") + BOX_BEGINS, number("y") + number("height") / 2
+            yield sort, float(sign.get("x")) + BOX_BEGINS, middle_of(sign)[1]
         elif sort.startswith("bar"):
             begin, y, width = map(int, re.fullmatch(r"M(\d+),(\d+) h(\d+)", sign.get("d")).groups())
             yield sort, begin + width / 2, y
@@ -328,7 +332,8 @@ def texts_unsound(picture, told):
             yield f"'{line}' stands in the row of '{whole}'"
         if len(others) != (told.lane_of(place) is not None):
             yield f"in the row of '{whole}' stands {others}"
-        if outcome.startswith("refused ") and not any(stands_for(each, outcome) for each in [(refused + reason).strip(), *others]):
+        told_there = [(refused + reason).strip(), *others]
+        if outcome.startswith("refused ") and not any(stands_for(each, outcome) for each in told_there):
             yield f"'{outcome}' isn't told of '{whole}'"
 
 
@@ -397,8 +402,12 @@ def words_unsound(picture, _):
 
 def unsound(picture, told):
     """Why a picture isn't the one of this script and report; nothing where it is."""
-    checks = [rows_unsound, texts_unsound, lanes_unsound, ends_unsound, signs_unsound, lines_unsound, legend_unsound, words_unsound]
-    return next((why for check in checks for why in check(picture, told)), None)
+    return next((why for check in CHECKS for why in check(picture, told)), None)
+
+
+CHECKS = [
+    rows_unsound, texts_unsound, lanes_unsound, ends_unsound, signs_unsound, lines_unsound, legend_unsound, words_unsound,
+]  # fmt: skip
 
 
 # The check itself is tried.
