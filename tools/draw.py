@@ -180,7 +180,9 @@ LOOKS = [
     Look("kill", [RED], "", "tip", "a kill, asked and taken"),
     Look("kill lost", [RED], "", "cross", "a kill that is never taken"),
 ]
-COUNTED = {"letter": ("letter", "letters"), "reply": ("reply", "replies"), "death": ("death", "deaths"), "kill": ("kill", "kills")}
+COUNTED = {
+    "letter": ("letter", "letters"), "reply": ("reply", "replies"), "death": ("death", "deaths"), "kill": ("kill", "kills"),
+}  # fmt: skip
 NO_CHANGE = {"repeat", "late", "turned away"}
 LOST = "lost"
 
@@ -386,7 +388,7 @@ class Picture:
             notes["left_out"] = f"left out, since none of these events happens there: {names}"
         if self.passing:
             count = Counter(way.passage.sort for way in self.passing)
-            words = [f"{count[sort]} {one if count[sort] == 1 else more}" for sort, (one, more) in COUNTED.items() if count[sort]]
+            words = [f"{count[sort]} {ones[count[sort] != 1]}" for sort, ones in COUNTED.items() if count[sort]]
             notes["passing"] = f"on the way from before these events to after them: {', '.join(words)}"
         most = letters_in(self.at.width - self.at.lines_begin - EDGE)
         return [(sort, line) for sort, note in notes.items() for line in textwrap.wrap(note, most)]

@@ -7,7 +7,8 @@ With `--check` nothing is written: it fails where a picture isn't, byte for byte
 one is missing or too many, and where a picture isn't sound. It is sound where it parses as XML and
 
   - has a row for each of its events, with its line, the words at its lane and the reason of a refusal;
-  - has a lane for each caller and actor at which one of the events happens;
+  - has a lane for each caller and actor at which one of the events happens, cut where its actor ends;
+  - has a dot, a box or a bar at its lane for each event of which the report tells such;
   - names all other callers and actors as left out;
   - has exactly one line for each delivery, collection and taken kill that the report tells, which goes from
     lane to lane and from row to row; where it is cut, from the upper edge or to the lower one. A line that
@@ -17,8 +18,8 @@ one is missing or too many, and where a picture isn't sound. It is sound where i
   - is at most 1000 pixels wide, and no words of it stand on others, or outside, or in the way of others.
 
 This check reads the script, the report and the picture, and shares no code with the drawing. It is tried
-itself: a picture from which a line, a lane, a sample of the legend or a name was taken, to which a line was
-added twice, or in which one ends a row too low, must be refused.
+itself: a picture from which a line, a sign, a lane, a sample of the legend or a name was taken, to which a line
+was added twice, or in which one ends a row too low, must be refused.
 
 The reports are those of the proved program; with `--reading` they are made by the second reading of the
 rules, and no program is needed. Pictures of random scripts, whose reports the reading makes, must be sound,
@@ -48,6 +49,7 @@ CUTS = 4
 LEAST_LETTERS = 8  # of a line
 MOST_WIDTH = 1000
 LETTER = 7.22  # as wide as a letter of the pictures' font is
+BOX_BEGINS, UNDER_A_BOX = 3, 9
 SVG = "{http://www.w3.org/2000/svg}"
 
 
@@ -95,6 +97,7 @@ class Told:
         self.roles = [words for words in lines if words[0] == "actor"]
         self.events = [words for words in lines if words[0] != "actor"]
         self.outcomes = re.findall(r"^[0-9]+: (.*)$", report.decode("ascii"), re.MULTILINE)
+        self.terminates = set(re.findall(r"^(a\d+)\.(\d+) c\d+\.\d+ terminate$", report.decode("ascii"), re.MULTILINE))
         self.shown = range(len(self.events)) if shown is None else shown
         self.letters = self.begun(r"mail (\d+)")
         self.notices = self.begun(r"(?:place \d+ )?reply (\d+)")
@@ -154,6 +157,25 @@ class Told:
             if makes and place not in arrived:
                 yield f"{sort}_lost", place, self.lane_of(place)
 
+    def is_end(self, place):
+        """Whether an actor dies or retires at this event."""
+        run = re.fullmatch(r"place (\d+) reply \d+", self.outcomes[place])
+        return self.outcomes[place] in ("dead", "retired") or run and (self.events[place][1], run[1]) in self.terminates
+
+    def ended(self):
+        """Of each actor that dies or retires where it does."""
+        return {self.events[place][1]: place for place in range(len(self.events)) if self.is_end(place)}
+
+    def signs_due(self):
+        """Of each sign at a lane its sort, its place and its lane."""
+        for place in self.shown:
+            verb, outcome, lane = self.events[place][0], self.outcomes[place], self.lane_of(place)
+            first = outcome.split(" ")[0]
+            if first in SIGNS and lane and (verb, outcome) != ("deliver", "refused ActorEnded"):
+                yield SIGNS[first], place, lane
+            if first == "place" and self.is_end(place):
+                yield "bar dead", place, lane
+
     def passing_due(self):
         """How much of each sort is on its way from before to after what is shown."""
         gone = (each for each in self.arrivals() if each[1] < self.shown.start and each[2] >= self.shown.stop)
@@ -161,6 +183,10 @@ class Told:
 
 
 LETTERS = {"new": "letter", "repeat": "letter_repeat", "refused ActorEnded": "letter_turned_away"}
+SIGNS = {
+    "future": "dot submit", "mail": "dot send", "copies": "dot handle", "asked": "dot urgent", "reply": "dot urgent",
+    "refused": "dot refused", "gap": "dot gap", "place": "box", "dead": "bar dead", "retired": "bar retired",
+}  # fmt: skip
 NOTICES = {"kept": "reply", "late": "reply_late", "died": "death"}
 
 
@@ -191,7 +217,7 @@ def edges_of(picture):
 
 
 def way_of(element):
-    """Of the way of a line the points from left to right or back, and the two heights; whether it begins and ends along a row."""
+    """Of the way of a line its places from left to right, its two heights, and whether it begins and ends along a row."""
     (way,) = (path.get("d") for path in element.iter(SVG + "path") if path.get("class") == "way")
     x, top, near, far, bottom, target = re.fullmatch(r"M(\d+),(\d+)(?: H(\d+))? L(\d+),(\d+)(?: H(\d+))?", way).groups()
     return [int(each) for each in (x, near, far, target) if each], (int(top), int(bottom)), bool(near), bool(target)
@@ -220,6 +246,25 @@ def stub_of(element, lanes, heights):
     x, y = map(int, re.fullmatch(r"M(\d+),(\d+) H\d+", way).groups())
     lane = next((name for name, place in lanes.items() if place == x), None)
     return classes(element)[1], place if heights.get(place) == y else None, lane
+
+
+def middle_of(sign):
+    return float(sign.get("x")) + float(sign.get("width")) / 2, float(sign.get("y")) + float(sign.get("height")) / 2
+
+
+def signs_in(picture):
+    """Of each sign that isn't in the legend its class, and the point at a lane where it stands."""
+    for sign in picture:
+        sort = sign.get("class") or ""
+        if sign.tag == SVG + "circle":
+            yield sort, float(sign.get("cx")), float(sign.get("cy"))
+        elif sort.startswith("dot"):
+            yield sort, *middle_of(sign)
+        elif sort == "box":
+            yield sort, float(sign.get("x")) + BOX_BEGINS, middle_of(sign)[1]
+        elif sort.startswith("bar"):
+            begin, y, width = map(int, re.fullmatch(r"M(\d+),(\d+) h(\d+)", sign.get("d")).groups())
+            yield sort, begin + width / 2, y
 
 
 def note_of(picture, name):
@@ -287,7 +332,8 @@ def texts_unsound(picture, told):
             yield f"'{line}' stands in the row of '{whole}'"
         if len(others) != (told.lane_of(place) is not None):
             yield f"in the row of '{whole}' stands {others}"
-        if outcome.startswith("refused ") and not any(stands_for(each, outcome) for each in [(refused + reason).strip(), *others]):
+        told_there = [(refused + reason).strip(), *others]
+        if outcome.startswith("refused ") and not any(stands_for(each, outcome) for each in told_there):
             yield f"'{outcome}' isn't told of '{whole}'"
 
 
@@ -297,6 +343,24 @@ def lanes_unsound(picture, told):
         yield f"it has the lanes {sorted(lanes)}, and {sorted(told.lanes_due())} are due"
     if left_out != told.all_lanes() - told.lanes_due():
         yield f"it says that {sorted(left_out)} are left out"
+
+
+def ends_unsound(picture, told):
+    """A lane is solid down to the row in which its actor ends, and dotted from there."""
+    heights, ended = heights_of(picture), told.ended()
+    for lane in of_class(picture, "of_lane"):
+        end = ended.get(lane.get("data-lane"), told.shown.stop)
+        parts = ["after"] if end < told.shown.start else ["lane", "after"] if end in told.shown else ["lane"]
+        if [line.get("class") for line in lane] != parts or end in told.shown and int(lane[1].get("y1")) != heights[end]:
+            yield f"the lane {lane.get('data-lane')} doesn't end at {end}"
+
+
+def signs_unsound(picture, told):
+    """Each sign stands at its lane, in its row; the bar of a run that ends its actor stands under the box."""
+    lanes = {x: name for name, x in lanes_of(picture).items()}
+    places = {y + lower: place for place, y in heights_of(picture).items() for lower in (0, UNDER_A_BOX)}
+    drawn = [(sort, places.get(y), lanes.get(x)) for sort, x, y in signs_in(picture)]
+    yield from difference("signs", drawn, told.signs_due())
 
 
 def difference(what, drawn, due):
@@ -338,8 +402,12 @@ def words_unsound(picture, _):
 
 def unsound(picture, told):
     """Why a picture isn't the one of this script and report; nothing where it is."""
-    checks = rows_unsound, texts_unsound, lanes_unsound, lines_unsound, legend_unsound, words_unsound
-    return next((why for check in checks for why in check(picture, told)), None)
+    return next((why for check in CHECKS for why in check(picture, told)), None)
+
+
+CHECKS = [
+    rows_unsound, texts_unsound, lanes_unsound, ends_unsound, signs_unsound, lines_unsound, legend_unsound, words_unsound,
+]  # fmt: skip
 
 
 # The check itself is tried.
@@ -373,7 +441,7 @@ def spoilt(picture):
     """Pictures that aren't sound, and what was done to each."""
     for place, element in enumerate(picture):
         (sort, *_), sorts = classes(element), set(classes(element))
-        if sorts & {"arrow", "lost", "of_lane", "event", "left_out", "passing"}:
+        if sorts & {"arrow", "lost", "of_lane", "event", "left_out", "passing", "dot", "box", "bar"}:
             yield f"{sort} {place} left out", without(picture, place)
         if sorts & {"arrow", "lost"}:
             yield f"{sort} {place} moved", with_a_line_moved(picture, place)
