@@ -7,15 +7,12 @@ Without FILE, or where it is `-`, the script is read from the standard input. Th
 output, and notes to the standard error. The status is the program's: 0; 1 for a script fault; 2 for wrong words,
 and for a file that can't be read; 3 for no memory or no thread; 4 where reading or writing failed.
 """
-import os
 import subprocess
 import sys
 
 import program
 
 USAGE = "usage: ./run play|threads [FILE]    (without FILE, or where it is `-`, the standard input)\n"
-# An unproved program ends so where one of the kit's checks stops it, and not with the status of a script fault.
-CHECKED = dict(os.environ, ASAN_OPTIONS="exitcode=70")
 FOR_BOTH = {b"actor", b"submit", b"copy", b"release", b"kill"}
 
 
@@ -45,7 +42,7 @@ def run(tool, mode, script, output=None):
     """Runs the program, and tells what a reader of the report may miss. Its status, and what it wrote to a pipe."""
     command = [program.kept(tool), mode]
     # Where nobody reads on, the program is to say so, and not to be ended by the signal.
-    done = subprocess.run(command, input=script, stdout=output, env=CHECKED, restore_signals=False)
+    done = subprocess.run(command, input=script, stdout=output, restore_signals=False)
     if done.returncode < 0:
         raise program.Stop(f"the program was ended by signal {-done.returncode}", 128 - done.returncode)
     if done.returncode == 0 and mode == "play":
