@@ -29,7 +29,7 @@ from concurrent.futures import ThreadPoolExecutor
 from contextlib import contextmanager
 
 from edits import GATE, MORE, TOP, edits_in, fault_of, strangers
-from trying import Tried, kit, try_crate
+from trying import REFUSED_BY_THE_GATE, Tried, kit, try_crate
 
 PAGE = TOP / "docs/edits.md"
 SHARE = 20
@@ -103,7 +103,7 @@ def gate_faults(lines, wanted):
     told = {found[1]: found[2] for line in lines if (found := OF_THE_GATE.match(line))}
     for name in sorted({*wanted, *told}):
         said = told.get(name, "the gate did not try it")
-        if name not in wanted or not said.startswith("refused, as it must be") or "only because a proof file names" in said:
+        if name not in wanted or not REFUSED_BY_THE_GATE.match(said):
             yield f"{name}: {said}"
 
 

@@ -117,13 +117,15 @@ class Trying(Scratch):
 
 class Gate(unittest.TestCase):
     WANTED = {"low/a.edit", "low/b.edit"}
-    GOOD = [f"rt: must-fail {name}: refused, as it must be: src/few.rt:5:5: .." for name in sorted(WANTED)]
+    GOOD = [f"rt: must-fail low/{name}.edit: refused, as it must be: note: src/few.rt:5:5: it is not proved .." for name in "ab"]
 
     def test_all_refused(self):
         self.assertEqual([*more_edits.gate_faults(self.GOOD, self.WANTED)], [])
 
     def test_what_is_not_refused_is_told(self):
-        ends = ["BAD EDIT: there is no file", "NOT REFUSED: still proved", "refused, as it must be (only because a proof file names ..)"]
+        ends = ["BAD EDIT: there is no file", "NOT REFUSED: still proved"]
+        ends += ["refused, as it must be (only because a proof file names ..)", "refused, as it must be"]
+        ends += ["refused, as it must be: ./proofs/few/Answers.antt:16:5: note: large solution: .."]
         for end in ends:
             said = [self.GOOD[0], f"rt: must-fail low/b.edit: {end}"]
             self.assertEqual(len([*more_edits.gate_faults(said, self.WANTED)]), 1, end)

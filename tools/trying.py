@@ -29,6 +29,8 @@ REFUSED = re.compile(r"(not proved|no proof)\b")
 RESTS = re.compile(r"(is|are) not proved|it waits for")
 UNPROVED = re.compile(r"note: (?:\./)?(src/\S+?):(\d+):\d+: (.*)")
 ERROR = re.compile(r"(?:\./)?(\S+?):(\d+):\d+: error: (.*)")
+# What the gate says of an edit where the prover told an error, and not only that it doesn't cover a function.
+REFUSED_BY_THE_GATE = re.compile(r"refused, as it must be: (note: |\S+: error: )")
 # What a proof says where an edit took away a name of which it speaks, which tells nothing of the contract.
 NAMES = re.compile(r"has no field|is not in scope|has no `|was not admitted")
 
@@ -96,9 +98,8 @@ class Trial:
 
     def try_alone(self, edit):
         """Tries it over the whole crate, as the gate does."""
-        well, said = kit().must_fail(self.crate, str(edit.path), ONE_JOB, self.kept)
-        said = said.partition(": ")[2]
-        return Tried(edit, well and "only because a proof file names" not in said, said)
+        said = kit().must_fail(self.crate, str(edit.path), ONE_JOB, self.kept)[1].partition(": ")[2]
+        return Tried(edit, bool(REFUSED_BY_THE_GATE.match(said)), said)
 
     def try_all(self, edits):
         """Tries each, and yields what came of it."""
