@@ -3,10 +3,11 @@
 
     tools/fuzz.py [--seed N] [--count N] [--program PATH]
 
-A seed gives the same scripts each time. Two in three are valid and go where something can happen, the
+A seed gives the same scripts each time. Without `--seed` there are two: one that stays, and one that changes
+with the commit and is printed. Two scripts in three are valid and go where something can happen, the
 others are damaged. Beside them stand scripts with one word nearly right, a worked script cut after
 each of its bytes, and all worked scripts, whose reports the reading itself must give. Fails also where
-the scripts came too seldom to what they should try.
+the scripts of the first seed came too seldom to what they should try.
 """
 import argparse
 import collections
@@ -19,11 +20,11 @@ import sys
 import tempfile
 
 import reading_of_rules as reading
+import seeds
+from program import TOP, program_of
 
-TOP = pathlib.Path(__file__).resolve().parent.parent
 ROWS = TOP / "crates/ray_actors/rows"
 CUT = ROWS / "one_packet_for_good.actors"
-PROGRAM = TOP / "crates/ray_actors/out/ray_actors"
 
 MOST_SHOWN = 5
 
@@ -390,6 +391,11 @@ def random_script(seed, place):
     return damaged(chance, text) if chance.random() < 1 / 3 else text.encode()
 
 
+def random_scripts(seed, count):
+    """So many scripts of a seed, by name."""
+    return {f"script {place} of seed {seed}": random_script(seed, place) for place in range(count)}
+
+
 EVERY_FORM = """actor a1 counter c1
 actor a2 table c1 c2
 actor a3 list max 1 c1 c2
@@ -518,25 +524,29 @@ def differences(program, scripts):
     return differing
 
 
-def main():
+def chosen_options():
     options = argparse.ArgumentParser(description=__doc__.splitlines()[0])
-    options.add_argument("--seed", type=int, default=1)
-    options.add_argument("--count", type=int, default=600)
-    options.add_argument("--program", type=pathlib.Path, default=PROGRAM)
+    options.add_argument("--seed", type=int, help="this seed alone")
+    options.add_argument("--count", type=int, default=600, help="how many random scripts of each seed")
+    options.add_argument("--program", type=pathlib.Path, help="run this one, and not the one that ./run takes")
     chosen = options.parse_args()
     if chosen.count < 100:
         options.error("fewer than 100 scripts don't come to all that they should try")
-    if not chosen.program.exists():
-        sys.exit(f"fuzz: {chosen.program} is not built: run `rt ci` first")
+    chosen.program = program_of("fuzz", chosen.program)
+    return chosen
+
+
+def main():
+    chosen = chosen_options()
     rows, failures = worked_rows()
-    random_scripts = {f"script {place} of seed {chosen.seed}": random_script(chosen.seed, place) for place in range(chosen.count)}
+    first, *further = [random_scripts(seed, chosen.count) for seed in seeds.chosen(chosen.seed, "fuzz")]
     whole = CUT.read_bytes()
     cuts = {f"{CUT.name} cut after {length} bytes": whole[:length] for length in range(len(whole) + 1)}
-    misses = dict(near_misses())
-    failures += too_seldom(random_scripts.values())
+    scripts = {name: script for part in (first, *further, dict(near_misses()), cuts) for name, script in part.items()}
+    failures += too_seldom(first.values())
     print("".join(f"{failure}\n" for failure in failures), end="")
-    failed = len(failures) + differences(chosen.program.resolve(), random_scripts | misses | cuts)
-    passed = rows + len(FLOORS) + len(random_scripts) + len(misses) + len(cuts) - failed
+    failed = len(failures) + differences(chosen.program, scripts)
+    passed = rows + len(FLOORS) + len(scripts) - failed
     print(f"fuzz: {passed} passed, {failed} failed")
     sys.exit(1 if failed else 0)
 

@@ -27,8 +27,7 @@ import tempfile
 from dataclasses import dataclass
 from typing import Callable
 
-TOP = pathlib.Path(__file__).resolve().parent.parent
-PROGRAM = TOP / "crates/ray_actors/out/ray_actors"
+from program import PROVED, TOP, proved
 
 LONGEST_SCRIPT = 1_048_576
 SHORTEST_EVENT = len("deliver 0\n")
@@ -430,15 +429,14 @@ def chosen_options():
     options.add_argument("--threads", action="store_true", help="runs in threads, in place of plays")
     options.add_argument("--quick", action="store_true", help="the two smallest sizes only")
     options.add_argument("--sizes", help="numbers of events or calls, in place of the usual ones, with commas between them")
-    options.add_argument("--program", type=pathlib.Path, default=PROGRAM)
+    options.add_argument("--program", type=pathlib.Path, default=PROVED)
     chosen = options.parse_args()
     usual = SIZES_IN_THREADS if chosen.threads else SIZES
     chosen.sizes = sorted(int(size) for size in chosen.sizes.split(",")) if chosen.sizes else usual
     chosen.with_largest = chosen.sizes == usual and not chosen.quick
     if chosen.sizes[0] < 100:
         options.error("a script of fewer than 100 events has no room for each shape")
-    if not chosen.program.exists():
-        sys.exit(f"measure: {chosen.program} is not built: run `rt ci` first")
+    chosen.program = proved("measure", chosen.program)
     return chosen
 
 
@@ -450,7 +448,7 @@ def main():
     show_cells(headings)
     show_cells(["---", *["---:"] * (len(headings) - 1)])
     with tempfile.TemporaryDirectory(prefix="measure-") as folder:
-        runner = Runner(folder, chosen.program.resolve())
+        runner = Runner(folder, chosen.program)
         for series in series_of_threads() if chosen.threads else series_of_events():
             more, complaints_of_series = measure_series(runner, series, sizes, chosen.with_largest)
             measured += more

@@ -1,91 +1,204 @@
 #!/usr/bin/env python3
-"""Tries the edits that the gate doesn't: the prover must refuse each crate with each of them.
+"""Tries wrong bodies: the prover must refuse each crate with each of its must-fail edits.
 
-A crate's folder must-fail has what `./test` tries: an edit for each public function, and the wrong
-bodies that the promises rule out. Its folder more-must-fail has further ones, which take an hour or
-two, so this is run by hand where a crate changes:
+A crate's folder must-fail has what the gate, `rt ci`, tries: an edit for each public function, and the
+wrong bodies that the promises rule out. Its folder more-must-fail has further ones, for which the gate
+has no time.
 
-    tools/more_edits.py CRATE..    tries the further edits of these crates; `all` for every crate
-    tools/more_edits.py --check    says, in a second, whether each of them can still be applied
+    tools/more_edits.py --check          says, in a second, whether each edit of both folders can be applied
+    tools/more_edits.py --gate           runs the gate, which tries a share of the further edits, too
+    tools/more_edits.py [--jobs N] --all | CRATE..
+                                         tries all further edits, or those of these crates, over what the
+                                         last checks kept, and writes what came of it into docs/edits.md
 
-A copy of the repository is made for it, with what the last check kept.
+The share is a twentieth, and is drawn by the commit. Its edits lie in must-fail/ while the gate runs. The
+gate must tell of each edit that it was refused; so one that can't be applied, compiled or read is a
+failure, and so is one that is refused for a name alone which a proof speaks of and the edit took away.
 """
+import argparse
+import hashlib
+import math
+import re
 import shutil
+import signal
 import subprocess
 import sys
-import tempfile
-from pathlib import Path
+import textwrap
+import time
+from concurrent.futures import ThreadPoolExecutor
+from contextlib import contextmanager
 
-TOP = Path(__file__).resolve().parent.parent
-GATE = "must-fail"
-MORE = "more-must-fail"
+from edits import GATE, MORE, TOP, edits_in, fault_of, strangers
+from trying import REFUSED_BY_THE_GATE, Tried, kit, try_crate
 
+PAGE = TOP / "docs/edits.md"
+SHARE = 20
+OF_THE_GATE = re.compile(r"(?:rt: )?must-fail (\w+/\S+\.edit): (.*)")
+HEAD = """# Further wrong bodies
 
-def further(crates):
-    """The further edits of these crates, each with its crate."""
-    return [(crate, edit) for crate in crates for edit in sorted((TOP / "crates" / crate / MORE).glob("*.edit"))]
-
-
-def changes(edit):
-    """What the edit changes: the file, what stands there, and what is to stand there."""
-    path, old = None, None
-    for line in edit.read_text().split("\n"):
-        if line.startswith("file: "):
-            path = line.removeprefix("file: ")
-        elif line.startswith("old: "):
-            old = line.removeprefix("old: ")
-        elif line.startswith("new:"):
-            yield path, old, line.removeprefix("new:").removeprefix(" ")
+`tools/more_edits.py` makes this page. It lists the edits of `more-must-fail/`, for which the gate has no time, each with
+the function that it changes. Each run of `./test` tries a twentieth of them, which changes with the commit. The edits of
+`must-fail/` aren't listed: the gate tries them all.
+"""
+COUNTS = re.compile(r"Refused: (\d+) of (\d+)\.")
 
 
-def fault_of(crate, edit):
-    """Why the edit can't be applied, or None."""
-    if (TOP / "crates" / crate / GATE / edit.name).exists():
-        return f"the gate has an edit of this name in {GATE}/"
-    texts, many = {}, 0
-    for path, old, new in changes(edit):
-        file = TOP / "crates" / crate / (path or "")
-        if not path or not old or not file.is_file():
-            return f"there is no file {path}, or nothing is to be replaced"
-        text = texts.get(path) or file.read_text()
-        if text.count(old) != 1:
-            return f"{old!r} stands in {path} {text.count(old)} times, and not once"
-        texts[path] = text.replace(old, new)
-        many += 1
-    return None if many else "it changes nothing"
+def output_of(*command):
+    return subprocess.run(command, cwd=TOP, stdout=subprocess.PIPE, text=True).stdout.strip()
 
 
-def check(edits):
-    """Whether each edit can be applied."""
-    faults = [(crate, edit, fault) for crate, edit in edits if (fault := fault_of(crate, edit))]
-    for crate, edit, fault in faults:
-        print(f"{crate}/{MORE}/{edit.name}: {fault}")
-    print(f"more_edits: {len(edits)} can be applied: {len(faults)} failed")
+# What can be applied.
+
+
+def check():
+    """Whether each edit can be applied, and nothing else lies beside them."""
+    edits = [*edits_in(GATE), *edits_in(MORE)]
+    faults = [f"{edit.name}: {fault}" for edit in edits if (fault := fault_of(edit))]
+    faults += [f"{path.relative_to(TOP)}: no name of an edit" for path in strangers()]
+    for fault in faults:
+        print(fault)
+    print(f"more_edits: {len(edits)} edits looked at: {len(faults)} failed")
     return not faults and bool(edits)
 
 
-def tried(crates):
-    """Tries the edits in a copy of the repository, and says whether all were refused."""
-    with tempfile.TemporaryDirectory(prefix="more-edits-") as room:
-        copy = Path(room) / "copy"
-        shutil.copytree(TOP, copy, symlinks=True)
-        for crate in crates:
-            shutil.rmtree(copy / "crates" / crate / GATE, ignore_errors=True)
-            (copy / "crates" / crate / MORE).rename(copy / "crates" / crate / GATE)
-        return subprocess.run(["rt", "must-fail", *crates], cwd=copy).returncode == 0
+# The gate.
 
 
-def main(words):
-    have = sorted(folder.parent.name for folder in TOP.glob(f"crates/*/{MORE}"))
-    if words == ["--check"]:
-        return check(further(have))
-    crates = have if words == ["all"] else words
-    strange = [crate for crate in crates if crate not in have]
-    if strange or not crates:
-        print(f"usage: tools/more_edits.py --check | all | CRATE.., a CRATE of: {' '.join(have)}", file=sys.stderr)
+def share_of(edits, commit):
+    """A twentieth of the edits, which the commit draws: the least by a sum of both."""
+    rank = lambda edit: hashlib.sha256(f"{commit} {edit.name}".encode()).hexdigest()
+    return sorted(sorted(edits, key=rank)[: math.ceil(len(edits) / SHARE)], key=lambda edit: edit.name)
+
+
+@contextmanager
+def lent(edits):
+    """Has these edits lie in must-fail/ for a while."""
+    lent_to = [edit.folder / GATE / edit.path.name for edit in edits]
+    made = [folder for folder in {path.parent for path in lent_to} if not folder.exists()]
+    signal.signal(signal.SIGTERM, lambda *_: sys.exit(1))
+    try:
+        for edit, path in zip(edits, lent_to):
+            path.parent.mkdir(exist_ok=True)
+            shutil.copyfile(edit.path, path)
+        yield
+    finally:
+        for path in lent_to:
+            path.unlink(missing_ok=True)
+        for folder in made:
+            folder.rmdir()
+
+
+def run_gate():
+    """Runs `rt ci`, shows what it says, and returns its status and its lines."""
+    lines = []
+    with subprocess.Popen(["rt", "ci"], cwd=TOP, stdout=subprocess.PIPE, text=True, errors="replace") as ran:
+        for line in ran.stdout:
+            print(line, end="", flush=True)
+            lines.append(line.rstrip("\n"))
+    return ran.returncode, lines
+
+
+def gate_faults(lines, wanted):
+    """What is wrong with what the gate says of these edits."""
+    told = {found[1]: found[2] for line in lines if (found := OF_THE_GATE.match(line))}
+    for name in sorted({*wanted, *told}):
+        said = told.get(name, "the gate did not try it")
+        if name not in wanted or not REFUSED_BY_THE_GATE.match(said):
+            yield f"{name}: {said}"
+
+
+def gate():
+    """Whether the gate passes, and refuses each edit of its own and of the share."""
+    commit = output_of("git", "rev-parse", "HEAD") or "none"
+    further = edits_in(MORE)
+    share = share_of(further, commit)
+    print(f"more_edits: the gate tries {len(share)} of {len(further)} further edits, by the commit {commit[:12]}:")
+    print("\n".join(f"    {edit.name}" for edit in share), flush=True)
+    wanted = {edit.name for edit in [*edits_in(GATE), *share]}
+    with lent(share):
+        status, lines = run_gate()
+    faults = [*gate_faults(lines, wanted)]
+    for fault in faults:
+        print(f"more_edits: {fault}")
+    print(f"more_edits: {len(wanted)} edits tried by the gate: {len(faults)} failed")
+    return not status and not faults
+
+
+# All further edits, and the page.
+
+
+def try_those_of(crate):
+    edits, found = edits_in(MORE, [crate]), []
+    for each in try_crate(crate, edits):
+        print(f"{each.edit.name}: {'refused' if each.is_refused else 'NOT REFUSED'}: {each.told}", flush=True)
+        found.append(each)
+    missed = {edit.name for edit in edits} - {each.edit.name for each in found}
+    return found + [Tried(edit, False, f"{crate} isn't proved") for edit in edits if edit.name in missed]
+
+
+def section(crate, tried, stamp):
+    """What the page says of a crate."""
+    refused = sum(each.is_refused for each in tried)
+    lines = [f"## {crate}", "", f"{stamp}. Refused: {refused} of {len(tried)}.", ""]
+    return "\n".join([*lines, *sorted(map(row, tried)), ""])
+
+
+def row(tried):
+    places = sorted({f"`{place.name}` in {place.file}" for place in tried.edit.places() or ()})
+    told = " and ".join(places) or "definitions"
+    return f"- {tried.edit.path.stem}: {told}" + ("" if tried.is_refused else ", **not refused**")
+
+
+def write_section(crate, tried):
+    """Writes the section of this crate anew, and keeps those of the others that have further edits."""
+    commit, version = output_of("git", "rev-parse", "--short=12", "HEAD"), output_of("rt", "version")
+    stamp = f"{time.strftime('%Y-%m-%d', time.gmtime())}, commit {commit}, {version}"
+    old = re.split(r"^(?=## )", PAGE.read_text(), flags=re.M)[1:] if PAGE.exists() else []
+    sections = {**{text.split()[1]: text.rstrip("\n") + "\n" for text in old}, crate: section(crate, tried, stamp)}
+    have = sorted({edit.crate for edit in edits_in(MORE)})
+    kept = [sections[crate] for crate in have if crate in sections]
+    PAGE.write_text("\n".join([HEAD, summary(kept, [crate for crate in have if crate not in sections]), *kept]))
+
+
+def summary(sections, missing):
+    """How many edits were refused in all, and of which crates none was tried."""
+    refused, tried = (sum(map(int, counts)) for counts in zip(*(COUNTS.search(text).groups() for text in sections)))
+    untried = f" Not tried yet: those of {', '.join(missing)}." if missing else ""
+    return textwrap.fill(f"In all {refused} of {tried} were refused.{untried}", 119) + "\n"
+
+
+def try_and_write(crates, jobs):
+    """Whether each further edit of these crates is refused."""
+    every = []
+    kit()
+    with ThreadPoolExecutor(jobs) as pool:
+        for crate, tried in zip(crates, pool.map(try_those_of, crates)):
+            write_section(crate, tried)
+            every += tried
+    failed = [each for each in every if not each.is_refused]
+    for each in failed:
+        print(f"more_edits: {each.edit.name}: not refused: {each.told}")
+    print(f"more_edits: {len(every)} edits tried: {len(failed)} failed")
+    return not failed and bool(every)
+
+
+def main():
+    parser = argparse.ArgumentParser(description=__doc__, formatter_class=argparse.RawDescriptionHelpFormatter)
+    parser.add_argument("--check", action="store_true")
+    parser.add_argument("--gate", action="store_true")
+    parser.add_argument("--all", action="store_true")
+    parser.add_argument("--jobs", type=int, default=1)
+    parser.add_argument("crates", nargs="*", metavar="CRATE")
+    given = parser.parse_args()
+    have = sorted({edit.crate for edit in edits_in(MORE)})
+    if given.check + given.gate + given.all + bool(given.crates) != 1 or {*given.crates} - {*have}:
+        parser.error(f"one of --check, --gate, --all and CRATE.., each of: {' '.join(have)}")
+    if not check():
         return False
-    return check(further(crates)) and tried(crates)
+    if given.gate:
+        return gate()
+    return given.check or try_and_write(given.crates or have, given.jobs)
 
 
 if __name__ == "__main__":
-    sys.exit(0 if main(sys.argv[1:]) else 1)
+    sys.exit(0 if main() else 1)

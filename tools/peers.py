@@ -1,7 +1,7 @@
 #!/usr/bin/env python3
 """Measures runs of plans in threads beside other actor systems, which do the same work on the same machine.
 
-    tools/peers.py [--small] [--calls N] [--turns N] [--rounds N] [--program PATH]
+    tools/peers.py [--small] [--may-miss] [--calls N] [--turns N] [--rounds N] [--program PATH]
 
 Callers add 1 to counters, in four styles: each waits for each answer before its next call, or sends all its
 calls and then takes their answers; and each calls one counter, or all in turns. ray_bench, the proved program, is
@@ -14,7 +14,8 @@ all of them left. Its plans are made before, while a peer makes its calls as it 
 the counts after a turn, and fails where a call is missing.
 
 The peers are built into a temporary folder, offline, with what Debian has (erlang-base, libcaf-dev,
-librust-crossbeam-channel-dev). What can't be built is named, and the others are measured. It fails where
+librust-crossbeam-channel-dev). What can't be built is named, and the others are measured. Where none can be built, it
+ends with status 2, as a failure of the machine's set-up; with --may-miss that is no failure. It fails where
 ray_bench or a peer that was built does, or prints no figure. With --small each runs once, with few calls, to see
 that all works. Figures need a machine that does nothing else.
 """
@@ -32,7 +33,8 @@ import sys
 import tempfile
 from dataclasses import dataclass
 
-TOP = pathlib.Path(__file__).resolve().parent.parent
+from program import TOP, proved
+
 PROGRAM = TOP / "crates/ray_bench/out/ray_bench"
 SOURCES = TOP / "tools/peers"
 REGISTRY = "/usr/share/cargo/registry"  # Debian's crates
@@ -50,6 +52,7 @@ TURNS = 3
 ROUNDS = 5
 SMALL_CALLS = 2_000
 MOST_SECONDS = 240
+NO_SETUP = 2  # the status where the machine lacks what the peers are built with
 FIGURE = re.compile(r"^(?:.*, )?(\d+) us\b", re.MULTILINE)
 
 
@@ -219,6 +222,7 @@ def show(rates, contenders, chosen, load_before):
 def chosen_options():
     options = argparse.ArgumentParser(description=__doc__.splitlines()[0])
     options.add_argument("--small", action="store_true", help="one turn of each, with few calls")
+    options.add_argument("--may-miss", action="store_true", help="no failure where no peer can be built")
     options.add_argument("--calls", type=int, default=CALLS, help="calls of each caller")
     options.add_argument("--turns", type=int, default=TURNS, help="turns of each program in a round")
     options.add_argument("--rounds", type=int, default=ROUNDS)
@@ -228,8 +232,7 @@ def chosen_options():
         chosen.calls, chosen.turns, chosen.rounds = SMALL_CALLS, 1, 1
     if min(chosen.calls, chosen.turns, chosen.rounds) < 1:
         options.error("calls, turns and rounds are 1 or more")
-    if not chosen.program.exists():
-        sys.exit(f"peers: {chosen.program} is not built: run `rt ci` first")
+    chosen.program = proved("peers", chosen.program)
     return chosen
 
 
@@ -237,14 +240,16 @@ def main():
     chosen = chosen_options()
     with tempfile.TemporaryDirectory(prefix="peers-") as folder:
         peers, missing = build_peers(folder)
-        contenders = contenders_of(chosen.program.resolve(), peers)
+        contenders = contenders_of(chosen.program, peers)
         load_before = load()
         rates, wrong = measure(contenders, chosen.calls, chosen.turns, chosen.rounds)
         show(rates, contenders, chosen, load_before)
     print("".join(f"Not built: {name}: {failed}\n" for name, failed in missing.items()), end="")
     print("".join(f"{each}\n" for each in wrong), end="")
     print(f"peers: {len(peers)} peers measured, {len(missing)} not built, {len(wrong)} failures")
-    sys.exit(1 if wrong else 0)
+    if not peers:
+        print("peers: ours has nothing beside it, for want of the machine's set-up")
+    sys.exit(1 if wrong else NO_SETUP if not peers and not chosen.may_miss else 0)
 
 
 if __name__ == "__main__":

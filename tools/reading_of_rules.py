@@ -253,6 +253,8 @@ def read_argument(word):
 
 read_caller = read_id("c", 16)
 read_actor = read_id("a", 8)
+read_kind = read_name(KINDS)
+read_method = read_name(METHODS)
 
 
 def read_callers(words):
@@ -276,8 +278,8 @@ def read_arguments(words):
 
 # Each form of line: its first word, the words after it, and for two of them how what may follow is read.
 COMMON_FORMS = {
-    "actor": [read_actor, read_name(KINDS)],
-    "submit": [read_caller, read_actor, read_name(METHODS)],
+    "actor": [read_actor, read_kind],
+    "submit": [read_caller, read_actor, read_method],
     "copy": [read_caller, read_actor],
     "release": [read_caller, read_actor],
     "kill": [read_caller, read_actor],
@@ -318,6 +320,8 @@ def read_words(words, forms=PLAY_FORMS):
 class ScriptFault(Exception):
     def __init__(self, line, name):
         super().__init__(f"line {line}: {name}\n")
+        self.line = line
+        self.name = name
 
 
 @dataclass
@@ -393,14 +397,24 @@ class Call:
 class Caller:
     copies: dict = field(default_factory=dict)  # of each actor whose cast names the caller
     calls: list = field(default_factory=list)
+    by_actor: dict = field(default_factory=dict)  # the same calls, of each actor those to it
+    answered: dict = field(default_factory=dict)  # of each actor how many of these have an answer
     known_dead: set = field(default_factory=set)
 
+    def add(self, call):
+        self.calls.append(call)
+        self.by_actor.setdefault(call.actor, []).append(call)
+
+    def keep(self, call, answer):
+        call.kept = answer
+        self.answered[call.actor] = self.answered.get(call.actor, 0) + 1
+
     def calls_to(self, actor):
-        return [call for call in self.calls if call.actor == actor]
+        return self.by_actor.get(actor, [])
 
     def pending(self, actor):
         """How many of the calls to that actor have no answer, whether they ran or not."""
-        return sum(call.kept is None for call in self.calls_to(actor))
+        return len(self.calls_to(actor)) - self.answered.get(actor, 0)
 
     def settled(self, call):
         """Each argument as its value, or as its future where that is kept as a fault."""
@@ -523,9 +537,9 @@ class World:
         if called.limit is not None and submitter.pending(actor) >= called.limit:
             self.meet_limit()
         call = Call(caller, future, actor, len(submitter.calls_to(actor)), method, arguments)
+        submitter.add(call)
         if actor in submitter.known_dead:
-            call.kept = Fault("ActorDied")
-        submitter.calls.append(call)
+            submitter.keep(call, Fault("ActorDied"))
         return f"future {call.spelled_future()}"
 
     def meet_limit(self):
@@ -634,14 +648,14 @@ class World:
         call = notice.call
         if call.kept is not None:
             return f"late {call.spelled_future()}"
-        call.kept = notice.answer
+        self.callers[call.caller].keep(call, notice.answer)
         return f"kept {call.spelled_future()}"
 
     def collect_death(self, caller, actor):
         caller.known_dead.add(actor)
         still_open = [call for call in caller.calls_to(actor) if call.kept is None]
         for call in still_open:
-            call.kept = Fault("ActorDied")
+            caller.keep(call, Fault("ActorDied"))
         return f"died {len(still_open)}"
 
     # The summary.

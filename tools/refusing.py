@@ -3,7 +3,8 @@ import os
 import pathlib
 import subprocess
 
-TOP = pathlib.Path(__file__).resolve().parent.parent
+from program import TOP
+
 MOST_SECONDS = 60
 HANGS = (None, b"", b"it does not end")
 

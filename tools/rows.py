@@ -13,11 +13,11 @@ import pathlib
 import subprocess
 import sys
 
-TOP = pathlib.Path(__file__).resolve().parent.parent
-OUT = TOP / "crates/ray_actors/out"
+from program import PROVED, TOP, proved
+
 ROWS = TOP / "crates/ray_actors/rows"
 THREAD_ROWS = TOP / "crates/ray_actors/thread_rows"
-PROGRAMS = [OUT / "ray_actors", OUT / "ray_actors.by-rattle"]
+PROGRAMS = [PROVED, PROVED.with_name("ray_actors.by-rattle")]
 LONGEST = 1_048_576
 MOST_COPIES = 65_535
 MOST_ITEMS = 4_096
@@ -124,9 +124,7 @@ def checks_of(program):
 def main():
     passed = failed = 0
     for program in chosen_programs():
-        if not program.exists():
-            sys.exit(f"rows: {program} is not built: run `rt ci` first")
-        for name, got, wanted in checks_of(program):
+        for name, got, wanted in checks_of(proved("rows", program)):
             if got == wanted:
                 passed += 1
                 continue

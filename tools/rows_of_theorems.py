@@ -5,7 +5,7 @@ Each theorem of act_rules that says what a script writes, line by line, must hav
 bytes in crates/ray_actors/rows, with the same report. So what the gate proves of the definitions is
 what the tests and the tools ask of the program. Theorems whose lines are computed (long lines, and
 bytes that don't print) are left to the other scripts. `--list` names the script of each theorem. Ends
-with status 1 where one is missing or differs.
+with status 1 where one is missing or differs, and where a file has no theorem to compare.
 """
 import pathlib
 import re
@@ -62,19 +62,24 @@ def theorem(kind, text, named):
     return tuple(parts) if len(parts) == 2 else None
 
 
+def theorems_of(file, named):
+    """Each theorem of a file that says what a script writes, with its name."""
+    source = (SPECS / f"{file}.antt").read_text()
+    found = THEOREM.findall(source)
+    # A theorem of a form that is not known here would else be passed over.
+    if len(found) != len(USE.findall(source)) - DEFINED.get(file, 0):
+        sys.exit(f"rows_of_theorems: a theorem of {file}.antt is not read")
+    told = [(f"{file}.{top or field}", theorem(kind, text, named)) for top, field, kind, text in found]
+    compared = [each for each in told if each[1] is not None]
+    if not compared:
+        sys.exit(f"rows_of_theorems: no theorem of {file}.antt says what a script writes")
+    return compared
+
+
 def theorems():
-    """Each theorem that says what a script writes, with its name."""
+    """The same of all files."""
     named = reports()
-    for file in FILES:
-        source = (SPECS / f"{file}.antt").read_text()
-        found = THEOREM.findall(source)
-        # A theorem of a form that is not known here would else be passed over.
-        if len(found) != len(USE.findall(source)) - DEFINED.get(file, 0):
-            sys.exit(f"rows_of_theorems: a theorem of {file}.antt is not read")
-        for top, field, kind, text in found:
-            told = theorem(kind, text, named)
-            if told is not None:
-                yield f"{file}.{top or field}", told
+    return [each for file in FILES for each in theorems_of(file, named)]
 
 
 def bytes_of(lines):

@@ -15,9 +15,9 @@ import sys
 import tempfile
 
 import reading_of_rules as reading
-from refusing import HANGS, TOP, Refusing
+from program import PROVED, TOP, proved
+from refusing import HANGS, Refusing
 
-PROGRAM = TOP / "crates/ray_actors/out/ray_actors"
 ROWS = TOP / "crates/ray_actors/rows"
 THREAD_ROWS = TOP / "crates/ray_actors/thread_rows"
 SCRIPTS = ["one_call", "another_caller_passes", "one_packet_for_good", "release_and_retire", "table_script", "fault_late_actor"]
@@ -97,11 +97,8 @@ class Sweep:
 
 def chosen_program():
     options = argparse.ArgumentParser(description=__doc__.splitlines()[0])
-    options.add_argument("--program", type=pathlib.Path, default=PROGRAM)
-    program = options.parse_args().program.resolve()
-    if not program.exists():
-        sys.exit(f"sweep_memory: {program} is not built: run `rt ci` first")
-    return program
+    options.add_argument("--program", type=pathlib.Path, default=PROVED)
+    return proved("sweep_memory", options.parse_args().program)
 
 
 def main():

@@ -3,31 +3,40 @@
 
 Each of the first tests makes calls that may want memory. Where a call is refused it must have
 changed nothing, and it succeeds when it is made again; a world stops at the event, and plays on from
-there. So the test passes; where the test itself is refused while it sets things up, its result is an
-error. An actor or a caller in a thread of its own ends, and has told or heard by then what is due.
-Anything else is a failure, as a run is that doesn't end, and so is a test of which no call is refused.
+there. So the test passes; where the test itself is refused while it sets things up, its result is the
+error that says so, and no other. An actor or a caller in a thread of its own ends, and has told or heard
+by then what is due. Anything else is a failure, as a run is that doesn't end, and so is a test of which
+no call is refused.
 
 Each of the others is a run of callers and actors in threads. It ends, whatever is refused: as if
-nothing were, or the test's result is an error, and always one where a thread is refused. The number
-of requests may vary there, so the sweep goes on until no run that it saw made so many.
+nothing were, or the test's result is want of memory or, since the start of a thread asks for memory, of
+a thread; and always want of a thread where one is refused. The number of requests may vary there, so
+the sweep goes on until no run that it saw made so many.
 
 All is refused from outside, by tools/refuse.c.
 """
+import re
 import sys
 import tempfile
 from itertools import chain
 
-from refusing import HANGS, TOP, Refusing
+from program import TOP
+from refusing import HANGS, Refusing
 
-PARTS = [("tests_of_actors", "inbox"), ("tests_of_owners", "replies"), ("tests_of_owners", "resolver"), ("tests_of_owners", "owner"), ("tests_of_actors", "actor")]
+PARTS = [("tests_of_actors", part) for part in ["inbox", "actor"]]
+PARTS += [("tests_of_owners", part) for part in ["handles", "replies", "resolver", "owner"]]
 TESTS = [(crate, f"{part}::refused_memory_changes_nothing") for crate, part in PARTS]
-ROWS = ["another_caller_passes", "one_packet_for_good", "release_and_retire", "ran_and_yet_died", "terminate_in_turn"]
+ROWS = ["another_caller_passes", "one_packet_for_good", "release_and_retire", "ran_and_yet_died", "terminate_in_turn", "pending_limit"]
 TESTS += [("tests_of_worlds", f"world::{row}") for row in ROWS]
 TESTS += [("tests_of_threads", f"{part}::refused_memory_starves") for part in ["serve", "drive::starved"]]
-RUNS = [("tests_of_runs", f"executor::{run}") for run in ["a_table_and_an_account", "kills::a_kill_once", "terminates::a_terminate_once"]]
+ONCE = ["a_table_and_an_account", "kills::a_kill_once", "terminates::a_terminate_once", "limits::waiting_pushes_once"]
+RUNS = [("tests_of_runs", f"executor::{run}") for run in ONCE]
 PASSED = 0
-ERROR = 101
-NO_THREAD = b"error: NoThread"
+FAILED = 101
+# What a test writes whose result is an error. A failed assertion writes something else, and ends by a signal.
+RESULT = re.compile(rb"error: (.*)\nthe test failed: its result gives status 1\n")
+NO_MEMORY = [b"NoMemory", b"AllocError", b"AllocFailed { .. }"]
+NO_THREAD = [b"NoThread"]
 
 
 def command_of(crate, test):
@@ -42,6 +51,13 @@ def whole_of(refusing, crate, test):
     return whole
 
 
+def is_error(got, errors):
+    """Whether a test's result is one of these errors."""
+    status, _, told = got
+    result = RESULT.fullmatch(told)
+    return status == FAILED and result is not None and result[1] in errors
+
+
 def sweep(refusing, crate, test):
     """How many of a test's requests pass when they are refused, and what is wrong."""
     whole = whole_of(refusing, crate, test)
@@ -51,7 +67,7 @@ def sweep(refusing, crate, test):
     for nth in range(1, requests + 1):
         got = refusing.run(command_of(crate, test), nth)
         refused_calls += got == whole
-        if got != whole and got[0] != ERROR:
+        if got != whole and not is_error(got, NO_MEMORY):
             wrong.append(f"request {nth} of {requests} refused: got {got!r:.600}")
     passed = requests - len(wrong)
     if not refused_calls:
@@ -67,14 +83,14 @@ def refuse_requests(refusing, command, whole):
         nth += 1
         got = refusing.run(command, nth)
         most = max(most, refusing.requests())
-        yield f"request {nth}", got, got == whole or got[0] == ERROR
+        yield f"request {nth}", got, got == whole or is_error(got, NO_MEMORY + NO_THREAD)
 
 
 def refuse_threads(refusing, command, threads):
     """Which thread a run was refused, what came of it, and whether that is well."""
     for nth in range(1, threads + 1):
         got = refusing.run(command, 0, thread=nth)
-        yield f"thread {nth} of {threads}", got, got[0] == ERROR and NO_THREAD in got[2]
+        yield f"thread {nth} of {threads}", got, is_error(got, NO_THREAD)
 
 
 def sweep_run(refusing, crate, test):

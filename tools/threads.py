@@ -3,13 +3,14 @@
 
     tools/threads.py [--seed N] [--count N] [--kills N] [--ends N] [--limits N] [--program PATH]
 
-A seed gives the same scripts each time. Most of them are plans of up to 16 callers and 8 actors, without a
+A seed gives the same scripts each time. Without `--seed` there are two: one that stays, and one that changes with the
+commit and is printed. Most scripts are plans of up to 16 callers and 8 actors, without a
 bad step; some have one, or a fault of the script. The judge (tools/reading_of_rules.py) says whether the rules
 allow the report, and is tried itself: it must allow the worked reports, and refuse every report that was
 tampered with. A run of more than 60 seconds is a failure. So are three things that the rules leave open: an actor
 of which a kill was asked and that retired, an answer of an actor after its death was collected, and a call or a kill that
 came before the answers for which it had to wait, as an argument, by an `await`, or at a limit. Fails also where the
-scripts came too seldom to what they should try. The worked script of a kill is run many times, and the shares of its
+scripts of the first seed came too seldom to what they should try. The worked script of a kill is run many times, and the shares of its
 outcomes are printed. So are those of an end that waits its turn and of a limit on pending calls: but for one, where
 a kill waits at the limit, they must always leave the same.
 """
@@ -26,14 +27,14 @@ import tempfile
 
 import fuzz
 import reading_of_rules as reading
+import seeds
+from program import TOP, program_of
 
-TOP = pathlib.Path(__file__).resolve().parent.parent
 ROWS = TOP / "crates/ray_actors/thread_rows"
 EXAMPLES = TOP / "examples"
 KILL = ROWS / "kill.actors"
 END = ROWS / "terminate_waits_its_turn.actors"
 LIMITS = [ROWS / f"limit_{name}.actors" for name in ["of_one", "and_a_chain_over_two_actors", "before_a_kill"]]
-PROGRAM = TOP / "crates/ray_actors/out/ray_actors"
 
 AT_ONCE = 4
 MOST_SECONDS = 60
@@ -649,9 +650,14 @@ def trial_by_tampering(seed, gots):
 # All checks.
 
 
-def scripts_of(seed, count):
-    """The random scripts, the worked ones, and the examples for threads, by name."""
-    scripts = {f"script {place} of seed {seed}": random_script(seed, place) for place in range(count)}
+def random_scripts(seed, count):
+    """So many scripts of a seed, by name."""
+    return {f"script {place} of seed {seed}": random_script(seed, place) for place in range(count)}
+
+
+def worked_scripts():
+    """The worked scripts, and the examples for threads, by name."""
+    scripts = {}
     for path in [*sorted(ROWS.glob("*.actors")), *sorted(EXAMPLES.glob("*.actors"))]:
         script = path.read_bytes()
         if path.parent == ROWS or is_for_threads(script):
@@ -718,35 +724,37 @@ def tell_trial(checks):
 
 def chosen_options():
     options = argparse.ArgumentParser(description=__doc__.splitlines()[0])
-    options.add_argument("--seed", type=int, default=1)
-    options.add_argument("--count", type=int, default=200, help="how many random scripts")
+    options.add_argument("--seed", type=int, help="this seed alone")
+    options.add_argument("--count", type=int, default=200, help="how many random scripts of each seed")
     options.add_argument("--kills", type=int, default=50, help="how many runs of the worked kill")
     options.add_argument("--ends", type=int, default=200, help="how many runs of the worked end that waits its turn")
     options.add_argument("--limits", type=int, default=200, help="how many runs of each worked limit")
-    options.add_argument("--program", type=pathlib.Path, default=PROGRAM)
+    options.add_argument("--program", type=pathlib.Path, help="run this one, and not the one that ./run takes")
     chosen = options.parse_args()
     if chosen.count < 100:
         options.error("fewer than 100 scripts don't come to all that they should try")
-    if not chosen.program.exists():
-        sys.exit(f"threads: {chosen.program} is not built: run `rt ci` first")
+    chosen.program = program_of("threads", chosen.program)
     return chosen
 
 
 def main():
     chosen = chosen_options()
-    program = chosen.program.resolve()
-    scripts = scripts_of(chosen.seed, chosen.count)
+    program = chosen.program
+    first, *further = seeds.chosen(chosen.seed, "threads")
+    scripts = random_scripts(first, chosen.count) | worked_scripts()
+    more = {name: script for seed in further for name, script in random_scripts(seed, chosen.count).items()}
     right, wrong = judge_scripts(program, scripts)
     seldom = list(too_seldom(right))
     print("".join(f"{failure}\n" for failure in seldom), end="")
-    passed, failed = tell_trial([*trial_by_rows(), *trial_by_schedules(), *trial_by_tampering(chosen.seed, right)])
+    more_right, more_wrong = judge_scripts(program, more)
+    passed, failed = tell_trial([*trial_by_rows(), *trial_by_schedules(), *trial_by_tampering(first, right | more_right)])
     wrong_kills = judge_kills(program, chosen.kills)
     often = {END: chosen.ends} | {path: chosen.limits for path in LIMITS}
     wrong_often = sum(judge_often(program, path, count) for path, count in often.items())
-    passed += len(scripts) - wrong + len(FLOORS) - len(seldom) + chosen.kills - wrong_kills + sum(often.values()) - wrong_often
-    failed += wrong + len(seldom) + wrong_kills + wrong_often
-    print(f"threads: {passed} passed, {failed} failed")
-    sys.exit(1 if failed else 0)
+    passed += len(scripts) + len(more) + len(FLOORS) + chosen.kills + sum(often.values())
+    wrong += more_wrong + len(seldom) + wrong_kills + wrong_often
+    print(f"threads: {passed - wrong} passed, {failed + wrong} failed")
+    sys.exit(1 if failed + wrong else 0)
 
 
 if __name__ == "__main__":

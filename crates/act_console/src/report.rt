@@ -5,7 +5,7 @@ ghost use Rattle.act_types.specs.Texts.{space, actor_text, settled_text};
 ghost use Rattle.act_rules.specs.History.{Casting, opening};
 ghost use Rattle.act_rules.specs.Report.{line, placed, one_to, outcome_line, outcome_lines, future_text, kept_text, item_line, report};
 ghost use Rattle.act_world.specs.Value.{world_seen, stage_seen};
-ghost use Rattle.act_world.specs.Headline.{log_of};
+ghost use Rattle.act_world.specs.Headline.{log_of, IsConsistent};
 ghost use Rattle.act_world.specs.Stands.{Stands, HasRoom};
 ghost use Rattle.act_console.specs.Parts.{item_head, owner_line, owner_lines, standing_text, caller_lines, stage_lines, world_report, AreTold};
 
@@ -320,12 +320,16 @@ pub(crate) fn play_and_report<K: Actor>(
     events: ListOf<Event>,
 ) -> Result<String, NoMemory>
     requires room { HasRoom (length events) (world_seen K.state world.old).exchange }
-    ensures { IfOk result (λ text.
+    ensures report { IfOk result (λ text.
         (casts : List Casting) → Stands casts [] (world_seen K.state world.old) →
         string_bytes text ≡ report (opening casts) events) }
+    // What is reported is consistent: what ran is a front of what was submitted, in order, each once.
+    ensures consistent { OnOk result ((casts : List Casting) → Stands casts [] (world_seen K.state world.old) →
+        IsConsistent casts (world_seen K.state world.new)) }
 {
     let mut text = String::with_capacity(alloc, events.len() * EVENT_BYTES)?;
     play_all(world, events, &mut text)?;
+    world.consistent();
     push_callers(&mut text, world)?;
     push_stages(&mut text, world)?;
     Ok(text)

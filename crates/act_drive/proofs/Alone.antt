@@ -41,6 +41,7 @@ pub unused_alone : (passes : CallerPasses) (a c : ℕ) (mail : MailValue) (contr
 unused_alone passes a c mail control replies post ask posted asked letters kills collects = record {
   collects = ap (λ (t : _). t.line) collects;
   taken = ap (λ (t : _). t.taken) collects;
+  distinct = rw letters (λ i j d lt below. absurd (omega (arith, lt, below)));
   letters = rw letters (All-push (IsFreshSeat (mail ∷ []) c) [] (record { place = 0; pass = post }) (λ k d below. absurd (omega arith)) (one_seat mail c post posted));
   kills = rw kills (one_kill control c ask asked);
   asked = rw kills (All-push (λ (s : Seat (PutterValue Asked ℕ)). s.pass.put ≡ []) [] (record { place = 0; pass = ask }) (λ k d below. absurd (omega arith)) (ap (λ (p : PutterValue Asked ℕ). p.put) asked));
@@ -53,18 +54,24 @@ at_one x d zero below = refl
 at_one x d (suc j) below = absurd (omega (arith, below))
 
 pub unused_pair : (passes : CallerPasses) (c : ℕ) (mail mail2 : MailValue) (control control2 : ControlValue) (replies : RepliesValue) (post post2 : PutterValue Letter Unit) (ask ask2 : PutterValue Asked ℕ) (actors : List ℕ)
-    → post ≡ new_putter mail.line c → post2 ≡ new_putter mail2.line c → ask ≡ new_putter control.line c → ask2 ≡ new_putter control2.line c → control.actor ≢ control2.actor
+    → post ≡ new_putter mail.line c → post2 ≡ new_putter mail2.line c → ask ≡ new_putter control.line c → ask2 ≡ new_putter control2.line c → mail.actor ≢ mail2.actor → control.actor ≢ control2.actor
     → passes.letters.items ≡ record { place = 0; pass = post } ∷ record { place = 1; pass = post2 } ∷ [] → passes.kills.items ≡ record { place = 0; pass = ask } ∷ record { place = 1; pass = ask2 } ∷ [] → passes.collects ≡ new_taker replies.line actors
     → IsUnused (mail ∷ mail2 ∷ []) (control ∷ control2 ∷ []) replies c passes
-unused_pair passes c mail mail2 control control2 replies post post2 ask ask2 actors posted posted2 asked asked2 apart letters kills collects =
+unused_pair passes c mail mail2 control control2 replies post post2 ask ask2 actors posted posted2 asked asked2 mails_apart apart letters kills collects =
     let controls : List ControlValue = control ∷ control2 ∷ [] in
     let one : Seat (PutterValue Asked ℕ) = record { place = 0; pass = ask } in
     let two : Seat (PutterValue Asked ℕ) = record { place = 1; pass = ask2 } in
     let P : Seat (PutterValue Asked ℕ) → Seat (PutterValue Asked ℕ) → Type 0 = λ s t. (d : ControlValue) → (get_or controls s.place d).actor ≢ (get_or controls t.place d).actor in
     let differ : AllPairs P (one ∷ two ∷ []) = all_pairs_push P (one ∷ []) two (λ i j d lt below. absurd (omega (arith, lt, below))) (λ j d below. subst (λ (s : Seat (PutterValue Asked ℕ)). P s two) (sym (at_one one d j below)) (λ d. apart)) in
+    let mails : List MailValue = mail ∷ mail2 ∷ [] in
+    let first : Seat (PutterValue Letter Unit) = record { place = 0; pass = post } in
+    let second : Seat (PutterValue Letter Unit) = record { place = 1; pass = post2 } in
+    let Q : Seat (PutterValue Letter Unit) → Seat (PutterValue Letter Unit) → Type 0 = λ s t. (d : MailValue) → (get_or mails s.place d).actor ≢ (get_or mails t.place d).actor in
+    let distinct : AllPairs Q (first ∷ second ∷ []) = all_pairs_push Q (first ∷ []) second (λ i j d lt below. absurd (omega (arith, lt, below))) (λ j d below. subst (λ (s : Seat (PutterValue Letter Unit)). Q s second) (sym (at_one first d j below)) (λ d. mails_apart)) in
     record {
       collects = ap (λ (t : _). t.line) collects;
       taken = ap (λ (t : _). t.taken) collects;
+      distinct = rw letters distinct;
       letters = rw letters (All-two (IsFreshSeat (mail ∷ mail2 ∷ []) c) (record { place = 0; pass = post }) (record { place = 1; pass = post2 })
           (record { below = omega arith; line = λ d. sym (ap (λ (p : PutterValue Letter Unit). p.line) posted); number = ap (λ (p : PutterValue Letter Unit). p.number) posted; put = ap (λ (p : PutterValue Letter Unit). p.put) posted })
           (record { below = omega arith; line = λ d. sym (ap (λ (p : PutterValue Letter Unit). p.line) posted2); number = ap (λ (p : PutterValue Letter Unit). p.number) posted2; put = ap (λ (p : PutterValue Letter Unit). p.put) posted2 }));

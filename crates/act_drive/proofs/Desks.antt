@@ -30,8 +30,9 @@ use Rattle.act_seats.specs.declared.seat.Seat.{Seat}
 use Rattle.act_drive.specs.declared.desk.CallerLines.{CallerLines}
 use Rattle.act_drive.specs.declared.desk.Desk.{Desk}
 use Rattle.act_drive.specs.declared.desk.CallerPasses.{CallerPasses}
-use Rattle.act_drive.specs.Driven.{actor_of, future_of, futures_in, IsSent, IsHeld, IsPosting, IsSeat, AreKillSeats, IsCalling, Stays, Waits, GoesOn, bare_post, bare_ask, IsIdle, IsKeeping}
+use Rattle.act_drive.specs.Driven.{actor_of, future_of, futures_in, IsSent, IsHeld, IsPosting, IsSeat, AreKillSeats, IsCalling, Stays, Waits, GoesOn, bare_post, bare_ask, IsIdle, IsKeeping, is_note, AreNoted}
 use Rattle.act_drive.proofs.Keeps.{keeps_on, same_returns, keeps_taken, keeps_dropped, keeps_posted}
+use Rattle.act_drive.proofs.Noted.{noted_on, noted_same, noted_posted}
 
 -- ---- the owner goes on
 
@@ -102,9 +103,9 @@ notice_flags : (owner : OwnerValue) (notice : Notice) → length owner.sent ≡ 
 notice_flags owner notice flags = ap (λ (l : List Bool). length l) (notice_sent owner notice) ∙ flags ∙ ap (λ (l : List Submission). length l) (sym (notice_keeps owner notice).1)
 
 -- a caller after a notice
-pub calling_heard : (lines : CallerLines) (old new : Desk) (notice : Notice) → new.owner ≡ after_collect old.owner notice → new.passes.collects ≡ record old.passes.collects { taken = old.passes.collects.taken ++ notice ∷ [] } → new.passes.letters ≡ old.passes.letters → new.passes.kills ≡ old.passes.kills → new.hand ≡ old.hand
+pub calling_heard : (lines : CallerLines) (old new : Desk) (notice : Notice) → new.owner ≡ after_collect old.owner notice → new.passes.collects ≡ record old.passes.collects { taken = old.passes.collects.taken ++ notice ∷ [] } → new.passes.letters ≡ old.passes.letters → new.passes.kills ≡ old.passes.kills → new.hand ≡ old.hand → new.noted ≡ old.noted
     → IsCalling lines old → IsCalling lines new × Waits old new
-calling_heard lines old new notice is collects letters kills hand calling =
+calling_heard lines old new notice is collects letters kills hand flags calling =
     let on = notice_on old.owner notice calling.places in
     let keeps = notice_keeps old.owner notice in
     let taken : new.passes.collects.taken ≡ old.passes.collects.taken ++ notice ∷ [] = ap (λ (t : _). t.taken) collects in (
@@ -124,6 +125,7 @@ calling_heard lines old new notice is collects letters kills hand calling =
             keeps_on lines.mails.now old.owner _ _ _ old.passes.letters.items (option_to_list old.hand) on (same_returns old.owner _ (notice_sent old.owner notice) keeps.2) heard calling.keeps in
             rw (is, taken, letters, hand) kept;
         names = rw (is, keeps.0, kills) calling.names;
+        noted = rw (is, letters) (noted_on old.owner (after_collect old.owner notice) old.passes.letters.items old.noted new.noted on flags calling.noted);
       },
       record {
         stay = record {
@@ -236,9 +238,9 @@ posting_held owner later a put packet on fresh now is =
       marked = subst (λ (l : List ℕ). All (λ k. is_sent later k ≡ true) l) (sym all) (All-push (λ k. is_sent later k ≡ true) (futures_in (put ++ [])) packet.future before.marked now);
     }
 
-pub calling_taken : (lines : CallerLines) (old new : Desk) (k : ℕ) (packet : Packet) → first_ready old.owner ≡ Some k → packet_at old.owner k ≡ Some packet → old.hand ≡ None → new.owner ≡ with_sent old.owner k → new.passes ≡ old.passes → new.hand ≡ Some (Call packet)
+pub calling_taken : (lines : CallerLines) (old new : Desk) (k : ℕ) (packet : Packet) → first_ready old.owner ≡ Some k → packet_at old.owner k ≡ Some packet → old.hand ≡ None → new.owner ≡ with_sent old.owner k → new.passes ≡ old.passes → new.hand ≡ Some (Call packet) → new.noted ≡ old.noted
     → IsCalling lines old → IsCalling lines new
-calling_taken lines old new k packet ready at empty is passes hand calling =
+calling_taken lines old new k packet ready at empty is passes hand flags calling =
     let owner = old.owner in
     let sent : OwnerValue = with_sent owner k in
     let tells = three (is_known_call owner (slice_get owner.calls k)) (is_sent owner k) (is_some (kept_at owner.kept k)) (find_true (is_ready owner) (range_with_len 0 (length owner.calls)) k ready) in
@@ -265,6 +267,7 @@ calling_taken lines old new k packet ready at empty is passes hand calling =
       kills = calling.kills;
       keeps = keeps_taken lines.mails.now owner old.passes.collects.taken old.passes.letters.items k packet at tells.0 (subst (λ (h : Option Letter). IsKeeping lines.mails.now owner old.passes.collects.taken old.passes.letters.items (option_to_list h)) empty calling.keeps);
       names = calling.names;
+      noted = noted_on owner sent old.passes.letters.items old.noted new.noted on flags calling.noted;
     } in
     subst (IsCalling lines) (sym (desk_same new _ _ _ is passes hand)) good
 
@@ -300,8 +303,8 @@ seats_less : (mails : List MailValue) (owner : OwnerValue) (held : List Letter) 
 seats_less mails owner held seats is = All-weaker (IsSeat mails owner held) (IsSeat mails owner []) (λ seat s. record { below = s.below; line = s.line; number = s.number; posting = λ d. posting_less owner _ held seat.pass.put (s.posting d) }) seats is
 
 -- the letter in hand is let go, which need not be posted
-pub calling_dropped : (lines : CallerLines) (old new : Desk) (letter : Letter) → old.hand ≡ Some letter → IsIdle lines.mails.now old.passes.collects.taken old.passes.letters.items (actor_of letter) → new.owner ≡ old.owner → new.passes ≡ old.passes → new.hand ≡ None → IsCalling lines old → IsCalling lines new
-calling_dropped lines old new letter held idle is passes hand calling =
+pub calling_dropped : (lines : CallerLines) (old new : Desk) (letter : Letter) → old.hand ≡ Some letter → IsIdle lines.mails.now old.passes.collects.taken old.passes.letters.items (actor_of letter) → new.owner ≡ old.owner → new.passes ≡ old.passes → new.hand ≡ None → new.noted ≡ old.noted → IsCalling lines old → IsCalling lines new
+calling_dropped lines old new letter held idle is passes hand flags calling =
     let after : Desk = record { owner = old.owner; passes = old.passes; hand = None; noted = new.noted } in
     let good : IsCalling lines after = record {
       places = calling.places;
@@ -313,6 +316,7 @@ calling_dropped lines old new letter held idle is passes hand calling =
       kills = calling.kills;
       keeps = keeps_dropped lines.mails.now old.owner old.passes.collects.taken old.passes.letters.items letter idle (subst (λ (h : Option Letter). IsKeeping lines.mails.now old.owner old.passes.collects.taken old.passes.letters.items (option_to_list h)) held calling.keeps);
       names = calling.names;
+      noted = noted_same old.owner old.passes.letters.items old.noted new.noted flags calling.noted;
     } in
     subst (IsCalling lines) (sym (desk_same new _ _ _ is passes hand)) good
 
@@ -320,8 +324,8 @@ calling_dropped lines old new letter held idle is passes hand calling =
 pub calling_posted : (lines : CallerLines) (old new : Desk) (letter : Letter) (at : ℕ) (seat : Seat (PutterValue Letter Unit)) (pass : PutterValue Letter Unit) → old.hand ≡ Some letter → at < length old.passes.letters.items → seat ≡ get_or old.passes.letters.items at seat
     → ((d : MailValue) → (get_or lines.mails.now seat.place d).actor ≡ actor_of letter) → pass ≡ record seat.pass { put = seat.pass.put ++ letter ∷ [] }
     → new.owner ≡ old.owner → new.passes.letters.items ≡ set old.passes.letters.items at (record { place = seat.place; pass = pass }) → new.passes.kills ≡ old.passes.kills → new.passes.collects ≡ old.passes.collects → new.hand ≡ None
-    → IsCalling lines old → IsCalling lines new
-calling_posted lines old new letter at seat pass hand below here there put is letters kills collects empty calling =
+    → new.noted ≡ (if is_note letter then set old.noted (actor_of letter) true else old.noted) → IsCalling lines old → IsCalling lines new
+calling_posted lines old new letter at seat pass hand below here there put is letters kills collects empty marked calling =
     let owner = old.owner in
     let mails = lines.mails.now in
     let was : IsSeat mails owner (option_to_list old.hand) seat = subst (IsSeat mails owner (option_to_list old.hand)) (sym here) (calling.letters at seat below) in
@@ -339,6 +343,8 @@ calling_posted lines old new letter at seat pass hand below here there put is le
     (All-set (IsSeat mails owner []) old.passes.letters.items at _ one (seats_less mails owner (option_to_list old.hand) old.passes.letters.items calling.letters)) in
     let kept : IsKeeping mails owner old.passes.collects.taken (set old.passes.letters.items at (record { place = seat.place; pass = pass })) [] =
     keeps_posted mails owner old.passes.collects.taken old.passes.letters.items at seat pass letter below here (ap (λ (p : PutterValue Letter Unit). p.put) put) (subst (λ (h : Option Letter). IsKeeping mails owner old.passes.collects.taken old.passes.letters.items (option_to_list h)) hand calling.keeps) in
+    let noted : AreNoted owner (set old.passes.letters.items at (record { place = seat.place; pass = pass })) new.noted =
+    noted_posted owner old.passes.letters.items at seat pass letter old.noted new.noted below here (ap (λ (p : PutterValue Letter Unit). p.put) put) mine marked calling.noted in
     record {
       places = rw is calling.places;
       flags = rw is calling.flags;
@@ -349,4 +355,5 @@ calling_posted lines old new letter at seat pass hand below here there put is le
       kills = rw kills calling.kills;
       keeps = rw (is, collects, letters, empty) kept;
       names = rw (is, kills) calling.names;
+      noted = rw (is, letters) noted;
     }

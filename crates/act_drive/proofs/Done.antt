@@ -1,7 +1,9 @@
 -- A plan that is done, and the opening.
-use Rattle.std.proofs.Common.{◌≡◌, ◌≢◌, ℕ, zero, suc, ◌+◌, ◌-◌, ◌<◌, ◌==◌, ◌⊎◌, Bool, true, false, if◌then◌else◌, ◌||◌, List, [], ◌∷◌, ◌++◌, length, Option, Some, None, is_some, get_or, refl, sym, ◌∙◌, ap, subst, arith, rules, All, AllPairs, Contains, append-nil, option_to_list, inl, inr}
+use Rattle.std.proofs.Common.{◌≡◌, ◌≢◌, ℕ, zero, suc, ◌+◌, ◌-◌, ◌<◌, ◌==◌, ◌⊎◌, Bool, true, false, if◌then◌else◌, ◌||◌, List, [], ◌∷◌, ◌++◌, length, replicate, Option, Some, None, is_some, get_or, refl, sym, ◌∙◌, ap, subst, arith, rules, All, AllPairs, Contains, append-nil, option_to_list, inl, inr}
 use Rattle.std.specs.List.{list_any, list_all}
 use Rattle.std.proofs.lemmas.Bool.{or_right}
+use Rattle.std.proofs.lemmas.Bool.Decides.{leb_tells}
+use Rattle.std.proofs.lemmas.List.{length-replicate, get_or-replicate, get_or_past}
 use Rattle.std.proofs.lemmas.List.Elements.{All-weaker}
 use Rattle.act_types.specs.declared.message.Notice.{Notice}
 use Rattle.act_types.specs.declared.message.Notice.TheVariants.{Death}
@@ -23,10 +25,11 @@ use Rattle.act_seats.specs.declared.seat.Seat.{Seat}
 use Rattle.act_drive.specs.declared.desk.CallerLines.{CallerLines}
 use Rattle.act_drive.specs.declared.desk.Desk.{Desk}
 use Rattle.act_drive.specs.declared.desk.CallerPasses.{CallerPasses}
-use Rattle.act_drive.specs.Driven.{IsSeat, IsPosting, IsCalling, Stays, Waits, Follows, HasAsked, Winds, IsFresh, IsFreshSeat, HasDone, HasDriven, futures_in, last_note, IsKeeping, posted_in, IsIdle, IsDue, actor_of}
+use Rattle.act_drive.specs.Driven.{IsSeat, IsPosting, IsCalling, Stays, Waits, Follows, HasAsked, Winds, IsFresh, IsFreshSeat, HasDone, HasDriven, HasEnded, HasPosted, AreDistinct, futures_in, last_note, IsKeeping, posted_in, IsIdle, IsDue, actor_of}
 use Rattle.act_drive.proofs.Keeps.{keeps_opened}
 use Rattle.act_drive.proofs.Desks.{posting_less}
 use Rattle.act_drive.proofs.PlanSteps.{kills_on}
+use Rattle.act_drive.proofs.Seats.{posted_once, distinct_stays}
 
 -- ---- a plan
 
@@ -83,14 +86,21 @@ done_of lines actors plan one two three winds closed waits calling answered empt
 
 -- ---- the opening
 
+-- no flag is set
+pub unset_flags : (n a : ℕ) → get_or (replicate n false) a false ≡ false
+unset_flags n a = elim (leb_tells (suc a) n) [
+  | inl t ↦ get_or-replicate n a false false t.1
+  | inr f ↦ let long : length (replicate n false) ≡ n = length-replicate n false in get_or_past (replicate n false) a false (omega (arith, f.1, long))
+]
+
 posting_none : (owner : OwnerValue) (a : ℕ) → IsPosting owner a [] []
 posting_none owner a = record { sent = λ k e below. absurd (omega arith); distinct = λ i j e lt below. absurd (omega arith); marked = λ k e below. absurd (omega arith) }
 
 posting_fresh : (owner : OwnerValue) (a : ℕ) (put : List Letter) → put ≡ [] → IsPosting owner a [] put
 posting_fresh owner a put is = subst (λ (l : List Letter). IsPosting owner a [] l) (sym is) (posting_none owner a)
 
-pub fresh_calling : (lines : CallerLines) (owner : OwnerValue) (passes : CallerPasses) (noted : List Bool) → IsFresh lines owner passes → IsCalling lines (record { owner = owner; passes = passes; hand = None; noted = noted })
-fresh_calling lines owner passes noted fresh =
+pub fresh_calling : (lines : CallerLines) (owner : OwnerValue) (passes : CallerPasses) (noted : List Bool) → ((a : ℕ) → get_or noted a false ≡ false) → IsFresh lines owner passes → IsCalling lines (record { owner = owner; passes = passes; hand = None; noted = noted })
+fresh_calling lines owner passes noted unset fresh =
     let actors = actors_in owner.handles in
     record {
       places = rw fresh.owner_is refl;
@@ -106,6 +116,7 @@ fresh_calling lines owner passes noted fresh =
       }) passes.letters.items fresh.unused.letters;
       kills = fresh.unused.kills;
       keeps = rw fresh.unused.taken (subst (λ (o : OwnerValue). IsKeeping lines.mails.now o [] passes.letters.items []) (sym fresh.owner_is) (keeps_opened lines.mails.now owner.limits owner.id actors passes.letters.items));
+      noted = λ a set. absurd (cc (unset a, set));
       names = λ k s below d. subst (λ (l : List Asked). All (λ kill. kill.note ≡ record { caller = owner.id; actor = (get_or lines.controls.now (get_or passes.kills.items k s).place d).actor }) l) (sym (fresh.unused.asked k s below)) (λ i e inside. absurd (omega arith));
     }
 
@@ -116,19 +127,25 @@ fresh_follows lines owner passes noted fresh = record {
   kills = λ k s below d. inl (ap (λ (l : List Asked). length l) (fresh.unused.asked k s below));
 }
 
-pub driven_of : (lines : CallerLines) (plan : List Step) (starved : Bool) (start new : Desk) → IsCalling lines new → Stays start new → (starved ≡ false → HasDone lines (actors_in start.owner.handles) plan new.owner new.passes)
+have_posted : (lines : CallerLines) (desk : Desk) → IsCalling lines desk → All (HasPosted lines.mails.now desk.owner) desk.passes.letters.items
+have_posted lines desk calling k s below d =
+    let posting = (calling.letters k s below).posting d in
+    let less = posting_less desk.owner _ (option_to_list desk.hand) _ posting in (
+      less.sent,
+      subst (λ (l : List Letter). AllPairs (λ one other. one ≢ other) (futures_in l)) (append-nil (get_or desk.passes.letters.items k s).pass.put) less.distinct,
+    )
+
+pub driven_of : (lines : CallerLines) (plan : List Step) (starved : Bool) (start new : Desk) → AreDistinct lines.mails.now start.passes.letters.items → IsCalling lines new → Stays start new → (starved ≡ false → HasDone lines (actors_in start.owner.handles) plan new.owner new.passes)
+    → (starved ≡ true → All (HasEnded lines.controls.now new.owner new.passes) new.passes.kills.items)
     → HasDriven lines start.owner start.passes plan (record { owner = new.owner; starved = starved; passes = new.passes })
-driven_of lines plan starved start new calling stay done = record {
+driven_of lines plan starved start new distinct calling stay done ended = record {
   id = stay.id;
   limits = stay.limits;
   stay = stay.passes;
-  letters = λ k s below d.
-      let posting = (calling.letters k s below).posting d in
-      let less = posting_less new.owner _ (option_to_list new.hand) _ posting in (
-        less.sent,
-        subst (λ (l : List Letter). AllPairs (λ one other. one ≢ other) (futures_in l)) (append-nil (get_or new.passes.letters.items k s).pass.put) less.distinct,
-      );
+  letters = have_posted lines new calling;
+  once = posted_once lines.mails.now new.owner new.passes.letters.items (distinct_stays lines.mails.now start.passes.letters.items new.passes.letters.items stay.passes.letters distinct) (have_posted lines new calling);
   hears = calling.hears;
   names = calling.names;
   done = done;
+  ended = ended;
 }

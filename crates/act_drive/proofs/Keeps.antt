@@ -198,13 +198,21 @@ all_posted mails taken seats later held stays posted apart letter (inl here) = e
 all_posted mails taken seats later held stays posted apart letter (inr (inl dead)) = inr (inl dead)
 all_posted mails taken seats later held stays posted apart letter (inr (inr off)) = inr (inr (apart (actor_of letter) off))
 
+-- a letter more at a seat: what was posted before is, and so is the letter
+pub more_posted : (seats : List (Seat (PutterValue Letter Unit))) (at : ℕ) (seat : Seat (PutterValue Letter Unit)) (pass : PutterValue Letter Unit) (held : Letter) → at < length seats → seat ≡ get_or seats at seat → pass.put ≡ seat.pass.put ++ held ∷ []
+    → ((letter : Letter) → Contains (posted_in seats) letter → Contains (posted_in (set seats at (record { place = seat.place; pass = pass }))) letter) × Contains (posted_in (set seats at (record { place = seat.place; pass = pass }))) held
+more_posted seats at seat pass held below here put =
+    let next : Seat (PutterValue Letter Unit) = record { place = seat.place; pass = pass } in
+    let there : get_or seats at next ≡ seat = get_or_default seats at next seat below ∙ sym here in (
+      λ letter. put_stays seats at next letter
+          (λ has. subst (λ (l : List Letter). Contains l letter) (sym put) (Contains-append_left seat.pass.put (held ∷ []) letter (subst (λ (s : Seat (PutterValue Letter Unit)). Contains s.pass.put letter) there has))),
+      put_here seats at next held below (subst (λ (l : List Letter). Contains l held) (sym put) (Contains-push seat.pass.put held)),
+    )
+
 pub keeps_posted : (mails : List MailValue) (owner : OwnerValue) (taken : List Notice) (seats : List (Seat (PutterValue Letter Unit))) (at : ℕ) (seat : Seat (PutterValue Letter Unit)) (pass : PutterValue Letter Unit) (held : Letter) → at < length seats → seat ≡ get_or seats at seat → pass.put ≡ seat.pass.put ++ held ∷ []
     → IsKeeping mails owner taken seats (held ∷ []) → IsKeeping mails owner taken (set seats at (record { place = seat.place; pass = pass })) []
 keeps_posted mails owner taken seats at seat pass held below here put keeps =
     let next : Seat (PutterValue Letter Unit) = record { place = seat.place; pass = pass } in
-    let there : get_or seats at next ≡ seat = get_or_default seats at next seat below ∙ sym here in
-    let stays : (letter : Letter) → Contains (posted_in seats) letter → Contains (posted_in (set seats at next)) letter = λ letter. put_stays seats at next letter
-    (λ has. subst (λ (l : List Letter). Contains l letter) (sym put) (Contains-append_left seat.pass.put (held ∷ []) letter (subst (λ (s : Seat (PutterValue Letter Unit)). Contains s.pass.put letter) there has))) in
-    let posted : Contains (posted_in (set seats at next)) held = put_here seats at next held below (subst (λ (l : List Letter). Contains l held) (sym put) (Contains-push seat.pass.put held)) in
+    let more = more_posted seats at seat pass held below here put in
     let apart : (a : ℕ) → All (IsApart mails a) seats → All (IsApart mails a) (set seats at next) = λ a all. All-set (IsApart mails a) seats at next (subst (IsApart mails a) (sym here) (all at seat below)) all in
-    record { known = keeps.known; due = λ letter due. all_posted mails taken seats (set seats at next) held stays posted apart letter (keeps.due letter due) }
+    record { known = keeps.known; due = λ letter due. all_posted mails taken seats (set seats at next) held more.0 more.1 apart letter (keeps.due letter due) }

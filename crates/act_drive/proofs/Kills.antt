@@ -23,6 +23,7 @@ use Rattle.act_seats.specs.declared.seat.Seat.{Seat}
 use Rattle.act_drive.specs.declared.desk.CallerLines.{CallerLines}
 use Rattle.act_drive.specs.declared.desk.Desk.{Desk}
 use Rattle.act_drive.specs.Driven.{IsCalling, Stays, Waits, bare_post, bare_ask, FollowsBy, HasAsked, AreAsked, AreKillSeats, IsKillSeat, IsElsewhere, HasNamed}
+use Rattle.act_drive.proofs.Noted.{noted_same}
 use Rattle.act_drive.proofs.PlanSteps.{done_more, kills_more, no_kill, follows_waits}
 
 -- ---- kills
@@ -110,9 +111,9 @@ set_place seats at i seat s pass below here =
 
 -- a caller after a kill is asked
 pub calling_asked : (lines : CallerLines) (old new : Desk) (at : ℕ) (seat : Seat (PutterValue Asked ℕ)) (pass : PutterValue Asked ℕ) → at < length old.passes.kills.items → seat ≡ get_or old.passes.kills.items at seat → pass.line ≡ seat.pass.line
-    → HasNamed lines.controls.now old.owner.id (record { place = seat.place; pass = pass }) → new.owner ≡ old.owner → new.hand ≡ old.hand → new.passes.letters ≡ old.passes.letters → new.passes.collects ≡ old.passes.collects → new.passes.kills.items ≡ set old.passes.kills.items at (record { place = seat.place; pass = pass })
+    → HasNamed lines.controls.now old.owner.id (record { place = seat.place; pass = pass }) → new.owner ≡ old.owner → new.hand ≡ old.hand → new.noted ≡ old.noted → new.passes.letters ≡ old.passes.letters → new.passes.collects ≡ old.passes.collects → new.passes.kills.items ≡ set old.passes.kills.items at (record { place = seat.place; pass = pass })
     → IsCalling lines old → IsCalling lines new
-calling_asked lines old new at seat pass below here line named is hand letters collects kills calling =
+calling_asked lines old new at seat pass below here line named is hand flags letters collects kills calling =
     let seats = old.passes.kills.items in
     let controls = lines.controls.now in
     let next : Seat (PutterValue Asked ℕ) = record { place = seat.place; pass = pass } in
@@ -132,6 +133,7 @@ calling_asked lines old new at seat pass below here line named is hand letters c
       kills = rw kills good;
       keeps = rw (is, hand, letters, collects) calling.keeps;
       names = rw (is, kills) (All-set (HasNamed controls old.owner.id) seats at next named calling.names);
+      noted = rw (is, letters) (noted_same old.owner old.passes.letters.items old.noted new.noted flags calling.noted);
     }
 
 -- a kill more that names the actor of its line

@@ -7,4 +7,6 @@ pub mod Kills
 pub mod Closing
 pub mod Done
 pub mod Keeps
+pub mod Noted
+pub mod Through
 pub mod Seats

@@ -20,6 +20,7 @@ use Rattle.act_drive.specs.declared.desk.CallerLines.{CallerLines}
 use Rattle.act_drive.specs.declared.desk.Desk.{Desk}
 use Rattle.act_drive.specs.Driven.{IsSent, IsSeat, IsPosting, IsCalling, Waits, GoesOn, futures_in, future_of, IsKeeping}
 use Rattle.act_drive.proofs.Keeps.{keeps_noted}
+use Rattle.act_drive.proofs.Noted.{noted_on}
 use Rattle.act_drive.proofs.Desks.{change_on, seats_on, desk_same}
 use Rattle.act_drive.proofs.OwnChanges.{ended_released}
 
@@ -51,9 +52,9 @@ posting_note owner a put note is =
     }
 
 -- the last handle is let go, and its note is in hand
-pub calling_noted : (lines : CallerLines) (old new : Desk) (a : ℕ) (note : ReleaseNote) → new.owner ≡ with_handles old.owner (without_copy a old.owner.handles) → new.passes ≡ old.passes → old.hand ≡ None → new.hand ≡ Some (Note note) → note ≡ release_note old.owner a
+pub calling_noted : (lines : CallerLines) (old new : Desk) (a : ℕ) (note : ReleaseNote) → new.owner ≡ with_handles old.owner (without_copy a old.owner.handles) → new.passes ≡ old.passes → old.hand ≡ None → new.hand ≡ Some (Note note) → new.noted ≡ old.noted → note ≡ release_note old.owner a
     → given_in a old.owner.handles ≡ length (calls_to a old.owner.calls) → copies_held (copies_in a old.owner.handles) ≡ 1 → IsCalling lines old → IsCalling lines new
-calling_noted lines old new a note is passes empty hand told given one calling =
+calling_noted lines old new a note is passes empty hand flags told given one calling =
     let now : OwnerValue = with_handles old.owner (without_copy a old.owner.handles) in
     let on : GoesOn old.owner now = change_on old.owner (Released a) calling.places (ended_released old.owner a) in
     let seats : All (IsSeat lines.mails.now old.owner []) old.passes.letters.items = subst (λ (h : Option Letter). All (IsSeat lines.mails.now old.owner (option_to_list h)) old.passes.letters.items) empty calling.letters in
@@ -71,6 +72,7 @@ calling_noted lines old new a note is passes empty hand told given one calling =
       kills = calling.kills;
       keeps = keeps_noted lines.mails.now old.owner old.passes.collects.taken old.passes.letters.items a note (ap Note last) kept;
       names = calling.names;
+      noted = noted_on old.owner now old.passes.letters.items old.noted new.noted on flags calling.noted;
     } in
     subst (IsCalling lines) (sym (desk_same new _ _ _ is passes hand)) good
 

@@ -22,14 +22,15 @@ use Rattle.act_drive.specs.declared.desk.CallerLines.{CallerLines}
 use Rattle.act_drive.specs.declared.desk.Desk.{Desk}
 use Rattle.act_drive.specs.Driven.{IsCalling, GoesOn, HasNamed}
 use Rattle.act_drive.proofs.Keeps.{Returns, keeps_on}
+use Rattle.act_drive.proofs.Noted.{noted_on}
 use Rattle.act_drive.proofs.Desks.{change_on, held_on, seats_on, desk_same}
 
 -- ---- the owner changes by itself
 
-pub calling_step : (lines : CallerLines) (old new : Desk) (change : Change) → new.owner ≡ after old.owner change → new.passes ≡ old.passes → new.hand ≡ old.hand → notices_in (change ∷ []) ≡ [] → length (after old.owner change).sent ≡ length (after old.owner change).calls
+pub calling_step : (lines : CallerLines) (old new : Desk) (change : Change) → new.owner ≡ after old.owner change → new.passes ≡ old.passes → new.hand ≡ old.hand → new.noted ≡ old.noted → notices_in (change ∷ []) ≡ [] → length (after old.owner change).sent ≡ length (after old.owner change).calls
     → ((b : ℕ) → copies_held (copies_in b old.owner.handles) ≡ 0 → (copies_held (copies_in b (after old.owner change).handles) ≡ 0) × (length (calls_to b (after old.owner change).calls) ≡ length (calls_to b old.owner.calls)))
     → Returns old.owner (after old.owner change) → IsCalling lines old → IsCalling lines new
-calling_step lines old new change is passes hand quiet flags ended back calling =
+calling_step lines old new change is passes hand marks quiet flags ended back calling =
     let now = after old.owner change in
     let on : GoesOn old.owner now = change_on old.owner change calling.places ended in
     let later : Desk = record { owner = now; passes = old.passes; hand = old.hand; noted = new.noted } in
@@ -43,6 +44,7 @@ calling_step lines old new change is passes hand quiet flags ended back calling 
       kills = calling.kills;
       keeps = keeps_on lines.mails.now old.owner now old.passes.collects.taken old.passes.collects.taken old.passes.letters.items (option_to_list old.hand) on back (λ n has. has) calling.keeps;
       names = subst (λ (n : ℕ). All (HasNamed lines.controls.now n) old.passes.kills.items) (sym on.id) calling.names;
+      noted = noted_on old.owner now old.passes.letters.items old.noted new.noted on marks calling.noted;
     } in
     subst (IsCalling lines) (sym (desk_same new _ _ _ is passes hand)) good
 

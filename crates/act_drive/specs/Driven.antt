@@ -1,7 +1,8 @@
 -- What a caller's thread did so far.
-use Rattle.std.specs.Prelude.{◌≡◌, ◌≢◌, ℕ, ◌<◌, ◌≤◌, ◌⊎◌, true, false, List, [], ◌∷◌, ◌++◌, length, map, filter_map, slice_index_or, option_to_list, flat_map, Option, Some, None, is_some, All, AllPairs, Contains}
+use Rattle.std.specs.Prelude.{◌≡◌, ◌≢◌, ℕ, ◌<◌, ◌≤◌, ◌⊎◌, Bool, true, false, List, [], ◌∷◌, ◌++◌, length, map, filter_map, slice_get, slice_index_or, option_to_list, flat_map, Option, Some, None, is_some, All, AllPairs, Contains}
 use Rattle.act_types.specs.declared.message.Notice.{Notice}
 use Rattle.act_types.specs.declared.message.Notice.TheVariants.{Death}
+use Rattle.act_rules.specs.declared.history.Submission.{Submission}
 use Rattle.act_rules.specs.declared.script.Step.{Step}
 use Rattle.act_rules.specs.declared.script.Step.TheVariants.{Kill}
 use Rattle.act_rules.specs.Plans.{planned, holds, done_by, nothing_done, is_refused, kills_to}
@@ -39,6 +40,11 @@ futures_in letters = filter_map future_of letters
 abbrev pub IsSent : OwnerValue → ℕ → Letter → Type 0
 IsSent owner a (Call packet) = (packet_at owner packet.future ≡ Some packet) × (is_known_at owner packet.future ≡ true) × (packet.actor ≡ a)
 IsSent owner a (Note note) = (note ≡ record { caller = owner.id; actor = a; after = length (calls_to a owner.calls) }) × (copies_held (copies_in a owner.handles) ≡ 0)
+
+-- whether a letter is a note
+abbrev pub is_note : Letter → Bool
+is_note (Call packet) = false
+is_note (Note note) = true
 
 -- what is in hand may be sent
 abbrev pub IsHeld : OwnerValue → Option Letter → Type 0
@@ -108,6 +114,15 @@ pub record IsKeeping (mails : List MailValue) (owner : OwnerValue) (collected : 
 abbrev pub HasNamed : List ControlValue → ℕ → Seat (PutterValue Asked ℕ) → Type 0
 HasNamed controls id seat = (d : ControlValue) → All (λ kill. kill.note ≡ record { caller = id; actor = (slice_index_or controls seat.place d).actor }) seat.pass.put
 
+-- the note of an actor's last handle was posted, and none of its handles is held
+pub record IsNoted (owner : OwnerValue) (seats : List (Seat (PutterValue Letter Unit))) (a : ℕ) : Type 0 where
+  pub posted : Contains (posted_in seats) (last_note owner a)
+  pub ended : copies_held (copies_in a owner.handles) ≡ 0
+
+-- the notes are posted of the actors whose flags are set
+abbrev pub AreNoted : OwnerValue → List (Seat (PutterValue Letter Unit)) → List Bool → Type 0
+AreNoted owner seats flags = (a : ℕ) → slice_index_or flags a false ≡ true → IsNoted owner seats a
+
 -- a caller at work: what it keeps comes from the notices collected, and what it posted is its own
 pub record IsCalling (lines : CallerLines) (desk : Desk) : Type 0 where
   pub places : length desk.owner.kept ≡ length desk.owner.calls
@@ -119,6 +134,7 @@ pub record IsCalling (lines : CallerLines) (desk : Desk) : Type 0 where
   pub kills : AreKillSeats lines.controls.now desk.passes.kills.items
   pub keeps : IsKeeping lines.mails.now desk.owner desk.passes.collects.taken desk.passes.letters.items (option_to_list desk.hand)
   pub names : All (HasNamed lines.controls.now desk.owner.id) desk.passes.kills.items
+  pub noted : AreNoted desk.owner desk.passes.letters.items desk.noted
 
 -- a seat without what was put there
 abbrev pub bare_post : Seat (PutterValue Letter Unit) → Seat (PutterValue Letter Unit)
@@ -186,6 +202,10 @@ pub record Winds (old new : Desk) : Type 0 where
   pub heard : (notice : Notice) → Contains old.passes.collects.taken notice → Contains new.passes.collects.taken notice
   pub handles : (a : ℕ) → (is_some (copies_in a new.owner.handles) ≡ is_some (copies_in a old.owner.handles)) × (copies_held (copies_in a new.owner.handles) ≤ copies_held (copies_in a old.owner.handles))
 
+-- no two of these seats are at mail lines of the same actor
+abbrev pub AreDistinct : List MailValue → List (Seat (PutterValue Letter Unit)) → Type 0
+AreDistinct mails seats = AllPairs (λ one other. (d : MailValue) → (slice_index_or mails one.place d).actor ≢ (slice_index_or mails other.place d).actor) seats
+
 -- a pass that posted, or asked, nothing yet
 pub record IsFreshSeat (mails : List MailValue) (id : ℕ) (seat : Seat (PutterValue Letter Unit)) : Type 0 where
   pub below : seat.place < length mails
@@ -198,6 +218,7 @@ pub record IsUnused (mails : List MailValue) (controls : List ControlValue) (rep
   pub collects : passes.collects.line ≡ replies.line
   pub taken : passes.collects.taken ≡ []
   pub letters : All (IsFreshSeat mails id) passes.letters.items
+  pub distinct : AreDistinct mails passes.letters.items
   pub kills : AreKillSeats controls passes.kills.items
   pub asked : All (λ seat. seat.pass.put ≡ []) passes.kills.items
 
@@ -209,6 +230,18 @@ pub record IsFresh (lines : CallerLines) (owner : OwnerValue) (passes : CallerPa
 -- the note of the last handle of an actor among these was posted at a seat, or its death was collected
 abbrev pub HasNote : List ℕ → OwnerValue → CallerPasses → ℕ → Type 0
 HasNote actors owner passes a = Contains actors a → Contains (posted_in passes.letters.items) (last_note owner a) ⊎ Contains passes.collects.taken (Death a)
+
+-- each call of a caller to an actor has an answer
+abbrev pub AreAnswered : OwnerValue → ℕ → Type 0
+AreAnswered owner a = (k : ℕ) (call : Submission) → slice_get owner.calls k ≡ Some call → call.actor ≡ a → is_some (kept_at owner.kept k) ≡ true
+
+-- a caller needs nothing more of an actor: its death was collected, or the note of its last handle was posted and each call to it is answered
+abbrev pub IsThrough : OwnerValue → CallerPasses → ℕ → Type 0
+IsThrough owner passes a = Contains passes.collects.taken (Death a) ⊎ (Contains (posted_in passes.letters.items) (last_note owner a) × AreAnswered owner a)
+
+-- the same of the actor at whose control line a seat is
+abbrev pub HasEnded : List ControlValue → OwnerValue → CallerPasses → Seat (PutterValue Asked ℕ) → Type 0
+HasEnded controls owner passes seat = (d : ControlValue) → IsThrough owner passes (slice_index_or controls seat.place d).actor
 
 -- a plan was done to its end, by a caller of these actors
 pub record HasDone (lines : CallerLines) (actors : List ℕ) (plan : List Step) (owner : OwnerValue) (passes : CallerPasses) : Type 0 where
@@ -222,14 +255,14 @@ pub record HasDone (lines : CallerLines) (actors : List ℕ) (plan : List Step) 
 abbrev pub HasPosted : List MailValue → OwnerValue → Seat (PutterValue Letter Unit) → Type 0
 HasPosted mails owner seat = (d : MailValue) → All (IsSent owner (slice_index_or mails seat.place d).actor) seat.pass.put × AllPairs (λ one other. one ≢ other) (futures_in seat.pass.put)
 
--- no two of these seats are at mail lines of the same actor
-abbrev pub AreDistinct : List MailValue → List (Seat (PutterValue Letter Unit)) → Type 0
-AreDistinct mails seats = AllPairs (λ one other. (d : MailValue) → (slice_index_or mails one.place d).actor ≢ (slice_index_or mails other.place d).actor) seats
-
 -- what was posted among such seats was posted at the one of its actor
 abbrev pub LettersStandAtTheirSeats : Type 0
 LettersStandAtTheirSeats = (mails : List MailValue) (owner : OwnerValue) (seats : List (Seat (PutterValue Letter Unit))) (letter : Letter) → AreDistinct mails seats → All (HasPosted mails owner) seats → Contains (posted_in seats) letter
     → All (λ seat. (d : MailValue) → (slice_index_or mails seat.place d).actor ≡ actor_of letter → Contains seat.pass.put letter) seats
+
+-- no call was posted twice among these seats, be it to one actor or to two
+abbrev pub IsPostedOnce : List (Seat (PutterValue Letter Unit)) → Type 0
+IsPostedOnce seats = AllPairs (λ one other. one ≢ other) (futures_in (posted_in seats))
 
 -- what a caller's thread leaves, of the owner and the passes that it was given and its plan
 pub record HasDriven (lines : CallerLines) (owner : OwnerValue) (before : CallerPasses) (plan : List Step) (driven : Driven) : Type 0 where
@@ -237,6 +270,8 @@ pub record HasDriven (lines : CallerLines) (owner : OwnerValue) (before : Caller
   pub limits : driven.owner.limits ≡ owner.limits
   pub stay : PassesStay before driven.passes
   pub letters : All (HasPosted lines.mails.now driven.owner) driven.passes.letters.items
+  pub once : IsPostedOnce driven.passes.letters.items
   pub hears : Hears driven.owner driven.passes.collects.taken
   pub names : All (HasNamed lines.controls.now driven.owner.id) driven.passes.kills.items
   pub done : driven.starved ≡ false → HasDone lines (actors_in owner.handles) plan driven.owner driven.passes
+  pub ended : driven.starved ≡ true → All (HasEnded lines.controls.now driven.owner driven.passes) driven.passes.kills.items

@@ -1,10 +1,10 @@
 //! One caller: it does the steps of its plan, and sends and collects meanwhile.
 
-ghost use Rattle.std.specs.Prelude.{◌≡◌, ℕ, List, [], None, OnOk, All, false};
+ghost use Rattle.std.specs.Prelude.{◌≡◌, ℕ, List, [], None, OnOk, All, true, false};
 ghost use Rattle.act_rules.specs.Plans.{first_bad};
 ghost use Rattle.act_rules.specs.Submissions.{copies_held};
 ghost use Rattle.act_handles.specs.Handles.{actors_in, copies_in};
-ghost use Rattle.act_drive.specs.Driven.{IsCalling, Follows, Stays, Waits, Winds, IsFresh, HasDone, HasDriven};
+ghost use Rattle.act_drive.specs.Driven.{IsCalling, Follows, Stays, Waits, Winds, IsFresh, HasDone, HasEnded, HasDriven};
 
 use crate::desk::{CallerLines, CallerPasses, Desk, NUMBERS};
 use act_owner::Owner;
@@ -141,6 +141,7 @@ impl Desk {
         ensures stays { Stays self.old self.new }
         ensures done { result ≡ false → (actors : List ℕ) → first_bad actors plan.items ≡ None →
             Follows lines.now actors [] self.old → HasDone lines.now actors plan.items self.new.owner self.new.passes }
+        ensures ended { result ≡ true → All (HasEnded lines.now.controls.now self.new.owner self.new.passes) self.new.passes.kills.items }
     {
         match self.whole(rt, alloc, lines, plan) {
             Ok(()) => false,

@@ -1,9 +1,9 @@
 //! A caller at work.
 
-ghost use Rattle.std.specs.Prelude.{◌≡◌, ◌<◌, length, slice_index_or, All, None, Some, IfSome, IfNone, OnOk, is_some, true};
+ghost use Rattle.std.specs.Prelude.{◌≡◌, ◌<◌, length, slice_index_or, slice_set, if◌then◌else◌, All, None, Some, IfSome, IfNone, OnOk, is_some, true};
 ghost use Rattle.std.specs.List.{list_all};
 ghost use Rattle.act_rules.specs.Submissions.{kept_at};
-ghost use Rattle.act_drive.specs.Driven.{IsCalling, Waits, IsApart, IsAtSeat, actor_of};
+ghost use Rattle.act_drive.specs.Driven.{IsCalling, Waits, IsApart, IsAtSeat, actor_of, is_note};
 ghost use Rattle.act_drive.specs.Parts.{IsHeard};
 
 use act_mailbox::{Control, ControlCaller, Letter, Mail, MailCaller, Replies, ReplyCaller};
@@ -56,7 +56,9 @@ fn actor_of(letter: &Letter) -> ActorId
     }
 }
 
-fn is_note(letter: &Letter) -> bool {
+fn is_note(letter: &Letter) -> bool
+    ensures { result ≡ is_note letter.now }
+{
     match letter {
         Letter::Call(_) => false,
         Letter::Note(_) => true,
@@ -64,7 +66,9 @@ fn is_note(letter: &Letter) -> bool {
 }
 
 /// Marks the actor whose note was posted.
-fn mark(noted: &mut [bool; NUMBERS], actor: ActorId, is_note: bool) {
+fn mark(noted: &mut [bool; NUMBERS], actor: ActorId, is_note: bool)
+    ensures { noted.new ≡ (if is_note then slice_set noted.old actor true else noted.old) }
+{
     if is_note {
         noted[actor.number() as usize] = true;
     }

@@ -1,7 +1,11 @@
 //! A caller that was refused memory: it asks for the end of its actors, and takes no more memory.
 
-ghost use Rattle.std.specs.Prelude.{◌≡◌, ◌<◌, length};
-ghost use Rattle.act_drive.specs.Driven.{IsCalling, IsAtKillSeat, Stays};
+ghost use Rattle.std.specs.Prelude.{◌≡◌, ℕ, ◌<◌, length, slice_index_or, true, All};
+ghost use Rattle.act_mailbox.specs.Passes.{PutterValue};
+ghost use Rattle.act_mailbox.specs.declared.control.Asked.{Asked};
+ghost use Rattle.act_seats.specs.declared.seat.Seat.{Seat};
+ghost use Rattle.act_drive.specs.declared.desk.CallerLines.{CallerLines};
+ghost use Rattle.act_drive.specs.Driven.{IsCalling, IsAtKillSeat, Stays, IsThrough, HasEnded};
 
 use crate::desk::{CallerLines, Desk, NUMBERS, rest};
 use act_seats::Patience;
@@ -11,8 +15,13 @@ use std::sync::Wait;
 impl Desk {
     /// Whether the caller is through with an actor: its death was collected, or its note was posted
     /// and all its calls are answered.
-    fn is_through(&self, a: ActorId) -> bool {
-        self.owner.is_dead(a) || (self.noted[a.number() as usize] && !self.owner.awaits(a))
+    fn is_through(&self, a: ActorId) -> bool
+        ensures { (lines : CallerLines) → IsCalling lines self.now → result ≡ true → IsThrough self.now.owner self.now.passes a }
+    {
+        if self.owner.is_dead(a) {
+            return true;
+        }
+        self.noted[a.number() as usize] && !self.owner.awaits(a)
     }
 
     /// Asks the kill of an actor, if it wasn't asked.
@@ -49,6 +58,9 @@ impl Desk {
         requires below { at < length self.old.passes.kills.items }
         ensures calling { IsCalling lines.now self.new }
         ensures stays { Stays self.old self.new }
+        ensures same { result ≡ true → self.new ≡ self.old }
+        ensures through { result ≡ true →
+            (s : Seat (PutterValue Asked ℕ)) → HasEnded lines.now.controls.now self.old.owner self.old.passes (slice_index_or self.old.passes.kills.items at s) }
     {
         let actor = lines.controls[self.passes.kills[at].place].actor();
         if self.is_through(actor) {
@@ -63,6 +75,7 @@ impl Desk {
         requires calling { IsCalling lines.now self.old }
         ensures calling { IsCalling lines.now self.new }
         ensures stays { Stays self.old self.new }
+        ensures through { result ≡ true → All (HasEnded lines.now.controls.now self.new.owner self.new.passes) self.new.passes.kills.items }
     {
         let mut is_through = true;
         for at in 0..self.passes.kills.len() {
@@ -77,6 +90,7 @@ impl Desk {
         requires calling { IsCalling lines.now self.old }
         ensures calling { IsCalling lines.now self.new }
         ensures stays { Stays self.old self.new }
+        ensures through { All (HasEnded lines.now.controls.now self.new.owner self.new.passes) self.new.passes.kills.items }
     {
         let mut patience = Patience::new();
         let mut asked = [false; NUMBERS];

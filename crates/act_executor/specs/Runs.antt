@@ -28,9 +28,9 @@ IsThreadFault NoThread = Unit {0}
 IsThreadFault NoMemory = Unit {0}
 
 -- why a thread's refusal ends a run
-abbrev pub fault_of : Refusal → RunFault
-fault_of refusal.NoThread = NoThread
-fault_of refusal.NoMemory = NoMemory
+abbrev pub fault_of : {S X : Type 0} → Refusal S X → RunFault
+fault_of (refusal.NoThread stopped) = NoThread
+fault_of (refusal.NoMemory starter) = NoMemory
 
 -- which fault comes: a bad plan's first step that would be refused; a thread is missed only where all plans are good
 abbrev pub IsFault : List Casting → List (ℕ × List Step) → RunFault → Type 0

@@ -1,5 +1,7 @@
 -- What the threads are given, and what they leave.
-use Rattle.std.specs.Prelude.{◌≡◌, ℕ, ◌<◌, List, length, slice_index_or, None}
+use Rattle.std.specs.Prelude.{◌≡◌, ℕ, ◌<◌, ◌≤◌, List, [], ◌∷◌, ◌++◌, length, slice_index_or, None, All, Result, Ok, Err, Vec, vec_len, vec_capacity}
+use Rattle.std.specs.declared.alloc.Global.{Global}
+use Rattle.act_types.specs.declared.message.KillNote.{KillNote}
 use Rattle.act_types.specs.KindState.{KindState}
 use Rattle.act_rules.specs.declared.script.Step.{Step}
 use Rattle.act_rules.specs.Plans.{first_bad}
@@ -10,7 +12,7 @@ use Rattle.act_actor.specs.declared.cast.Cast.{Cast}
 use Rattle.act_mailbox.specs.declared.control.Asked.{Asked}
 use Rattle.act_mailbox.specs.Passes.{PutterValue, new_putter}
 use Rattle.act_mailbox.specs.Mails.{MailValue}
-use Rattle.act_mailbox.specs.Controls.{ControlValue, starter}
+use Rattle.act_mailbox.specs.Controls.{ControlValue, starter, asked}
 use Rattle.act_mailbox.specs.Notices.{RepliesValue}
 use Rattle.act_seats.specs.declared.seat.Seat.{Seat}
 use Rattle.act_serve.specs.declared.seat.ExecPasses.{ExecPasses}
@@ -22,6 +24,9 @@ use Rattle.act_drive.specs.declared.caller.Driven.{Driven}
 use Rattle.act_drive.specs.Driven.{HasDriven, IsFresh as IsFreshCaller}
 use Rattle.act_plans.specs.declared.part.Part.{Part}
 use Rattle.act_lines.specs.declared.opened.Lines.{Lines}
+use Rattle.act_tasks.specs.Each.{Each}
+use Rattle.act_executor.specs.Audits.{SitsAtControl}
+use Rattle.act_executor.specs.declared.starter.Starter.{Starter}
 use Rattle.act_executor.specs.declared.work.Serving.{Serving}
 use Rattle.act_executor.specs.declared.work.Driving.{Driving}
 
@@ -72,3 +77,18 @@ part_start lines given = record { owner = opened_under given.0.limits.items give
 pub record IsUnusedStarter (controls : List ControlValue) (seat : Seat (PutterValue Asked ℕ)) : Type 0 where
   pub below : seat.place < length controls
   pub new : (k : ControlValue) → seat.pass ≡ new_putter (slice_index_or controls seat.place k).line starter
+
+-- a kill more was asked at the line of a pass, of its actor and in the name of the first caller, or the line handed that back
+abbrev pub IsAsked : List ControlValue → Seat (PutterValue Asked ℕ) → Result (Seat (PutterValue Asked ℕ)) KillNote → Type 0
+IsAsked controls seat (Ok after) = (k : ControlValue) → after ≡ record seat { pass = record seat.pass { put = seat.pass.put ++ asked seat.pass.number (record { caller = 1; actor = (slice_index_or controls seat.place k).actor }) ∷ [] } }
+IsAsked controls seat (Err back) = (k : ControlValue) → back ≡ record { caller = 1; actor = (slice_index_or controls seat.place k).actor }
+
+-- the starter may ask for kills: its passes are of the lines at their places, and what comes of them finds room
+pub record CanStop (starter : Starter) : Type 0 where
+  pub sit : All (SitsAtControl starter.controls.now) starter.seats.items
+  pub empty : starter.asked.items ≡ []
+  pub room : vec_len starter.seats ≤ vec_capacity starter.asked
+
+-- it asked for a kill at each line
+abbrev pub HasStopped : Starter → Vec (Result (Seat (PutterValue Asked ℕ)) KillNote) Global → Type 0
+HasStopped starter asked = Each (IsAsked starter.controls.now) starter.seats.items asked.items

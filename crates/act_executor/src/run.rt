@@ -12,13 +12,12 @@ ghost use Rattle.act_plans.specs.Parts.{PlansFit, AreMatched, HasLimits};
 ghost use Rattle.act_plans.specs.Runs.{first_bad_plan};
 ghost use Rattle.act_lines.specs.Opened.{IsExec, IsCaller};
 ghost use Rattle.act_joint.specs.Joined.{IsJoined};
-ghost use Rattle.act_executor.specs.Audits.{SitsAtControl};
 ghost use Rattle.act_executor.specs.Joins.{AreServed, AreDriven, AreStarters};
-ghost use Rattle.act_executor.specs.Work.{IsReady, IsServedBy, CanDrive, IsDrivenBy};
+ghost use Rattle.act_executor.specs.Work.{IsReady, IsServedBy, CanDrive, IsDrivenBy, CanStop};
 ghost use Rattle.act_executor.specs.Runs.{plan_seen, HasRun, IsFault, IsThreadFault, fault_of};
 
 use crate::joined::{Ends, Joined, settle};
-use crate::starter::{Starter, seated};
+use crate::starter::{Starter, starter_at};
 use crate::work::{Driving, Serving, drivings, servings};
 use act_actor::Cast;
 use act_drive::{CallerPasses, Driven};
@@ -98,15 +97,15 @@ impl fmt::Display for RunFault {
 
 impl Error for RunFault {}
 
-impl From<Refusal> for RunFault {
+impl<S: Drop, X: Drop> From<Refusal<S, X>> for RunFault {
     ghost use Rattle.std.specs.Prelude.{◌≡◌};
 
     ghost from_gives = { λ refusal result. result ≡ fault_of refusal };
 
-    fn from(refusal: Refusal) -> RunFault {
+    fn from(refusal: Refusal<S, X>) -> RunFault {
         match refusal {
-            Refusal::NoThread => RunFault::NoThread,
-            Refusal::NoMemory => RunFault::NoMemory,
+            Refusal::NoThread(_) => RunFault::NoThread,
+            Refusal::NoMemory(_) => RunFault::NoMemory,
         }
     }
 }
@@ -129,7 +128,7 @@ fn run_tasks<R: Threads + Wait + Sync, K: Actor + Send, G: Gate>(
 ) -> Result<Ends<K>, RunFault>
     requires servings { All (IsReady K.state) servings.items }
     requires drivings { All CanDrive drivings.items }
-    requires starter { All (SitsAtControl starter.controls.now) starter.seats.items }
+    requires starter { CanStop starter }
     ensures actors { IfOk result (λ ends. Each (IsServedBy K.state) servings.entry.items ends.actors.items) }
     ensures callers { IfOk result (λ ends. Each IsDrivenBy drivings.entry.items ends.callers.items) }
     ensures starters { IfOk result (λ ends. ends.starters.items ≡ starter.entry.seats.items) }
@@ -175,11 +174,7 @@ fn run_threads<R: Threads + Wait + Sync, K: Actor + Send, G: Gate>(
     } = passes;
     let servings = servings(alloc, casts, lines, execs, gate)?;
     let drivings = drivings(alloc, parts, lines, callers)?;
-    let seats = seated(alloc, lines.controls.as_slice(), starters)?;
-    let starter = Starter {
-        controls: lines.controls.as_slice(),
-        seats,
-    };
+    let starter = starter_at(alloc, lines.controls.as_slice(), starters)?;
     let ends = run_tasks(rt, alloc, servings, drivings, starter)?;
     Ok(ends)
 }

@@ -5,7 +5,8 @@ ghost use Rattle.std.specs.List.{range_with_len};
 ghost use Rattle.act_mailbox.specs.Passes.{new_putter};
 ghost use Rattle.act_mailbox.specs.Controls.{starter};
 ghost use Rattle.act_executor.specs.Audits.{SitsAtControl};
-ghost use Rattle.act_executor.specs.Work.{IsUnusedStarter};
+ghost use Rattle.act_executor.specs.Joins.{AreStarters};
+ghost use Rattle.act_executor.specs.Work.{IsUnusedStarter, IsAsked, CanStop, HasStopped};
 
 use act_mailbox::{Control, ControlCaller};
 use act_seats::Seat;
@@ -14,33 +15,52 @@ use act_types::{CallerId, KillNote, NoMemory};
 use std::alloc::Global;
 use std::sync::Wait;
 
-/// The starter's passes on all control lines.
+/// What came of a kill that the starter asked: its pass has it, or the line handed it back. Such a
+/// line is full, and has kills enough.
+pub(crate) type Asking = Result<Seat<ControlCaller>, KillNote>;
+
+/// The starter's passes on all control lines, and room for what comes of its kills.
 #[derive(Drop)]
 pub(crate) struct Starter<'a> {
     pub(crate) controls: &'a [Control],
     pub(crate) seats: Vec<Seat<ControlCaller>>,
+    pub(crate) asked: Vec<Asking>,
 }
 
-/// Asks for a kill, in the name of the first caller. A full line has kills enough.
-fn ask<R: Wait>(rt: &R, controls: &[Control], seat: Seat<ControlCaller>)
+/// Asks for a kill, in the name of the first caller.
+fn ask<R: Wait>(rt: &R, controls: &[Control], seat: Seat<ControlCaller>) -> Asking
     requires { SitsAtControl controls.now seat }
+    ensures { IsAsked controls.now seat result }
 {
     let Seat { place, mut pass } = seat;
     let control = &controls[place];
-    if let Some(caller) = CallerId::new(1) {
-        let actor = control.actor();
-        let _ = control.ask(rt, &mut pass, KillNote { caller, actor });
+    let kill = KillNote {
+        caller: CallerId::new(1).unwrap(),
+        actor: control.actor(),
+    };
+    match control.ask(rt, &mut pass, kill) {
+        Ok(()) => Ok(Seat { place, pass }),
+        Err(back) => Err(back),
     }
 }
 
 impl<'a> Stop for Starter<'a> {
-    ghost can_stop = { λ starter. All (SitsAtControl starter.controls.now) starter.seats.items };
+    type Stopped = Vec<Asking>;
 
-    fn stop<R: Wait>(self, rt: &R) {
-        let Starter { controls, seats } = self;
+    ghost can_stop = { CanStop };
+
+    ghost has_stopped = { HasStopped };
+
+    fn stop<R: Wait>(self, rt: &R) -> Vec<Asking> {
+        let Starter {
+            controls,
+            seats,
+            mut asked,
+        } = self;
         for seat in seats {
-            ask(rt, controls, seat);
+            asked.push_reserved(ask(rt, controls, seat));
         }
+        asked
     }
 }
 
@@ -60,4 +80,24 @@ pub(crate) fn seated(
         seats.push(Seat { place, pass })?;
     }
     Ok(seats)
+}
+
+/// The starter at these lines, with room for what comes of its kills.
+pub(crate) fn starter_at(
+    alloc: Global,
+    controls: &[Control],
+    passes: Vec<ControlCaller>,
+) -> Result<Starter, NoMemory>
+    requires { passes.items ≡ map (λ control. new_putter control.line starter) controls.now }
+    ensures controls { IfOk result (λ it. it.controls.now ≡ controls.now) }
+    ensures starters { IfOk result (λ it. AreStarters controls.now it.seats.items) }
+    ensures ready { IfOk result CanStop }
+{
+    let seats = seated(alloc, controls, passes)?;
+    let asked = Vec::with_capacity(alloc, seats.len())?;
+    Ok(Starter {
+        controls,
+        seats,
+        asked,
+    })
 }

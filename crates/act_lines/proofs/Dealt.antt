@@ -22,7 +22,7 @@ use Rattle.act_serve.specs.declared.seat.ExecPasses.{ExecPasses}
 use Rattle.act_serve.specs.Served.{caller_at, callers_of}
 use Rattle.act_serve.specs.Turns.{IsSeated, SeatsDiffer}
 use Rattle.act_drive.specs.declared.desk.CallerPasses.{CallerPasses}
-use Rattle.act_drive.specs.Driven.{IsFreshSeat, IsKillSeat, AreKillSeats}
+use Rattle.act_drive.specs.Driven.{IsFreshSeat, AreDistinct, IsKillSeat, AreKillSeats}
 use Rattle.act_plans.specs.declared.part.Part.{Part}
 use Rattle.act_plans.specs.Parts.{AreMatched}
 use Rattle.act_lines.specs.declared.opened.Opened.{Opened}
@@ -143,6 +143,19 @@ module _ {K : Type 0} (casts : List (Cast K)) (parts : List Part) (matched : Are
       put = refl;
     })
 
+    mails_apart : CallersDiffer (map (λ (mail : MailValue). mail.actor) mails)
+    mails_apart = subst CallersDiffer (sym actors) (map_apart (λ (cast : Cast K). cast.actor) casts matched.actors_differ)
+
+    letters_apart : (c : ℕ) → AreDistinct mails (letters_of casts mails c)
+    letters_apart c = pairs_weaker (IsFreshSeat mails c) (λ one other. one.place < other.place) (λ one other. (d : MailValue) → (get_or mails one.place d).actor ≢ (get_or mails other.place d).actor)
+        (λ one other is is' below d same.
+        let within = is'.below in
+        let first = is.below in
+        let long = length-map mails (λ (mail : MailValue). mail.actor) in
+        apart_at (map (λ (mail : MailValue). mail.actor) mails) one.place other.place mails_apart below (omega arith) 0 0
+        (get_or-map (λ (mail : MailValue). mail.actor) mails one.place d 0 first ∙ same ∙ sym (get_or-map (λ (mail : MailValue). mail.actor) mails other.place d 0 within)))
+        (letters_of casts mails c) (fresh_letters c) (rising_of new_putter (λ (pass : PutterValue Letter Unit). pass.number) (λ line d. refl) line_of_mail callers_in mails casts matched.callers_differ c)
+
     has_letter : (j c : ℕ) (cast : Cast K) → slice_get casts j ≡ Some cast → contains c cast.callers ≡ true → Contains (map (λ (seat : Seat (PutterValue Letter Unit)). seat.place) (letters_of casts mails c)) j
     has_letter j c cast at named =
         let mail = at_other (λ (mail : MailValue). mail.actor) (λ (cast : Cast K). cast.actor) mails casts actors j cast at in
@@ -247,6 +260,7 @@ module _ {K : Type 0} (casts : List (Cast K)) (parts : List Part) (matched : Are
         collects = sym line.2 ∙ ap line_of_replies (sym (get_or_from_slice_get replies i line.0 r line.1) ∙ ap (λ (k : ℕ). get_or replies k r) (sym place));
         taken = all_at (λ (caller : Seat CallerPasses). caller.pass.collects.taken ≡ []) callers i caller dealt.uncollected there;
         letters = subst (λ (l : List (Seat (PutterValue Letter Unit))). All (IsFreshSeat mails part.caller) l) (sym letters) (fresh_letters casts parts matched mails dealt.lines.mails part.caller);
+        distinct = subst (AreDistinct mails) (sym letters) (letters_apart casts parts matched mails dealt.lines.mails part.caller);
         kills = subst (λ (l : List (Seat (PutterValue Asked ℕ))). AreKillSeats controls l) (sym kills) (kill_seats casts parts matched controls dealt.lines.controls part.caller, kills_apart casts parts matched controls dealt.lines.controls part.caller);
         asked = subst (λ (l : List (Seat (PutterValue Asked ℕ))). All (λ (seat : Seat (PutterValue Asked ℕ)). seat.pass.put ≡ []) l) (sym kills) (unasked casts parts matched controls dealt.lines.controls part.caller);
       }

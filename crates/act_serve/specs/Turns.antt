@@ -1,5 +1,5 @@
 -- What the parts of an actor's turn stand on, and what they leave.
-use Rattle.std.specs.Prelude.{◌≡◌, ◌≢◌, ℕ, ◌+◌, ◌<◌, ◌≤◌, ◌==◌, Bool, true, false, List, [], ◌∷◌, ◌++◌, length, slice_index_or, Some, is_some, All, AllPairs, Contains}
+use Rattle.std.specs.Prelude.{◌≡◌, ◌≢◌, ℕ, ◌+◌, ◌<◌, ◌≤◌, ◌==◌, Bool, true, false, List, [], ◌∷◌, ◌++◌, length, position, slice_index_or, Some, is_some, All, AllPairs, Contains}
 use Rattle.atomic_table.specs.Seated.{TableId}
 use Rattle.act_types.specs.KindState.{KindState}
 use Rattle.act_types.specs.declared.message.Packet.{Packet}
@@ -123,6 +123,10 @@ pub record GoesOn (old new : ActorSeen) : Type 0 where
 abbrev pub HasGone : Bool → List RepliesValue → List (Seat ReplyExecValue) → ActorSeen → ActorSeen → Type 0
 HasGone true lines seats old new = length new.log ≡ length old.log + 1
 HasGone false lines seats old new = (new ≡ old) × All (λ seat. has_next lines old seat ≡ false) seats
+
+-- the call that ran is of the first seat whose caller had one
+abbrev pub RanFirst : List RepliesValue → List (Seat ReplyExecValue) → ActorSeen → ActorSeen → Type 0
+RanFirst lines seats old new = (at : ℕ) × (position (has_next lines old) seats ≡ Some at) × (item : RunItem) × (new.log ≡ old.log ++ item ∷ []) × ((seat : Seat ReplyExecValue) → item.caller ≡ caller_at lines (slice_index_or seats at seat).place)
 
 -- why the actor died, or that it did not terminate and no kill was taken after a look
 abbrev pub HasLooked : Bool → List RunItem → ControlExecValue → ControlExecValue → Type 0

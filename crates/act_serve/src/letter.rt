@@ -10,6 +10,7 @@ ghost use Rattle.act_actor.specs.Seen.{live_seen};
 ghost use Rattle.act_serve.specs.Turns.{IsSeated, SeatsDiffer, HasReplied, GoesOn, IsFed, IsIn, IsServing, HasCome, is_seat_of};
 ghost use Rattle.act_serve.specs.Served.{bare};
 
+use crate::gate::{Passed, pass_gate};
 use crate::seat::ExecLines;
 use crate::turn::give_reply;
 use act_actor::Live;
@@ -73,13 +74,15 @@ fn seat_at_once<K: Actor>(
     }
 }
 
-/// Runs a call at once.
-fn run_now<K: Actor>(live: &mut Live<K>, packet: Packet) -> Result<Reply, NoMemory>
+/// Runs a call at once, for which the gate was passed.
+fn run_now<K: Actor>(live: &mut Live<K>, packet: Packet, passed: Passed) -> Result<Reply, NoMemory>
+    requires passed { passed.place ≡ length (live_seen K.state live.old).log }
     requires at_once { let before = live_seen K.state live.old in RunsAtOnce packet before.id before.log before.inbox }
     ensures ran { IfOk result (λ reply.
         HasReplied packet.caller reply (with_call packet (live_seen K.state live.old)) (live_seen K.state live.new)) }
     ensures err { OnErr result (live_seen K.state live.new ≡ live_seen K.state live.old) }
 {
+    let _ = passed;
     live.run_now(packet)
 }
 
@@ -112,8 +115,8 @@ fn take_call<R: Wait, K: Actor, F: Fn(ActorId, u32)>(
         hold(live, packet)?;
         return Ok(Came::Held);
     };
-    pass(live.id(), live.log().len() as u32);
-    let reply = run_now(live, packet)?;
+    let passed = pass_gate(live, pass);
+    let reply = run_now(live, packet, passed)?;
     give_reply(rt, live, replies, notices, at, reply);
     Ok(Came::Ran)
 }

@@ -1,6 +1,6 @@
 //! One turn of an actor.
 
-ghost use Rattle.std.specs.Prelude.{◌≡◌, ℕ, ◌+◌, ◌<◌, ◌≤◌, false, List, [], ◌∷◌, ◌++◌, length, map, get_or, slice_set, position, is_some, All, IfOk, OnOk, OnErr, IfSome, IsSome, IfNone};
+ghost use Rattle.std.specs.Prelude.{◌≡◌, ℕ, ◌+◌, ◌<◌, ◌≤◌, true, false, List, [], ◌∷◌, ◌++◌, length, map, get_or, slice_set, position, is_some, All, IfOk, OnOk, OnErr, IfSome, IsSome, IfNone};
 ghost use Rattle.act_types.specs.KindState.{KindState};
 ghost use Rattle.act_mailbox.specs.declared.mail.Letter.{Letter};
 ghost use Rattle.act_actor.specs.Actor.{next_call};
@@ -9,11 +9,11 @@ ghost use Rattle.act_rules.specs.Consistent.{IsFront};
 ghost use Rattle.act_types.specs.declared.message.Notice.TheVariants.{Answered};
 ghost use Rattle.act_mailbox.specs.Notices.{ReplyExecValue, actor_of, IsReply, NamesPlace};
 ghost use Rattle.act_seats.specs.declared.seat.Seat.{Seat};
-ghost use Rattle.act_serve.specs.Turns.{IsSeated, SeatsDiffer, PassesOf, HasReplied, GoesOn, IsServing, IsFresh, has_next, HasGone, HasLooked, replied_to, told};
+ghost use Rattle.act_serve.specs.Turns.{IsSeated, SeatsDiffer, PassesOf, HasReplied, GoesOn, IsServing, IsFresh, has_next, HasGone, RanFirst, HasLooked, replied_to, told};
 ghost use Rattle.act_serve.specs.declared.turn.Turn.TheVariants.{Moved, Idle, Starved};
 ghost use Rattle.act_serve.specs.Served.{bare, end_seen, IsUntaken, HasServed};
 
-use crate::gate::Gate;
+use crate::gate::{Gate, Passed, pass_gate};
 use crate::letter::{Came, take_letter};
 use crate::seat::{Ended, ExecLines, ExecPasses, Finished};
 use act_actor::{Dead, Live, RunItem};
@@ -89,8 +89,14 @@ fn next_seat<K: Actor>(
     None
 }
 
-/// Runs the caller's next call, if it came and the actor did not terminate.
-fn run_next<K: Actor>(live: &mut Live<K>, caller: CallerId) -> Result<Option<Reply>, NoMemory>
+/// Runs the caller's next call, for which the gate was passed, if it came and the actor did not
+/// terminate.
+fn run_next<K: Actor>(
+    live: &mut Live<K>,
+    caller: CallerId,
+    passed: Passed,
+) -> Result<Option<Reply>, NoMemory>
+    requires { passed.place ≡ length (live_seen K.state live.old).log }
     ensures ran { IfOk result (λ reply.
         IfSome reply (λ reply. HasReplied caller reply (live_seen K.state live.old) (live_seen K.state live.new))) }
     ensures none { IfOk result (λ reply. IfNone reply (live_seen K.state live.new ≡ live_seen K.state live.old)) }
@@ -99,6 +105,7 @@ fn run_next<K: Actor>(live: &mut Live<K>, caller: CallerId) -> Result<Option<Rep
     ensures last { let before = live_seen K.state live.old in OnErr result (IsSome (next_call before.log before.inbox caller)) }
     ensures err { OnErr result (live_seen K.state live.new ≡ live_seen K.state live.old) }
 {
+    let _ = passed;
     live.run(caller)
 }
 
@@ -118,6 +125,8 @@ fn run_one<R: Wait, K: Actor, F: Fn(ActorId, u32)>(
     ensures on { GoesOn (live_seen K.state live.old) (live_seen K.state live.new) }
     ensures gone { IfOk result (λ ran. HasGone ran replies.now notices.old.items (live_seen K.state live.old)
         (live_seen K.state live.new)) }
+    ensures first { IfOk result (λ ran. ran ≡ true → RanFirst replies.now notices.old.items (live_seen K.state live.old)
+        (live_seen K.state live.new)) }
     ensures err { OnErr result (live_seen K.state live.new ≡ live_seen K.state live.old) }
     ensures serving { (opening : KindState) (callers : List ℕ) (letters : List Letter) →
         IsServing opening callers replies.now letters (live_seen K.state live.old) notices.old.items →
@@ -126,9 +135,9 @@ fn run_one<R: Wait, K: Actor, F: Fn(ActorId, u32)>(
     let Some(at) = next_seat(live, replies, notices.as_slice()) else {
         return Ok(false);
     };
-    pass(live.id(), live.log().len() as u32);
+    let passed = pass_gate(live, pass);
     let place = notices[at].place;
-    match run_next(live, replies[place].caller()) {
+    match run_next(live, replies[place].caller(), passed) {
         Ok(Some(reply)) => {
             give_reply(rt, live, replies, notices, at, reply);
             Ok(true)

@@ -1,11 +1,10 @@
 //! Tasks, each in a thread of its own.
 #![tactic(auto)]
 
-ghost use Rattle.std.specs.Prelude.{◌≡◌, ℕ, ◌+◌, ◌<◌, ◌≤◌, List, [], ◌∷◌, ◌++◌, length, IfOk, IfErr, OnErr, IfSome, vec_len};
-ghost use Rattle.act_tasks.specs.declared.Refusal.TheVariants.{NoMemory};
-ghost use Rattle.act_tasks.specs.Each.{Each, EachReady, Promised};
+ghost use Rattle.std.specs.Prelude.{◌≡◌, ◌≤◌, [], IfOk, IfErr, IfSome, vec_len, vec_capacity};
+ghost use Rattle.act_tasks.specs.Each.{Each, EachReady, Promised, IsRefused};
 
-use std::alloc::{AllocError, Global};
+use std::alloc::Global;
 use std::snapshot::Snapshot;
 use std::sync::Wait;
 use std::thread;
@@ -43,19 +42,27 @@ impl<T: Task> Promise<T::Output> for DoneBy<T> {
 }
 
 /// Why not all tasks were run.
-#[derive(Debug, Clone, Copy, PartialEq, Eq, Drop)]
-pub enum Refusal {
-    NoThread,
-    NoMemory,
+#[derive(Debug, Drop)]
+pub enum Refusal<S, X> {
+    /// A thread could not be started, and this is what the starter did.
+    NoThread(X),
+    /// Memory was refused before any thread or after all of them, so the starter had nothing to do.
+    NoMemory(S),
 }
 
 /// What the starter does where a thread cannot be started. It is used up by that.
 pub trait Stop {
+    type Stopped: Drop;
+
     /// When it may be done.
     ghost can_stop: { Self → Type 0 };
 
-    fn stop<R: Wait>(self, rt: &R)
-        requires { can_stop self };
+    /// What was done then.
+    ghost has_stopped: { Self → Self.Stopped → Type 0 };
+
+    fn stop<R: Wait>(self, rt: &R) -> Self::Stopped
+        requires { can_stop self }
+        ensures { has_stopped self result };
 }
 
 // Starts a task, or drops it where no thread can be made.
@@ -77,31 +84,29 @@ where
     scope.spawn_with(promise, move || task.run(rt)).ok()
 }
 
+// Starts all tasks, for whose handles there is room, or stops where a thread is missed.
 fn start_all<'s, Env, R, T, S>(
     scope: &Scope<'s, Env>,
     rt: &'s R,
-    alloc: Global,
     tasks: Vec<T>,
+    mut handles: Vec<PromisedHandle<T::Output, DoneBy<T>>>,
     stop: S,
-) -> Result<(Vec<PromisedHandle<T::Output, DoneBy<T>>>, S), Refusal>
+) -> Result<(Vec<PromisedHandle<T::Output, DoneBy<T>>>, S), S::Stopped>
 where
     R: Wait + Sync,
     T: Task + Send + Drop + 's,
     T::Output: 's,
     S: Stop + Drop,
     requires ready { EachReady T.ready tasks.items }
+    requires empty { handles.items ≡ [] }
+    requires room { vec_len tasks ≤ vec_capacity handles }
     requires stop { S.can_stop stop }
-    ensures { IfOk result (λ r. Promised tasks.items r.0.items × (r.1 ≡ stop)) }
+    ensures started { IfOk result (λ r. Promised tasks.items r.0.items × (r.1 ≡ stop)) }
+    ensures stopped { IfErr result (S.has_stopped stop) }
 {
-    let mut handles = Vec::new(alloc);
-    if handles.reserve(tasks.len()).is_err() {
-        stop.stop(rt);
-        return Err(Refusal::NoMemory);
-    }
     for task in tasks {
         let Some(handle) = start(scope, rt, task) else {
-            stop.stop(rt);
-            return Err(Refusal::NoThread);
+            return Err(stop.stop(rt));
         };
         handles.push_reserved(handle);
     }
@@ -112,30 +117,27 @@ fn join_all<R, T>(
     rt: &R,
     handles: Vec<PromisedHandle<T::Output, DoneBy<T>>>,
     tasks: Snapshot<Vec<T>>,
-) -> Result<Vec<T::Output>, Refusal>
+) -> Option<Vec<T::Output>>
 where
     R: Threads,
     T: Task,
     requires { Promised tasks.value.items handles.items }
-    ensures done { IfOk result (λ v. Each T.done tasks.value.items v.items) }
-    ensures memory { IfErr result (λ refusal. refusal ≡ NoMemory) }
+    ensures { IfSome result (λ v. Each T.done tasks.value.items v.items) }
 {
     let _ = tasks;
-    match thread::join_promised(rt, handles) {
-        Ok(results) => Ok(results),
-        Err(_) => Err(Refusal::NoMemory),
-    }
+    thread::join_promised(rt, handles).ok()
 }
 
-/// Runs each task in a thread of its own. The first ones are started first. Where a thread cannot be started, `stop` is
-/// called, and all are joined.
+/// Runs each task in a thread of its own. The first ones are started first. Where a thread cannot be
+/// started, `stop` is called, and all are joined. Memory is refused before any thread is started, or
+/// after all were joined, and then `stop` comes back as it was.
 pub fn run_both<R, E, C, S>(
     rt: &R,
     alloc: Global,
     first: Vec<E>,
     second: Vec<C>,
     stop: S,
-) -> Result<(Vec<E::Output>, Vec<C::Output>, S), Refusal>
+) -> Result<(Vec<E::Output>, Vec<C::Output>, S), Refusal<S, S::Stopped>>
 where
     R: Threads + Wait + Sync,
     E: Task + Send + Drop,
@@ -147,22 +149,40 @@ where
     ensures first { IfOk result (λ r. Each E.done first.items r.0.items) }
     ensures second { IfOk result (λ r. Each C.done second.items r.1.items) }
     ensures stop { IfOk result (λ r. r.2 ≡ stop) }
+    ensures refused { IfErr result (IsRefused S.has_stopped stop) }
 {
     thread::scope(
         thread::scope_env(),
         rt,
-        |scope| -> Result<(Vec<E::Output>, Vec<C::Output>, S), Refusal>
+        |scope| -> Result<(Vec<E::Output>, Vec<C::Output>, S), Refusal<S, S::Stopped>>
             requires { EachReady E.ready first.items × EachReady C.ready second.items × S.can_stop stop }
             ensures first { IfOk result (λ r. Each E.done first.items r.0.items) }
             ensures second { IfOk result (λ r. Each C.done second.items r.1.items) }
             ensures stop { IfOk result (λ r. r.2 ≡ stop) }
+            ensures refused { IfErr result (IsRefused S.has_stopped stop) }
         {
             let before = Snapshot::of(&first);
             let after = Snapshot::of(&second);
-            let (first, stop) = start_all(scope, rt, alloc, first, stop)?;
-            let (second, stop) = start_all(scope, rt, alloc, second, stop)?;
-            let first = join_all(rt, first, before)?;
-            let second = join_all(rt, second, after)?;
+            let Ok(handles) = Vec::with_capacity(alloc, first.len()) else {
+                return Err(Refusal::NoMemory(stop));
+            };
+            let Ok(others) = Vec::with_capacity(alloc, second.len()) else {
+                return Err(Refusal::NoMemory(stop));
+            };
+            let (handles, stop) = match start_all(scope, rt, first, handles, stop) {
+                Ok(started) => started,
+                Err(stopped) => return Err(Refusal::NoThread(stopped)),
+            };
+            let (others, stop) = match start_all(scope, rt, second, others, stop) {
+                Ok(started) => started,
+                Err(stopped) => return Err(Refusal::NoThread(stopped)),
+            };
+            let Some(first) = join_all(rt, handles, before) else {
+                return Err(Refusal::NoMemory(stop));
+            };
+            let Some(second) = join_all(rt, others, after) else {
+                return Err(Refusal::NoMemory(stop));
+            };
             Ok((first, second, stop))
         },
     )

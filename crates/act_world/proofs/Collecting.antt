@@ -1,6 +1,6 @@
 -- A notice that its caller collects.
-use Rattle.std.proofs.Common.{◌≡◌, ℕ, ◌<◌, Bool, true, false, cond, List, length, Some, None, refl, ap, sym, ◌∙◌, subst, Ok}
-use Rattle.std.specs.Prelude.{Option, zip, count_by, slice_get, slice_set, position, option_map, option_and_then, is_some}
+use Rattle.std.proofs.Common.{◌≡◌, ◌≢◌, ℕ, ◌<◌, Bool, true, false, cond, List, length, Some, None, refl, ap, sym, ◌∙◌, subst, Ok}
+use Rattle.std.specs.Prelude.{Option, zip, count_by, slice_get, slice_set, position, option_map, option_and_then, is_some, is_none}
 use Rattle.std.proofs.lemmas.List.Quantifiers.{position-Some}
 use Rattle.std.proofs.lemmas.Option.{slice_get-get_or}
 use Rattle.act_types.specs.declared.message.Notice.{Notice}
@@ -10,18 +10,21 @@ use Rattle.act_rules.specs.declared.event.Event.TheVariants.{Collect}
 use Rattle.act_rules.specs.declared.history.RunItem.{RunItem}
 use Rattle.act_rules.specs.declared.history.Post.{Post}
 use Rattle.act_rules.specs.declared.history.Post.TheVariants.{Reply as ReplyPost, Death as DeathPost}
-use Rattle.act_rules.specs.declared.outcome.Did.TheVariants.{Late as DidLate}
+use Rattle.act_rules.specs.declared.outcome.Did.TheVariants.{Kept as DidKeep, Late as DidLate}
 use Rattle.act_rules.specs.RunList.{Answer}
-use Rattle.act_rules.specs.History.{History, is_caller, runs_of, answer_of}
-use Rattle.act_rules.specs.Rules.{outcome_of, after}
+use Rattle.act_rules.specs.declared.outcome.WorldRefusal.TheVariants.{NoReply}
+use Rattle.act_rules.specs.Submissions.{needs, kept_at}
+use Rattle.act_rules.specs.History.{History, is_caller, runs_of, kept_of, answer_of}
+use Rattle.act_rules.specs.Rules.{Outcome, did_reply, did_collect, outcome_by, outcome_of, after}
 use Rattle.act_rules.proofs.Lists.{All_at}
 use Rattle.act_rules.proofs.Posts.{IsSoundPost}
 use Rattle.act_handles.specs.Handles.{copies_in}
 use Rattle.act_owner.specs.declared.owner.Collected.{Collected}
-use Rattle.act_owner.specs.declared.owner.Collected.TheVariants.{Late, Stray, Died}
+use Rattle.act_owner.specs.declared.owner.Collected.TheVariants.{First, Late, Stray, Died}
 use Rattle.act_owner.specs.Owner.{OwnerValue, collected, after_collect, after_reply_that, waits_for, KnowsDeath}
 use Rattle.act_world.specs.declared.exchange.Posted.{Posted}
-use Rattle.act_world.specs.Exchange.{ExchangeValue, is_owner, told_collected}
+use Rattle.act_world.specs.Exchange.{ExchangeValue, is_owner, IsReply, told_collected}
+use Rattle.act_world.specs.Memory.{takes_memory}
 use Rattle.act_world.specs.Value.{SlotSeen}
 use Rattle.act_world.specs.Ties.{reply_as, reply_at, posted, Ties}
 use Rattle.act_world.proofs.Lawful.{IsLawful, IsNamedPost, named_caller}
@@ -118,3 +121,49 @@ collect_owned h exchange slots j notice lawful ties e none =
     let caller : is_caller notice.caller h ≡ true = ap (λ (c : ℕ). is_caller c h) (posted_caller h found.post notice found.is) ∙ post_caller h found.post (All_at (IsNamedPost h) h.posts j found.post lawful.named.posts found.at) in
     let absent : is_caller notice.caller h ≡ false = owner_absent h exchange.owners notice.caller ties.owners none in
     let bad : true ≡ false = sym caller ∙ absent in cc
+
+-- ---- an answer that comes first
+
+-- a reply makes no death known
+no_death_known : (notice : Notice) (owner new : OwnerValue) → IsReply notice → KnowsDeath notice owner new
+no_death_known (Answered reply) owner new is = tt
+no_death_known (Death a) owner new is = absurd is
+
+-- only a late answer is told as late
+told_late : (to c k : ℕ) (what : Collected) → ((k : ℕ) → what ≢ Late k) → told_collected to what ≡ Ok (DidLate c k) → ⊥
+told_late to c k (First n) other e = cc
+told_late to c k (Late n) other e = other n refl
+told_late to c k (Died n) other e = cc
+told_late to c k Stray other e = cc
+
+-- a reply that isn't late takes memory
+pub reply_takes : (h : History) (exchange : ExchangeValue) (slots : List SlotSeen) (j place : ℕ) (notice : Posted) (owner : OwnerValue) → IsLawful h → Ties h (record { exchange = exchange; slots = slots }) → slice_get exchange.replies j ≡ Some notice
+    → SeesOwner exchange notice.caller place owner → IsReply notice.notice → ((k : ℕ) → collected owner notice.notice ≢ Late k) → takes_memory (Collect j) h ≡ true
+reply_takes h exchange slots j place notice owner lawful ties e sees reply other =
+    let found = has_post h exchange slots j notice ties e in
+    by_kind found.post found.at found.is
+  where
+    what : Collected
+    what = collected owner notice.notice
+
+    told : told_collected notice.caller (collected owner notice.notice) ≡ outcome_of h (Collect j)
+    told = (collect_follows h exchange slots j notice lawful ties e place owner (after_collect owner notice.notice) (told_collected notice.caller what) sees refl refl (no_death_known notice.notice owner (after_collect owner notice.notice) reply)).0
+
+    by_item : (c a n : ℕ) (item : RunItem) → slice_get h.posts j ≡ Some (ReplyPost c a n) → slice_get (runs_of a h) n ≡ Some item → (first : Bool) → is_none (kept_at (kept_of c h) item.future) ≡ first → first ≡ true
+    by_item c a n item at ran true is = refl
+    by_item c a n item at ran false is =
+        let accepted : outcome_of h (Collect j) ≡ Ok (did_collect h (slice_get h.posts j)) = ap (λ (o : Option Post). outcome_by h (Collect j) (needs (is_some o) NoReply None)) at in
+        let of_post : ◌≡◌ {A = Outcome} (Ok (did_collect h (slice_get h.posts j))) (Ok (did_reply c h (slice_get (runs_of a h) n))) = ap (λ (o : Option Post). Ok (did_collect h o)) at in
+        let of_item : ◌≡◌ {A = Outcome} (Ok (did_reply c h (slice_get (runs_of a h) n))) (Ok (DidLate c item.future)) =
+        ap (λ (o : Option RunItem). Ok (did_reply c h o)) ran ∙ ap (λ (b : Bool). Ok (cond b (DidKeep c item.future) (DidLate c item.future))) is in
+        let late : outcome_of h (Collect j) ≡ Ok (DidLate c item.future) = accepted ∙ of_post ∙ of_item in
+        absurd (told_late notice.caller c item.future what other (told ∙ late))
+
+    by_kind : (post : Post) → slice_get h.posts j ≡ Some post → posted h post ≡ Some notice → takes_memory (Collect j) h ≡ true
+    by_kind (ReplyPost c a n) at is =
+        let sound = All_at (IsSoundPost h) h.posts j (ReplyPost c a n) lawful.sound.posts.posts at in
+        let first = by_item c a n sound.0 at sound.1 (is_none (kept_at (kept_of c h) sound.0.future)) refl in
+        rw (at, sound.1) first
+    by_kind (DeathPost c a) at is =
+        let same : ◌≡◌ {A = Posted} (record { caller = c; notice = Death a }) notice = cc in
+        absurd (subst (λ (p : Posted). IsReply p.notice) (sym same) reply)

@@ -11,8 +11,8 @@ use Rattle.act_rules.specs.declared.outcome.Arrival.TheVariants.{New, Repeat}
 use Rattle.act_rules.specs.declared.outcome.Did.TheVariants.{Arrived}
 use Rattle.act_rules.specs.declared.outcome.WorldRefusal.TheVariants.{ActorEnded}
 use Rattle.act_rules.specs.Laws.{history}
-use Rattle.act_rules.specs.Submissions.{needs}
-use Rattle.act_rules.specs.History.{History, cast_of, calls_of, is_ended, has_letter}
+use Rattle.act_rules.specs.Submissions.{needs, calls_to}
+use Rattle.act_rules.specs.History.{History, cast_of, names, calls_of, is_ended, has_letter}
 use Rattle.act_rules.specs.Rules.{Outcome, actor_of, deliver_refusal, refusal_of, did, did_deliver, outcome_of, after, and_also, was_sent}
 use Rattle.act_rules.proofs.Letters.{IsSoundLetter}
 use Rattle.act_rules.proofs.Retired.{IsSoundNote}
@@ -25,6 +25,7 @@ use Rattle.act_world.specs.Value.{SlotSeen, Runs, WorldSeen}
 use Rattle.act_world.specs.Slots.{is_live_seen, HasTaken, HasTakenCall, HasNoted, HasArrived, IsNewCall, IsBrought}
 use Rattle.act_world.specs.Ties.{IsOwnerAt, packet_as, note_as, mailed, IsLive, IsStage, Ties}
 use Rattle.act_world.specs.Stands.{Follows, IsUnrefused}
+use Rattle.act_world.specs.Memory.{is_new_call, takes_memory, TakesMemory}
 use Rattle.act_world.proofs.Lawful.{IsLawful, world_lawful, IsNamedLetter}
 use Rattle.act_world.proofs.Frames.{owners_stay}
 use Rattle.act_world.proofs.Making.{made_there}
@@ -134,6 +135,36 @@ deliver_free h world i m slot lawful ties is at on =
     let stage : IsStage h (actor_of here.letter) (Some slot) = subst (IsStage h (actor_of here.letter)) there (ties.actors (actor_of here.letter)) in
     ap (λ (o : Option Letter). deliver_refusal o h) here.at ∙ ap (λ (b : Bool). needs (not b) ActorEnded None) (not_ended h (actor_of here.letter) slot stage on)
 
+not_arrived : (b : Bool) → cond b Repeat New ≡ New → not b ≡ true
+not_arrived true e = cc
+not_arrived false e = refl
+
+-- a letter that the actor takes in as a new call takes memory
+pub deliver_takes : (h : History) (world : WorldSeen) (i : ℕ) (m : Mailed) (slot : SlotSeen) → IsLawful h → Ties h world → slice_get world.exchange.mail i ≡ Some m
+    → slice_get world.slots (mailed_to m) ≡ Some slot → IsNewCall m slot → takes_memory (Deliver i) h ≡ true
+deliver_takes h world i m slot lawful ties is at new =
+    let here = letter_at h world i m lawful ties is in
+    by_letter here.letter here.at here.carries here.sound here.named
+  where
+    by_call : (c a n : ℕ) (call : ℕ × Submission) (slot : SlotSeen) → slice_get h.mail i ≡ Some (CallLetter c a n) → slice_get (calls_to a (calls_of c h)) n ≡ Some call → names c (cast_of a h) ≡ true
+        → slice_get world.slots a ≡ Some slot → IsNewCall (MailedCall (note_as c a n call)) slot → takes_memory (Deliver i) h ≡ true
+    by_call c a n call (Runs live) found made named there new =
+        let lives : IsLive h a live = subst (IsStage h a) there (ties.actors a) in
+        let told : cond (has_letter (CallLetter c a n) h.arrived) Repeat New ≡ New = sym (call_arrival h c a n call live lawful lives named made) ∙ new in
+        ap (λ (o : Option Letter). is_new_call o h) found ∙ not_arrived (has_letter (CallLetter c a n) h.arrived) told
+    by_call c a n call slot found made named there new = absurd new
+
+    by_letter : (letter : Letter) → slice_get h.mail i ≡ Some letter → mailed h letter ≡ Some m → IsSoundLetter h letter → IsNamedLetter h letter → takes_memory (Deliver i) h ≡ true
+    by_letter (CallLetter c a n) found carries sound named =
+        let some : Some (MailedCall (note_as c a n sound.0)) ≡ Some m = rw sound.1 at carries in
+        let same : MailedCall (note_as c a n sound.0) ≡ m = cc in
+        by_call c a n sound.0 slot found sound.1 named
+        (subst (λ (x : Mailed). slice_get world.slots (mailed_to x) ≡ Some slot) (sym same) at)
+        (subst (λ (x : Mailed). IsNewCall x slot) (sym same) new)
+    by_letter (NoteLetter c a n) found carries sound named =
+        let same : MailedNote (record { caller = c; actor = a; after = n }) ≡ m = cc in
+        absurd (subst (λ (x : Mailed). IsNewCall x slot) (sym same) new)
+
 -- ---- the same of what is seen of slots
 
 addressed_cast : (h : History) (world : WorldSeen) (i : ℕ) (m : Mailed) → IsLawful h → Ties h world → slice_get world.exchange.mail i ≡ Some m → cast_of (mailed_to m) h ≡ None → ⊥
@@ -156,6 +187,12 @@ module _ {S : Type 0} (f : S → SlotSeen) (exchange : ExchangeValue) (slots : L
       let h = history casts before in
       let lawful = world_lawful casts before in
       deliver_free h (record { exchange = exchange; slots = map f slots }) i letter (f x) lawful ties (sym at) (at_slot h lawful ties) (takes_lives letter (f x) takes)
+
+  pub new_takes : IsNewCall letter (f x) → TakesMemory (Deliver i) (record { exchange = exchange; slots = map f slots })
+  new_takes takes casts before ties =
+      let h = history casts before in
+      let lawful = world_lawful casts before in
+      deliver_takes h (record { exchange = exchange; slots = map f slots }) i letter (f x) lawful ties (sym at) (at_slot h lawful ties) takes
 
   pub brought_follows : (y : S) (told : Outcome) → IsBrought exchange.owners letter (f x) (f y) told
       → Follows (Deliver i) (record { exchange = exchange; slots = map f slots }) (record { exchange = exchange; slots = map f (slice_set slots a y) }) told

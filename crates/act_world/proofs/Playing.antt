@@ -12,6 +12,7 @@ use Rattle.act_world.specs.Exchange.{ExchangeValue}
 use Rattle.act_world.specs.Value.{SlotSeen, WorldSeen}
 use Rattle.act_world.specs.Ties.{Ties}
 use Rattle.act_world.specs.Stands.{Stands, Follows, FollowsThere, IsUnrefused, IsUnrefusedThere, IsUnrefusedAt, Played}
+use Rattle.act_world.specs.Memory.{TakesMemory, TakesMemoryThere, TakesMemoryAt}
 
 abbrev pub with_slots : ExchangeValue → List SlotSeen → WorldSeen
 with_slots exchange slots = record { exchange = exchange; slots = slots }
@@ -27,6 +28,10 @@ ok_there slots event shown old new (Err e) is follows = tt
 pub last_there : {E : Type 0} (slots : List SlotSeen) (event shown : Event) (old : ExchangeValue) (result : Result Outcome E) → shown ≡ event → OnErr result (IsUnrefusedThere event old) → OnErr result (IsUnrefused shown (with_slots old slots))
 last_there slots event shown old (Ok told) is unrefused = tt
 last_there slots event shown old (Err e) is unrefused = subst (λ (x : Event). IsUnrefused x (with_slots old slots)) (sym is) (unrefused slots)
+
+pub memory_there : {E : Type 0} (slots : List SlotSeen) (event shown : Event) (old : ExchangeValue) (result : Result Outcome E) → shown ≡ event → OnErr result (TakesMemoryThere event old) → OnErr result (TakesMemory shown (with_slots old slots))
+memory_there slots event shown old (Ok told) is takes = tt
+memory_there slots event shown old (Err e) is takes = subst (λ (x : Event). TakesMemory x (with_slots old slots)) (sym is) (takes slots)
 
 -- the world stands after one event more
 pub stands_next : (casts : List Casting) (before : List Event) (event : Event) (world : WorldSeen) → Ties (after (history casts before) event) world → Stands casts (before ++ event ∷ []) world
@@ -61,3 +66,9 @@ pub unrefused_at : (events : List Event) (i : ℕ) (event : Event) (old new : Wo
 unrefused_at events i event old new below is same unrefused =
     subst (λ (world : WorldSeen). IsUnrefusedAt i events world) (sym same)
     (subst (λ (at : Option Event). IfSome at (λ one. IsUnrefused one old)) (sym (slice_get-get_or events i event below ∙ ap Some (sym is))) unrefused)
+
+-- the event that the world stopped at takes memory
+pub memory_at : (events : List Event) (i : ℕ) (event : Event) (old new : WorldSeen) → i < length events → event ≡ get_or events i event → new ≡ old → TakesMemory event old → TakesMemoryAt i events new
+memory_at events i event old new below is same takes =
+    subst (λ (world : WorldSeen). TakesMemoryAt i events world) (sym same)
+    (subst (λ (at : Option Event). IfSome at (λ one. TakesMemory one old)) (sym (slice_get-get_or events i event below ∙ ap Some (sym is))) takes)

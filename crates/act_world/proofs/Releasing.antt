@@ -2,6 +2,7 @@
 use Rattle.std.proofs.Common.{◌≡◌, ◌≢◌, ℕ, ◌+◌, ◌-◌, ◌<◌, Bool, true, false, cond, List, [], ◌∷◌, ◌++◌, length, Some, None, Ok, Err, inl, inr, refl, ap, sym, ◌∙◌, subst, arith, length-append, get_or}
 use Rattle.std.specs.Prelude.{Option, ◌==◌, position, slice_get, slice_set, option_map, option_and_then}
 use Rattle.std.proofs.Math.Bool.{or-false}
+use Rattle.std.proofs.lemmas.Bool.{eq-eqb}
 use Rattle.std.proofs.lemmas.Bool.Decides.{eqb_tells}
 use Rattle.std.proofs.lemmas.List.{get_or-set_same}
 use Rattle.std.proofs.lemmas.List.Quantifiers.{position-Some}
@@ -25,6 +26,7 @@ use Rattle.act_world.specs.declared.exchange.Mailed.TheVariants.{Note as MailedN
 use Rattle.act_world.specs.Exchange.{ExchangeValue, is_owner}
 use Rattle.act_world.specs.Value.{SlotSeen}
 use Rattle.act_world.specs.Ties.{Ties, IsOwnerOf, mailed}
+use Rattle.act_world.specs.Memory.{takes_memory}
 use Rattle.act_world.proofs.Changes.{refused_follows, accepted_follows}
 use Rattle.act_world.proofs.Lawful.{IsLawful, has_letter-last}
 use Rattle.act_world.proofs.Frames.{SameCaller, owners_change, mail_stays, go_together}
@@ -180,3 +182,9 @@ release_refused_follows h old slots c a place refusal owner new ties at owner_is
 pub release_unrefused : (h : History) (old : ExchangeValue) (slots : List SlotSeen) (c a place : ℕ) (owner : OwnerValue) → Ties h (record { exchange = old; slots = slots })
     → position (is_owner c) old.owners ≡ Some place → owner ≡ get_or old.owners place owner → copies_held (copies_in a owner.handles) ≡ 1 → refusal_of h (Release c a) ≡ None
 release_unrefused h old slots c a place owner ties at owner_is one = handle_refused h c a owner None (caller_here h old slots c place owner ties at owner_is) (last_unrefused (copies_in a owner.handles) one)
+
+-- that release takes memory
+pub last_takes : (h : History) (old : ExchangeValue) (slots : List SlotSeen) (c a place : ℕ) (owner : OwnerValue) → Ties h (record { exchange = old; slots = slots })
+    → position (is_owner c) old.owners ≡ Some place → owner ≡ get_or old.owners place owner → copies_held (copies_in a owner.handles) ≡ 1 → takes_memory (Release c a) h ≡ true
+last_takes h old slots c a place owner ties at owner_is one =
+    last_here h c a owner true (caller_here h old slots c place owner ties at owner_is).is (eq-eqb (copies_held (copies_in a owner.handles)) 1 one)

@@ -1,6 +1,6 @@
 -- A call that is run.
-use Rattle.std.proofs.Common.{◌≡◌, ℕ, ◌+◌, ◌<◌, Bool, true, false, cond, List, [], ◌∷◌, ◌++◌, length, map, get_or, Some, None, refl, ap, sym, ◌∙◌, subst, length-append}
-use Rattle.std.specs.Prelude.{Option, Result, Ok, Err, IfSome, find, not, slice_get, slice_set, option_map}
+use Rattle.std.proofs.Common.{◌≡◌, ℕ, ◌+◌, ◌<◌, Bool, true, false, List, [], ◌∷◌, ◌++◌, length, map, get_or, Some, None, refl, ap, sym, ◌∙◌, subst, length-append}
+use Rattle.std.specs.Prelude.{Option, Result, Ok, Err, IfSome, IsSome, find, not, slice_get, slice_set, option_map, is_some}
 use Rattle.std.proofs.lemmas.Option.{get_or_from_slice_get}
 use Rattle.std.proofs.lemmas.List.{map-set}
 use Rattle.act_types.specs.declared.message.Packet.{Packet}
@@ -23,17 +23,18 @@ use Rattle.act_actor.specs.Actor.{item_of, reply_to, next_call, HasRun}
 use Rattle.act_world.specs.declared.exchange.Posted.{Posted}
 use Rattle.act_world.specs.Exchange.{ExchangeValue, is_owner, naming_refusal}
 use Rattle.act_world.specs.Value.{SlotSeen, Runs, Vacant, WorldSeen}
-use Rattle.act_world.specs.Slots.{is_live_seen, died, buried, HasRunNext, IsRun, IsRunAt}
+use Rattle.act_world.specs.Slots.{is_live_seen, has_next_seen, buried, HasRunNext, IsRun, IsRunAt}
 use Rattle.act_world.specs.Ties.{posted, IsLive, IsStage, Ties}
 use Rattle.act_world.specs.Stands.{Follows, IsUnrefused}
+use Rattle.act_world.specs.Memory.{TakesMemory}
 use Rattle.act_world.proofs.Lawful.{IsLawful, world_lawful}
-use Rattle.act_world.proofs.Frames.{same_caller, owners_stay, mail_stays, replies_stay, go_together, still_lives, stage_stays, dead_same}
+use Rattle.act_world.proofs.Frames.{same_caller, owners_stay, mail_stays, replies_stay, go_together, stage_stays, dead_same}
 use Rattle.act_world.proofs.Seeing.{refused, known}
 use Rattle.act_world.proofs.Changes.{refused_follows, accepted_follows, stages_change, has_ended, not_ended, named_cast, slot_within}
 use Rattle.act_world.proofs.NextCall.{next_is, item_is}
 use Rattle.act_world.proofs.RanOn.{ran_on, runs_other, slot_ran}
 use Rattle.act_world.proofs.Replying.{reply_posted}
-use Rattle.act_world.proofs.Lists.{get_set-same, set-same}
+use Rattle.act_world.proofs.Lists.{get_set-same}
 
 -- ---- what refuses it
 
@@ -102,28 +103,13 @@ run_follows h old a c live new reply lawful ties caller named at next = go (next
         (subst (λ (r : Reply). Ties (added h (Run a c)) (world r)) (sym same)
         (subst (λ (o : Option RunItem). Ties (after_run a c h o) (world (reply_to live packet))) (sym item) (ran_ties h old a c packet live new lawful ties at is ran)))
 
--- its next call had not come
-pub gap_follows : (h : History) (old : WorldSeen) (a c : ℕ) (live new : ActorSeen) → IsLawful h → Ties h old → is_caller c h ≡ true → names c (cast_of a h) ≡ true → slice_get old.slots a ≡ Some (Runs live)
-    → HasRunNext c None live new → (Ok Gap ≡ outcome_of h (Run a c)) × Ties (after h (Run a c)) (record { exchange = old.exchange; slots = slice_set old.slots a (buried (Runs new)) })
-gap_follows h old a c live new lawful ties caller named at next = go (next_call live.log live.inbox c) refl next.reply_is
-  where
-    is : IsLive h a live
-    is = subst (IsStage h a) at (ties.actors a)
-
-    as_it_was : slice_set old.slots a (buried (Runs new)) ≡ old.slots
-    as_it_was =
-        ap (λ (actor : ActorSeen). slice_set old.slots a (buried (Runs actor))) next.gap
-        ∙ ap (λ (ends : Bool). slice_set old.slots a (cond ends (died live) (Runs live))) (still_lives h a live is)
-        ∙ set-same old.slots a (Runs live) at
-
-    go : (found : Option Packet) → next_call live.log live.inbox c ≡ found → ◌≡◌ {A = Option Reply} None (option_map (reply_to live) found)
-        → (Ok Gap ≡ outcome_of h (Run a c)) × Ties (after h (Run a c)) (record { exchange = old.exchange; slots = slice_set old.slots a (buried (Runs new)) })
-    go None e told =
-        let item : next_item a c h ≡ None = item_is h a c ∙ ap (option_map item_of) (sym (next_is h a c live is named) ∙ e) in
-        let follows = accepted_follows h (Run a c) Gap old (run_refusal h a c true true false caller named is.runs) (ap (did_run a h) (sym item))
-        (subst (λ (o : Option RunItem). Ties (after_run a c h o) old) (sym item) ties) in
-        (follows.0, subst (λ (slots : List SlotSeen). Ties (after h (Run a c)) (record { exchange = old.exchange; slots = slots })) (sym as_it_was) follows.1)
-    go (Some packet) e told = cc
+-- its next call has not come
+no_next : (h : History) (old : WorldSeen) (a c : ℕ) (live : ActorSeen) → Ties h old → is_caller c h ≡ true → names c (cast_of a h) ≡ true → IsLive h a live → next_call live.log live.inbox c ≡ None
+    → (Ok Gap ≡ outcome_of h (Run a c)) × Ties (after h (Run a c)) old
+no_next h old a c live ties caller named is none =
+    let item : next_item a c h ≡ None = item_is h a c ∙ ap (option_map item_of) (sym (next_is h a c live is named) ∙ none) in
+    accepted_follows h (Run a c) Gap old (run_refusal h a c true true false caller named is.runs) (ap (did_run a h) (sym item))
+    (subst (λ (o : Option RunItem). Ties (after_run a c h o) old) (sym item) ties)
 
 -- ---- the same of what is seen of slots
 
@@ -143,6 +129,20 @@ ran_there f slots c a x y told within is went = record {
     new_is : get_or (map f (slice_set slots a y)) a Vacant ≡ f y
     new_is = ap (λ (seen : List SlotSeen). get_or seen a Vacant) (map-set f slots a y)
         ∙ get_or_from_slice_get (slice_set (map f slots) a (f y)) a (f y) Vacant (get_set-same (map f slots) a (f x) (f y) here)
+
+-- ---- whether the next call has come
+
+none_came : (o : Option Packet) → is_some o ≡ false → o ≡ None
+none_came None e = refl
+none_came (Some packet) e = cc
+
+item_came : (o : Option Packet) → is_some o ≡ true → is_some (option_map item_of o) ≡ true
+item_came None e = cc
+item_came (Some packet) e = refl
+
+replied : (told : Packet → Reply) (o : Option Packet) (reply : Option Reply) → is_some o ≡ true → reply ≡ option_map told o → IsSome reply
+replied told None reply some e = cc
+replied told (Some packet) reply some e = subst IsSome (sym e) refl
 
 -- ---- the event as the world sees it
 
@@ -166,6 +166,34 @@ module _ (exchange : ExchangeValue) (slots : List SlotSeen) (a c : ℕ) (slot : 
       let here = known h exchange.owners c a ties.owners free in
       run_refusal h a c true true false here.0 here.1 (not_ended h a slot (subst (IsStage h a) there (ties.actors a)) on)
 
+  -- the actor has no call of the caller to run
+  pub run_nothing : is_live_seen slot ≡ true → has_next_seen c slot ≡ false → Follows (Run a c) (record { exchange = exchange; slots = slots }) (record { exchange = exchange; slots = slots }) (Ok Gap)
+  run_nothing on none casts before ties = go slot there on none
+    where
+      h : History
+      h = history casts before
+
+      go : (slot : SlotSeen) → slice_get slots a ≡ Some slot → is_live_seen slot ≡ true → has_next_seen c slot ≡ false
+          → (Ok Gap ≡ outcome_of (history casts before) (Run a c)) × Ties (after (history casts before) (Run a c)) (record { exchange = exchange; slots = slots })
+      go (Runs live) at on none =
+          let here = known h exchange.owners c a ties.owners free in
+          no_next h (record { exchange = exchange; slots = slots }) a c live ties here.0 here.1 (subst (IsStage h a) at (ties.actors a)) (none_came (next_call live.log live.inbox c) none)
+      go other at on none = cc
+
+  -- a call that the actor has to run takes memory
+  pub run_takes : is_live_seen slot ≡ true → has_next_seen c slot ≡ true → TakesMemory (Run a c) (record { exchange = exchange; slots = slots })
+  run_takes on some casts before ties = go slot there on some
+    where
+      h : History
+      h = history casts before
+
+      go : (slot : SlotSeen) → slice_get slots a ≡ Some slot → is_live_seen slot ≡ true → has_next_seen c slot ≡ true → is_some (next_item a c (history casts before)) ≡ true
+      go (Runs live) at on some =
+          let here = known h exchange.owners c a ties.owners free in
+          let item : next_item a c h ≡ option_map item_of (next_call live.log live.inbox c) = item_is h a c ∙ ap (option_map item_of) (sym (next_is h a c live (subst (IsStage h a) at (ties.actors a)) here.1)) in
+          ap (λ (o : Option RunItem). is_some o) item ∙ item_came (next_call live.log live.inbox c) some
+      go other at on some = cc
+
   -- how the slot went on
   ran_in : (new : List SlotSeen) (told : Result (Option Reply) WorldRefusal) → IsRunAt c a slots new told → IsRun c slot (get_or new a Vacant) told
   ran_in new told ran = subst (λ (s : SlotSeen). IsRun c s (get_or new a Vacant) told) (get_or_from_slice_get slots a slot Vacant there) ran.ran
@@ -177,20 +205,13 @@ module _ (exchange : ExchangeValue) (slots : List SlotSeen) (a c : ℕ) (slot : 
       go (Runs live) next on ran = ran
       go other next on ran = cc
 
-  pub run_gap : (new : List SlotSeen) (replies : List Posted) → is_live_seen slot ≡ true → IsRunAt c a slots new (Ok None) → replies ≡ exchange.replies
-      → Follows (Run a c) (record { exchange = exchange; slots = slots }) (record { exchange = record exchange { replies = replies }; slots = new }) (Ok Gap)
-  run_gap new replies on ran posted_is casts before ties = rw posted_is (go slot (get_or new a Vacant) on there (ran_in new (Ok None) ran) ran.others)
+  -- what ran had come
+  pub run_replies : (new : List SlotSeen) (reply : Option Reply) → is_live_seen slot ≡ true → has_next_seen c slot ≡ true → IsRunAt c a slots new (Ok reply) → IsSome reply
+  run_replies new reply on some ran = go slot (get_or new a Vacant) on some (ran_in new (Ok reply) ran)
     where
-      h : History
-      h = history casts before
-
-      go : (slot next : SlotSeen) → is_live_seen slot ≡ true → slice_get slots a ≡ Some slot → IsRun c slot next (Ok None) → new ≡ slice_set slots a next
-          → (Ok Gap ≡ outcome_of (history casts before) (Run a c)) × Ties (after (history casts before) (Run a c)) (record { exchange = exchange; slots = new })
-      go (Runs live) next on at went others =
-          let here = known h exchange.owners c a ties.owners free in
-          let follows = gap_follows h (record { exchange = exchange; slots = slots }) a c live went.new (world_lawful casts before) ties here.0 here.1 at went.next in
-          (follows.0, subst (λ (seen : List SlotSeen). Ties (after h (Run a c)) (record { exchange = exchange; slots = seen })) (sym (others ∙ ap (slice_set slots a) went.slot_is)) follows.1)
-      go other next on at went others = cc
+      go : (slot next : SlotSeen) → is_live_seen slot ≡ true → has_next_seen c slot ≡ true → IsRun c slot next (Ok reply) → IsSome reply
+      go (Runs live) next on some went = replied (reply_to live) (next_call live.log live.inbox c) reply some went.next.reply_is
+      go other next on some went = cc
 
   pub run_ran : (new : List SlotSeen) (replies : List Posted) (j : ℕ) (reply : Reply) → is_live_seen slot ≡ true → IsRunAt c a slots new (Ok (Some reply))
       → j ≡ length exchange.replies → replies ≡ exchange.replies ++ (record { caller = c; notice = Answered reply }) ∷ []

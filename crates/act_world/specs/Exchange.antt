@@ -1,6 +1,8 @@
 -- What contracts see of the callers, and of what is on its way.
 use Rattle.std.specs.Prelude.{ℕ, ◌==◌, Bool, List, [], find, Option, Some, None, is_some, option_and_then, Ok, Err}
 use Rattle.act_types.specs.declared.call.Method.TheVariants.{Get}
+use Rattle.act_types.specs.declared.message.Notice.{Notice}
+use Rattle.act_types.specs.declared.message.Notice.TheVariants.{Answered, Death}
 use Rattle.act_types.specs.declared.message.Packet.{Packet}
 use Rattle.act_rules.specs.declared.outcome.Did.TheVariants.{Kept, Late as DidLate, Died as DidDie}
 use Rattle.act_rules.specs.declared.outcome.HandleRefusal.TheVariants.{NoActor}
@@ -39,6 +41,11 @@ told_collected c (First k) = Ok (Kept c k)
 told_collected c (Late k) = Ok (DidLate c k)
 told_collected c (Died count) = Ok (DidDie count)
 told_collected c Stray = Err NoReply
+
+-- the notice is a reply
+abbrev pub IsReply : Notice → Type 0
+IsReply (Answered reply) = Unit {0}
+IsReply (Death a) = ⊥
 
 -- the actor that a letter is for
 abbrev pub mailed_to : Mailed → ℕ

@@ -3,5 +3,6 @@ pub mod Value
 pub mod Slots
 pub mod Ties
 pub mod Stands
+pub mod Memory
 pub mod Headline
 pub mod Openings

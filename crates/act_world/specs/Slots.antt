@@ -1,5 +1,5 @@
 -- What happens to an actor in its slot.
-use Rattle.std.specs.Prelude.{◌≡◌, ℕ, List, slice_index_or, slice_set, Bool, true, false, if◌then◌else◌, Option, Some, option_map, IfNone, IfSome, Result, Ok, Err}
+use Rattle.std.specs.Prelude.{◌≡◌, ℕ, List, slice_index_or, slice_set, Bool, true, false, if◌then◌else◌, Option, Some, option_map, is_some, IfNone, IfSome, Result, Ok, Err}
 use Rattle.act_types.specs.declared.message.Packet.{Packet}
 use Rattle.act_types.specs.declared.message.ReleaseNote.{ReleaseNote}
 use Rattle.act_owner.specs.Owner.{OwnerValue}
@@ -32,6 +32,11 @@ is_live_seen slot = false
 abbrev pub is_dead_seen : SlotSeen → Bool
 is_dead_seen (Died dead) = true
 is_dead_seen slot = false
+
+-- whether the actor runs, and the caller's next call has come to it
+abbrev pub has_next_seen : ℕ → SlotSeen → Bool
+has_next_seen c (Runs live) = is_some (next_call live.log live.inbox c)
+has_next_seen c slot = false
 
 -- the running actor took a packet in
 pub record HasTaken (packet : Packet) (arrival : Arrival) (old new : ActorSeen) : Type 0 where

@@ -3,9 +3,10 @@
 ghost use Rattle.std.specs.Prelude.{◌≡◌, IfOk, OnErr, false};
 ghost use Rattle.act_rules.specs.declared.event.Event.TheVariants as event;
 ghost use Rattle.act_world.specs.Stands.{HasRoom, FollowsThere, IsGrown, IsUnrefusedThere, is_memory};
+ghost use Rattle.act_world.specs.Memory.{TakesMemoryThere};
 ghost use Rattle.act_world.specs.Exchange.{told_collected};
 
-use crate::exchange::{CallNote, Exchange, Mailed, place_of};
+use crate::exchange::{CallNote, Exchange, Mailed, copied, place_of};
 use act_owner::Collected;
 use act_rules::{Did, Outcome, WorldRefusal};
 use act_types::{ActorId, Arg, CallerId, CopyOf, FutureId, ListOf, Method, NoMemory};
@@ -77,6 +78,7 @@ impl Exchange {
         ensures refused { IfOk result (λ told. OnErr told (self.new ≡ self.old)) }
         ensures grown { IsGrown self.old self.new }
         ensures last { OnErr result (IsUnrefusedThere (event.Release c a) self.old) }
+        ensures memory { OnErr result (TakesMemoryThere (event.Release c a) self.old) }
         ensures err { OnErr result (self.new ≡ self.old) }
     {
         let Some(place) = place_of(&self.owners, c) else {
@@ -150,6 +152,7 @@ impl Exchange {
         ensures refused { IfOk result (λ told. OnErr told (self.new ≡ self.old)) }
         ensures grown { IsGrown self.old self.new }
         ensures last { OnErr result (IsUnrefusedThere (event.Collect j) self.old) }
+        ensures memory { OnErr result (TakesMemoryThere (event.Collect j) self.old) }
         ensures err { OnErr result (self.new ≡ self.old) }
     {
         let Some(posted) = self.notice(j) else {
@@ -163,7 +166,7 @@ impl Exchange {
         if let Collected::Late(k) = self.owners[place].collected(&posted.notice) {
             return Ok(Ok(Did::Late(caller, k)));
         }
-        let notice = posted.notice.copy_of(self.alloc())?;
+        let notice = copied(self.alloc(), &posted.notice)?;
         let collected = self.owners[place].collect(notice);
         Ok(told(caller, collected))
     }

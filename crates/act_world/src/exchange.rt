@@ -1,14 +1,14 @@
 //! The callers, and what is on its way between them and the actors.
 
-ghost use Rattle.std.specs.Prelude.{◌≡◌, IfOk, IfSome, Some, Err, find, position, option_copied, slice_get, unwrap_or, false};
+ghost use Rattle.std.specs.Prelude.{◌≡◌, IfOk, OnErr, IfSome, Some, Err, find, position, option_copied, slice_get, unwrap_or, false};
 ghost use Rattle.std.specs.Option.{option_map};
-ghost use Rattle.act_world.specs.Exchange.{is_owner, naming_refusal, mailed_to, head_of, packet_in, filled};
+ghost use Rattle.act_world.specs.Exchange.{is_owner, naming_refusal, mailed_to, IsReply, head_of, packet_in, filled};
 ghost use Rattle.act_world.specs.Stands.{is_memory};
 
 use act_owner::Owner;
 use act_rules::{HandleRefusal, WorldRefusal};
 use act_types::{
-    ActorId, CallerId, FewOf, FutureId, Method, NoMemory, Notice, Packet, ReleaseNote,
+    ActorId, CallerId, CopyOf, FewOf, FutureId, Method, NoMemory, Notice, Packet, ReleaseNote,
 };
 use std::alloc::Global;
 use std::marker::Model;
@@ -64,6 +64,17 @@ impl Mailed {
 pub(crate) struct Posted {
     pub(crate) caller: CallerId,
     pub(crate) notice: Notice,
+}
+
+/// A copy of a notice. That of a death takes no memory.
+pub(crate) fn copied(alloc: Global, notice: &Notice) -> Result<Notice, NoMemory>
+    ensures ok { IfOk result (λ copy. copy ≡ notice.now) }
+    ensures last { OnErr result (IsReply notice.now) }
+{
+    match notice {
+        Notice::Answered(reply) => Ok(Notice::Answered(reply.copy_of(alloc)?)),
+        Notice::Death(a) => Ok(Notice::Death(*a)),
+    }
 }
 
 /// The callers, all letters that were sent, all notices that were posted, and whether a kill of

@@ -8,7 +8,7 @@ ghost use Rattle.act_actor.specs.Seen.{live_seen};
 ghost use Rattle.act_world.specs.Value.{Runs, slot_seen, stage_seen, stage_of_slot};
 ghost use Rattle.act_world.specs.Exchange.{head_of};
 ghost use Rattle.act_world.specs.Stands.{is_memory};
-ghost use Rattle.act_world.specs.Slots.{IsLiveSeen, is_live_seen, is_dead_seen, HasTakenCall, HasArrived, IsNewCall, IsBrought, IsRun, IsRunAt, IsRetiredIn, buried, killed};
+ghost use Rattle.act_world.specs.Slots.{IsLiveSeen, is_live_seen, is_dead_seen, has_next_seen, HasTakenCall, HasArrived, IsNewCall, IsBrought, IsRun, IsRunAt, IsRetiredIn, buried, killed};
 
 use crate::exchange::{CallNote, Exchange, Mailed};
 use act_actor::{Dead, Live, Retired};
@@ -209,6 +209,16 @@ pub(crate) fn is_live_in<K: Actor>(slot: &Slot<K>) -> bool
     ensures { result ≡ is_live_seen (slot_seen K.state slot.now) }
 {
     matches!(slot, Slot::Live(_))
+}
+
+/// Whether the actor runs, and the caller's next call has come to it.
+pub(crate) fn has_next_in<K: Actor>(slot: &Slot<K>, c: CallerId) -> bool
+    ensures { result ≡ has_next_seen c (slot_seen K.state slot.now) }
+{
+    match slot {
+        Slot::Live(live) => live.has_next(c),
+        _ => false,
+    }
 }
 
 /// The actor ends by itself, where it is drained.

@@ -13,11 +13,13 @@ ghost use Rattle.act_rules.specs.Rules.{outcome_of, refusal_of};
 ghost use Rattle.act_world.specs.Value.{world_seen, stage_seen, is_owner, stage_in};
 ghost use Rattle.act_world.specs.Ties.{IsOwnerAt, IsStage};
 ghost use Rattle.act_world.specs.Headline.{IsConsistent};
+ghost use Rattle.act_world.specs.Memory.{takes_memory, TakesMemory, TakesMemoryAt};
 ghost use Rattle.act_world.specs.Stands.{Stands, is_memory, HasRoom, IsGrown, IsGrownBy, Follows, IsUnrefused, IsUnrefusedAt, Played};
 
 use crate::exchange::{Exchange, Posted};
 use crate::slot::{
-    Slot, Stage, bring, is_dead_in, is_live_in, kill_in, retire_in, run_at, slot_at, slot_of,
+    Slot, Stage, bring, has_next_in, is_dead_in, is_live_in, kill_in, retire_in, run_at, slot_at,
+    slot_of,
 };
 use act_kinds::{Actor, Boxed};
 use act_owner::Owner;
@@ -50,6 +52,7 @@ impl<K: Actor> World<K> {
         ensures refused { IfOk result (λ told. OnErr told (world_seen K.state self.new ≡ world_seen K.state self.old)) }
         ensures grown { IsGrown (world_seen K.state self.old).exchange (world_seen K.state self.new).exchange }
         ensures last { OnErr result (IsUnrefused (event.Deliver i) (world_seen K.state self.old)) }
+        ensures memory { OnErr result (TakesMemory (event.Deliver i) (world_seen K.state self.old)) }
         ensures err { OnErr result (world_seen K.state self.new ≡ world_seen K.state self.old) }
     {
         let World { exchange, slots } = self;
@@ -68,22 +71,26 @@ impl<K: Actor> World<K> {
         ensures refused { IfOk result (λ told. OnErr told (world_seen K.state self.new ≡ world_seen K.state self.old)) }
         ensures grown { IsGrown (world_seen K.state self.old).exchange (world_seen K.state self.new).exchange }
         ensures last { OnErr result (IsUnrefused (event.Run a c) (world_seen K.state self.old)) }
+        ensures memory { OnErr result (TakesMemory (event.Run a c) (world_seen K.state self.old)) }
         ensures err { OnErr result (world_seen K.state self.new ≡ world_seen K.state self.old) }
     {
-        let is_live = is_live_in(slot_at(&self.slots, a));
+        let slot = slot_at(&self.slots, a);
+        let is_live = is_live_in(slot);
+        let has_next = has_next_in(slot, c);
         if let Some(refusal) = self.exchange.naming_refusal(c, a) {
             return Ok(Err(refusal));
         }
         if !is_live {
             return Ok(Err(WorldRefusal::ActorEnded));
         }
+        if !has_next {
+            return Ok(Ok(Did::Gap));
+        }
         self.exchange.replies.reserve(1)?;
         let Ok(reply) = run_at(&mut self.slots, a, c)? else {
             return Ok(Err(WorldRefusal::ActorEnded));
         };
-        let Some(reply) = reply else {
-            return Ok(Ok(Did::Gap));
-        };
+        let reply = reply.unwrap();
         let place = reply.place;
         let j = self.exchange.replies.len() as u32;
         self.exchange.replies.push_reserved(Posted {
@@ -148,6 +155,7 @@ impl<K: Actor> World<K> {
         ensures refused { IfOk result (λ told. OnErr told (world_seen K.state self.new ≡ world_seen K.state self.old)) }
         ensures grown { IsGrown (world_seen K.state self.old).exchange (world_seen K.state self.new).exchange }
         ensures last { OnErr result (IsUnrefused event.now (world_seen K.state self.old)) }
+        ensures memory { OnErr result (TakesMemory event.now (world_seen K.state self.old)) }
         ensures err { OnErr result (world_seen K.state self.new ≡ world_seen K.state self.old) }
     {
         match event {
@@ -189,6 +197,9 @@ impl<K: Actor> World<K> {
         // Want of memory comes last.
         ensures last { is_memory result ≡ true → (casts : List Casting) (before : List Happening) →
             Stands casts before (world_seen K.state self.old) → refusal_of (history casts before) event.now ≡ None }
+        // It comes for no event that takes none.
+        ensures memory { is_memory result ≡ true → (casts : List Casting) (before : List Happening) →
+            Stands casts before (world_seen K.state self.old) → takes_memory event.now (history casts before) ≡ true }
         ensures err { OnErr result (world_seen K.state self.new ≡ world_seen K.state self.old) }
     {
         match self.step(event) {
@@ -215,6 +226,11 @@ impl<K: Actor> World<K> {
         ensures last { IfErr result (λ i. 0 < i → IsUnrefusedAt i events.now (world_seen K.state self.new)) }
         ensures last_with_room { vec_len told.old + length events.now ≤ vec_capacity told.new →
             IfErr result (λ i. IsUnrefusedAt i events.now (world_seen K.state self.new)) }
+
+        // And that event takes memory.
+        ensures memory { IfErr result (λ i. 0 < i → TakesMemoryAt i events.now (world_seen K.state self.new)) }
+        ensures memory_with_room { vec_len told.old + length events.now ≤ vec_capacity told.new →
+            IfErr result (λ i. TakesMemoryAt i events.now (world_seen K.state self.new)) }
         ensures capacity { vec_capacity told.old ≤ vec_capacity told.new }
     {
         let Ok(()) = told.reserve(events.len()) else {

@@ -1,4 +1,5 @@
 //! Runs a script of actors, which comes on the standard input, and prints its report.
+//! Version 0.1.0.
 #![tactic(auto)]
 
 mod command;

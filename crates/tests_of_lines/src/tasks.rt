@@ -39,11 +39,15 @@ impl Task for Length {
 }
 
 /// Nothing waits for these tasks.
-#[derive(Drop)]
+#[derive(Debug, Drop)]
 struct NoStop;
 
 impl Stop for NoStop {
+    type Stopped = ();
+
     ghost can_stop = { λ _. ⊤ };
+
+    ghost has_stopped = { λ _ _. ⊤ };
 
     fn stop<R: Wait>(self, _rt: &R) {}
 }

@@ -1,7 +1,11 @@
-//! One handle from its opening to its last release, and the most copies of it.
+//! One handle from its opening to its last release, the most copies of it, and refused memory.
+
+ghost use Rattle.std.specs.Prelude.{◌≢◌, AllPairs};
 
 use act_handles::{HandleRefusal, Handles};
-use act_types::ActorId;
+use act_types::{ActorId, NoMemory};
+use std::alloc::Global;
+use std::process::Abort;
 use std::test::Fail;
 
 /// What a row of the table asks for.
@@ -58,5 +62,29 @@ fn the_most_copies(rt: HostRuntime) -> Result<(), Fail> {
     }
     assert_eq!(rt; last, 65_535);
     assert_eq!(rt; handles.copy(a1), Err(HandleRefusal::TooManyCopies));
+    Ok(())
+}
+
+/// The handles of these actors, which are opened once more where memory is refused.
+fn opened_again(rt: &impl Abort, alloc: Global, actors: &[ActorId]) -> Result<Handles, NoMemory>
+    requires { AllPairs (λ one other. one ≢ other) actors.now }
+{
+    let mut handles = Handles::open(alloc, actors);
+    if handles.is_err() {
+        handles = Handles::open(alloc, actors);
+        assert!(rt; handles.is_ok());
+    }
+    handles
+}
+
+/// Memory is refused from outside, at most once.
+#[test]
+fn refused_memory_changes_nothing(rt: HostRuntime) -> Result<(), Fail> {
+    let a1 = ActorId::new(1).unwrap();
+    let a8 = ActorId::new(8).unwrap();
+    let mut handles = opened_again(&rt, rt.alloc(), &[a1, a8])?;
+    for actor in [a1, a8] {
+        assert_eq!(rt; (handles.holds(actor), handles.number(actor)), (1, Ok(0)));
+    }
     Ok(())
 }

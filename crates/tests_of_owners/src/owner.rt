@@ -5,8 +5,8 @@ ghost use Rattle.std.specs.Prelude.{◌≢◌};
 
 use act_owner::{Collected, HandleRefusal, Owner, SendRefusal, SubmitRefusal};
 use act_types::{
-    ActorId, Answer, Arg, CallerId, Fault, FutureId, ListOf, Method, NoMemory, Notice, Reply,
-    Settled, Value,
+    ActorId, Answer, Arg, CallerId, Fault, FewOf, FutureId, ListOf, Method, NoMemory, Notice,
+    Packet, Reply, Settled, Value,
 };
 use std::alloc::Global;
 use std::process::Abort;
@@ -25,6 +25,8 @@ enum Ask {
     Reply(ActorId, FutureId, Result<i64, Fault>),
     Death(ActorId),
     Ready,
+    /// Room for so many calls.
+    Reserve(usize),
 }
 
 /// What the caller tells of it.
@@ -39,6 +41,8 @@ enum Told {
     NotSent(SendRefusal),
     Collected(Collected),
     Ready(Option<FutureId>),
+    /// Whether there is the room that was asked for.
+    Reserved(bool),
 }
 
 fn copies(alloc: Global, count: u32, value: i64) -> Result<ListOf<Arg>, NoMemory> {
@@ -112,6 +116,7 @@ fn asked(alloc: Global, owner: &mut Owner, ask: Ask) -> Result<Told, NoMemory> {
         }
         Ask::Death(a) => Ok(Told::Collected(owner.collect(Notice::Death(a)))),
         Ask::Ready => Ok(Told::Ready(owner.ready())),
+        Ask::Reserve(count) => Ok(Told::Reserved(owner.reserve(count).is_ok())),
     }
 }
 
@@ -207,24 +212,85 @@ fn assert_known(rt: &impl Abort, owner: &Owner, rows: [(ActorId, bool, u32); 3])
     }
 }
 
+/// The first call's packet as a whole: `add 5`.
+fn first_packet(alloc: Global) -> Result<Packet, NoMemory> {
+    let mut args = FewOf::new(alloc);
+    args.push(Settled::Good(Value::Int(5)))?;
+    Ok(Packet {
+        caller: CallerId::new(1).unwrap(),
+        actor: ActorId::new(1).unwrap(),
+        number: 0,
+        future: FutureId::new(0),
+        method: Method::Add,
+        args,
+    })
+}
+
+/// The first call's packet is the same each time.
+fn assert_first_packet(
+    rt: &impl Abort,
+    alloc: Global,
+    owner: &mut Owner,
+    times: u32,
+) -> Result<(), NoMemory> {
+    for time in 0..times {
+        let wanted = first_packet(alloc)?;
+        assert_eq!(rt;
+            owner.packet(alloc, FutureId::new(0)),
+            Ok(wanted),
+            "time {time}"
+        );
+    }
+    Ok(())
+}
+
+/// The caller's calls have these numbers, in order.
+fn assert_numbers(rt: &impl Abort, owner: &Owner, numbers: &[u32]) {
+    assert_eq!(rt; owner.count() as usize, numbers.len());
+    for (k, number) in (0..owner.count()).zip(numbers) {
+        let call = owner.call(FutureId::new(k));
+        assert_eq!(rt; call.map(|call| call.number), Some(*number), "of {k}");
+    }
+}
+
 /// Of actors 1, 2 and 3 the caller knows the last not at all.
-fn assert_lives_and_dies(rt: &impl Abort, alloc: Global, owner: &mut Owner) {
+fn assert_lives_and_dies(
+    rt: &impl Abort,
+    alloc: Global,
+    owner: &mut Owner,
+) -> Result<(), NoMemory> {
     let a1 = ActorId::new(1).unwrap();
     let a2 = ActorId::new(2).unwrap();
     let a3 = ActorId::new(3).unwrap();
     assert_told(rt, alloc, owner, &first_calls());
+    assert_numbers(rt, owner, &[0, 0, 1]);
+    assert_first_packet(rt, alloc, owner, 2)?;
     assert_known(rt, owner, [(a1, false, 2), (a2, false, 1), (a3, false, 0)]);
     assert_told(rt, alloc, owner, &first_answers());
     assert_known(rt, owner, [(a1, false, 1), (a2, false, 1), (a3, false, 0)]);
     assert_told(rt, alloc, owner, &a_death());
     assert_known(rt, owner, [(a1, true, 0), (a2, false, 1), (a3, false, 0)]);
+    assert_first_packet(rt, alloc, owner, 1)
+}
+
+/// What the calls leave: the last has number 2 and its answer, a death.
+fn assert_left(rt: &impl Abort, owner: &Owner) {
+    assert_numbers(rt, owner, &[0, 0, 1, 2]);
+    let answers = [
+        (FutureId::new(0), Some(Ok(Value::Int(5)))),
+        (FutureId::new(1), None),
+        (FutureId::new(2), Some(Err(Fault::ActorDied))),
+        (FutureId::new(3), Some(Err(Fault::ActorDied))),
+    ];
+    assert_answers(rt, owner, &answers);
 }
 
 /// The last call goes to an actor that is known to be dead, and doesn't count.
 #[test]
 fn from_the_first_call_to_a_death(rt: HostRuntime) -> Result<(), Fail> {
     let mut owner = opened(rt.alloc())?;
-    assert_lives_and_dies(&rt, rt.alloc(), &mut owner);
+    assert_lives_and_dies(&rt, rt.alloc(), &mut owner)?;
+    assert_left(&rt, &owner);
     Ok(())
 }
 
@@ -374,24 +440,116 @@ fn assert_answers(rt: &impl Abort, owner: &Owner, answers: &[(FutureId, Option<A
     }
 }
 
-/// Compares all that can be read of a caller which submitted these calls and has these answers.
-fn assert_stands(
-    rt: &impl Abort,
-    owner: &Owner,
-    answers: &[(FutureId, Option<Answer>)],
-    ready: Option<FutureId>,
-) {
-    assert_answers(rt, owner, answers);
-    assert_eq!(rt; owner.count() as usize, answers.len());
-    assert_eq!(rt; owner.ready(), ready);
-    assert_holds_one(rt, owner);
+/// A call, with the only one of its arguments, if it has one.
+#[derive(Clone, Copy, Debug, PartialEq, Eq)]
+struct ShownCall {
+    actor: ActorId,
+    number: u32,
+    method: Method,
+    args: usize,
+    first: Option<i64>,
 }
 
-/// Of actors 1 and 2 the caller holds a handle each.
-fn assert_holds_one(rt: &impl Abort, owner: &Owner) {
-    for number in 1..3 {
-        let a = ActorId::new(number).unwrap();
-        assert_eq!(rt; owner.holds(a), 1);
+/// What a future has.
+#[derive(Clone, Copy, Debug, PartialEq, Eq)]
+enum Said {
+    Nothing,
+    Number(i64),
+    Other,
+}
+
+/// What a caller knows of an actor.
+#[derive(Clone, Copy, Debug, PartialEq, Eq)]
+struct ShownActor {
+    copies: u32,
+    pending: u32,
+    is_dead: bool,
+    limit: Option<u32>,
+}
+
+/// All that is shown of a caller's first three calls, and of three actors.
+#[derive(Clone, Copy, Debug, PartialEq, Eq)]
+struct Shown {
+    count: u32,
+    all_answered: bool,
+    ready: Option<FutureId>,
+    calls: [Option<ShownCall>; 3],
+    answers: [Said; 3],
+    actors: [ShownActor; 3],
+}
+
+/// A call with one argument or none.
+fn shown_call(actor: ActorId, number: u32, method: Method, arg: Option<i64>) -> Option<ShownCall> {
+    Some(ShownCall {
+        actor,
+        number,
+        method,
+        args: if arg.is_some() { 1 } else { 0 },
+        first: arg,
+    })
+}
+
+/// An actor that isn't known to be dead.
+fn shown_actor(copies: u32, pending: u32, limit: Option<u32>) -> ShownActor {
+    ShownActor {
+        copies,
+        pending,
+        is_dead: false,
+        limit,
+    }
+}
+
+fn first_of(args: &[Arg]) -> Option<i64> {
+    match args.first() {
+        Some(Arg::Plain(Value::Int(value))) => Some(*value),
+        _ => None,
+    }
+}
+
+fn call_of(owner: &Owner, place: u32) -> Option<ShownCall> {
+    let call = owner.call(FutureId::new(place))?;
+    Some(ShownCall {
+        actor: call.actor,
+        number: call.number,
+        method: call.method,
+        args: call.args.len(),
+        first: first_of(call.args.as_slice()),
+    })
+}
+
+fn answer_of(owner: &Owner, place: u32) -> Said {
+    match owner.answer(FutureId::new(place)) {
+        None => Said::Nothing,
+        Some(Ok(Value::Int(value))) => Said::Number(*value),
+        Some(_) => Said::Other,
+    }
+}
+
+fn actor_of(owner: &Owner, a: ActorId) -> ShownActor {
+    ShownActor {
+        copies: owner.holds(a),
+        pending: owner.pending(a),
+        is_dead: owner.is_dead(a),
+        limit: owner.limit(a),
+    }
+}
+
+fn shown_of(owner: &Owner) -> Shown {
+    Shown {
+        count: owner.count(),
+        all_answered: owner.all_answered(),
+        ready: owner.ready(),
+        calls: [call_of(owner, 0), call_of(owner, 1), call_of(owner, 2)],
+        answers: [
+            answer_of(owner, 0),
+            answer_of(owner, 1),
+            answer_of(owner, 2),
+        ],
+        actors: [
+            actor_of(owner, ActorId::new(1).unwrap()),
+            actor_of(owner, ActorId::new(2).unwrap()),
+            actor_of(owner, ActorId::new(3).unwrap()),
+        ],
     }
 }
 
@@ -432,33 +590,49 @@ fn forged_notices() -> [Notice; 6] {
 }
 
 /// A stray notice, after which the caller stands as before.
-fn assert_stray(
-    rt: &impl Abort,
-    owner: &mut Owner,
-    notice: Notice,
-    answers: &[(FutureId, Option<Answer>)],
-    ready: Option<FutureId>,
-) {
+fn assert_stray(rt: &impl Abort, owner: &mut Owner, notice: Notice, stands: Shown) {
     assert_eq!(rt; owner.collect(notice), Collected::Stray);
-    assert_stands(rt, owner, answers, ready);
+    assert_eq!(rt; shown_of(owner), stands);
+}
+
+/// How the caller stands after three calls. The last may be sent, and nobody died.
+fn after_three_calls() -> Shown {
+    let a1 = ActorId::new(1).unwrap();
+    let a2 = ActorId::new(2).unwrap();
+    Shown {
+        count: 3,
+        all_answered: false,
+        ready: Some(FutureId::new(2)),
+        calls: [
+            shown_call(a1, 0, Method::Add, Some(5)),
+            shown_call(a2, 0, Method::Get, None),
+            shown_call(a1, 1, Method::Get, None),
+        ],
+        answers: [Said::Number(5), Said::Nothing, Said::Nothing],
+        actors: [
+            shown_actor(1, 1, Some(2)),
+            shown_actor(1, 1, None),
+            shown_actor(0, 0, None),
+        ],
+    }
 }
 
 /// After three calls each forged notice is stray, and a genuine one isn't.
 fn assert_forged(rt: &impl Abort, alloc: Global, owner: &mut Owner) {
-    let [k0, k1, k2] = [0, 1, 2].map(FutureId::new);
     assert_told(rt, alloc, owner, &three_calls());
-    let answers = [(k0, Some(Ok(Value::Int(5)))), (k1, None), (k2, None)];
+    assert_eq!(rt; shown_of(owner), after_three_calls());
     for notice in forged_notices() {
-        assert_stray(rt, owner, notice, &answers, Some(k2));
+        assert_stray(rt, owner, notice, after_three_calls());
     }
     let a2 = ActorId::new(2).unwrap();
+    let k1 = FutureId::new(1);
     let genuine = notice_of(a2, owner.id(), k1, Ok(7));
     assert_eq!(rt; owner.collect(genuine), Collected::First(k1));
 }
 
 #[test]
 fn forged_notices_change_nothing(rt: HostRuntime) -> Result<(), Fail> {
-    let mut owner = opened(rt.alloc())?;
+    let mut owner = opened_with_a_limit(rt.alloc(), 2)?;
     assert_forged(&rt, rt.alloc(), &mut owner);
     Ok(())
 }
@@ -512,40 +686,6 @@ fn the_most_copies(rt: HostRuntime) -> Result<(), Fail> {
     Ok(())
 }
 
-/// What is shown of a caller of two actors and three calls.
-#[derive(Clone, Copy, Debug, PartialEq, Eq)]
-struct Shown {
-    count: u32,
-    all_answered: bool,
-    ready: Option<FutureId>,
-    answered: [Option<i64>; 3],
-    copies: [u32; 2],
-}
-
-fn answered(owner: &Owner, k: FutureId) -> Option<i64> {
-    match owner.answer(k) {
-        Some(Ok(Value::Int(value))) => Some(*value),
-        _ => None,
-    }
-}
-
-fn shown_of(owner: &Owner) -> Shown {
-    let a1 = ActorId::new(1).unwrap();
-    let a2 = ActorId::new(2).unwrap();
-    let [k0, k1, k2] = [0, 1, 2].map(FutureId::new);
-    Shown {
-        count: owner.count(),
-        all_answered: owner.all_answered(),
-        ready: owner.ready(),
-        answered: [
-            answered(owner, k0),
-            answered(owner, k1),
-            answered(owner, k2),
-        ],
-        copies: [owner.holds(a1), owner.holds(a2)],
-    }
-}
-
 /// What the caller tells of a request, which is asked once more where memory is refused.
 fn asked_again(
     rt: &impl Abort,
@@ -556,7 +696,9 @@ fn asked_again(
     let before = shown_of(owner);
     let told = asked(alloc, owner, ask)?;
     match told {
-        Told::NotSubmitted(SubmitRefusal::NoMemory) | Told::NotSent(SendRefusal::NoMemory) => {
+        Told::NotSubmitted(SubmitRefusal::NoMemory)
+        | Told::NotSent(SendRefusal::NoMemory)
+        | Told::Reserved(false) => {
             assert_eq!(rt; shown_of(owner), before, "at {ask:?}");
             asked(alloc, owner, ask)
         }
@@ -588,7 +730,7 @@ fn assert_told_again(
     Ok(())
 }
 
-fn calls_and_packets() -> [(Ask, Told); 10] {
+fn calls_and_packets() -> [(Ask, Told); 11] {
     let a1 = ActorId::new(1).unwrap();
     let a2 = ActorId::new(2).unwrap();
     let k0 = FutureId::new(0);
@@ -609,6 +751,7 @@ fn calls_and_packets() -> [(Ask, Told); 10] {
         (Ask::Submit(a1, Method::Get, 0, 0), Told::Future(k3)),
         (Ask::SubmitFuture(a1, k2), Told::Future(k4)),
         (Ask::Packet(k2), Told::Packet(1, Some(7))),
+        (Ask::Reserve(9), Told::Reserved(true)),
         (Ask::Ready, Told::Ready(Some(k3))),
     ]
 }

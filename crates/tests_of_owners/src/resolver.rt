@@ -1,10 +1,10 @@
 //! A worked example, calls that are entered where memory is refused, and many calls beside a plain
 //! scan of them.
 
-ghost use Rattle.std.specs.Prelude.{◌≡◌, ◌<◌, ◌≤◌, [], length, IfOk, OnErr};
+ghost use Rattle.std.specs.Prelude.{◌≡◌, ◌<◌, ◌^◌, [], length, IfOk, OnErr};
 
 use act_resolver::{Futures, Resolver};
-use act_types::{FutureId, MOST_ARGS, MOST_CALLS, NoMemory};
+use act_types::{FutureId, MOST_ARGS, NoMemory};
 use std::alloc::Global;
 use std::process::Abort;
 use std::test::Fail;
@@ -200,11 +200,13 @@ fn wait_for_one(rt: &impl Abort, resolver: &mut Resolver, count: u32) -> Result<
     Ok(())
 }
 
-/// So many calls are past the numbers of a word, and past those of a word of words.
+/// So many calls are past the numbers of a word, of a word of words, and of a word at the top.
 #[test]
-fn five_thousand_calls_wait_for_one(rt: HostRuntime) -> Result<(), Fail> {
-    let mut resolver = Resolver::new(rt.alloc());
-    wait_for_one(&rt, &mut resolver, 5000)?;
+fn many_calls_wait_for_one(rt: HostRuntime) -> Result<(), Fail> {
+    for count in [5000, 262_200] {
+        let mut resolver = Resolver::new(rt.alloc());
+        wait_for_one(&rt, &mut resolver, count)?;
+    }
     Ok(())
 }
 
@@ -239,7 +241,7 @@ fn is_known(calls: &[Scanned], k: FutureId) -> bool {
 
 /// Asks each call in turn.
 fn first_ready(calls: &[Scanned]) -> Option<FutureId>
-    requires { length calls.now ≤ MOST_CALLS }
+    requires { length calls.now < 2 ^ 32 }
 {
     (0..calls.len() as u32).map(FutureId::new).find(|k| is_known(calls, *k)
         && !is_sent(calls, *k)
@@ -274,7 +276,7 @@ fn scan_step(rt: &impl Abort, calls: &mut Vec<Scanned>, step: &Step) -> Result<(
 
 /// The resolver answers as the plain scan does.
 fn assert_same(rt: &impl Abort, resolver: &Resolver, calls: &[Scanned]) {
-    assert!(rt; calls.len() <= MOST_CALLS as usize);
+    assert!(rt; calls.len() < u32::MAX as usize);
     assert_eq!(rt; resolver.ready(), first_ready(calls));
     for k in (0..calls.len() as u32 + 1).map(FutureId::new) {
         assert_eq!(rt; resolver.is_known(k), is_known(calls, k));
@@ -407,6 +409,7 @@ fn random_changes_agree_with_a_plain_scan(rt: HostRuntime) -> Result<(), Fail> {
         (4095, 500),
         (4096, 500),
         (65_000, 50),
+        (262_200, 10),
     ] {
         random_run(&rt, rt.alloc(), &mut random, count, steps)?;
     }

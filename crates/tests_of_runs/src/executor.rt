@@ -4,6 +4,7 @@ mod gates;
 mod kills;
 mod limits;
 mod many;
+mod places;
 mod scene;
 mod terminates;
 mod told;

@@ -1,5 +1,6 @@
 //! Readers and writers that are slow, or fail, and some scripts from bytes to bytes.
 mod fakes;
+mod long;
 mod rows;
 mod thread_rows;
 mod threads;
@@ -8,8 +9,9 @@ use act_console::{ConsoleFault, Gate, NoGate, Stock, play_script, threads_script
 use act_kinds::{Account, Boxed, Counter, ListKind, Table};
 use act_rules::Mode;
 use act_types::{MOST_ACTORS, MOST_SCRIPT_BYTES};
-use fakes::{FakeReader, FakeWriter};
+use fakes::{Failure, FakeReader, FakeWriter};
 use rows::Row;
+use std::io::ErrorKind;
 use std::process::Abort;
 use std::sync::Wait;
 use std::test::Fail;
@@ -17,6 +19,13 @@ use std::thread::Threads;
 
 /// The rows of a shorter script are few, and some of them have a fault.
 const SHORT: usize = 100;
+
+/// Errors after which a caller might try again. Nothing here does.
+const KINDS: [ErrorKind; 3] = [
+    ErrorKind::Other,
+    ErrorKind::Interrupted,
+    ErrorKind::WouldBlock,
+];
 
 /// Runs what a reader has in this mode, with kinds that are made here.
 fn ran<Rt: AllocGlobal + Threads + Wait + Sync, G: Gate>(
@@ -67,7 +76,8 @@ fn a_byte_a_read(rt: HostRuntime) -> Result<(), Fail> {
     Ok(())
 }
 
-/// Each script gives its output and its answer.
+/// Each script gives its output and its answer, with a read for each byte and one for the end, and a
+/// write for each byte.
 fn assert_told<Rt: AllocGlobal + Threads + Wait + Sync + Abort>(rt: &Rt, mode: Mode, rows: &[Row]) {
     for row in rows {
         let mut reader = FakeReader::new(row.script.as_bytes());
@@ -75,6 +85,8 @@ fn assert_told<Rt: AllocGlobal + Threads + Wait + Sync + Abort>(rt: &Rt, mode: M
         let answer = ran(rt, mode, &NoGate, &mut reader, &mut writer);
         assert_eq!(rt; answer, row.answer, "{}", row.script);
         assert_eq!(rt; writer.written(), row.output.as_bytes(), "{}", row.script);
+        assert!(rt; reader.reads() <= row.script.len() + 1);
+        assert!(rt; writer.writes() <= row.output.len());
     }
 }
 
@@ -94,7 +106,23 @@ fn plans_are_run(rt: HostRuntime) -> Result<(), Fail> {
     Ok(())
 }
 
-/// A failed read ends each run of a short script at once, and nothing is written.
+/// A failed read ends the run at once, though the next one would go on, and nothing is written.
+fn assert_read_fails<Rt: AllocGlobal + Threads + Wait + Sync + Abort>(
+    rt: &Rt,
+    mode: Mode,
+    row: &Row,
+    read: usize,
+) {
+    for kind in KINDS {
+        let mut reader = FakeReader::failing(row.script.as_bytes(), read, kind);
+        let mut writer = FakeWriter::new(rt.alloc());
+        let answer = ran(rt, mode, &NoGate, &mut reader, &mut writer);
+        let seen = (answer, reader.reads(), writer.writes());
+        assert_eq!(rt; seen, (Err(ConsoleFault::Reading), read, 0));
+    }
+}
+
+/// Each read of the short scripts fails in turn.
 fn assert_reads_fail<Rt: AllocGlobal + Threads + Wait + Sync + Abort>(
     rt: &Rt,
     mode: Mode,
@@ -102,12 +130,8 @@ fn assert_reads_fail<Rt: AllocGlobal + Threads + Wait + Sync + Abort>(
 ) {
     for row in rows {
         if row.script.len() < SHORT {
-            for read in 0..=row.script.len() {
-                let mut reader = FakeReader::failing(row.script.as_bytes(), read + 1);
-                let mut writer = FakeWriter::new(rt.alloc());
-                let answer = ran(rt, mode, &NoGate, &mut reader, &mut writer);
-                let seen = (answer, reader.reads(), writer.writes());
-                assert_eq!(rt; seen, (Err(ConsoleFault::Reading), read + 1, 0));
+            for before in 0..=row.script.len() {
+                assert_read_fails(rt, mode, row, before + 1);
             }
         }
     }
@@ -124,8 +148,24 @@ fn each_read_fails_in_turn(rt: HostRuntime) -> Result<(), Fail> {
     Ok(())
 }
 
-/// A failed write, or one of 0 bytes, ends each run of a short script at once, and a front is
-/// written by then.
+/// A failed write, or one of 0 bytes, ends the run at once, though the next one would go on, and a
+/// front is written by then.
+fn assert_write_fails<Rt: AllocGlobal + Threads + Wait + Sync + Abort>(
+    rt: &Rt,
+    mode: Mode,
+    row: &Row,
+    front: &[u8],
+    failure: Failure,
+) {
+    let write = front.len() + 1;
+    let mut reader = FakeReader::new(row.script.as_bytes());
+    let mut writer = FakeWriter::failing(rt.alloc(), write, failure);
+    let answer = ran(rt, mode, &NoGate, &mut reader, &mut writer);
+    let seen = (answer, writer.writes(), writer.written());
+    assert_eq!(rt; seen, (Err(ConsoleFault::Writing), write, front));
+}
+
+/// Each write of the short scripts fails in turn.
 fn assert_writes_fail<Rt: AllocGlobal + Threads + Wait + Sync + Abort>(
     rt: &Rt,
     mode: Mode,
@@ -135,12 +175,9 @@ fn assert_writes_fail<Rt: AllocGlobal + Threads + Wait + Sync + Abort>(
         if row.script.len() < SHORT {
             for written in 0..row.output.len() {
                 let front = &row.output.as_bytes()[..written];
-                for answers_zero in [false, true] {
-                    let mut reader = FakeReader::new(row.script.as_bytes());
-                    let mut writer = FakeWriter::failing(rt.alloc(), written + 1, answers_zero);
-                    let answer = ran(rt, mode, &NoGate, &mut reader, &mut writer);
-                    let seen = (answer, writer.writes(), writer.written());
-                    assert_eq!(rt; seen, (Err(ConsoleFault::Writing), written + 1, front));
+                assert_write_fails(rt, mode, row, front, Failure::Zero);
+                for kind in KINDS {
+                    assert_write_fails(rt, mode, row, front, Failure::Error(kind));
                 }
             }
         }

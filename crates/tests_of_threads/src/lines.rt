@@ -35,6 +35,7 @@ pub(crate) struct Lines {
 }
 
 fn opened_mail(alloc: Global, a: ActorId) -> Result<(Mail, MailCaller, MailExec), NoMemory>
+    ensures actor { IfOk result (λ opened. opened.0.actor ≡ a) }
     ensures caller { IfOk result (λ opened. opened.1 ≡ new_putter opened.0.line 1) }
     ensures exec { IfOk result (λ opened. opened.2 ≡ new_taker opened.0.line (1 ∷ [])) }
 {
@@ -58,6 +59,7 @@ fn opened_control(
 }
 
 pub(crate) fn opened_lines(alloc: Global, a: ActorId) -> Result<Lines, NoMemory>
+    ensures mail { IfOk result (λ opened. opened.mail.actor ≡ a) }
     ensures actor { IfOk result (λ opened. opened.control.actor ≡ a) }
     ensures post { IfOk result (λ opened. opened.post ≡ new_putter opened.mail.line 1) }
     ensures ask { IfOk result (λ opened. opened.ask ≡ new_putter opened.control.line 1) }

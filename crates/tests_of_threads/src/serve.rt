@@ -5,6 +5,8 @@ ghost use Rattle.act_mailbox.specs.Notices.{RepliesValue};
 ghost use Rattle.act_serve.specs.Turns.{PassesFit, PassesOf, IsUnused};
 
 mod kill_at_place;
+mod least_caller;
+mod places;
 mod station;
 mod two_callers;
 

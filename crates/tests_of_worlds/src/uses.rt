@@ -4,13 +4,13 @@ use act_actor::cast_fits;
 use act_executor::Plan;
 use act_kinds::{Account, Boxed, Counter, ListKind, Table};
 use act_owner::Owner;
-use act_rules::Step;
+use act_rules::{Arrival, Step};
 use act_types::{ActorId, Answer, Arg, CallerId, FutureId, ListOf, Method, NoMemory, Value};
 use act_uses::{
     Kinds, PeaceFault, ask_once, play_part, play_patiently, ran_of, run_in_peace, serve_each_kind,
     world_after,
 };
-use act_world::{Cast, Event, World};
+use act_world::{Cast, Did, Event, Outcome, World};
 use std::alloc::Global;
 use std::process::Abort;
 use std::test::Fail;
@@ -78,7 +78,15 @@ fn a_play_goes_to_its_end(rt: HostRuntime) -> Result<(), Fail> {
         play_patiently(&mut world, events.as_slice(), &mut told, 3),
         Ok(())
     );
-    assert_eq!(rt; told.len(), 5);
+    let k0 = FutureId::new(0);
+    let wanted: [Outcome; 5] = [
+        Ok(Did::Future(c1, k0)),
+        Ok(Did::Mail(0)),
+        Ok(Did::Arrived(Arrival::New)),
+        Ok(Did::Ran(0, 0)),
+        Ok(Did::Kept(c1, k0)),
+    ];
+    assert_eq!(rt; told.as_slice(), wanted.as_slice());
     Ok(())
 }
 
@@ -93,7 +101,8 @@ fn a_part_of_a_script_is_played(rt: HostRuntime) -> Result<(), Fail> {
     let script = b"actor a1 account c1\nsubmit c1 a1 deposit 10\nsend c1 0\ndeliver 0\n";
     let mut told = Vec::new(alloc);
     assert_eq!(rt; play_part(alloc, &mut world, script, 2, &mut told), Ok(()));
-    assert_eq!(rt; told.len(), 2);
+    let wanted: [Outcome; 2] = [Ok(Did::Future(c1, FutureId::new(0))), Ok(Did::Mail(0))];
+    assert_eq!(rt; told.as_slice(), wanted.as_slice());
     Ok(())
 }
 

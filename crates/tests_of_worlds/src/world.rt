@@ -1,6 +1,8 @@
 //! Worked rows of events, each with what is told of them and how the world ends, also where memory
 //! is refused.
 
+mod refused;
+
 use act_kinds::{Actor, Boxed, Counter, ListKind};
 use act_owner::Owner;
 use act_rules::{Arrival, RunItem, SendRefusal, SubmitRefusal};
@@ -18,6 +20,8 @@ enum Given {
     Nothing,
     Int(i64),
     Future(FutureId),
+    /// One argument more than a call may have.
+    TooMany,
 }
 
 /// An event as a row writes it.
@@ -45,6 +49,11 @@ fn args_of(alloc: Global, given: Given) -> Result<ListOf<Arg>, NoMemory> {
         Given::Nothing => {}
         Given::Int(number) => args.push(Arg::Plain(Value::Int(number)))?,
         Given::Future(future) => args.push(Arg::Fut(future))?,
+        Given::TooMany => {
+            for number in 0..5 {
+                args.push(Arg::Plain(Value::Int(number)))?;
+            }
+        }
     }
     Ok(args)
 }

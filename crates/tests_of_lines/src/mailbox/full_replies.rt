@@ -27,21 +27,23 @@ fn reply(number: u32) -> Notice
     })
 }
 
-/// How many replies are taken in, until the next one is handed back.
-fn accepted<R: Wait>(
+/// Gives replies from this number on, until one is handed back, and tells which one that is.
+fn handed_back<R: Wait>(
     rt: &R,
     replies: &Replies,
     pass: &mut ReplyExec,
     log: &[RunItem],
+    from: u32,
 ) -> Option<u32>
-    requires opened { pass.old ≡ new_exec replies.now.line 8 }
+    requires pass { (pass.old.line ≡ replies.now.line) × (pass.old.actor ≡ 8) }
     requires log { (item : RunItem) × (log.now ≡ item ∷ []) × (item.caller ≡ 1) × (item.future ≡ 0) }
-    ensures pass { pass.new.line ≡ replies.now.line }
-    ensures actor { pass.new.actor ≡ 8 }
+    requires alive { All IsReply pass.old.given }
+    requires grown { IsFront pass.old.seen log.now }
+    ensures pass { (pass.new.line ≡ replies.now.line) × (pass.new.actor ≡ 8) }
     ensures alive { All IsReply pass.new.given }
     ensures grown { IsFront pass.new.seen log.now }
 {
-    for number in 0..1000 {
+    for number in from..1000 {
         if let Err(back) = replies.give(rt, pass, log, reply(number)) {
             return (back == reply(number)).then_some(number);
         }
@@ -97,24 +99,28 @@ fn opened(alloc: Global) -> Result<(Replies, ReplyExec, ReplyCaller), NoMemory>
     Ok((replies, passes.pop().unwrap(), collector))
 }
 
-/// The line fills up with the actor's replies.
+/// The line takes replies from the first of these numbers on, and hands back the second, since it is
+/// full.
 fn assert_filled<R: Wait + Abort>(
     rt: &R,
     replies: &Replies,
     pass: &mut ReplyExec,
     collector: &mut ReplyCaller,
     log: &[RunItem],
+    numbers: (u32, u32),
 )
-    requires opened { pass.old ≡ new_exec replies.now.line 8 }
+    requires pass { (pass.old.line ≡ replies.now.line) × (pass.old.actor ≡ 8) }
     requires log { (item : RunItem) × (log.now ≡ item ∷ []) × (item.caller ≡ 1) × (item.future ≡ 0) }
+    requires alive { All IsReply pass.old.given }
+    requires grown { IsFront pass.old.seen log.now }
     requires collector { collector.old.line ≡ replies.now.line }
-    ensures pass { pass.new.line ≡ replies.now.line }
-    ensures actor { pass.new.actor ≡ 8 }
+    ensures pass { (pass.new.line ≡ replies.now.line) × (pass.new.actor ≡ 8) }
     ensures alive { All IsReply pass.new.given }
     ensures grown { IsFront pass.new.seen log.now }
     ensures collector { collector.new ≡ collector.old }
 {
-    assert_eq!(rt; accepted(rt, replies, pass, log), Some(64));
+    let (from, end) = numbers;
+    assert_eq!(rt; handed_back(rt, replies, pass, log, from), Some(end));
     assert_eq!(rt; replies.audit(rt, pass, collector), 64);
 }
 
@@ -137,7 +143,7 @@ fn assert_next<R: Wait + Abort>(
     assert_eq!(rt; replies.audit(rt, pass, collector), left, "from {from}");
 }
 
-/// A full line gives its first reply.
+/// A full line gives its first reply, has room for one more then, and gives the next.
 fn assert_fills<R: Wait + Abort>(
     rt: &R,
     replies: &Replies,
@@ -148,15 +154,16 @@ fn assert_fills<R: Wait + Abort>(
     requires opened { pass.old ≡ new_exec replies.now.line 8 }
     requires log { (item : RunItem) × (log.now ≡ item ∷ []) × (item.caller ≡ 1) × (item.future ≡ 0) }
     requires collector { collector.old.line ≡ replies.now.line }
-    ensures pass { pass.new.line ≡ replies.now.line }
-    ensures actor { pass.new.actor ≡ 8 }
+    ensures pass { (pass.new.line ≡ replies.now.line) × (pass.new.actor ≡ 8) }
     ensures alive { All IsReply pass.new.given }
     ensures grown { IsFront pass.new.seen log.now }
     ensures collector { collector.new.line ≡ replies.now.line }
 {
     assert!(rt; is_next(rt, replies, collector, None));
-    assert_filled(rt, replies, pass, collector, log);
+    assert_filled(rt, replies, pass, collector, log, (0, 64));
     assert_next(rt, replies, pass, collector, (0, 1), 63);
+    assert_filled(rt, replies, pass, collector, log, (64, 65));
+    assert_next(rt, replies, pass, collector, (1, 2), 63);
 }
 
 /// The death of actor 8 comes last.
@@ -170,12 +177,12 @@ fn assert_empties<R: Wait + Abort>(
     requires collector { collector.old.line ≡ replies.now.line }
 {
     let death = Notice::Death(ActorId::new(8).unwrap());
-    assert_next(rt, replies, pass, collector, (1, 33), 32);
-    assert!(rt; are_next(rt, replies, collector, 33, 64));
+    assert_next(rt, replies, pass, collector, (2, 34), 32);
+    assert!(rt; are_next(rt, replies, collector, 34, 65));
     assert!(rt; is_next_at_once(replies, collector, Some(death)));
     assert!(rt; is_next_at_once(replies, collector, None));
     assert!(rt; is_next(rt, replies, collector, None));
-    assert_next(rt, replies, pass, collector, (64, 64), 0);
+    assert_next(rt, replies, pass, collector, (65, 65), 0);
 }
 
 #[test]

@@ -113,6 +113,7 @@ fn paired(
 ) -> (Pair, Passes)
     requires empty { (room.letters.items ≡ []) × (room.kills.items ≡ []) }
     requires room { (vec_len room.letters + 2 ≤ vec_capacity room.letters) × (vec_len room.kills + 2 ≤ vec_capacity room.kills) }
+    requires mails { (one.mail.actor ≡ 1) × (two.mail.actor ≡ 2) }
     requires actors { (one.control.actor ≡ 1) × (two.control.actor ≡ 2) }
     requires posts { (one.post ≡ new_putter one.mail.line 1) × (two.post ≡ new_putter two.mail.line 1) }
     requires asks { (one.ask ≡ new_putter one.control.line 1) × (two.ask ≡ new_putter two.control.line 1) }

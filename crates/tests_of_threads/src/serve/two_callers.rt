@@ -20,7 +20,7 @@ use std::process::Abort;
 use std::sync::Wait;
 use std::test::Fail;
 
-fn second() -> CallerId
+pub(super) fn second() -> CallerId
     ensures { result ≡ 2 }
 {
     CallerId::new(2).unwrap()
@@ -28,17 +28,17 @@ fn second() -> CallerId
 
 /// The lines of actor 1 and callers 1 and 2, and the callers' passes on its mail.
 #[derive(Drop)]
-struct Pair {
-    mail: Mail,
-    control: Control,
-    replies: [Replies; 2],
-    first: MailCaller,
-    second: MailCaller,
+pub(super) struct Pair {
+    pub(super) mail: Mail,
+    pub(super) control: Control,
+    pub(super) replies: [Replies; 2],
+    pub(super) first: MailCaller,
+    pub(super) second: MailCaller,
 }
 
 /// The callers' passes on their lines of notices.
 #[derive(Drop)]
-struct Collectors {
+pub(super) struct Collectors {
     first: ReplyCaller,
     second: ReplyCaller,
 }
@@ -93,7 +93,7 @@ fn opened_both(alloc: Global) -> Result<BothLines, NoMemory>
 }
 
 /// The lines, and the passes of the collectors and of the executor.
-fn opened(alloc: Global) -> Result<(Pair, Collectors, ExecPasses), NoMemory>
+pub(super) fn opened(alloc: Global) -> Result<(Pair, Collectors, ExecPasses), NoMemory>
     ensures first { IfOk result (λ opened. (opened.0.first.line ≡ opened.0.mail.line) × (opened.0.first.number ≡ 1)) }
     ensures second { IfOk result (λ opened. (opened.0.second.line ≡ opened.0.mail.line) × (opened.0.second.number ≡ 2)) }
     ensures first_collector { IfOk result (λ opened. (r : RepliesValue) →
@@ -136,7 +136,7 @@ fn opened(alloc: Global) -> Result<(Pair, Collectors, ExecPasses), NoMemory>
 }
 
 /// Posts a call, and whether the line took it.
-fn posted<R: Wait>(rt: &R, mail: &Mail, pass: &mut MailCaller, packet: Packet) -> bool
+pub(super) fn posted<R: Wait>(rt: &R, mail: &Mail, pass: &mut MailCaller, packet: Packet) -> bool
     requires pass { pass.old.line ≡ mail.now.line }
     requires caller { packet.caller ≡ pass.old.number }
     ensures { (pass.new.line ≡ pass.old.line) × (pass.new.number ≡ pass.old.number) }

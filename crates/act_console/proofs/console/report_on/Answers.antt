@@ -23,4 +23,4 @@ returns g c =
     (λ text written.
     told_of_same (λ (casts : List Casting) (events : List Event). report (opening casts) events) (string_bytes text) casts (map role_casting c.args.roles) c.args.events c.args.events
     c.in_ok-casts.ensures refl (written casts c.in_ok-world.ensures.stands))
-    c.play_and_report.ensures
+    c.play_and_report.ensures.report

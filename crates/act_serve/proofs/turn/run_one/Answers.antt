@@ -1,4 +1,5 @@
 use Rattle.std.proofs.Common.{rules, ◌≡◌, ◌<◌, ◌∙◌, List, map, ap, sym, subst, refl, length, get_or, is_some, true, false, true≢false, All}
+use Rattle.std.specs.Prelude.{position}
 use Rattle.std.proofs.lemmas.List.{get_or_default}
 use Rattle.act_actor.specs.Actor.{next_call}
 use Rattle.act_actor.specs.Seen.{live_seen}
@@ -70,6 +71,25 @@ returns-in-Ok-Some-clause-serving g c =
     λ opening callers letters h.
     subst (λ (l : List (Seat ReplyExecValue)). IsServing opening callers replies letters after l) (sym (c.give_reply.ensures seat (sym (here seat))))
     (serving_given replies seats c.in-Some.at seat here c.in-Ok-Some.reply opening callers letters c.caller.result before after ran below mine c.requires.differ h)
+
+pub returns-in-Ok-Some-clause-first : goal.returns-in-Ok-Some-clause-first
+returns-in-Ok-Some-clause-first g c =
+    let before = live_seen g.K.Actor.state c.args.live.now in
+    let after = live_seen g.K.Actor.state c.run_next.new.live in
+    let ran : HasReplied c.caller.result c.in-Ok-Some.reply before after = rw c.in-Ok-Some.field-0-is at c.in-Ok-Some.ensures.ran in
+    let replies = c.args.replies.now in
+    let seats = c.args.notices.now.items in
+    let seat = c.index.result.now in
+    let below : c.in-Some.at < length seats = search rules in
+    let was : IsSeated replies before.id before.log seat = search rules in
+    let mine : c.caller.result ≡ caller_at replies seat.place = c.caller.ensures ∙ caller_here replies seat.place c.index-replies-place.result was.below c.index-replies-place.is in
+    λ _. (
+      c.in-Some.at,
+      ap (position (has_next replies before)) (sym c.as_slice.ensures.value) ∙ sym c.next_seat.ensures ∙ c.in-Some.is,
+      ran.item,
+      ran.log,
+      λ d. ran.of_caller ∙ mine ∙ ap (λ (s : Seat ReplyExecValue). caller_at replies s.place) (sym (get_or_default seats c.in-Some.at d seat below ∙ sym c.index.ensures)),
+    )
 
 pub returns-in_default-clause-gone : goal.returns-in_default-clause-gone
 returns-in_default-clause-gone g c = (refl, nowhere (has_next c.args.replies.now (live_seen g.K.Actor.state c.args.live.now)) c.as_slice.result.now c.args.notices.now.items c.next_seat.result c.next_seat.ensures c.as_slice.ensures.value c.in_default.is)

@@ -53,4 +53,4 @@ returns-in-Ok-clause-calling g c =
     let there : (d : ControlValue) → (get_or controls seat.place d).actor ≡ c.args.a = λ d. ap (λ (x : _). (get_or controls x.place d).actor) here ∙ c.requires.place seat d in
     let was : HasNamed controls c.args.self.now.owner.id seat = subst (HasNamed controls c.args.self.now.owner.id) (sym here) (c.requires.calling.names c.args.at seat c.requires.below) in
     calling_asked c.args.lines.now c.args.self.now _ c.args.at seat c.ask.new.pass c.requires.below here (ap (λ (p : _). p.line) c.in-Ok.ensures.ok)
-    (named_more controls c.args.self.now.owner.id c.args.a seat c.ask.new.pass _ there (ap (λ (n : ℕ). record { caller = n; actor = c.args.a }) id) (ap (λ (p : _). p.put) c.in-Ok.ensures.ok) was) refl refl refl refl refl c.requires.calling
+    (named_more controls c.args.self.now.owner.id c.args.a seat c.ask.new.pass _ there (ap (λ (n : ℕ). record { caller = n; actor = c.args.a }) id) (ap (λ (p : _). p.put) c.in-Ok.ensures.ok) was) refl refl refl refl refl refl c.requires.calling

@@ -4,11 +4,11 @@ use Rattle.act_drive.proofs.desk.Desk.collect.Goals as goal
 
 pub returns-in-Some-clause-calling : goal.returns-in-Some-clause-calling
 returns-in-Some-clause-calling c =
-    (calling_heard c.args.lines.now c.args.self.now _ c.in-Some.notice c.collect.ensures.after c.in-Some.ensures.taken refl refl refl c.requires.calling).0
+    (calling_heard c.args.lines.now c.args.self.now _ c.in-Some.notice c.collect.ensures.after c.in-Some.ensures.taken refl refl refl refl c.requires.calling).0
 
 pub returns-in-Some-clause-waits : goal.returns-in-Some-clause-waits
 returns-in-Some-clause-waits c =
-    (calling_heard c.args.lines.now c.args.self.now _ c.in-Some.notice c.collect.ensures.after c.in-Some.ensures.taken refl refl refl c.requires.calling).1
+    (calling_heard c.args.lines.now c.args.self.now _ c.in-Some.notice c.collect.ensures.after c.in-Some.ensures.taken refl refl refl refl c.requires.calling).1
 
 pub returns-in-Some-clause-heard : goal.returns-in-Some-clause-heard
 returns-in-Some-clause-heard c = inr (c.in-Some.notice, ap (λ (t : _). t.taken) c.in-Some.ensures.taken, c.collect.ensures.after)

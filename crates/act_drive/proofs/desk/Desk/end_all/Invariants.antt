@@ -1,8 +1,10 @@
-use Rattle.act_drive.specs.Driven.{IsCalling, Stays}
+use Rattle.std.proofs.Common.{◌≡◌, true, take, All}
+use Rattle.act_drive.specs.Driven.{IsCalling, Stays, HasEnded}
 use Rattle.act_drive.proofs.desk.Desk.end_all.Given as goal
 
 abbrev pub invariant-loop-at : goal.invariant-loop-at
 invariant-loop-at g l = record {
   calling : IsCalling l.lines l.self;
   stay : Stays l.initial.self l.self;
+  through : l.is_through ≡ true → All (HasEnded l.lines.controls.now l.self.owner l.self.passes) (take l.at l.self.passes.kills.items);
 }

@@ -17,7 +17,7 @@ returns-in-Ok-Some-clause-calling g c =
     let told : Ok (Some c.in-Ok-Some.note) ≡ release_told between.owner c.args.a = rw c.in-Ok-Some.field-0-is at c.in-Ok-Some.ensures.value in
     let last = last_of _ _ _ _ told in
     let is : c.release.new.self ≡ with_handles between.owner (without_copy c.args.a between.owner.handles) = c.in-Ok-Some.ensures.ok in
-    calling_noted c.args.lines.now between _ c.args.a c.in-Ok-Some.note is refl c.clear.ensures.empty refl last.1 c.release.ensures.given last.0 c.clear.ensures.calling
+    calling_noted c.args.lines.now between _ c.args.a c.in-Ok-Some.note is refl c.clear.ensures.empty refl refl last.1 c.release.ensures.given last.0 c.clear.ensures.calling
 
 pub returns-in-Ok-Some-clause-follows : goal.returns-in-Ok-Some-clause-follows
 returns-in-Ok-Some-clause-follows g c = release_follows c.args.lines.now c.args.self.now c.clear.new.self _ c.args.a c.clear.ensures.waits c.in-Ok-Some.ensures.ok refl
@@ -26,7 +26,7 @@ pub returns-in-Ok-None-clause-calling : goal.returns-in-Ok-None-clause-calling
 returns-in-Ok-None-clause-calling g c =
     let between = c.clear.new.self in
     let told : Ok None ≡ release_told between.owner c.args.a = rw c.in-Ok-None.field-0-is at c.in-Ok-None.ensures.value in
-    calling_step c.args.lines.now between _ (Released c.args.a) c.in-Ok-None.ensures.ok refl refl refl c.clear.ensures.calling.flags (ended_released between.owner c.args.a) (release_returns between.owner c.args.a (λ one. not_last _ _ told one)) c.clear.ensures.calling
+    calling_step c.args.lines.now between _ (Released c.args.a) c.in-Ok-None.ensures.ok refl refl refl refl c.clear.ensures.calling.flags (ended_released between.owner c.args.a) (release_returns between.owner c.args.a (λ one. not_last _ _ told one)) c.clear.ensures.calling
 
 pub returns-in-Ok-None-clause-follows : goal.returns-in-Ok-None-clause-follows
 returns-in-Ok-None-clause-follows g c = release_follows c.args.lines.now c.args.self.now c.clear.new.self _ c.args.a c.clear.ensures.waits c.in-Ok-None.ensures.ok refl

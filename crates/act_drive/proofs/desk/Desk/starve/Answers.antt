@@ -4,6 +4,9 @@ use Rattle.act_drive.proofs.desk.Desk.starve.Goals as goal
 pub returns-then-end_all-clause-stays : goal.returns-then-end_all-clause-stays
 returns-then-end_all-clause-stays g c = stays_trans _ _ _ c.loop.invariant.stay c.end_all.ensures.stays
 
+pub returns-then-end_all-clause-through : goal.returns-then-end_all-clause-through
+returns-then-end_all-clause-through g c = c.end_all.ensures.through c.if-end_all.true
+
 pub loop-preserved : goal.loop-preserved
 loop-preserved g c = record {
   calling = c.collect-has_heard.ensures.calling;

@@ -1,16 +1,18 @@
-use Rattle.std.proofs.Common.{◌≡◌, Some, None, ap, sym, ◌∙◌, subst, slice_set, get_or}
+use Rattle.std.proofs.Common.{◌≡◌, ◌≢◌, ℕ, Some, None, ap, sym, ◌∙◌, subst, slice_set, get_or}
 use Rattle.std.specs.Prelude.{slice_get, position}
 use Rattle.act_types.specs.declared.message.Notice.{Notice}
 use Rattle.act_rules.specs.declared.event.Event.TheVariants as event
 use Rattle.act_rules.specs.Laws.{history}
 use Rattle.act_rules.specs.Rules.{outcome_of, after}
+use Rattle.act_owner.specs.declared.owner.Collected.TheVariants.{Late}
 use Rattle.act_owner.specs.Owner.{OwnerValue, collected, after_collect, KnowsDeath}
 use Rattle.act_world.specs.declared.exchange.Posted.{Posted}
 use Rattle.act_world.specs.Exchange.{ExchangeValue, is_owner, told_collected}
 use Rattle.act_world.specs.Ties.{Ties}
+use Rattle.act_world.proofs.Changes.{on_err}
 use Rattle.act_world.proofs.Lawful.{world_lawful}
 use Rattle.act_world.proofs.Sending.{SeesOwner}
-use Rattle.act_world.proofs.Collecting.{collect_follows, collect_owned, late_follows}
+use Rattle.act_world.proofs.Collecting.{collect_follows, collect_owned, late_follows, reply_takes}
 use Rattle.act_world.proofs.exchange.Exchange.collect.Goals as goal
 
 pub returns-in_default-place_of-clause-ok : goal.returns-in_default-place_of-clause-ok
@@ -44,9 +46,22 @@ returns-clause-ok c slots casts before stands =
       place_is = sym (c.in-Some-place_of.ensures ∙ ap (position (is_owner notice.caller)) owners);
       owner_is = c.index_mut.ensures.value ∙ ap (λ (exchange : ExchangeValue). get_or exchange.owners c.in-Some-place_of.place owner) c.self.view_is;
     } in
-    let copied : c.in_ok-notice.notice ≡ notice.notice = c.in_ok-notice.ensures in
+    let copied : c.in_ok-notice.notice ≡ notice.notice = c.in_ok-notice.ensures.ok in
     let told : c.told.result ≡ told_collected notice.caller (collected owner notice.notice) = c.told.ensures.value ∙ ap (told_collected notice.caller) (c.collect-collected.ensures.value ∙ ap (collected owner) copied) in
     let new : c.collect-collected.new.self ≡ after_collect owner notice.notice = c.collect-collected.ensures.after ∙ ap (after_collect owner) copied in
     let known : KnowsDeath notice.notice owner c.collect-collected.new.self = subst (λ (one : Notice). KnowsDeath one owner c.collect-collected.new.self) copied c.collect-collected.ensures.known in
     subst (λ (exchange : ExchangeValue). (c.told.result ≡ outcome_of h (event.Collect c.args.j)) × Ties (after h (event.Collect c.args.j)) (record { exchange = record exchange { owners = slice_set exchange.owners c.in-Some-place_of.place c.collect-collected.new.self }; slots = slots })) (sym c.self.view_is)
     (collect_follows h c.args.self.now slots c.args.j notice (world_lawful casts before) stands here c.in-Some-place_of.place owner c.collect-collected.new.self c.told.result sees told new known)
+
+pub returns-in_err-notice-clause-memory : goal.returns-in_err-notice-clause-memory
+returns-in_err-notice-clause-memory c =
+    let notice : Posted = c.in-Some.posted.now in
+    let here : slice_get c.args.self.now.replies c.args.j ≡ Some notice = sym c.in-Some.ensures in
+    let owner : OwnerValue = c.index.result.now in
+    let owners : c.deref.result.now ≡ c.args.self.now.owners = c.deref.ensures.value ∙ ap (λ (exchange : ExchangeValue). exchange.owners) c.self.view_is in
+    let sees : SeesOwner c.args.self.now notice.caller c.in-Some-place_of.place owner = record {
+      place_is = sym (c.in-Some-place_of.ensures ∙ ap (position (is_owner notice.caller)) owners);
+      owner_is = c.index.ensures ∙ ap (λ (exchange : ExchangeValue). get_or exchange.owners c.in-Some-place_of.place owner) c.self.view_is;
+    } in
+    let other : (k : ℕ) → collected owner notice.notice ≢ Late k = λ k late. c.in_default-collected.not-Late k (c.collected.ensures ∙ late) in
+    on_err c.from_residual.result (λ slots casts before stands. reply_takes (history casts before) c.args.self.now slots c.args.j c.in-Some-place_of.place notice owner (world_lawful casts before) stands here sees c.in_err-notice.ensures.last other)

@@ -10,7 +10,7 @@ use Rattle.act_world.specs.Exchange.{ExchangeValue, is_owner}
 use Rattle.act_world.proofs.Changes.{on_err}
 use Rattle.act_world.proofs.Lawful.{world_lawful}
 use Rattle.act_world.proofs.OneCaller.{no_caller_follows}
-use Rattle.act_world.proofs.Releasing.{release_follows, last_follows, release_refused_follows, release_unrefused}
+use Rattle.act_world.proofs.Releasing.{release_follows, last_follows, release_refused_follows, release_unrefused, last_takes}
 use Rattle.act_world.proofs.exchange.Exchange.release.Goals.{then-holds-eq1+in_ok-reserve, else-holds-eq1}
 use Rattle.act_world.proofs.exchange.Exchange.release.Goals as goal
 
@@ -55,3 +55,9 @@ returns-clause-ok c =
     let count : c.len-i.result ≡ length old.mail = grind (arith, common_steps) in
     rw (← same) (λ slots casts before ties. last_follows (history casts before) old c.push_reserved.new.self.items slots c.args.c c.args.a c.in-Some.place c.len-i.result c.in-Some-note.note c.index_mut.result.now c.release.new.self
     (world_lawful casts before) ties at c.index_mut.ensures.value told c.in-Ok.ensures.ok c.push_reserved.ensures.items count)
+
+pub returns-in_err-reserve-clause-memory : goal.returns-in_err-reserve-clause-memory
+returns-in_err-reserve-clause-memory c =
+    let old : ExchangeValue = record { owners = c.self.inside.owners.items; mail = c.self.inside.mail.items; replies = c.self.inside.replies.items; asked = c.self.inside.asked } in
+    rw (← c.self.view_is) (on_err c.from_residual.result (λ slots casts before ties. last_takes (history casts before) old slots c.args.c c.args.a c.in-Some.place
+    c.index.result.now ties (sym (rw c.deref.ensures.value at c.in-Some.ensures)) c.index.ensures (sym c.holds.ensures ∙ c.if-holds-eq1.true)))

@@ -8,3 +8,6 @@ returns-in-Ok-clause-stands g c = λ told casts before stands. stands_next casts
 
 pub returns-in-Ok-clause-last : goal.returns-in-Ok-clause-last
 returns-in-Ok-clause-last g c = λ memory. let no : true ≡ false = sym memory ∙ c.in-Ok.ensures.told in absurd (cc)
+
+pub returns-in-Ok-clause-memory : goal.returns-in-Ok-clause-memory
+returns-in-Ok-clause-memory g c = λ memory. let no : true ≡ false = sym memory ∙ c.in-Ok.ensures.told in absurd (cc)

@@ -4,7 +4,7 @@ use Rattle.std.proofs.Math.Seq.{map-set_same}
 use Rattle.std.proofs.lemmas.Result.{IfOk-weaker, on_err_weaker}
 use Rattle.act_world.specs.Slots.{IsNewCall, IsBrought}
 use Rattle.act_world.specs.Value.{slot_seen, world_seen}
-use Rattle.act_world.proofs.Delivering.{new_unrefused, brought_follows}
+use Rattle.act_world.proofs.Delivering.{new_unrefused, new_takes, brought_follows}
 use Rattle.act_world.proofs.world.World.deliver.Goals as goal
 
 pub returns-clause-ok : goal.returns-clause-ok
@@ -17,6 +17,12 @@ returns-clause-ok g c = IfOk-weaker c.bring.result
 pub returns-clause-last : goal.returns-clause-last
 returns-clause-last g c = on_err_weaker c.bring.result
     (λ takes. new_unrefused (slot_seen g.K.Actor.state) c.args.self.now.exchange c.args.self.now.slots c.args.i c.slot_of.result c.in-Some.letter.now c.index-slots-slot_of.result
+    c.in-Some.ensures (c.slot_of.ensures.value ∙ c.actor.ensures) c.index-slots-slot_of.is takes)
+    (subst (λ slot. OnErr c.bring.result (IsNewCall c.in-Some.letter.now (slot_seen g.K.Actor.state slot))) (sym c.index-slots-slot_of.is) c.bring.ensures.last)
+
+pub returns-clause-memory : goal.returns-clause-memory
+returns-clause-memory g c = on_err_weaker c.bring.result
+    (λ takes. new_takes (slot_seen g.K.Actor.state) c.args.self.now.exchange c.args.self.now.slots c.args.i c.slot_of.result c.in-Some.letter.now c.index-slots-slot_of.result
     c.in-Some.ensures (c.slot_of.ensures.value ∙ c.actor.ensures) c.index-slots-slot_of.is takes)
     (subst (λ slot. OnErr c.bring.result (IsNewCall c.in-Some.letter.now (slot_seen g.K.Actor.state slot))) (sym c.index-slots-slot_of.is) c.bring.ensures.last)
 

@@ -3,7 +3,7 @@ use Rattle.std.proofs.lemmas.List.{take_all}
 use Rattle.act_rules.specs.declared.event.Event.{Event}
 use Rattle.act_world.specs.Value.{world_seen}
 use Rattle.act_world.specs.Stands.{Follows, HasRoom, IsGrownBy, Played}
-use Rattle.act_world.proofs.Playing.{Played_next, unrefused_at}
+use Rattle.act_world.proofs.Playing.{Played_next, unrefused_at, memory_at}
 use Rattle.act_world.proofs.world.World.play.Goals as goal
 
 pub loop-i-preserved : goal.loop-i-preserved
@@ -45,3 +45,13 @@ pub returns-in_default-step-clause-last_with_room : goal.returns-in_default-step
 returns-in_default-step-clause-last_with_room g c = λ room.
     unrefused_at c.args.events.now c.loop-i.i c.index-events-i.result (world_seen g.K.Actor.state c.loop-i.self) (world_seen g.K.Actor.state c.step.new.self) c.loop-i-test.true c.index-events-i.is
     c.in_default-step.ensures.err c.in_default-step.ensures.last
+
+pub returns-in_default-step-clause-memory : goal.returns-in_default-step-clause-memory
+returns-in_default-step-clause-memory g c = λ later.
+    memory_at c.args.events.now c.loop-i.i c.index-events-i.result (world_seen g.K.Actor.state c.loop-i.self) (world_seen g.K.Actor.state c.step.new.self) c.loop-i-test.true c.index-events-i.is
+    c.in_default-step.ensures.err c.in_default-step.ensures.memory
+
+pub returns-in_default-step-clause-memory_with_room : goal.returns-in_default-step-clause-memory_with_room
+returns-in_default-step-clause-memory_with_room g c = λ room.
+    memory_at c.args.events.now c.loop-i.i c.index-events-i.result (world_seen g.K.Actor.state c.loop-i.self) (world_seen g.K.Actor.state c.step.new.self) c.loop-i-test.true c.index-events-i.is
+    c.in_default-step.ensures.err c.in_default-step.ensures.memory

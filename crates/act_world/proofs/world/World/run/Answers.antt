@@ -10,7 +10,7 @@ use Rattle.act_world.specs.Value.{slot_seen, world_seen}
 use Rattle.act_world.specs.Slots.{IsRunAt}
 use Rattle.act_world.specs.Stands.{Follows}
 use Rattle.act_world.proofs.Changes.{on_err}
-use Rattle.act_world.proofs.Running.{run_refused, run_ended, run_unrefused, run_not_refused, run_gap, run_ran}
+use Rattle.act_world.proofs.Running.{run_refused, run_ended, run_unrefused, run_not_refused, run_nothing, run_takes, run_replies, run_ran}
 use Rattle.act_world.proofs.world.World.run.Goals as goal
 
 pub returns-in-Some-clause-ok : goal.returns-in-Some-clause-ok
@@ -22,24 +22,24 @@ returns-in-Some-clause-ok g c =
 pub returns-then-not-is_live-clause-ok : goal.returns-then-not-is_live-clause-ok
 returns-then-not-is_live-clause-ok g c =
     let old = world_seen g.K.Actor.state c.args.self.now in
-    let slot = slot_seen g.K.Actor.state c.slot_at.result.now in
-    let there : slice_get old.slots c.args.a ≡ Some slot = rw (← c.self.view_is) c.slot_at.ensures in
+    let slot = slot_seen g.K.Actor.state c.slot_at-slot.result.now in
+    let there : slice_get old.slots c.args.a ≡ Some slot = rw (← c.self.view_is) c.slot_at-slot.ensures in
     let free : None ≡ naming_refusal (find (is_owner c.args.c) old.exchange.owners) c.args.a = rw (← c.self.view_is) c.in_default.ensures.refusal in
     run_ended old.exchange old.slots c.args.a c.args.c slot there (sym free) (sym c.if-not-is_live.ensures)
 
 pub returns-in_err-reserve-clause-last : goal.returns-in_err-reserve-clause-last
 returns-in_err-reserve-clause-last g c =
     let old = world_seen g.K.Actor.state c.args.self.now in
-    let slot = slot_seen g.K.Actor.state c.slot_at.result.now in
-    let there : slice_get old.slots c.args.a ≡ Some slot = rw (← c.self.view_is) c.slot_at.ensures in
+    let slot = slot_seen g.K.Actor.state c.slot_at-slot.result.now in
+    let there : slice_get old.slots c.args.a ≡ Some slot = rw (← c.self.view_is) c.slot_at-slot.ensures in
     let free : None ≡ naming_refusal (find (is_owner c.args.c) old.exchange.owners) c.args.a = rw (← c.self.view_is) c.in_default.ensures.refusal in
     on_err c.from_residual.result (run_unrefused old.exchange old.slots c.args.a c.args.c slot there (sym free) (sym c.if-not-is_live.ensures))
 
 pub returns-in_err-reply-clause-last : goal.returns-in_err-reply-clause-last
 returns-in_err-reply-clause-last g c =
     let old = world_seen g.K.Actor.state c.args.self.now in
-    let slot = slot_seen g.K.Actor.state c.slot_at.result.now in
-    let there : slice_get old.slots c.args.a ≡ Some slot = rw (← c.self.view_is) c.slot_at.ensures in
+    let slot = slot_seen g.K.Actor.state c.slot_at-slot.result.now in
+    let there : slice_get old.slots c.args.a ≡ Some slot = rw (← c.self.view_is) c.slot_at-slot.ensures in
     let free : None ≡ naming_refusal (find (is_owner c.args.c) old.exchange.owners) c.args.a = rw (← c.self.view_is) c.in_default.ensures.refusal in
     on_err c.from_residual-in_err-reply.result (run_unrefused old.exchange old.slots c.args.a c.args.c slot there (sym free) (sym c.if-not-is_live.ensures))
 
@@ -47,40 +47,61 @@ pub returns-in_default-2-clause-ok : goal.returns-in_default-2-clause-ok
 returns-in_default-2-clause-ok g c =
     let state = g.K.Actor.state in
     let old = world_seen state c.args.self.now in
-    let slot = slot_seen state c.slot_at.result.now in
+    let slot = slot_seen state c.slot_at-slot.result.now in
     let new = map (slot_seen state) c.run_at.new.slots in
-    let there : slice_get old.slots c.args.a ≡ Some slot = rw (← c.self.view_is) c.slot_at.ensures in
+    let there : slice_get old.slots c.args.a ≡ Some slot = rw (← c.self.view_is) c.slot_at-slot.ensures in
     let free : None ≡ naming_refusal (find (is_owner c.args.c) old.exchange.owners) c.args.a = rw (← c.self.view_is) c.in_default.ensures.refusal in
     let ran = subst (λ (world : _). IsRunAt c.args.c c.args.a (map (slot_seen state) world.slots) new c.in_ok-reply.field-0) c.self.view_is c.in_ok-reply.ensures.ok in
     absurd (run_not_refused old.exchange old.slots c.args.a c.args.c slot there (sym free) new c.in_default-2.field-0 (sym c.if-not-is_live.ensures) (subst (IsRunAt c.args.c c.args.a old.slots new) c.in_default-2.is ran))
 
-pub returns-in_default-reply-clause-ok : goal.returns-in_default-reply-clause-ok
-returns-in_default-reply-clause-ok g c =
-    let state = g.K.Actor.state in
-    let old = world_seen state c.args.self.now in
-    let slot = slot_seen state c.slot_at.result.now in
-    let new = map (slot_seen state) c.run_at.new.slots in
-    let there : slice_get old.slots c.args.a ≡ Some slot = rw (← c.self.view_is) c.slot_at.ensures in
+pub returns-then-not-has_next-clause-ok : goal.returns-then-not-has_next-clause-ok
+returns-then-not-has_next-clause-ok g c =
+    let old = world_seen g.K.Actor.state c.args.self.now in
+    let slot = slot_seen g.K.Actor.state c.slot_at-slot.result.now in
+    let there : slice_get old.slots c.args.a ≡ Some slot = rw (← c.self.view_is) c.slot_at-slot.ensures in
     let free : None ≡ naming_refusal (find (is_owner c.args.c) old.exchange.owners) c.args.a = rw (← c.self.view_is) c.in_default.ensures.refusal in
+    run_nothing old.exchange old.slots c.args.a c.args.c slot there (sym free) (sym c.if-not-is_live.ensures) (sym c.if-not-has_next.ensures)
+
+pub returns-in_err-reserve-clause-memory : goal.returns-in_err-reserve-clause-memory
+returns-in_err-reserve-clause-memory g c =
+    let old = world_seen g.K.Actor.state c.args.self.now in
+    let slot = slot_seen g.K.Actor.state c.slot_at-slot.result.now in
+    let there : slice_get old.slots c.args.a ≡ Some slot = rw (← c.self.view_is) c.slot_at-slot.ensures in
+    let free : None ≡ naming_refusal (find (is_owner c.args.c) old.exchange.owners) c.args.a = rw (← c.self.view_is) c.in_default.ensures.refusal in
+    on_err c.from_residual.result (run_takes old.exchange old.slots c.args.a c.args.c slot there (sym free) (sym c.if-not-is_live.ensures) (sym c.if-not-has_next.ensures))
+
+pub returns-in_err-reply-clause-memory : goal.returns-in_err-reply-clause-memory
+returns-in_err-reply-clause-memory g c =
+    let old = world_seen g.K.Actor.state c.args.self.now in
+    let slot = slot_seen g.K.Actor.state c.slot_at-slot.result.now in
+    let there : slice_get old.slots c.args.a ≡ Some slot = rw (← c.self.view_is) c.slot_at-slot.ensures in
+    let free : None ≡ naming_refusal (find (is_owner c.args.c) old.exchange.owners) c.args.a = rw (← c.self.view_is) c.in_default.ensures.refusal in
+    on_err c.from_residual-in_err-reply.result (run_takes old.exchange old.slots c.args.a c.args.c slot there (sym free) (sym c.if-not-is_live.ensures) (sym c.if-not-has_next.ensures))
+
+pub unwrap-reply-requires : goal.unwrap-reply-requires
+unwrap-reply-requires g c =
+    let state = g.K.Actor.state in
+    let old = world_seen g.K.Actor.state c.args.self.now in
+    let slot = slot_seen g.K.Actor.state c.slot_at-slot.result.now in
+    let there : slice_get old.slots c.args.a ≡ Some slot = rw (← c.self.view_is) c.slot_at-slot.ensures in
+    let free : None ≡ naming_refusal (find (is_owner c.args.c) old.exchange.owners) c.args.a = rw (← c.self.view_is) c.in_default.ensures.refusal in
+    let new = map (slot_seen state) c.run_at.new.slots in
     let ran = subst (λ (world : _). IsRunAt c.args.c c.args.a (map (slot_seen state) world.slots) new c.in_ok-reply.field-0) c.self.view_is c.in_ok-reply.ensures.ok in
-    let items : c.reserve.new.self.items ≡ old.exchange.replies = c.in_ok-reserve.ensures.items ∙ ap (λ (world : _). world.exchange.replies) c.self.view_is in
-    subst (λ (world : _). Follows (event.Run c.args.a c.args.c) old (record { exchange = record world.exchange { replies = c.reserve.new.self.items }; slots = new }) (Ok did.Gap)) (sym c.self.view_is)
-    (run_gap old.exchange old.slots c.args.a c.args.c slot there (sym free) new c.reserve.new.self.items (sym c.if-not-is_live.ensures)
-    (subst (IsRunAt c.args.c c.args.a old.slots new) (c.in-Ok.is ∙ ap (λ reply. Ok reply) c.in_default-reply.is) ran) items)
+    run_replies old.exchange old.slots c.args.a c.args.c slot there (sym free) new c.in-Ok.reply (sym c.if-not-is_live.ensures) (sym c.if-not-has_next.ensures) (subst (IsRunAt c.args.c c.args.a old.slots new) c.in-Ok.is ran)
 
 pub returns-clause-ok : goal.returns-clause-ok
 returns-clause-ok g c =
     let state = g.K.Actor.state in
     let old = world_seen state c.args.self.now in
-    let slot = slot_seen state c.slot_at.result.now in
+    let slot = slot_seen state c.slot_at-slot.result.now in
     let new = map (slot_seen state) c.run_at.new.slots in
-    let there : slice_get old.slots c.args.a ≡ Some slot = rw (← c.self.view_is) c.slot_at.ensures in
+    let there : slice_get old.slots c.args.a ≡ Some slot = rw (← c.self.view_is) c.slot_at-slot.ensures in
     let free : None ≡ naming_refusal (find (is_owner c.args.c) old.exchange.owners) c.args.a = rw (← c.self.view_is) c.in_default.ensures.refusal in
     let ran = subst (λ (world : _). IsRunAt c.args.c c.args.a (map (slot_seen state) world.slots) new c.in_ok-reply.field-0) c.self.view_is c.in_ok-reply.ensures.ok in
     let items : c.reserve.new.self.items ≡ old.exchange.replies = c.in_ok-reserve.ensures.items ∙ ap (λ (world : _). world.exchange.replies) c.self.view_is in
-    let notice : Posted = record { caller = c.args.c; notice = Answered c.in-Some-reply.reply } in
+    let notice : Posted = record { caller = c.args.c; notice = Answered c.unwrap-reply.result } in
     let replies : c.push_reserved.new.self.items ≡ old.exchange.replies ++ notice ∷ [] = c.push_reserved.ensures.items ∙ ap (λ (all : List Posted). all ++ notice ∷ []) items in
     let count : c.len-j.result ≡ length c.reserve.new.self.items = grind (arith, common_steps) in
-    subst (λ (world : _). Follows (event.Run c.args.a c.args.c) old (record { exchange = record world.exchange { replies = c.push_reserved.new.self.items }; slots = new }) (Ok (did.Ran c.in-Some-reply.reply.place c.len-j.result))) (sym c.self.view_is)
-    (run_ran old.exchange old.slots c.args.a c.args.c slot there (sym free) new c.push_reserved.new.self.items c.len-j.result c.in-Some-reply.reply (sym c.if-not-is_live.ensures)
-    (subst (IsRunAt c.args.c c.args.a old.slots new) (c.in-Ok.is ∙ ap (λ reply. Ok reply) c.in-Some-reply.is) ran) (count ∙ ap (λ (all : List Posted). length all) items) replies)
+    subst (λ (world : _). Follows (event.Run c.args.a c.args.c) old (record { exchange = record world.exchange { replies = c.push_reserved.new.self.items }; slots = new }) (Ok (did.Ran c.unwrap-reply.result.place c.len-j.result))) (sym c.self.view_is)
+    (run_ran old.exchange old.slots c.args.a c.args.c slot there (sym free) new c.push_reserved.new.self.items c.len-j.result c.unwrap-reply.result (sym c.if-not-is_live.ensures)
+    (subst (IsRunAt c.args.c c.args.a old.slots new) (c.in-Ok.is ∙ ap (λ reply. Ok reply) c.unwrap-reply.ensures) ran) (count ∙ ap (λ (all : List Posted). length all) items) replies)

@@ -1,7 +1,10 @@
-use Rattle.std.proofs.Common.{map}
+use Rattle.std.proofs.Common.{map, sym, subst, OnErr}
 use Rattle.act_rules.specs.declared.event.Event.TheVariants as event
-use Rattle.act_world.specs.Value.{slot_seen}
-use Rattle.act_world.proofs.Playing.{there, ok_there, last_there}
+use Rattle.act_rules.specs.declared.event.Event.{Event}
+use Rattle.act_world.specs.Value.{slot_seen, world_seen}
+use Rattle.act_world.specs.Memory.{TakesMemory}
+use Rattle.act_world.specs.Stands.{Follows}
+use Rattle.act_world.proofs.Playing.{there, ok_there, last_there, memory_there}
 use Rattle.act_world.proofs.world.World.step.Goals as goal
 
 pub returns-in-Submit-clause-ok : goal.returns-in-Submit-clause-ok
@@ -33,3 +36,18 @@ returns-in-Copy-clause-ok g c = there (map (slot_seen g.K.Actor.state) c.args.se
 
 pub returns-in-AskKill-clause-ok : goal.returns-in-AskKill-clause-ok
 returns-in-AskKill-clause-ok g c = there (map (slot_seen g.K.Actor.state) c.args.self.now.slots) (event.AskKill c.in-AskKill.c c.in-AskKill.a) c.args.event.now _ c.ask_kill.new.self c.ask_kill.result c.in-AskKill.is c.ask_kill.ensures.follows
+
+pub returns-in-Release-clause-memory : goal.returns-in-Release-clause-memory
+returns-in-Release-clause-memory g c = memory_there (map (slot_seen g.K.Actor.state) c.args.self.now.slots) (event.Release c.in-Release.c c.in-Release.a) c.args.event.now _ c.release.result c.in-Release.is c.release.ensures.memory
+
+pub returns-in-Collect-clause-memory : goal.returns-in-Collect-clause-memory
+returns-in-Collect-clause-memory g c = memory_there (map (slot_seen g.K.Actor.state) c.args.self.now.slots) (event.Collect c.in-Collect.j) c.args.event.now _ c.collect.result c.in-Collect.is c.collect.ensures.memory
+
+pub returns-in-Run-clause-memory : goal.returns-in-Run-clause-memory
+returns-in-Run-clause-memory g c = subst (λ (e : Event). OnErr c.run.result (TakesMemory e (world_seen g.K.Actor.state c.args.self.now))) (sym c.in-Run.is) c.run.ensures.memory
+
+pub returns-in-TakeKill-clause-ok : goal.returns-in-TakeKill-clause-ok
+returns-in-TakeKill-clause-ok g c = subst (λ (e : Event). Follows e (world_seen g.K.Actor.state c.args.self.now) (world_seen g.K.Actor.state c.take_kill.new.self) c.take_kill.result) (sym c.in-TakeKill.is) c.take_kill.ensures.follows
+
+pub returns-in-Retire-clause-ok : goal.returns-in-Retire-clause-ok
+returns-in-Retire-clause-ok g c = subst (λ (e : Event). Follows e (world_seen g.K.Actor.state c.args.self.now) (world_seen g.K.Actor.state c.retire.new.self) c.retire.result) (sym c.in-Retire.is) c.retire.ensures.follows

@@ -1,0 +1,153 @@
+"""The must-fail edits of the crates: what each of them changes, and in which functions.
+
+An edit has a line `file: PATH`, and then pairs of lines `old: TEXT` and `new: TEXT`. The old text stands
+once in that file, as the pairs before it left it.
+"""
+import re
+from pathlib import Path
+from typing import NamedTuple, Optional
+
+TOP = Path(__file__).resolve().parent.parent
+# What the gate tries, and what is tried by tools/more_edits.py.
+GATE = "must-fail"
+MORE = "more-must-fail"
+
+PARTS = ("src/", "specs/", "proofs/")
+FUNCTION = re.compile(r"( *)(?:pub(?:\([a-z]+\))? )?(?:unsafe )?fn (\w+)")
+BLOCK = re.compile(r"(?:pub )?(?:impl|trait)\b(.*)\{")
+
+
+class BadEdit(Exception):
+    """Why an edit can't be applied."""
+
+
+class Pair(NamedTuple):
+    file: str
+    old: Optional[str]
+    new: str
+
+
+class Place(NamedTuple):
+    """A function, and the lines of its file on which it stands, from 1 on."""
+
+    file: str
+    owner: tuple
+    name: str
+    first: int
+    last: int
+
+    def module(self):
+        """The words of its module's path."""
+        words = self.file.removeprefix("src/").removesuffix(".rt").split("/")
+        return [] if words in (["lib"], ["main"]) else words
+
+    def proofs(self):
+        """The folder of what is written of its proof."""
+        return "/".join(["proofs", *self.module(), *filter(None, ["".join(self.owner)]), self.name])
+
+
+class Edit:
+    """One file of edits, in a folder of its crate."""
+
+    def __init__(self, path):
+        self.path = Path(path)
+        self.folder = self.path.parent.parent
+        self.crate = self.folder.name
+        self.name = f"{self.crate}/{self.path.name}"
+
+    def pairs(self):
+        file, old, found = "", None, []
+        for line in self.path.read_text().split("\n"):
+            if line.startswith("file: "):
+                file = line.removeprefix("file: ").strip()
+            elif line.startswith("old: "):
+                old = line.removeprefix("old: ")
+            elif line.startswith("new:"):
+                found.append(Pair(file, old, line.removeprefix("new:").removeprefix(" ")))
+                old = None
+        return found
+
+    def applied(self, texts):
+        """These texts, by file, after the edit. Those that it doesn't find among them are the crate's own."""
+        texts, pairs = dict(texts), self.pairs()
+        for pair in pairs:
+            texts[pair.file] = self._replaced(pair, texts)
+        if not pairs:
+            raise BadEdit("it changes nothing")
+        return texts
+
+    def _replaced(self, pair, texts):
+        path = self.folder / pair.file
+        if not pair.file.startswith(PARTS) or ".." in pair.file or not path.is_file():
+            raise BadEdit(f"there is no file {pair.file!r} of src, specs or proofs")
+        if not pair.old:
+            raise BadEdit("a new text has no old one")
+        text = texts.get(pair.file) or path.read_text()
+        if text.count(pair.old) != 1:
+            raise BadEdit(f"{pair.old!r} stands in {pair.file} {text.count(pair.old)} times, and not once")
+        return text.replace(pair.old, pair.new)
+
+    def places(self):
+        """The functions that it changes, or None where it changes more than functions and their proofs."""
+        texts, found, others = {}, set(), set()
+        for pair in self.pairs():
+            text = texts.get(pair.file) or (self.folder / pair.file).read_text()
+            if not pair.file.startswith("src/"):
+                others.add(str(Path(pair.file).parent))
+            elif not pair.old.startswith("use "):
+                found.add(place_at(pair.file, text, text.index(pair.old)))
+            texts[pair.file] = text.replace(pair.old, pair.new)
+        return None if None in found or others - {place.proofs() for place in found} else found
+
+
+def place_at(file, text, at):
+    """The function that stands around this place of a file, or None."""
+    lines, row = text.split("\n"), text.count("\n", 0, at)
+    for first in range(row, -1, -1):
+        found = FUNCTION.match(lines[first])
+        if found:
+            last = lines.index(f"{found[1]}}}", first) if f"{found[1]}}}" in lines[first:] else first
+            place = Place(file, owner_of(lines, first), found[2], attributes_from(lines, first) + 1, last + 1)
+            return place if row <= last else None
+    return None
+
+
+def attributes_from(lines, row):
+    """The first line of the attributes above this one, or this one."""
+    while row and lines[row - 1].lstrip().startswith("#["):
+        row -= 1
+    return row
+
+
+def owner_of(lines, row):
+    """The type whose method stands on this line, and its trait, as far as there are any."""
+    for line in reversed(lines[:row] if lines[row].startswith(" ") else []):
+        block = BLOCK.match(line)
+        if block:
+            names = re.sub(r"<(?:[^<>]|<(?:[^<>]|<[^<>]*>)*>)*>", " ", block[1]).partition(" where")[0].split(" for ")
+            return tuple(name.partition(": ")[0].split("::")[-1].strip() for name in reversed(names))
+    return ()
+
+
+def edits_in(kind, crates=()):
+    """The edits of that folder of these crates, or of all."""
+    found = [Edit(path) for path in sorted(TOP.glob(f"crates/*/{kind}/*.edit"))]
+    return [edit for edit in found if not crates or edit.crate in crates]
+
+
+def fault_of(edit):
+    """Why the edit can't be tried, or None."""
+    if edit.path.parent.name == MORE and (edit.folder / GATE / edit.path.name).exists():
+        return f"the gate has an edit of this name in {GATE}/"
+    try:
+        changed = edit.applied({})
+    except (BadEdit, UnicodeDecodeError) as fault:
+        return str(fault)
+    same = all(text == (edit.folder / file).read_text() for file, text in changed.items())
+    return "it leaves each file as it was" if same else None
+
+
+def strangers():
+    """What lies in a folder of edits and is none."""
+    found = [path for kind in (GATE, MORE) for path in TOP.glob(f"crates/*/{kind}/*")]
+    return sorted(path for path in found if path.suffix not in (".edit", ".md"))

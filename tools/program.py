@@ -1,0 +1,147 @@
+"""The program as every tool finds it, and what else the tools share.
+
+The proved program is the one that the gate leaves. Where none stands, or a source is newer, an unproved one is
+built once and kept in .built/. Stale is judged by the crates that the program stands on, as crates.txt lists them.
+"""
+import contextlib
+import itertools
+import os
+import pathlib
+import sys
+
+TOP = pathlib.Path(__file__).resolve().parent.parent
+CRATES = TOP / "crates"
+NAME = "ray_actors"
+PROVED = CRATES / NAME / "out" / NAME
+UNPROVED = TOP / ".built" / (NAME + ".unproved")
+# What a program is made of, and what its proof rests on besides.
+CODE = ["src"]
+PROVED_CODE = ["src", "specs", "proofs"]
+LONGEST_SCRIPT = 1_048_576
+WRONG_WORDS = 2
+WRITE_FAILED = 4
+
+
+class Stop(Exception):
+    """Why a tool ends without what it was asked for, and the status."""
+
+    def __init__(self, why, status=WRONG_WORDS):
+        super().__init__(why)
+        self.status = status
+
+
+def say(tool, text):
+    """One line on the standard error. Where that is closed the line is lost, and nothing else."""
+    note(f"{tool}: {text}\n")
+
+
+def note(text):
+    with contextlib.suppress(OSError):
+        os.write(2, text.encode())
+
+
+def ended(tool, main):
+    """Runs a tool to its end: a Stop is one line and its status, and so is an interrupt."""
+    try:
+        sys.exit(main())
+    except Stop as why:
+        say(tool, why)
+        sys.exit(why.status)
+    except KeyboardInterrupt:
+        say(tool, "interrupted")
+        sys.exit(130)
+
+
+# The crates that the program stands on.
+
+
+def listed():
+    """Of each crate of crates.txt the libraries that its line names."""
+    lines = [line.partition("#")[0] for line in (TOP / "crates.txt").read_text().splitlines()]
+    crates = (line.partition(":") for line in lines if ":" in line)
+    return {head.split()[0]: libraries.split() for head, _, libraries in crates}
+
+
+def crates_of(name, crates):
+    """The crate and those of this repository below it, each after those that it names."""
+    below = [crate for library in crates[name] if library in crates for crate in crates_of(library, crates)]
+    return list(dict.fromkeys([*below, name]))
+
+
+def files_of(parts):
+    """Every source in these folders of the crates that the program stands on."""
+    folders = [CRATES / crate / part for crate in crates_of(NAME, listed()) for part in parts]
+    for folder, _, names in itertools.chain.from_iterable(map(os.walk, folders)):
+        yield from (os.path.join(folder, name) for name in names if name.endswith((".rt", ".antt")))
+
+
+def is_fresh(program, parts):
+    """Whether the program stands, and none of these files is newer."""
+    try:
+        made = os.stat(program).st_mtime_ns
+    except OSError:
+        return False
+    return os.access(program, os.X_OK) and all(os.stat(file).st_mtime_ns <= made for file in files_of(parts))
+
+
+# The program.
+
+
+def kept(tool):
+    """The program that a run takes: the proved one, else an unproved one, which is built where none is kept."""
+    if is_fresh(PROVED, PROVED_CODE):
+        say(tool, f"the proved program, {PROVED.relative_to(TOP)}")
+        return PROVED
+    if not is_fresh(UNPROVED, CODE):
+        import unproved  # its imports are dear, and a build is rare
+
+        unproved.build(tool)
+    say(tool, f"an unproved program of these sources, {UNPROVED.relative_to(TOP)} (./test makes a proved one)")
+    return UNPROVED
+
+
+def proved(tool, path=PROVED):
+    """The path of a program of the gate, for a tool that takes no other."""
+    if not path.exists():
+        sys.exit(f"{tool}: {path} is not built: run `rt ci` first")
+    return path.resolve()
+
+
+def program_of(tool, path):
+    """The program that the words of a tool name, else the one that a run takes."""
+    return proved(tool, path) if path else kept(tool)
+
+
+# What comes in and goes out.
+
+
+def bytes_in(path, most=-1):
+    """The bytes of a file, or of the standard input where the path is `-`, up to so many."""
+    try:
+        if path == "-":
+            return sys.stdin.buffer.read(most)
+        with open(path, "rb") as file:
+            return file.read(most)
+    except AttributeError:
+        raise Stop("the standard input is closed") from None
+    except (OSError, ValueError) as why:
+        raise Stop(f"can't read {path}: {getattr(why, 'strerror', None) or why}") from None
+
+
+def script_in(path):
+    """The bytes of a script. Of one that is too long a byte too many, which tells the program so."""
+    return bytes_in(path, LONGEST_SCRIPT + 1)
+
+
+def write_out(text):
+    """Writes all of it to the standard output."""
+    left = text.encode()
+    try:
+        while left:
+            left = left[os.write(1, left) :]
+    except OSError as why:
+        raise Stop(f"write failed: {why.strerror}", WRITE_FAILED) from None
+
+
+def asks_for_help(words):
+    return words in (["--help"], ["-h"])

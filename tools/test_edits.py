@@ -1,0 +1,170 @@
+#!/usr/bin/env python3
+"""Tests of the tools that read and try must-fail edits, in a second: what is damaged must be told."""
+import tempfile
+import unittest
+from pathlib import Path
+from unittest import mock
+
+import more_edits
+import trying
+from edits import GATE, MORE, Edit, Place, fault_of
+
+SOURCE = """use std::fmt;
+
+impl<T: Clone> Few<T> {
+    /// How many there are.
+    #[tactic(auto)]
+    pub fn len(&self) -> usize
+        ensures { result ≡ length self.now }
+    {
+        self.list.len()
+    }
+}
+
+impl fmt::Display for Few<u8> {
+    fn fmt(&self) -> bool {
+        self.len() > 1
+    }
+}
+
+fn first(list: &[u8]) -> u8 {
+    list[0]
+}
+"""
+GOOD = "file: src/few.rt\nold: self.list.len()\nnew: self.list.len() + 1\n"
+LEN = "low::few::Few::len"
+FMT = "low::few::FewDisplay::fmt"
+SAID = [
+    "note: src/few.rt:5:5: it is not proved that what the function ensures holds when it returns (`returns`)",
+    f"fn {LEN}: no proof: expected answers in ./proofs/few/Few/len/Answers.antt; `search` did not prove `returns`",
+    f"fn {FMT}: no proof: it calls `{LEN}`, which is not proved",
+    "fn low::few::first: proved",
+    "only=3 proved=1",
+]
+
+
+class Scratch(unittest.TestCase):
+    """A crate of one file, made for the test."""
+
+    def setUp(self):
+        room = tempfile.TemporaryDirectory()
+        self.addCleanup(room.cleanup)
+        self.crate = Path(room.name) / "low"
+        for folder in ("src", GATE, MORE):
+            (self.crate / folder).mkdir(parents=True)
+        (self.crate / "src/few.rt").write_text(SOURCE)
+
+    def edit(self, text, kind=MORE, name="longer.edit"):
+        path = self.crate / kind / name
+        path.write_text(text)
+        return Edit(path)
+
+
+class Edits(Scratch):
+    def test_a_good_edit_has_no_fault(self):
+        edit = self.edit(GOOD)
+        self.assertIsNone(fault_of(edit))
+        self.assertIn("self.list.len() + 1\n", edit.applied({})["src/few.rt"])
+
+    def test_each_damage_is_told(self):
+        damaged = [
+            GOOD.replace("src/few.rt", "src/many.rt"),
+            GOOD.replace("src/few.rt", "src/../../low/src/few.rt"),
+            GOOD.replace("self.list.len()\n", "self.list.size()\n"),
+            GOOD.replace("old: self.list.len()", "old: self"),
+            GOOD.replace("old: self.list.len()\n", ""),
+            GOOD.replace(" + 1", ""),
+            "file: src/few.rt\n",
+        ]
+        for text in damaged:
+            self.assertIsNotNone(fault_of(self.edit(text)), text)
+
+    def test_a_name_in_both_folders_is_told(self):
+        self.edit(GOOD, GATE)
+        self.assertIsNotNone(fault_of(self.edit(GOOD)))
+
+    def test_an_edit_is_placed_in_its_function(self):
+        self.assertEqual(self.edit(GOOD).places(), {Place("src/few.rt", ("Few",), "len", 5, 10)})
+        of_trait = "file: src/few.rt\nold: self.len() > 1\nnew: true\n"
+        self.assertEqual(self.edit(of_trait).places(), {Place("src/few.rt", ("Few", "Display"), "fmt", 14, 16)})
+        self.assertIsNone(self.edit("file: src/few.rt\nold: impl<T: Clone>\nnew: impl<T>\n").places())
+
+
+class Trying(Scratch):
+    def places(self, text):
+        return {symbol: place for place in self.edit(text).places() for symbol in trying.symbols_of([LEN, FMT], "low", place)}
+
+    def test_a_refusal_of_its_own_is_told(self):
+        self.assertIn("src/few.rt:5:5", trying.own_error(SAID, self.places(GOOD), True))
+
+    def test_a_refusal_for_another_function_is_not(self):
+        of_trait = "file: src/few.rt\nold: self.len() > 1\nnew: true\n"
+        self.assertIsNone(trying.own_error(SAID, self.places(of_trait), True))
+
+    def test_a_proved_function_is_not_refused(self):
+        proved = [SAID[0], f"fn {LEN}: proved"]
+        self.assertIsNone(trying.own_error(proved, self.places(GOOD), True))
+
+    def test_a_lost_name_is_no_refusal(self):
+        lost = ["./proofs/few/Few/len/Answers.antt:3:5: error: `returns`: `c` has no field `len`", f"fn {LEN}: not proved"]
+        self.assertIsNone(trying.own_error(lost, self.places(GOOD), False))
+
+    def test_edits_of_one_function_are_apart(self):
+        edits = [self.edit(GOOD, name=name) for name in ("a.edit", "b.edit")]
+        found = trying.groups(edits, lambda edit: self.places(GOOD))
+        self.assertEqual(found, [[edit] for edit in edits])
+
+
+class Gate(unittest.TestCase):
+    WANTED = {"low/a.edit", "low/b.edit"}
+    GOOD = [f"rt: must-fail low/{name}.edit: refused, as it must be: note: src/few.rt:5:5: it is not proved .." for name in "ab"]
+
+    def test_all_refused(self):
+        self.assertEqual([*more_edits.gate_faults(self.GOOD, self.WANTED)], [])
+
+    def test_what_is_not_refused_is_told(self):
+        ends = ["BAD EDIT: there is no file", "NOT REFUSED: still proved"]
+        ends += ["refused, as it must be (only because a proof file names ..)", "refused, as it must be"]
+        ends += ["refused, as it must be: ./proofs/few/Answers.antt:16:5: note: large solution: .."]
+        for end in ends:
+            said = [self.GOOD[0], f"rt: must-fail low/b.edit: {end}"]
+            self.assertEqual(len([*more_edits.gate_faults(said, self.WANTED)]), 1, end)
+
+    def test_what_was_not_tried_is_told(self):
+        self.assertEqual(len([*more_edits.gate_faults(self.GOOD[:1], self.WANTED)]), 1)
+        self.assertEqual(len([*more_edits.gate_faults(self.GOOD, {"low/a.edit"})]), 1)
+
+
+class Page(Scratch):
+    def test_a_section_is_written_anew_and_others_stay(self):
+        edit = self.edit(GOOD)
+        page = self.crate / "edits.md"
+        patches = {"PAGE": page, "edits_in": lambda _: [edit, Edit(self.crate.parent / "high" / MORE / "a.edit")]}
+        with mock.patch.multiple(more_edits, output_of=lambda *_: "abc", **patches):
+            more_edits.write_section("low", [trying.Tried(edit, False, "still proved")])
+            self.assertIn("In all 0 of 1 were refused. Not tried yet: those of high.", page.read_text())
+            self.assertIn("- longer: `len` in src/few.rt, **not refused**", page.read_text())
+            more_edits.write_section("low", [trying.Tried(edit, True, "src/few.rt:5:5: ..")])
+        self.assertIn("In all 1 of 1 were refused.", page.read_text())
+        self.assertNotIn("not refused", page.read_text())
+
+
+class Share(Scratch):
+    def test_a_share_turns_with_the_commit(self):
+        edits = [self.edit(GOOD, name=f"{number}.edit") for number in range(60)]
+        shares = [more_edits.share_of(edits, commit) for commit in ("1", "2", "1")]
+        self.assertEqual([len(share) for share in shares], [3, 3, 3])
+        self.assertEqual(shares[0], shares[2])
+        self.assertNotEqual(shares[0], shares[1])
+
+    def test_lent_edits_go_again(self):
+        edit = self.edit(GOOD)
+        (self.crate / GATE).rmdir()
+        with self.assertRaises(KeyboardInterrupt), more_edits.lent([edit]):
+            self.assertEqual((self.crate / GATE / "longer.edit").read_text(), GOOD)
+            raise KeyboardInterrupt
+        self.assertFalse((self.crate / GATE).exists())
+
+
+if __name__ == "__main__":
+    unittest.main()

@@ -1,0 +1,179 @@
+"""Tries must-fail edits over what the last checks kept, as many of a crate in one check as can be told apart.
+
+What an edit costs is mostly loading: two seconds or three each for the front end, for the logic and the
+libraries, and for the files that the prover offers. So edits of different functions are applied together,
+and these functions alone are checked. The prover goes on after a function that it refuses, and the others
+still have its contract. An edit counts as refused so only where a message names an error in its own
+function, and none of what that function calls is refused beside it. Every other edit is tried alone, and
+last as the gate does it, over the whole crate.
+"""
+import functools
+import importlib.machinery
+import importlib.util
+import re
+import shutil
+import sys
+import tempfile
+from pathlib import Path
+from typing import NamedTuple
+
+from edits import TOP, BadEdit
+
+ONE_JOB = ["--jobs", "1"]
+# An edit takes up to 0.1 GB more.
+MOST_TOGETHER = 12
+
+VERDICT = re.compile(r"fn (\S+): (.*)")
+REFUSED = re.compile(r"(not proved|no proof)\b")
+# The function may be refused only because another one is.
+RESTS = re.compile(r"(is|are) not proved|it waits for")
+UNPROVED = re.compile(r"note: (?:\./)?(src/\S+?):(\d+):\d+: (.*)")
+ERROR = re.compile(r"(?:\./)?(\S+?):(\d+):\d+: error: (.*)")
+# What the gate says of an edit where the prover told an error, and not only that it doesn't cover a function.
+REFUSED_BY_THE_GATE = re.compile(r"refused, as it must be: (note: |\S+: error: )")
+# What a proof says where an edit took away a name of which it speaks, which tells nothing of the contract.
+NAMES = re.compile(r"has no field|is not in scope|has no `|was not admitted")
+
+
+class Tried(NamedTuple):
+    edit: object
+    is_refused: bool
+    told: str
+
+
+@functools.lru_cache(maxsize=None)
+def kit():
+    """The command `rt` of the kit, as a module: what tries an edit in the gate tries it here."""
+    path = Path(shutil.which("rt") or "").resolve()
+    if not path.is_file():
+        sys.exit("the command rt of the Rattle kit is not on the PATH")
+    loader = importlib.machinery.SourceFileLoader("rt_of_the_kit", str(path))
+    module = importlib.util.module_from_spec(importlib.util.spec_from_loader(loader.name, loader))
+    sys.dont_write_bytecode = True
+    loader.exec_module(module)
+    # (its first call sets a signal's handler, which only the main thread may)
+    module.rtlib.guarded()
+    return module
+
+
+class Trial:
+    """A crate, whose edits are tried over a copy of its kept work."""
+
+    def __init__(self, name, room):
+        self.crate = next(it for it in kit().rtlib.crates_below(str(TOP)) if it.name == name)
+        self.kept = f"{room}/{name}"
+        self.symbols = []
+
+    def prepare(self):
+        """Builds what the crate uses, and checks the crate as it stands. Returns whether it is proved."""
+        with open(f"{self.kept}.log", "w") as log:
+            for lower in self.crate.below():
+                lower.out = log
+                if lower.build_rlib(ONE_JOB, anew=False):
+                    return False
+        if self.crate.has_kept():
+            shutil.copytree(f"{self.crate.folder}/out/incremental", self.kept)
+        ran = kit().checked(self.crate, {}, ONE_JOB, self.kept)
+        self.symbols = [found[1] for found in map(VERDICT.match, ran.stdout.split("\n")) if found]
+        return ran.returncode == 0
+
+    def functions(self, edit):
+        """The functions that it changes as the prover names them, each with its place; none where it isn't plain."""
+        places = edit.places() or ()
+        named = {symbol: place for place in places for symbol in symbols_of(self.symbols, self.crate.name, place)}
+        return named if len({*named.values()}) == len({*places}) else {}
+
+    def try_together(self, edits):
+        """Tries these edits, each of other functions, in one check. Returns those that are refused, with a message."""
+        texts = {}
+        for edit in edits:
+            texts = edit.applied(texts)
+        functions = {edit: self.functions(edit) for edit in edits}
+        asked = [word for named in functions.values() for symbol in named for word in ("--only", symbol)]
+        said = kit().checked(self.crate, texts, [*ONE_JOB, *asked], self.kept).stdout.split("\n")
+        if not any(line.startswith("only=") for line in said):
+            return {}
+        told = {edit: own_error(said, functions[edit], len(edits) > 1) for edit in edits}
+        return {edit: error for edit, error in told.items() if error}
+
+    def try_alone(self, edit):
+        """Tries it over the whole crate, as the gate does."""
+        said = kit().must_fail(self.crate, str(edit.path), ONE_JOB, self.kept)[1].partition(": ")[2]
+        return Tried(edit, bool(REFUSED_BY_THE_GATE.match(said)), said)
+
+    def try_all(self, edits):
+        """Tries each, and yields what came of it."""
+        left = [edit for edit in edits if not self.functions(edit)]
+        for group in groups([edit for edit in edits if edit not in left], self.functions):
+            refused = self.try_together(group)
+            others = [edit for edit in group if edit not in refused]
+            if len(group) > 1:
+                refused.update(told for edit in others for told in self.try_together([edit]).items())
+            left += [edit for edit in group if edit not in refused]
+            yield from (Tried(edit, True, told) for edit, told in refused.items())
+        yield from map(self.try_alone, left)
+
+
+def symbols_of(symbols, crate, place):
+    """What the prover names the function that stands at this place. A method goes by the module of its type."""
+    module, owner = [crate, *place.module()], "".join(place.owner)
+    for symbol in symbols:
+        *above, name = symbol.split("::")
+        is_there = above[-1].startswith(owner) if owner and len(above) > 1 else above == module
+        if name == place.name and is_there:
+            yield symbol
+
+
+def groups(edits, functions):
+    """The edits in groups, in each of which no two change one function, and all can be applied in turn."""
+    found = []
+    for edit in edits:
+        fitting = (group for group in found if fits(edit, group, functions))
+        group = next(fitting, None)
+        if group is None:
+            found.append(group := [])
+        group.append(edit)
+    return found
+
+
+def fits(edit, group, functions):
+    """Whether the edit can be tried together with these."""
+    taken = {symbol for other in group for symbol in functions(other)}
+    if len(group) >= MOST_TOGETHER or taken & {*functions(edit)}:
+        return False
+    texts = {}
+    try:
+        for other in [*group, edit]:
+            texts = other.applied(texts)
+    except BadEdit:
+        return False
+    return True
+
+
+def own_error(said, functions, has_others):
+    """The first message that names an error in one of these functions, where the prover refuses it by itself."""
+    verdicts = dict(found.groups() for found in map(VERDICT.match, said) if found)
+    for symbol, place in functions.items():
+        verdict = verdicts.get(symbol, "")
+        if REFUSED.match(verdict) and not (has_others and RESTS.search(verdict)):
+            for line in said:
+                if is_error_in(line, symbol, place):
+                    return line.removeprefix("note: ").removeprefix("./")
+    return None
+
+
+def is_error_in(line, symbol, place):
+    """Whether this message tells of an error in that function, or in what is written of its proof."""
+    note, error = UNPROVED.match(line), ERROR.match(line)
+    if note:
+        return note[1] == place.file and place.first <= int(note[2]) <= place.last
+    proofs = "/".join(["proofs", *symbol.split("::")[1:], ""])
+    return bool(error) and error[1].startswith(proofs) and not NAMES.search(error[3])
+
+
+def try_crate(name, edits):
+    """What came of each edit of a crate, as it comes; nothing where the crate itself isn't proved."""
+    with tempfile.TemporaryDirectory(prefix="more-edits-") as room:
+        trial = Trial(name, room)
+        if trial.prepare():
+            yield from trial.try_all(edits)
