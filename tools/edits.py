@@ -38,8 +38,8 @@ class Place(NamedTuple):
 
     def module(self):
         """The words of its module's path."""
-        words = self.file.removeprefix("src/").removesuffix(".rt").split("/")
-        return [] if words in (["lib"], ["main"]) else words
+        words = Path(self.file).with_suffix("").parts[1:]
+        return [] if words in (("lib",), ("main",)) else [*words]
 
     def proofs(self):
         """The folder of what is written of its proof."""
@@ -58,12 +58,13 @@ class Edit:
     def pairs(self):
         file, old, found = "", None, []
         for line in self.path.read_text().split("\n"):
-            if line.startswith("file: "):
-                file = line.removeprefix("file: ").strip()
-            elif line.startswith("old: "):
-                old = line.removeprefix("old: ")
-            elif line.startswith("new:"):
-                found.append(Pair(file, old, line.removeprefix("new:").removeprefix(" ")))
+            word, _, text = line.partition(": ")
+            if word == "file":
+                file = text.strip()
+            elif word == "old":
+                old = text
+            elif word == "new" or line == "new:":
+                found.append(Pair(file, old, text))
                 old = None
         return found
 

@@ -158,7 +158,7 @@ def own_error(said, functions, has_others):
         if REFUSED.match(verdict) and not (has_others and RESTS.search(verdict)):
             for line in said:
                 if is_error_in(line, symbol, place):
-                    return line.removeprefix("note: ").removeprefix("./")
+                    return re.sub(r"^(note: )?(\./)?", "", line)
     return None
 
 
