@@ -67,7 +67,7 @@ fn a_byte_a_read(rt: HostRuntime) -> Result<(), Fail> {
     Ok(())
 }
 
-/// Each script gives its output and its answer.
+/// Each script gives its output and its answer, by as many writes as bytes at most.
 fn assert_told<Rt: AllocGlobal + Threads + Wait + Sync + Abort>(rt: &Rt, mode: Mode, rows: &[Row]) {
     for row in rows {
         let mut reader = FakeReader::new(row.script.as_bytes());
@@ -75,6 +75,7 @@ fn assert_told<Rt: AllocGlobal + Threads + Wait + Sync + Abort>(rt: &Rt, mode: M
         let answer = ran(rt, mode, &NoGate, &mut reader, &mut writer);
         assert_eq!(rt; answer, row.answer, "{}", row.script);
         assert_eq!(rt; writer.written(), row.output.as_bytes(), "{}", row.script);
+        assert!(rt; writer.writes() <= row.output.len(), "{}", row.script);
     }
 }
 

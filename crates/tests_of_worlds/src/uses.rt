@@ -4,13 +4,13 @@ use act_actor::cast_fits;
 use act_executor::Plan;
 use act_kinds::{Account, Boxed, Counter, ListKind, Table};
 use act_owner::Owner;
-use act_rules::Step;
+use act_rules::{Arrival, Step};
 use act_types::{ActorId, Answer, Arg, CallerId, FutureId, ListOf, Method, NoMemory, Value};
 use act_uses::{
     Kinds, PeaceFault, ask_once, play_part, play_patiently, ran_of, run_in_peace, serve_each_kind,
     world_after,
 };
-use act_world::{Cast, Event, World};
+use act_world::{Cast, Did, Event, Outcome, World};
 use std::alloc::Global;
 use std::process::Abort;
 use std::test::Fail;
@@ -25,6 +25,18 @@ fn deposit(alloc: Global, a: ActorId, c: CallerId) -> Result<Vec<Event>, NoMemor
         Event::Collect(0),
     ]?;
     Ok(events)
+}
+
+/// What is told of these events.
+fn deposit_told(c: CallerId) -> [Outcome; 5] {
+    let k0 = FutureId::new(0);
+    [
+        Ok(Did::Future(c, k0)),
+        Ok(Did::Mail(0)),
+        Ok(Did::Arrived(Arrival::New)),
+        Ok(Did::Ran(0, 0)),
+        Ok(Did::Kept(c, k0)),
+    ]
 }
 
 /// An account that one caller may pay into.
@@ -78,7 +90,7 @@ fn a_play_goes_to_its_end(rt: HostRuntime) -> Result<(), Fail> {
         play_patiently(&mut world, events.as_slice(), &mut told, 3),
         Ok(())
     );
-    assert_eq!(rt; told.len(), 5);
+    assert_eq!(rt; told.as_slice(), deposit_told(c1).as_slice());
     Ok(())
 }
 
@@ -93,7 +105,7 @@ fn a_part_of_a_script_is_played(rt: HostRuntime) -> Result<(), Fail> {
     let script = b"actor a1 account c1\nsubmit c1 a1 deposit 10\nsend c1 0\ndeliver 0\n";
     let mut told = Vec::new(alloc);
     assert_eq!(rt; play_part(alloc, &mut world, script, 2, &mut told), Ok(()));
-    assert_eq!(rt; told.len(), 2);
+    assert_eq!(rt; told.as_slice(), &deposit_told(c1)[..2]);
     Ok(())
 }
 
