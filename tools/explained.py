@@ -387,13 +387,13 @@ def chosen_options():
     options = argparse.ArgumentParser(description=__doc__.splitlines()[0])
     options.add_argument("--seed", type=int, default=1)
     options.add_argument("--count", type=int, default=600, help="how many random scripts of events; of threads a third")
-    options.add_argument("--program", type=pathlib.Path, default=program.PROVED)
+    options.add_argument("--program", type=pathlib.Path, help="run this one, and not the one that ./run takes")
     return options.parse_args()
 
 
 def main():
     chosen = chosen_options()
-    path = program.must_stand(chosen.program.resolve())
+    path = program.program_of("explained", chosen.program)
     checks = [*by_table(), *((f"./explain with {name}", [] if is_well else ["told otherwise"]) for name, is_well in by_command())]
     wrong = {name: why for name, why in checks if why}
     print("".join(f"{name}: {'; '.join(why)}\n" for name, why in wrong.items()), end="")

@@ -31,10 +31,8 @@ def tell_unsent(tool, script):
 
 def explanation(script, mode):
     """What is told of a script that the program refuses."""
-    try:
-        import explain
-    except ImportError:
-        return ""
+    import explain  # a fault is rare, and its imports are dear
+
     return explain.explain(script, mode)
 
 

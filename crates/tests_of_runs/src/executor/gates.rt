@@ -13,7 +13,7 @@ use std::thread;
 use std::thread::Threads;
 
 /// So many times a run looks whether the others came.
-const LOOKS: u32 = 2_000_000;
+const LOOKS: u32 = 10_000_000;
 
 /// Where the first run of each actor waits for those of all others. The words have a bit for each
 /// actor.

@@ -10,7 +10,7 @@ use std::test::Fail;
 use std::thread;
 
 /// So many times a run looks whether the other one came.
-const LOOKS: u32 = 2_000_000;
+const LOOKS: u32 = 10_000_000;
 
 /// Where the first runs of two actors wait for each other.
 #[derive(Drop)]
