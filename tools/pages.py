@@ -34,8 +34,8 @@ def faults_of_tools():
     lines = re.findall(r"^\| (`.*?) \|", (TOP / "tools/README.md").read_text(), re.MULTILINE)
     listed = {name.rstrip("/") for line in lines for name in re.findall(r"`([^`]+)`", line)}
     there = {path.name for path in (TOP / "tools").iterdir()} - NOT_TOOLS
-    for name in sorted(there ^ listed):
-        yield f"tools/README.md has no line for {name}" if name in there else f"tools/README.md has {name}, which isn't there"
+    yield from (f"tools/README.md has no line for {name}" for name in sorted(there - listed))
+    yield from (f"tools/README.md has {name}, which isn't there" for name in sorted(listed - there))
 
 
 def main():
