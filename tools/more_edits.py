@@ -36,9 +36,9 @@ SHARE = 20
 OF_THE_GATE = re.compile(r"(?:rt: )?must-fail (\w+/\S+\.edit): (.*)")
 HEAD = """# Further wrong bodies
 
-`tools/more_edits.py` makes this page. It lists the edits of `more-must-fail/`, for which the gate has no time, each with
-the function that it changes. Each run of `./test` tries a twentieth of them, which changes with the commit. The edits of
-`must-fail/` aren't listed: the gate tries them all.
+`tools/more_edits.py` makes this page. It lists the edits of `more-must-fail/`, for which the gate has no time, each
+with the function that it changes. Each run of `./test` tries a twentieth of them, which changes with the commit. The
+edits of `must-fail/` aren't listed: the gate tries them all.
 """
 COUNTS = re.compile(r"Refused: (\d+) of (\d+)\.")
 
@@ -164,7 +164,7 @@ def summary(sections, missing):
     """How many edits were refused in all, and of which crates none was tried."""
     refused, tried = (sum(map(int, counts)) for counts in zip(*(COUNTS.search(text).groups() for text in sections)))
     untried = f" Not tried yet: those of {', '.join(missing)}." if missing else ""
-    return textwrap.fill(f"In all {refused} of {tried} were refused.{untried}", 119) + "\n"
+    return textwrap.fill(f"In all {refused} of {tried} were refused.{untried}", 118) + "\n"
 
 
 def try_and_write(crates, jobs):
