@@ -12,8 +12,10 @@ has no time.
                                          last checks kept, and writes what came of it into docs/edits.md
 
 The share is a twentieth, and is drawn by the commit. Its edits lie in must-fail/ while the gate runs. The
-gate must tell of each edit that it was refused; so one that can't be applied, compiled or read is a
-failure, and so is one that is refused for a name alone which a proof speaks of and the edit took away.
+gate must tell of each edit that it was refused, so one that can't be applied, compiled or read is a
+failure. A note tells which were refused with no error in a function: since the prover doesn't cover it,
+or for a name alone which a proof speaks of and the edit took away. Of the further edits tried by
+themselves such a one is a failure.
 """
 import argparse
 import hashlib
@@ -98,13 +100,23 @@ def run_gate():
     return ran.returncode, lines
 
 
-def gate_faults(lines, wanted):
+def told_by_the_gate(lines):
+    """What the gate says of each edit."""
+    return {found[1]: found[2] for line in lines if (found := OF_THE_GATE.match(line))}
+
+
+def gate_faults(told, wanted):
     """What is wrong with what the gate says of these edits."""
-    told = {found[1]: found[2] for line in lines if (found := OF_THE_GATE.match(line))}
     for name in sorted({*wanted, *told}):
         said = told.get(name, "the gate did not try it")
-        if name not in wanted or not REFUSED_BY_THE_GATE.match(said):
+        if name not in wanted or not said.startswith("refused, as it must be"):
             yield f"{name}: {said}"
+
+
+def weak(told):
+    """The edits that were refused with no error told: what refuses them may be no clause."""
+    refused = {name: said for name, said in told.items() if said.startswith("refused")}
+    return sorted(name for name, said in refused.items() if not REFUSED_BY_THE_GATE.match(said))
 
 
 def gate():
@@ -117,9 +129,12 @@ def gate():
     wanted = {edit.name for edit in [*edits_in(GATE), *share]}
     with lent(share):
         status, lines = run_gate()
-    faults = [*gate_faults(lines, wanted)]
+    told = told_by_the_gate(lines)
+    faults = [*gate_faults(told, wanted)]
     for fault in faults:
         print(f"more_edits: {fault}")
+    for name in weak(told):
+        print(f"more_edits: note: {name} says little of a clause: {told[name]}")
     print(f"more_edits: {len(wanted)} edits tried by the gate: {len(faults)} failed")
     return not status and not faults
 

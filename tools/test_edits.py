@@ -92,7 +92,8 @@ class Edits(Scratch):
 
 class Trying(Scratch):
     def places(self, text):
-        return {symbol: place for place in self.edit(text).places() for symbol in trying.symbols_of([LEN, FMT], "low", place)}
+        places = self.edit(text).places()
+        return {symbol: place for place in places for symbol in trying.symbols_of([LEN, FMT], "low", place)}
 
     def test_a_refusal_of_its_own_is_told(self):
         self.assertIn("src/few.rt:5:5", trying.own_error(SAID, self.places(GOOD), True))
@@ -106,7 +107,7 @@ class Trying(Scratch):
         self.assertIsNone(trying.own_error(proved, self.places(GOOD), True))
 
     def test_a_lost_name_is_no_refusal(self):
-        lost = ["./proofs/few/Few/len/Answers.antt:3:5: error: `returns`: `c` has no field `len`", f"fn {LEN}: not proved"]
+        lost = ["./proofs/few/Few/len/Answers.antt:3:5: error: `c` has no field `len`", f"fn {LEN}: not proved"]
         self.assertIsNone(trying.own_error(lost, self.places(GOOD), False))
 
     def test_edits_of_one_function_are_apart(self):
@@ -117,22 +118,30 @@ class Trying(Scratch):
 
 class Gate(unittest.TestCase):
     WANTED = {"low/a.edit", "low/b.edit"}
-    GOOD = [f"rt: must-fail low/{name}.edit: refused, as it must be: note: src/few.rt:5:5: it is not proved .." for name in "ab"]
+    ERROR = "rt: must-fail low/{}.edit: refused, as it must be: note: src/few.rt:5:5: it is not proved .."
+    GOOD = [ERROR.format("a"), ERROR.format("b")]
+
+    def faults(self, said, wanted=WANTED):
+        return [*more_edits.gate_faults(more_edits.told_by_the_gate(said), wanted)]
 
     def test_all_refused(self):
-        self.assertEqual([*more_edits.gate_faults(self.GOOD, self.WANTED)], [])
+        self.assertEqual(self.faults(self.GOOD), [])
+        self.assertEqual(more_edits.weak(more_edits.told_by_the_gate(self.GOOD)), [])
 
     def test_what_is_not_refused_is_told(self):
-        ends = ["BAD EDIT: there is no file", "NOT REFUSED: still proved"]
-        ends += ["refused, as it must be (only because a proof file names ..)", "refused, as it must be"]
-        ends += ["refused, as it must be: ./proofs/few/Answers.antt:16:5: note: large solution: .."]
-        for end in ends:
-            said = [self.GOOD[0], f"rt: must-fail low/b.edit: {end}"]
-            self.assertEqual(len([*more_edits.gate_faults(said, self.WANTED)]), 1, end)
+        for end in ["BAD EDIT: there is no file", "NOT REFUSED: still proved"]:
+            self.assertEqual(len(self.faults([self.GOOD[0], f"rt: must-fail low/b.edit: {end}"])), 1, end)
 
     def test_what_was_not_tried_is_told(self):
-        self.assertEqual(len([*more_edits.gate_faults(self.GOOD[:1], self.WANTED)]), 1)
-        self.assertEqual(len([*more_edits.gate_faults(self.GOOD, {"low/a.edit"})]), 1)
+        self.assertEqual(len(self.faults(self.GOOD[:1])), 1)
+        self.assertEqual(len(self.faults(self.GOOD, {"low/a.edit"})), 1)
+
+    def test_what_is_refused_with_no_error_is_noted(self):
+        ends = ["refused, as it must be (only because a proof file names ..)", "refused, as it must be"]
+        ends += ["refused, as it must be: ./proofs/few/Answers.antt:16:5: note: large solution: .."]
+        for end in ends:
+            told = more_edits.told_by_the_gate([self.GOOD[0], f"rt: must-fail low/b.edit: {end}"])
+            self.assertEqual(more_edits.weak(told), ["low/b.edit"], end)
 
 
 class Page(Scratch):
