@@ -11,9 +11,9 @@ has no time.
                                          tries all further edits, or those of these crates, over what the
                                          last checks kept, and writes what came of it into docs/edits.md
 
-The share is a twentieth, and is drawn by the commit. Its edits lie in must-fail/ while the gate runs. The
-gate must tell of each edit that it was refused, so one that can't be applied, compiled or read is a
-failure. A note tells which were refused with no error in a function: since the prover doesn't cover it,
+The share is a twentieth of those that docs/edits.md lists as refused, and is drawn by the commit. Its
+edits lie in must-fail/ while the gate runs. The gate must tell of each edit that it was refused, so one
+that can't be applied, compiled or read is a failure. A note tells which were refused with no error in a function: since the prover doesn't cover it,
 or for a name alone which a proof speaks of and the edit took away. Of the further edits tried by
 themselves such a one is a failure.
 """
@@ -39,8 +39,8 @@ OF_THE_GATE = re.compile(r"(?:rt: )?must-fail (\w+/\S+\.edit): (.*)")
 HEAD = """# Further wrong bodies
 
 `tools/more_edits.py` makes this page. It lists the edits of `more-must-fail/`, for which the gate has no time, each
-with the function that it changes. Each run of `./test` tries a twentieth of them, which changes with the commit. The
-edits of `must-fail/` aren't listed: the gate tries them all.
+with the function that it changes. Each run of `./test` tries a twentieth of those refused here, which changes with
+the commit. The edits of `must-fail/` aren't listed: the gate tries them all.
 """
 COUNTS = re.compile(r"Refused: (\d+) of (\d+)\.")
 
@@ -64,6 +64,13 @@ def check():
 
 
 # The gate.
+
+
+def listed_as_refused():
+    """The edits that the page has as refused. One that was never tried has to be tried by hand first."""
+    sections = re.split(r"^## ", PAGE.read_text(), flags=re.M)[1:] if PAGE.exists() else []
+    rows = ((text.split()[0], row) for text in sections for row in re.findall(r"^- (.*)", text, re.M))
+    return {f"{crate}/{row.partition(':')[0]}.edit" for crate, row in rows if not row.endswith("**not refused**")}
 
 
 def share_of(edits, commit):
@@ -122,9 +129,10 @@ def weak(told):
 def gate():
     """Whether the gate passes, and refuses each edit of its own and of the share."""
     commit = output_of("git", "rev-parse", "HEAD") or "none"
-    further = edits_in(MORE)
+    listed = listed_as_refused()
+    further = [edit for edit in edits_in(MORE) if edit.name in listed]
     share = share_of(further, commit)
-    print(f"more_edits: the gate tries {len(share)} of {len(further)} further edits, by the commit {commit[:12]}:")
+    print(f"more_edits: the gate tries {len(share)} of the {len(further)} that docs/edits.md has, by the commit {commit[:12]}:")
     print("\n".join(f"    {edit.name}" for edit in share), flush=True)
     wanted = {edit.name for edit in [*edits_in(GATE), *share]}
     with lent(share):

@@ -159,6 +159,12 @@ class Page(Scratch):
 
 
 class Share(Scratch):
+    def test_the_share_is_of_those_that_the_page_has_as_refused(self):
+        page = self.crate / "edits.md"
+        page.write_text("# Edits\n\n- other: of no crate\n\n## low\n\n- longer: `len` in src/few.rt\n- kept: definitions, **not refused**\n")
+        with mock.patch.object(more_edits, "PAGE", page):
+            self.assertEqual(more_edits.listed_as_refused(), {"low/longer.edit"})
+
     def test_a_share_turns_with_the_commit(self):
         edits = [self.edit(GOOD, name=f"{number}.edit") for number in range(60)]
         shares = [more_edits.share_of(edits, commit) for commit in ("1", "2", "1")]
