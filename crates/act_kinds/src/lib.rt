@@ -5,6 +5,7 @@ mod account;
 mod actor;
 mod counter;
 mod list;
+mod own;
 mod storable;
 mod table;
 
@@ -12,4 +13,5 @@ pub use account::Account;
 pub use actor::{Actor, Boxed};
 pub use counter::Counter;
 pub use list::ListKind;
+pub use own::{Meaning, append_line, runs_by_its_steps};
 pub use table::Table;

@@ -8,8 +8,9 @@ use Rattle.act_types.specs.declared.fault.Fault.TheVariants.{Dependency, ActorDi
 use Rattle.act_types.specs.declared.call.Method.{Method}
 use Rattle.act_types.specs.declared.call.Method.TheVariants.{Add, Get, Put, Del, Size, Deposit, Withdraw, Balance, Push, Pop, At, Len, Terminate}
 use Rattle.act_rules.specs.declared.history.RunItem.{RunItem}
-use Rattle.act_types.specs.KindState.{KindState, CounterAt, TableOf, AccountAt, ItemsOf}
-use Rattle.act_rules.specs.Kinds.{Reply, need, look_up, counter_reply, table_reply, account_reply, list_reply, reply_of}
+use Rattle.act_types.specs.KindState.{KindState, CounterAt, TableOf, AccountAt, ItemsOf, OwnAt}
+use Rattle.act_types.specs.Own.{Ask, after_ask}
+use Rattle.act_rules.specs.Kinds.{Reply, need, look_up, counter_reply, table_reply, account_reply, list_reply, kind_fault, told_reply, own_reply, reply_of}
 use Rattle.act_rules.specs.RunList.{Answer, values_of, replied, call_reply, asked, after_item, answer_at}
 
 -- a kind's fault
@@ -74,11 +75,21 @@ list_own items Len [] = kept_own _
 list_own items Len args = fault_own _ refl
 list_own items method args = fault_own _ refl
 
+kind_fault_own : (fault : Fault) → is_own (kind_fault fault) ≡ true
+kind_fault_own (Dependency k) = refl
+kind_fault_own ActorDied = refl
+kind_fault_own fault = refl
+
+told_own : (next : KindState) (told : Result Value Fault) → OwnFault (told_reply next told)
+told_own next (Ok value) = kept_own _
+told_own next (Err fault) = fault_own (kind_fault fault) (kind_fault_own fault)
+
 reply_own : (state : KindState) (method : Method) (args : List Value) → OwnFault (reply_of state method args)
 reply_own (CounterAt n) = counter_own n
 reply_own (TableOf pairs) = table_own pairs
 reply_own (AccountAt n) = account_own n
 reply_own (ItemsOf items) = list_own items
+reply_own (OwnAt behaviour) = λ method args. let ask : Ask = record { method = method; args = args } in told_own (OwnAt (after_ask ask behaviour)) (behaviour.told [] ask)
 
 -- so is a fault with which the actor itself answers
 call_own : (state : KindState) (method : Method) (args : List Value) → OwnFault (call_reply state method args)

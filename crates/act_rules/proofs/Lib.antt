@@ -4,6 +4,7 @@ pub mod Ended
 pub mod Lists
 pub mod Finding
 pub mod RunLists
+pub mod OwnRuns
 pub mod Growth
 pub mod Posts
 pub mod Kept

@@ -17,7 +17,7 @@ use Rattle.act_rules.specs.declared.script.KindName.TheVariants as kind
 use Rattle.act_rules.specs.declared.script.Wrong.TheVariants.{BadLine}
 use Rattle.act_rules.specs.Kinds.{is_in_range}
 use Rattle.act_rules.specs.Words.{Word, named_by, kind_text, all_kinds, method_at, is_numeral, number_at, int_at, caller_at, actor_at, text_at, value_at, arg_at}
-use Rattle.act_rules.specs.Laws.{ReadsBack, arg_text, is_number, is_caller_number, is_actor_number, is_sayable, is_sayable_arg, always}
+use Rattle.act_rules.specs.Laws.{ReadsBack, arg_text, is_number, is_caller_number, is_actor_number, is_sayable, is_sayable_arg, is_sayable_method, always}
 use Rattle.act_rules.proofs.Numbers.{printed_is_number, decimal_is_numeral, value_printed, digits_printed}
 use Rattle.act_rules.proofs.Marks.{closed_some}
 
@@ -29,7 +29,7 @@ kind_reads_back kind.Table h = refl
 kind_reads_back kind.Account h = refl
 kind_reads_back kind.ListKind h = refl
 
-pub method_reads_back : ReadsBack always method_text method_at
+pub method_reads_back : ReadsBack is_sayable_method method_text method_at
 unfolding method_at
 method_reads_back method.Add h = refl
 method_reads_back method.Get h = refl
@@ -44,6 +44,7 @@ method_reads_back method.Pop h = refl
 method_reads_back method.At h = refl
 method_reads_back method.Len h = refl
 method_reads_back method.Terminate h = refl
+method_reads_back (method.Own n) h = absurd (cc h)
 
 -- ---- numbers
 

@@ -1,12 +1,13 @@
 -- What each kind of actor answers to a call, and the state that the call leaves.
 use Rattle.std.specs.Prelude.{ℕ, ◌-◌, ℤ, pos, negsuc, ◌+ℤ◌, ◌-ℤ◌, int_lt, int_le, Bool, true, false, not, ◌&&◌, ◌||◌, if◌then◌else◌, nat_lt, List, [], ◌∷◌, ◌++◌, length, take, filter, slice_get, find, Option, Some, None, option_map, is_some, Result, Ok, Err, bytes_eq}
-use Rattle.act_types.specs.KindState.{KindState, CounterAt, TableOf, AccountAt, ItemsOf}
+use Rattle.act_types.specs.KindState.{KindState, CounterAt, TableOf, AccountAt, ItemsOf, OwnAt}
+use Rattle.act_types.specs.Own.{Ask, Behaviour, after_ask}
 use Rattle.act_types.specs.GoodText.{is_good_text}
 use Rattle.act_types.specs.declared.limits.TheConstants.{MOST_ITEMS, MOST_KEYS}
 use Rattle.act_types.specs.declared.value.Value.{Value}
 use Rattle.act_types.specs.declared.value.Value.TheVariants.{Unit as Nothing, Int, Text}
 use Rattle.act_types.specs.declared.fault.Fault.{Fault}
-use Rattle.act_types.specs.declared.fault.Fault.TheVariants.{NoMethod, BadArgs, Overflow, NoKey, BadAmount, Insufficient, NoItems, NoItem, KindFull}
+use Rattle.act_types.specs.declared.fault.Fault.TheVariants.{NoMethod, BadArgs, Overflow, NoKey, BadAmount, Insufficient, NoItems, NoItem, KindFull, Dependency, ActorDied}
 use Rattle.act_types.specs.declared.call.Method.{Method}
 use Rattle.act_types.specs.declared.call.Method.TheVariants.{Add, Get, Put, Del, Size, Deposit, Withdraw, Balance, Push, Pop, At, Len}
 
@@ -107,9 +108,26 @@ list_reply items Len [] = Ok (ItemsOf items, count_value items)
 list_reply items Len args = Err BadArgs
 list_reply items method args = Err NoMethod
 
+-- a fault of a kind: that an argument failed, or that the actor died, is none
+abbrev pub kind_fault : Fault → Fault
+kind_fault (Dependency k) = NoMethod
+kind_fault ActorDied = NoMethod
+kind_fault fault = fault
+
+abbrev pub told_reply : KindState → Result Value Fault → Reply
+told_reply next (Ok value) = Ok (next, value)
+told_reply next (Err fault) = Err (kind_fault fault)
+
+-- a kind of one's own answers what its behaviour tells
+abbrev pub own_reply : Behaviour → Method → List Value → Reply
+own_reply behaviour method args =
+    let ask : Ask = record { method = method; args = args } in
+    told_reply (OwnAt (after_ask ask behaviour)) (behaviour.told [] ask)
+
 -- what a kind answers to a call
 abbrev pub reply_of : KindState → Method → List Value → Reply
 reply_of (CounterAt n) = counter_reply n
 reply_of (TableOf pairs) = table_reply pairs
 reply_of (AccountAt n) = account_reply n
 reply_of (ItemsOf items) = list_reply items
+reply_of (OwnAt behaviour) = own_reply behaviour

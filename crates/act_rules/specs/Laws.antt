@@ -1,8 +1,10 @@
 -- The laws of every run.
-use Rattle.std.specs.Prelude.{ℕ, ◌≡◌, ◌≢◌, ◌≤◌, ◌++◌, ◌^◌, ◌&&◌, Bool, true, nat_lt, nat_le, List, map, filter, All, AllPairs, Some, None, Result, Ok, IsTrue, codes, decimal}
+use Rattle.std.specs.Prelude.{ℕ, ◌≡◌, ◌≢◌, ◌≤◌, ◌++◌, ◌^◌, ◌&&◌, Bool, true, false, nat_lt, nat_le, List, map, filter, All, AllPairs, Some, None, Result, Ok, IsTrue, codes, decimal}
 use Rattle.act_types.specs.declared.limits.TheConstants.{MOST_ACTORS, MOST_CALLERS}
 use Rattle.act_types.specs.declared.value.Value.{Value}
 use Rattle.act_types.specs.declared.value.Value.TheVariants as value
+use Rattle.act_types.specs.declared.call.Method.{Method}
+use Rattle.act_types.specs.declared.call.Method.TheVariants as method
 use Rattle.act_types.specs.declared.call.Arg.{Arg}
 use Rattle.act_types.specs.declared.call.Arg.TheVariants.{Plain, Fut}
 use Rattle.act_types.specs.GoodText.{is_good_text}
@@ -112,6 +114,11 @@ is_sayable (value.Text text) = is_good_text text
 abbrev pub is_sayable_arg : Arg → Bool
 is_sayable_arg (Plain value) = is_sayable value
 is_sayable_arg (Fut k) = is_number k
+
+-- a method that a script can write
+abbrev pub is_sayable_method : Method → Bool
+is_sayable_method (method.Own n) = false
+is_sayable_method other = true
 
 -- any of them
 abbrev pub always : {A : Type 0} → A → Bool

@@ -1,5 +1,6 @@
 pub mod Kinds
 pub mod RunList
+pub mod OwnRuns
 pub mod Submissions
 pub mod History
 pub mod Rules

@@ -68,7 +68,7 @@ pub fn one_spelling()
 {}
 
 ghost use Rattle.act_rules.specs.Kinds.{is_in_range};
-ghost use Rattle.act_rules.specs.Laws.{ReadsBack, is_number, is_caller_number, is_actor_number, is_sayable, is_sayable_arg, always};
+ghost use Rattle.act_rules.specs.Laws.{ReadsBack, is_number, is_caller_number, is_actor_number, is_sayable, is_sayable_arg, is_sayable_method, always};
 
 /// What a script can write is read back from its text.
 #[tactic(none)]
@@ -78,7 +78,7 @@ pub fn each_text_reads_back()
     ensures caller { ReadsBack is_caller_number caller_text caller_at }
     ensures actor { ReadsBack is_actor_number actor_text actor_at }
     ensures kind { ReadsBack always kind_text (named_by kind_text all_kinds) }
-    ensures method { ReadsBack always method_text method_at }
+    ensures method { ReadsBack is_sayable_method method_text method_at }
     ensures value { ReadsBack is_sayable value_text value_at }
     ensures arg { ReadsBack is_sayable_arg arg_text arg_at }
 {}

@@ -1,3 +1,5 @@
 pub mod GoodText
+pub mod Names
+pub mod Own
 pub mod KindState
 pub mod Texts

@@ -1,5 +1,5 @@
 -- How ids, methods, values, faults, answers and the states of kinds are written.
-use Rattle.std.specs.Prelude.{ℕ, List, ◌++◌, map, flat_map, Result, Ok, Err, codes, decimal}
+use Rattle.std.specs.Prelude.{ℕ, List, [], ◌++◌, ◌&&◌, if◌then◌else◌, nat_le, map, flat_map, Result, Ok, Err, codes, decimal}
 use Rattle.std.specs.Fmt.{signed_decimal}
 use Rattle.act_types.specs.declared.value.Value.{Value}
 use Rattle.act_types.specs.declared.value.Value.TheVariants.{Unit as Nothing, Int, Text}
@@ -9,7 +9,7 @@ use Rattle.act_types.specs.declared.call.Method.{Method}
 use Rattle.act_types.specs.declared.call.Method.TheVariants as method
 use Rattle.act_types.specs.declared.call.Settled.{Settled}
 use Rattle.act_types.specs.declared.call.Settled.TheVariants.{Good, Bad}
-use Rattle.act_types.specs.KindState.{KindState, CounterAt, TableOf, AccountAt, ItemsOf}
+use Rattle.act_types.specs.KindState.{KindState, CounterAt, TableOf, AccountAt, ItemsOf, OwnAt}
 
 abbrev pub space : List ℕ
 space = codes " "
@@ -40,6 +40,7 @@ method_text method.Pop = codes "pop"
 method_text method.At = codes "at"
 method_text method.Len = codes "len"
 method_text method.Terminate = codes "terminate"
+method_text (method.Own name) = name
 
 -- a value: `unit`, a number, or a text between quotes
 abbrev pub value_text : Value → List ℕ
@@ -59,6 +60,7 @@ fault_text fault.NoItem = codes "NoItem"
 fault_text fault.KindFull = codes "KindFull"
 fault_text (fault.Dependency k) = codes "Dependency(" ++ decimal k ++ codes ")"
 fault_text fault.ActorDied = codes "ActorDied"
+fault_text (fault.Own name) = name
 
 -- an answer, as its value or as its fault
 abbrev pub answer_text : Result Value Fault → List ℕ
@@ -74,9 +76,19 @@ settled_text (Bad k) = codes "!" ++ decimal k
 abbrev pub pair_text : List ℕ × Value → List ℕ
 pair_text pair = value_text (Text pair.0) ++ space ++ value_text pair.1
 
+-- a byte that prints, or a space; a `?` stands for any other
+abbrev pub shown_byte : ℕ → ℕ
+shown_byte byte = if nat_le 32 byte && nat_le byte 126 then byte else 63
+
+-- a text as a part of one line, which it doesn't leave empty
+abbrev pub one_line : List ℕ → List ℕ
+one_line [] = codes "?"
+one_line text = map shown_byte text
+
 -- the state of a kind: its name, and what it holds
 abbrev pub state_text : KindState → List ℕ
 state_text (CounterAt n) = codes "counter " ++ signed_decimal n
 state_text (TableOf pairs) = codes "table" ++ spaced (map pair_text pairs)
 state_text (AccountAt n) = codes "account " ++ signed_decimal n
 state_text (ItemsOf items) = codes "list" ++ spaced (map value_text items)
+state_text (OwnAt behaviour) = one_line (behaviour.text [])

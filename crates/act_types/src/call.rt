@@ -3,7 +3,7 @@
 ghost use Rattle.std.specs.Prelude.{◌≡◌, IfOk, Some};
 ghost use Rattle.act_types.specs.Texts.{method_text, settled_text};
 
-use crate::{CopyOf, FutureId, NoMemory, Value};
+use crate::{CopyOf, FutureId, Name, NoMemory, Value};
 use std::alloc::Global;
 use std::fmt;
 
@@ -24,11 +24,13 @@ pub enum Method {
     Len,
     /// The actor ends in its turn. No kind has this method: the actor answers it.
     Terminate,
+    /// A method of a kind of one's own. Scripts can't name it.
+    Own(Name),
 }
 
 impl Method {
     /// The word by which scripts and reports name the method.
-    pub fn word(&self) -> &'static str
+    pub fn word(&self) -> &str
         ensures { result.now ≡ method_text self.now }
     {
         match self {
@@ -45,6 +47,7 @@ impl Method {
             Method::At => "at",
             Method::Len => "len",
             Method::Terminate => "terminate",
+            Method::Own(name) => name.as_str(),
         }
     }
 }

@@ -4,7 +4,7 @@ ghost use Rattle.std.specs.Prelude.{◌≡◌, IfOk, IfErr, Some};
 ghost use Rattle.act_types.specs.Texts.{fault_text};
 ghost use Rattle.act_types.specs.declared.fault.Fault.TheVariants.{Dependency};
 
-use crate::{FutureId, Value};
+use crate::{FutureId, Name, Value};
 use std::fmt;
 
 /// Why a call has no value. `ActorDied` is after `ActorDiedError` of Ray; that an argument's fault
@@ -34,27 +34,30 @@ pub enum Fault {
     Dependency(FutureId),
     /// The actor was dead before the caller had the answer.
     ActorDied,
+    /// A fault of a kind of one's own.
+    Own(Name),
 }
 
 impl Fault {
     /// The word of the fault, or the future that failed, where it depends on one.
-    fn word(&self) -> Result<&'static str, FutureId>
+    fn word(&self) -> Result<&str, FutureId>
         ensures word { IfOk result (λ word. word.now ≡ fault_text self.now) }
         ensures future { IfErr result (λ future. self.now ≡ Dependency future) }
     {
-        Ok(match self {
-            Fault::NoMethod => "NoMethod",
-            Fault::BadArgs => "BadArgs",
-            Fault::Overflow => "Overflow",
-            Fault::NoKey => "NoKey",
-            Fault::BadAmount => "BadAmount",
-            Fault::Insufficient => "Insufficient",
-            Fault::NoItems => "NoItems",
-            Fault::NoItem => "NoItem",
-            Fault::KindFull => "KindFull",
-            Fault::Dependency(future) => return Err(*future),
-            Fault::ActorDied => "ActorDied",
-        })
+        match self {
+            Fault::NoMethod => Ok("NoMethod"),
+            Fault::BadArgs => Ok("BadArgs"),
+            Fault::Overflow => Ok("Overflow"),
+            Fault::NoKey => Ok("NoKey"),
+            Fault::BadAmount => Ok("BadAmount"),
+            Fault::Insufficient => Ok("Insufficient"),
+            Fault::NoItems => Ok("NoItems"),
+            Fault::NoItem => Ok("NoItem"),
+            Fault::KindFull => Ok("KindFull"),
+            Fault::Dependency(future) => Err(*future),
+            Fault::ActorDied => Ok("ActorDied"),
+            Fault::Own(name) => Ok(name.as_str()),
+        }
     }
 }
 

@@ -9,6 +9,7 @@ mod limits;
 mod list_of;
 mod memory;
 mod message;
+mod name;
 mod text;
 mod value;
 
@@ -18,10 +19,11 @@ pub use few_of::FewOf;
 pub use ids::{ActorId, CallerId, FutureId};
 pub use limits::{
     MOST_ACTORS, MOST_ARGS, MOST_CALLERS, MOST_CALLS, MOST_COPIES, MOST_ITEMS, MOST_KEYS,
-    MOST_LINE_BYTES, MOST_SCRIPT_BYTES, MOST_TEXT_BYTES,
+    MOST_LINE_BYTES, MOST_NAME_BYTES, MOST_SCRIPT_BYTES, MOST_TEXT_BYTES,
 };
 pub use list_of::ListOf;
 pub use memory::{CopyOf, NoMemory};
 pub use message::{KillNote, Notice, Packet, ReleaseNote, Reply};
+pub use name::{Name, is_name};
 pub use text::{Text, is_good_text};
 pub use value::Value;

@@ -24,6 +24,9 @@ pub const MOST_ITEMS: usize = 4_096;
 /// A text that is a key, or that is kept, has at most this many bytes.
 pub const MOST_TEXT_BYTES: usize = 64;
 
+/// A name of a method or a fault of a kind of one's own has at most this many bytes.
+pub const MOST_NAME_BYTES: usize = 18;
+
 /// A line of a script has at most this many bytes.
 pub const MOST_LINE_BYTES: usize = 512;
 

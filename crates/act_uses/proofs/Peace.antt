@@ -73,6 +73,7 @@ peaceful_plan c (plan ∷ plans) peace =
 -- no call that ends its actor is mild
 end_wild : (m : Method) (args : List Settled) → is_end m args ≡ true → is_mild m ≡ true → ⊥
 end_wild method.Terminate args e mild = cc
+end_wild (method.Own n) args e mild = cc
 end_wild method.Add args e mild = cc
 end_wild method.Get args e mild = cc
 end_wild method.Put args e mild = cc
