@@ -11,7 +11,7 @@ use Rattle.act_types.specs.Own.{Ask, StepOf, next_state, step_answer, behaves}
 use Rattle.act_rules.specs.declared.history.RunItem.{RunItem}
 use Rattle.act_rules.specs.Kinds.{told_reply}
 use Rattle.act_rules.specs.RunList.{Answer, values_of, replied, call_reply, asked, after_item, state_after, answers_from}
-use Rattle.act_rules.specs.OwnRuns.{kind_answer, own_call, own_asked, own_after_item, own_state_after, own_answers, RunsByItsSteps, ask_of, with_answer, told_in, IsKept, HoldsInEachRun}
+use Rattle.act_rules.specs.OwnRuns.{kind_answer, own_call, own_asked, own_after_item, own_state_after, own_answers, RunsByItsSteps, ask_of, with_answer, told_in, IsKept, Left, HoldsInEachRun}
 
 module _ {S : Type 0} (step : StepOf S) (written : S → List ℕ) where
   abbrev at : S → KindState
@@ -77,11 +77,15 @@ module _ {S : Type 0} (step : StepOf S) (written : S → List ℕ) where
         let next : S = (own_after_item step state item).0 in
         let one : List (Ask × Answer) = with_answer (ask_of item.method (values_of item.args)) (own_after_item step state item).1 in
         let rest : holds ((told ++ one) ++ told_in (at next) items) (own_state_after step next items) =
-            runs_keep (told ++ one) next items (asked_keeps told state item (values_of item.args) h) in
+        runs_keep (told ++ one) next items (asked_keeps told state item (values_of item.args) h) in
         subst (λ (past : List (Ask × Answer)). holds past (own_state_after step next items))
-            (append_assoc told one (told_in (at next) items)
-             ∙ ap (λ (done : KindState × Answer). told ++ (with_answer (ask_of item.method (values_of item.args)) done.1 ++ told_in done.0 items)) (sym (item_any state item)))
-            rest
+        (append_assoc told one (told_in (at next) items)
+        ∙ ap (λ (done : KindState × Answer). told ++ (with_answer (ask_of item.method (values_of item.args)) done.1 ++ told_in done.0 items)) (sym (item_any state item)))
+        rest
 
   pub holds_in_each_run : (holds : List (Ask × Answer) → S → Type 0) → HoldsInEachRun step written holds
-  holds_in_each_run holds start kept at_first items = runs_keep holds kept [] start items at_first
+  holds_in_each_run holds kept start at_first items = record {
+    state = own_state_after step start items;
+    left = state_any start items;
+    kept = runs_keep holds kept [] start items at_first;
+  }

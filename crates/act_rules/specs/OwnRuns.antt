@@ -76,7 +76,13 @@ abbrev pub IsKept : {S : Type 0} → StepOf S → (List (Ask × Answer) → S �
 IsKept {S} step holds = (told : List (Ask × Answer)) (state : S) (ask : Ask) → holds told state
     → holds (told ++ (ask, kind_answer (step_answer (step state ask.method ask.args))) ∷ []) (next_state state (step state ask.method ask.args))
 
+-- what a run list left of such a kind: a state of the kind, and the property holds of it and of what was told
+pub record Left {S : Type 0} (step : StepOf S) (written : S → List ℕ) (holds : List (Ask × Answer) → S → Type 0) (opening : KindState) (items : List RunItem) : Type 0 where
+  pub state : S
+  pub left : state_after opening items ≡ OwnAt (behaves step written state)
+  pub kept : holds (told_in opening items) state
+
 -- a property that each step keeps, and that the opening state has, holds after every run list
 abbrev pub HoldsInEachRun : {S : Type 0} → StepOf S → (S → List ℕ) → (List (Ask × Answer) → S → Type 0) → Type 0
-HoldsInEachRun {S} step written holds = (start : S) → IsKept step holds → holds [] start
-    → (items : List RunItem) → holds (told_in (OwnAt (behaves step written start)) items) (own_state_after step start items)
+HoldsInEachRun {S} step written holds = IsKept step holds → (start : S) → holds [] start
+    → (items : List RunItem) → Left step written holds (OwnAt (behaves step written start)) items

@@ -82,3 +82,18 @@ pub fn each_text_reads_back()
     ensures value { ReadsBack is_sayable value_text value_at }
     ensures arg { ReadsBack is_sayable_arg arg_text arg_at }
 {}
+
+ghost use Rattle.std.specs.Prelude.{◌≡◌, true};
+ghost use Rattle.std.specs.List.{list_all};
+ghost use Rattle.act_types.specs.Names.{is_taken};
+ghost use Rattle.act_rules.specs.Grammar.{play_forms, thread_forms};
+ghost use Rattle.act_rules.specs.Words.{all_methods};
+
+/// No name of a kind's own method or fault is a word of a script.
+#[tactic(none)]
+pub fn names_are_no_words()
+    ensures methods { list_all (λ method. is_taken (method_text method)) all_methods ≡ true }
+    ensures kinds { list_all (λ kind. is_taken (kind_text kind)) all_kinds ≡ true }
+    ensures events { list_all (λ form. is_taken form.0) play_forms ≡ true }
+    ensures steps { list_all (λ form. is_taken form.0) thread_forms ≡ true }
+{}

@@ -16,9 +16,9 @@ mod script;
 pub use event::Event;
 pub use history::{Letter, Post, RunItem, Submission};
 pub use laws::{
-    each_text_reads_back, each_world_is_consistent, kept_answers_stay, nothing_follows_a_terminate,
-    nothing_runs_after_the_end, one_spelling, pending_stays_within_the_limit,
-    planned_is_what_a_world_takes, retired_ran_all,
+    each_text_reads_back, each_world_is_consistent, kept_answers_stay, names_are_no_words,
+    nothing_follows_a_terminate, nothing_runs_after_the_end, one_spelling,
+    pending_stays_within_the_limit, planned_is_what_a_world_takes, retired_ran_all,
 };
 pub use outcome::{Arrival, Did, HandleRefusal, Outcome, SendRefusal, SubmitRefusal, WorldRefusal};
 pub use rows::{

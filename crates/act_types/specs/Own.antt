@@ -24,6 +24,14 @@ after_ask ask behaviour = record { told = λ asks. behaviour.told (ask ∷ asks)
 abbrev pub StepOf : Type 0 → Type 0
 StepOf S = S → Method → List Value → Result (S × Value) Fault
 
+-- the steps of a kind whose calls have a type of their own: what a method and its values ask for, and what that does
+abbrev pub on_call : {S C : Type 0} → (S → C → Result (S × Value) Fault) → S → Result C Fault → Result (S × Value) Fault
+on_call does state (Ok call) = does state call
+on_call does state (Err fault) = Err fault
+
+abbrev pub by_calls : {S C : Type 0} → (Method → List Value → Result C Fault) → (S → C → Result (S × Value) Fault) → StepOf S
+by_calls call_at does state method args = on_call does state (call_at method args)
+
 -- the state that a step leaves, and what it answers
 abbrev pub next_state : {S : Type 0} → S → Result (S × Value) Fault → S
 next_state state (Ok next) = next.0
