@@ -1,0 +1,139 @@
+//! One caller and two actors: what is played there, what is run in threads, and the reports of both.
+
+use act_actor::cast_fits;
+use act_console::{joined_report, play_report};
+use act_executor::{NoGate, Plan, plans_fit, run_plans};
+use act_kinds::Boxed;
+use act_rules::Step;
+use act_types::{ActorId, Arg, CallerId, FutureId, ListOf, Method, Name, NoMemory, Value};
+use act_world::{Cast, Event, World};
+use std::alloc::Global;
+use std::process::Abort;
+use std::sync::Wait;
+use std::thread::Threads;
+
+/// The one argument of a call, or none.
+#[derive(Clone, Copy)]
+pub enum Given {
+    Nothing,
+    Int(i64),
+    /// The answer of an earlier call.
+    Answer(u32),
+}
+
+/// A call of the caller, to actor 1 or 2. A method is given by its own name, or as one of the four kinds'.
+#[derive(Clone, Copy)]
+pub enum Call {
+    Own(u8, &'static str, Given),
+    Known(u8, Method, Given),
+}
+
+/// The arguments that are given.
+fn args_of(alloc: Global, given: Given) -> Result<ListOf<Arg>, NoMemory> {
+    let mut args = ListOf::new(alloc);
+    match given {
+        Given::Nothing => {}
+        Given::Int(number) => args.push(Arg::Plain(Value::Int(number)))?,
+        Given::Answer(future) => args.push(Arg::Fut(FutureId::new(future)))?,
+    }
+    Ok(args)
+}
+
+/// The actor, the method and the arguments of a call.
+fn parts_of<R: Abort>(
+    rt: &R,
+    alloc: Global,
+    call: Call,
+) -> Result<(ActorId, Method, ListOf<Arg>), NoMemory> {
+    let (actor, method, given) = match call {
+        Call::Own(actor, word, given) => {
+            let name = Name::new(word).expect(rt, "a name");
+            (actor, Method::Own(name), given)
+        }
+        Call::Known(actor, method, given) => (actor, method, given),
+    };
+    let actor = ActorId::new(actor).expect(rt, "an actor");
+    Ok((actor, method, args_of(alloc, given)?))
+}
+
+fn cast_of(alloc: Global, actor: ActorId, kind: Boxed) -> Result<Cast<Boxed>, NoMemory> {
+    let mut callers = ListOf::new(alloc);
+    callers.push(CallerId::new(1).unwrap())?;
+    Ok(Cast {
+        actor,
+        callers,
+        kind,
+        pending: None,
+    })
+}
+
+/// Actors 1 and 2, which caller 1 may call.
+pub fn casts_of(alloc: Global, first: Boxed, second: Boxed) -> Result<Vec<Cast<Boxed>>, NoMemory> {
+    let mut casts = Vec::new(alloc);
+    casts.push(cast_of(alloc, ActorId::new(1).unwrap(), first)?)?;
+    casts.push(cast_of(alloc, ActorId::new(2).unwrap(), second)?)?;
+    Ok(casts)
+}
+
+/// The events by which each call is submitted, sent, brought, run and answered, one after another.
+fn events_of<R: Abort>(rt: &R, alloc: Global, calls: &[Call]) -> Result<Vec<Event>, NoMemory> {
+    let c1 = CallerId::new(1).unwrap();
+    let mut events = Vec::new(alloc);
+    for (place, call) in calls.iter().enumerate() {
+        let place = u32::try_from(place).unwrap_or(0);
+        let (actor, method, args) = parts_of(rt, alloc, *call)?;
+        events.push(Event::Submit(c1, actor, method, args))?;
+        events.push(Event::Send(c1, FutureId::new(place)))?;
+        events.push(Event::Deliver(place))?;
+        events.push(Event::Run(actor, c1))?;
+        events.push(Event::Collect(place))?;
+    }
+    Ok(events)
+}
+
+/// The report of a world in which each of these calls ran before the next one was submitted.
+pub fn played<R: Abort>(
+    rt: &R,
+    alloc: Global,
+    casts: Vec<Cast<Boxed>>,
+    calls: &[Call],
+) -> Result<String, NoMemory> {
+    assert!(rt; cast_fits(&casts));
+    let mut world = World::open(alloc, casts)?;
+    let events = events_of(rt, alloc, calls)?;
+    let mut told = Vec::new(alloc);
+    assert!(rt; world.has_room(events.len()));
+    assert!(rt; world.play(&events, &mut told).is_ok());
+    let mut text = String::new(alloc);
+    play_report(alloc, &world, &[], &mut text)?;
+    Ok(text)
+}
+
+/// The steps by which each call is submitted.
+fn plan_of<R: Abort>(rt: &R, alloc: Global, calls: &[Call]) -> Result<Plan, NoMemory> {
+    let mut plan = Vec::new(alloc);
+    for call in calls {
+        let (actor, method, args) = parts_of(rt, alloc, *call)?;
+        plan.push(Step::Submit(actor, method, args))?;
+    }
+    Ok(plan)
+}
+
+/// The summary of what threads left, whose one caller has these calls as its plan.
+pub fn threaded<R: Abort + Threads + Wait + Sync>(
+    rt: &R,
+    alloc: Global,
+    casts: Vec<Cast<Boxed>>,
+    calls: &[Call],
+) -> Result<String, NoMemory> {
+    let mut plans = Vec::new(alloc);
+    plans.push((CallerId::new(1).unwrap(), plan_of(rt, alloc, calls)?))?;
+    assert!(rt; cast_fits(&casts));
+    assert!(rt; plans_fit(&casts, &plans));
+    let Ok(joined) = run_plans(rt, alloc, casts, plans, &NoGate) else {
+        return Err(NoMemory);
+    };
+    let mut text = String::new(alloc);
+    joined_report(alloc, &joined, &mut text)?;
+    Ok(text)
+}
