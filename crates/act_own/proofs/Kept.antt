@@ -1,6 +1,6 @@
 -- What the steps of a kind keep, of every actor of a world and of a joined run.
 use Rattle.std.proofs.Common.{◌≡◌, ℕ, List, [], ◌∷◌, Option, Some, None, refl, ap, sym, ◌∙◌, subst, find}
-use Rattle.std.specs.Prelude.{◌==◌, option_map, slice_get, All}
+use Rattle.std.specs.Prelude.{◌==◌, option_map, slice_get, All, unwrap_or}
 use Rattle.std.proofs.lemmas.Bool.{eqb-true}
 use Rattle.act_types.specs.KindState.{KindState, OwnAt}
 use Rattle.act_types.specs.Own.{Ask, StepOf, behaves}
@@ -37,11 +37,7 @@ cast_is_opening : (casts : List Casting) (events : List Event) (a : ℕ) → cas
 cast_is_opening casts events a = ap (λ (all : List Casting). find (λ (cast : Casting). cast.actor == a) all) (all_casts (opening casts) events)
 
 some_same : {A : Type 0} (x y : A) → Some x ≡ Some y → x ≡ y
-some_same x y e = ap (λ (o : Option _). from o) e
-  where
-    from : Option _ → _
-    from None = x
-    from (Some z) = z
+some_same {A = A} x y e = ap (λ (o : Option A). unwrap_or o x) e
 
 module _ {S : Type 0} (step : StepOf S) (written : S → List ℕ) (holds : List (Ask × Answer) → S → Type 0) (kept : IsKept step holds) (start : S) (at_first : holds [] start) where
   abbrev opened : KindState
@@ -60,7 +56,7 @@ module _ {S : Type 0} (step : StepOf S) (written : S → List ℕ) (holds : List
       }
 
   -- an actor of a world
-  slot_keeps : (casts : List Casting) (events : List Event) (a : ℕ) → OpensAt step written casts a start
+  pub slot_keeps : (casts : List Casting) (events : List Event) (a : ℕ) → OpensAt step written casts a start
       → (slot : Option SlotSeen) → IsStage (history casts events) a slot → SlotKeeps step written holds opened slot
   slot_keeps casts events a opens None stage = tt
   slot_keeps casts events a opens (Some Vacant) stage = tt
