@@ -63,12 +63,12 @@ module _ {S : Type 0} (step : StepOf S) (written : S → List ℕ) (holds : List
   slot_keeps casts events a opens (Some (Died dead)) stage = left dead.log
   slot_keeps casts events a opens (Some (Runs live)) stage =
       keeps stage.cast live.log live.state
-          (ap (λ (o : Option Casting). option_map (λ (one : Casting). one.opening) o) (sym stage.cast_is ∙ cast_is_opening casts events a) ∙ opens)
-          (stage.state ∙ ap (λ (log : List RunItem). state_after stage.cast.opening log) (sym stage.log))
+      (ap (λ (o : Option Casting). option_map (λ (one : Casting). one.opening) o) (sym stage.cast_is ∙ cast_is_opening casts events a) ∙ opens)
+      (stage.state ∙ ap (λ (log : List RunItem). state_after stage.cast.opening log) (sym stage.log))
   slot_keeps casts events a opens (Some (Ended retired)) stage =
       keeps stage.cast retired.log retired.state
-          (ap (λ (o : Option Casting). option_map (λ (one : Casting). one.opening) o) (sym stage.cast_is ∙ cast_is_opening casts events a) ∙ opens)
-          (stage.state ∙ ap (λ (log : List RunItem). state_after stage.cast.opening log) (sym stage.log))
+      (ap (λ (o : Option Casting). option_map (λ (one : Casting). one.opening) o) (sym stage.cast_is ∙ cast_is_opening casts events a) ∙ opens)
+      (stage.state ∙ ap (λ (log : List RunItem). state_after stage.cast.opening log) (sym stage.log))
 
   -- an actor that threads left
   end_keeps : (casts : List Casting) (owners : List OwnerValue) (a : ℕ) → OpensAt step written casts a start
@@ -77,8 +77,8 @@ module _ {S : Type 0} (step : StepOf S) (written : S → List ℕ) (holds : List
   end_keeps casts owners a opens (Starved dead) named ran = left dead.log
   end_keeps casts owners a opens (Retired retired) named ran =
       keeps ran.cast retired.log retired.state
-          (ap (λ (o : Option Casting). option_map (λ (one : Casting). one.opening) o) (sym ran.at ∙ ap (λ (b : ℕ). find (λ (cast : Casting). cast.actor == b) casts) named) ∙ opens)
-          ran.state
+      (ap (λ (o : Option Casting). option_map (λ (one : Casting). one.opening) o) (sym ran.at ∙ ap (λ (b : ℕ). find (λ (cast : Casting). cast.actor == b) casts) named) ∙ opens)
+      ran.state
 
   pub run_keeps : (casts : List Casting) (plans : List (ℕ × List Step)) (owners : List OwnerValue) (ends : List EndSeen) → IsJoined casts plans owners ends
       → (a : ℕ) → OpensAt step written casts a start → EndKeeps step written holds opened (end_of a ends)

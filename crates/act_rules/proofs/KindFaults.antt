@@ -10,7 +10,7 @@ use Rattle.act_types.specs.declared.call.Method.TheVariants.{Add, Get, Put, Del,
 use Rattle.act_rules.specs.declared.history.RunItem.{RunItem}
 use Rattle.act_types.specs.KindState.{KindState, CounterAt, TableOf, AccountAt, ItemsOf, OwnAt}
 use Rattle.act_types.specs.Own.{Ask, after_ask}
-use Rattle.act_rules.specs.Kinds.{Reply, need, look_up, counter_reply, table_reply, account_reply, list_reply, kind_fault, told_reply, own_reply, reply_of}
+use Rattle.act_rules.specs.Kinds.{Reply, need, look_up, counter_reply, table_reply, account_reply, list_reply, kind_fault, told_reply, reply_of}
 use Rattle.act_rules.specs.RunList.{Answer, values_of, replied, call_reply, asked, after_item, answer_at}
 
 -- a kind's fault

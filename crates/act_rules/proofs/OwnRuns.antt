@@ -1,5 +1,5 @@
 -- Runs of a kind of one's own answer by its steps, and what each step keeps holds after each of them.
-use Rattle.std.proofs.Common.{◌≡◌, ℕ, List, [], ◌∷◌, ◌++◌, slice_get, Option, Some, None, refl, ap, sym, ◌∙◌, subst}
+use Rattle.std.proofs.Common.{◌≡◌, ℕ, List, [], ◌∷◌, ◌++◌, slice_get, refl, ap, sym, ◌∙◌, subst}
 use Rattle.std.specs.Prelude.{Result, Ok, Err}
 use Rattle.std.proofs.lemmas.List.{append_assoc, append-nil}
 use Rattle.act_types.specs.declared.value.Value.{Value}
@@ -11,7 +11,7 @@ use Rattle.act_types.specs.Own.{Ask, StepOf, next_state, step_answer, behaves}
 use Rattle.act_rules.specs.declared.history.RunItem.{RunItem}
 use Rattle.act_rules.specs.Kinds.{told_reply}
 use Rattle.act_rules.specs.RunList.{Answer, values_of, replied, call_reply, asked, after_item, state_after, answers_from}
-use Rattle.act_rules.specs.OwnRuns.{kind_answer, own_call, own_asked, own_after_item, own_state_after, own_answers, RunsByItsSteps, ask_of, with_answer, told_in, IsKept, Left, HoldsInEachRun}
+use Rattle.act_rules.specs.OwnRuns.{kind_answer, own_call, own_asked, own_after_item, own_state_after, own_answers, RunsByItsSteps, ask_of, with_answer, told_in, IsKept, HoldsInEachRun}
 
 module _ {S : Type 0} (step : StepOf S) (written : S → List ℕ) where
   abbrev at : S → KindState
@@ -20,7 +20,8 @@ module _ {S : Type 0} (step : StepOf S) (written : S → List ℕ) where
   abbrev pub seen : S × Answer → KindState × Answer
   seen done = (at done.0, done.1)
 
-  told_any : (state : S) (given : Result (S × Value) Fault)
+  -- what a step leaves and answers, as an actor has it
+  pub told_any : (state : S) (given : Result (S × Value) Fault)
       → replied (at state) (told_reply (at (next_state state given)) (step_answer given)) ≡ seen (next_state state given, kind_answer (step_answer given))
   told_any state (Ok next) = refl
   told_any state (Err fault) = refl

@@ -2,6 +2,7 @@
 use Rattle.std.specs.Prelude.{ℕ, List, [], ◌∷◌, Result, Ok, Err}
 use Rattle.act_types.specs.declared.value.Value.{Value}
 use Rattle.act_types.specs.declared.fault.Fault.{Fault}
+use Rattle.act_types.specs.declared.fault.Fault.TheVariants.{BadArgs}
 use Rattle.act_types.specs.declared.call.Method.{Method}
 
 -- a call of a kind, by its method and its values
@@ -31,6 +32,11 @@ on_call does state (Err fault) = Err fault
 
 abbrev pub by_calls : {S C : Type 0} → (Method → List Value → Result C Fault) → (S → C → Result (S × Value) Fault) → StepOf S
 by_calls call_at does state method args = on_call does state (call_at method args)
+
+-- a call that takes no values
+abbrev pub alone : {C : Type 0} → C → List Value → Result C Fault
+alone call [] = Ok call
+alone call args = Err BadArgs
 
 -- the state that a step leaves, and what it answers
 abbrev pub next_state : {S : Type 0} → S → Result (S × Value) Fault → S
