@@ -1,12 +1,12 @@
 -- What a gauge can be asked, what its calls do, and how it is written.
-use Rattle.std.specs.Prelude.{ℕ, List, [], ◌∷◌, ◌++◌, Result, Ok, Err, ℤ, pos, ◌+ℤ◌, int_le, ◌&&◌, if◌then◌else◌, bytes_eq, codes}
+use Rattle.std.specs.Prelude.{ℕ, List, [], ◌∷◌, ◌++◌, Result, Ok, Err, pos, ◌+ℤ◌, int_le, ◌&&◌, if◌then◌else◌, bytes_eq, codes}
 use Rattle.std.specs.Fmt.{signed_decimal}
 use Rattle.act_types.specs.declared.value.Value.{Value}
 use Rattle.act_types.specs.declared.value.Value.TheVariants.{Int}
 use Rattle.act_types.specs.declared.call.Method.{Method}
 use Rattle.act_types.specs.declared.fault.Fault.{Fault}
 use Rattle.act_types.specs.declared.fault.Fault.TheVariants.{NoMethod, BadArgs, Own}
-use Rattle.act_types.specs.Own.{StepOf, by_calls}
+use Rattle.act_types.specs.Own.{StepOf, by_calls, alone}
 use Rattle.act_types.specs.Texts.{method_text}
 use Rattle.act_rules.specs.Kinds.{is_in_range}
 use Rattle.own_kinds.specs.declared.gauge.Gauge.{Gauge}
@@ -16,10 +16,6 @@ use Rattle.own_kinds.specs.declared.gauge.GaugeCall.TheVariants.{Raise, Drain, R
 abbrev pub raise_at : List Value → Result GaugeCall Fault
 raise_at (Int by ∷ []) = Ok (Raise by)
 raise_at args = Err BadArgs
-
-abbrev pub alone : GaugeCall → List Value → Result GaugeCall Fault
-alone call [] = Ok call
-alone call args = Err BadArgs
 
 -- what a method and its values ask for
 abbrev pub gauge_call : Method → List Value → Result GaugeCall Fault

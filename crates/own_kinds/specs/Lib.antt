@@ -1,1 +1,5 @@
+pub mod Bank
+pub mod Banks
 pub mod Gauge
+pub mod Limiter
+pub mod Queue

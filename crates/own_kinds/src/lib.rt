@@ -1,6 +1,12 @@
 //! Kinds of one's own: what a user of the library writes, each a page.
 #![tactic(auto)]
 
+mod bank;
 mod gauge;
+mod limiter;
+mod queue;
 
+pub use bank::{Bank, BankCall, BankMeaning, MOST_ACCOUNTS, money_is_kept};
 pub use gauge::{Gauge, GaugeCall};
+pub use limiter::{Limiter, LimiterCall, never_above_its_rate};
+pub use queue::{MOST_QUEUED, QueueCall, QueueMeaning, WorkQueue, first_in_first_out};
