@@ -28,9 +28,11 @@ PARTS += [("tests_of_owners", part) for part in ["handles", "replies", "resolver
 TESTS = [(crate, f"{part}::refused_memory_changes_nothing") for crate, part in PARTS]
 ROWS = ["another_caller_passes", "one_packet_for_good", "release_and_retire", "ran_and_yet_died", "terminate_in_turn", "pending_limit"]
 TESTS += [("tests_of_worlds", f"world::{row}") for row in ROWS]
+TESTS += [("tests_of_own_kinds", "memory::refused_memory_changes_nothing")]
 TESTS += [("tests_of_threads", f"{part}::refused_memory_starves") for part in ["serve", "drive::starved"]]
 ONCE = ["a_table_and_an_account", "kills::a_kill_once", "terminates::a_terminate_once", "limits::waiting_pushes_once"]
 RUNS = [("tests_of_runs", f"executor::{run}") for run in ONCE]
+RUNS += [("tests_of_own_kinds", "queue::in_threads_beside_a_known_kind")]
 PASSED = 0
 FAILED = 101
 # What a test writes whose result is an error. A failed assertion writes something else, and ends by a signal.

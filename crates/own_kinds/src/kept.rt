@@ -1,17 +1,17 @@
 //! What holds of banks and limiters in a world, and in a run in threads, whatever else happens there.
 
-ghost use Rattle.std.specs.Prelude.{◌≡◌, ℕ, List, map, option_map, replicate, IfOk};
+ghost use Rattle.std.specs.Prelude.{◌≡◌, ℕ, List, map, option_map, replicate, IfErr, IfOk};
 ghost use Rattle.act_rules.specs.declared.event.Event.{Event as Happening};
 ghost use Rattle.act_rules.specs.History.{Casting};
 ghost use Rattle.act_rules.specs.OwnRuns.{told_in};
 ghost use Rattle.act_actor.specs.Cast.{IsFitting};
 ghost use Rattle.act_actor.specs.Casts.{casting};
 ghost use Rattle.act_world.specs.Stands.{Stands};
-ghost use Rattle.act_world.specs.Value.{stage_seen, world_seen};
+ghost use Rattle.act_world.specs.Value.{stage_in, stage_seen, world_seen};
 ghost use Rattle.act_serve.specs.Served.{end_seen};
 ghost use Rattle.act_plans.specs.Parts.{PlansFit};
 ghost use Rattle.act_joint.specs.Joined.{IsJoined, end_of, log_in};
-ghost use Rattle.act_executor.specs.Runs.{plan_seen};
+ghost use Rattle.act_executor.specs.Runs.{plan_seen, IsFault};
 ghost use Rattle.act_own.specs.Kept.{SlotKeeps, EndKeeps, OpensAt};
 ghost use Rattle.own_kinds.specs.Bank.{bank_step, bank_text, empty_bank, HoldsItsMoney};
 ghost use Rattle.own_kinds.specs.Limiter.{limiter_step, limiter_text, limiter_of, limiter_at, NeverAbove};
@@ -27,6 +27,7 @@ use std::thread::Threads;
 
 /// An actor of a world. One that opened as an empty bank has what was paid in less what was paid out.
 pub fn bank_stage<K: Actor>(world: &World<K>, a: ActorId) -> Option<Stage<'_, K>>
+    ensures shown { option_map (stage_seen K.state) result ≡ stage_in (world_seen K.state world.now) a }
     ensures kept { (casts : List Casting) (events : List Happening) (accounts : ℕ) →
         Stands casts events (world_seen K.state world.now) →
         OpensAt bank_step bank_text casts a (replicate accounts 0) →
@@ -51,6 +52,7 @@ pub fn run_banks<R: Threads + Wait + Sync, K: Actor + Send>(
         OpensAt bank_step bank_text (map (casting K.state) casts.items) a (replicate accounts 0) →
         EndKeeps bank_step bank_text HoldsItsMoney (empty_bank accounts)
         (end_of a (map (λ actor. end_seen K.state actor.ended) joined.actors.items))) }
+    ensures fault { IfErr result (IsFault (map (casting K.state) casts.items) (map plan_seen plans.items)) }
 {
     let joined = run_plans(rt, alloc, casts, plans, &NoGate)?;
     Ok(joined)
@@ -72,7 +74,8 @@ pub fn run_limiters<R: Threads + Wait + Sync, K: Actor + Send>(
         OpensAt limiter_step limiter_text (map (casting K.state) casts.items) a (limiter_of most) →
         NeverAbove most (told_in (limiter_at most)
         (log_in (map (λ actor. end_seen K.state actor.ended) joined.actors.items) a))) }
+    ensures fault { IfErr result (IsFault (map (casting K.state) casts.items) (map plan_seen plans.items)) }
 {
-    let joined = run_plans(rt, alloc, casts, plans, &NoGate)?;
-    Ok(joined)
+    let left = run_plans(rt, alloc, casts, plans, &NoGate)?;
+    Ok(left)
 }

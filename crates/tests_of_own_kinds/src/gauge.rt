@@ -29,6 +29,7 @@ const CALLS: [Call; 8] = [
 
 const ANSWERS: &str =
     "c1.0 a1 = 7\nc1.1 a1 = TooHigh\nc1.2 a1 = 7\nc1.3 a2 = 7\nc1.4 a1 = BadArgs\n\
+    \
     c1.5 a1 = NoMethod\nc1.6 a2 = NoMethod\nc1.7 a1 = Dependency(1)\n";
 
 const RUNS_OF_GAUGE: &str =

@@ -2,8 +2,16 @@
 #![tactic(auto)]
 
 #[cfg(test)]
+mod bank;
+#[cfg(test)]
 mod gauge;
 #[cfg(test)]
+mod limiter;
+#[cfg(test)]
+mod memory;
+#[cfg(test)]
 mod names;
+#[cfg(test)]
+mod queue;
 #[cfg(test)]
 mod scene;

@@ -10,13 +10,15 @@ use act_world::{Cast, Event, World};
 use std::alloc::Global;
 use std::process::Abort;
 use std::sync::Wait;
+use std::test::Fail;
 use std::thread::Threads;
 
-/// The one argument of a call, or none.
+/// The arguments of a call.
 #[derive(Clone, Copy)]
 pub enum Given {
     Nothing,
     Int(i64),
+    Ints(&'static [i64]),
     /// The answer of an earlier call.
     Answer(u32),
 }
@@ -34,6 +36,11 @@ fn args_of(alloc: Global, given: Given) -> Result<ListOf<Arg>, NoMemory> {
     match given {
         Given::Nothing => {}
         Given::Int(number) => args.push(Arg::Plain(Value::Int(number)))?,
+        Given::Ints(numbers) => {
+            for number in numbers {
+                args.push(Arg::Plain(Value::Int(*number)))?;
+            }
+        }
         Given::Answer(future) => args.push(Arg::Fut(FutureId::new(future)))?,
     }
     Ok(args)
@@ -103,7 +110,9 @@ pub fn played<R: Abort>(
     let events = events_of(rt, alloc, calls)?;
     let mut told = Vec::new(alloc);
     assert!(rt; world.has_room(events.len()));
-    assert!(rt; world.play(&events, &mut told).is_ok());
+    if world.play(&events, &mut told).is_err() {
+        return Err(NoMemory);
+    }
     let mut text = String::new(alloc);
     play_report(alloc, &world, &[], &mut text)?;
     Ok(text)
@@ -125,14 +134,12 @@ pub fn threaded<R: Abort + Threads + Wait + Sync>(
     alloc: Global,
     casts: Vec<Cast<Boxed>>,
     calls: &[Call],
-) -> Result<String, NoMemory> {
+) -> Result<String, Fail> {
     let mut plans = Vec::new(alloc);
     plans.push((CallerId::new(1).unwrap(), plan_of(rt, alloc, calls)?))?;
     assert!(rt; cast_fits(&casts));
     assert!(rt; plans_fit(&casts, &plans));
-    let Ok(joined) = run_plans(rt, alloc, casts, plans, &NoGate) else {
-        return Err(NoMemory);
-    };
+    let joined = run_plans(rt, alloc, casts, plans, &NoGate)?;
     let mut text = String::new(alloc);
     joined_report(alloc, &joined, &mut text)?;
     Ok(text)

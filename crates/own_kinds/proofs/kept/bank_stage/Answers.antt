@@ -5,9 +5,7 @@ use Rattle.own_kinds.specs.Bank.{bank_step, bank_text, HoldsItsMoney}
 use Rattle.own_kinds.proofs.Keeps.{keeps, empty}
 use Rattle.own_kinds.proofs.kept.bank_stage.Goals as goal
 
-pub returns : goal.returns
-returns g c = record {
-  kept = λ casts events accounts stands opens.
-      slot_keeps bank_step bank_text HoldsItsMoney keeps (replicate accounts 0) (empty accounts) casts events c.args.a opens
-      (option_map (stage_seen g.K.Actor.state) c.stage.result) (c.stage.ensures.stands casts events stands);
-}
+pub returns-clause-kept : goal.returns-clause-kept
+returns-clause-kept g c = λ casts events accounts stands opens.
+    slot_keeps bank_step bank_text HoldsItsMoney keeps (replicate accounts 0) (empty accounts) casts events c.args.a opens
+    (option_map (stage_seen g.K.Actor.state) c.stage.result) (c.stage.ensures.stands casts events stands)

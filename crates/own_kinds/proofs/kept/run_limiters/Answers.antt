@@ -6,4 +6,4 @@ use Rattle.own_kinds.proofs.kept.run_limiters.Goals as goal
 
 pub returns-clause-rate : goal.returns-clause-rate
 returns-clause-rate g c = λ a most opens.
-    never_above_its_rate most (log_in (map (λ actor. end_seen g.K.Actor.state actor.ended) c.in_ok-joined.joined.actors.items) a)
+    never_above_its_rate most (log_in (map (λ actor. end_seen g.K.Actor.state actor.ended) c.in_ok-left.left.actors.items) a)
