@@ -23,7 +23,7 @@ const CALLS: [Call; 11] = [
     Call::Own(1, "waiting", Given::Nothing),
     Call::Own(1, "dequeue", Given::Nothing),
     Call::Known(2, Method::Push, Given::Answer(5)),
-    Call::Own(1, "enqueue", Given::Ints(&[1, 2])),
+    Call::Own(1, "enqueue", Given::Two(1, 2)),
     Call::Known(1, Method::Pop, Given::Nothing),
     Call::Own(1, "enqueue", Given::Int(9)),
     Call::Own(1, "dequeue", Given::Nothing),

@@ -18,7 +18,8 @@ use std::thread::Threads;
 pub enum Given {
     Nothing,
     Int(i64),
-    Ints(&'static [i64]),
+    Two(i64, i64),
+    Three(i64, i64, i64),
     /// The answer of an earlier call.
     Answer(u32),
 }
@@ -36,10 +37,14 @@ fn args_of(alloc: Global, given: Given) -> Result<ListOf<Arg>, NoMemory> {
     match given {
         Given::Nothing => {}
         Given::Int(number) => args.push(Arg::Plain(Value::Int(number)))?,
-        Given::Ints(numbers) => {
-            for number in numbers {
-                args.push(Arg::Plain(Value::Int(*number)))?;
-            }
+        Given::Two(first, second) => {
+            args.push(Arg::Plain(Value::Int(first)))?;
+            args.push(Arg::Plain(Value::Int(second)))?;
+        }
+        Given::Three(first, second, third) => {
+            args.push(Arg::Plain(Value::Int(first)))?;
+            args.push(Arg::Plain(Value::Int(second)))?;
+            args.push(Arg::Plain(Value::Int(third)))?;
         }
         Given::Answer(future) => args.push(Arg::Fut(FutureId::new(future)))?,
     }
@@ -50,17 +55,19 @@ fn args_of(alloc: Global, given: Given) -> Result<ListOf<Arg>, NoMemory> {
 fn parts_of<R: Abort>(
     rt: &R,
     alloc: Global,
-    call: Call,
+    call: &Call,
 ) -> Result<(ActorId, Method, ListOf<Arg>), NoMemory> {
-    let (actor, method, given) = match call {
+    match call {
         Call::Own(actor, word, given) => {
             let name = Name::new(word).expect(rt, "a name");
-            (actor, Method::Own(name), given)
+            let actor = ActorId::new(*actor).expect(rt, "an actor");
+            Ok((actor, Method::Own(name), args_of(alloc, *given)?))
         }
-        Call::Known(actor, method, given) => (actor, method, given),
-    };
-    let actor = ActorId::new(actor).expect(rt, "an actor");
-    Ok((actor, method, args_of(alloc, given)?))
+        Call::Known(actor, method, given) => {
+            let actor = ActorId::new(*actor).expect(rt, "an actor");
+            Ok((actor, *method, args_of(alloc, *given)?))
+        }
+    }
 }
 
 fn cast_of(alloc: Global, actor: ActorId, kind: Boxed) -> Result<Cast<Boxed>, NoMemory> {
@@ -88,7 +95,7 @@ fn events_of<R: Abort>(rt: &R, alloc: Global, calls: &[Call]) -> Result<Vec<Even
     let mut events = Vec::new(alloc);
     for (place, call) in calls.iter().enumerate() {
         let place = u32::try_from(place).unwrap_or(0);
-        let (actor, method, args) = parts_of(rt, alloc, *call)?;
+        let (actor, method, args) = parts_of(rt, alloc, call)?;
         events.push(Event::Submit(c1, actor, method, args))?;
         events.push(Event::Send(c1, FutureId::new(place)))?;
         events.push(Event::Deliver(place))?;
@@ -122,7 +129,7 @@ pub fn played<R: Abort>(
 fn plan_of<R: Abort>(rt: &R, alloc: Global, calls: &[Call]) -> Result<Plan, NoMemory> {
     let mut plan = Vec::new(alloc);
     for call in calls {
-        let (actor, method, args) = parts_of(rt, alloc, *call)?;
+        let (actor, method, args) = parts_of(rt, alloc, call)?;
         plan.push(Step::Submit(actor, method, args))?;
     }
     Ok(plan)
