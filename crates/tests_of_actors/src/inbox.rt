@@ -101,7 +101,8 @@ fn show_and_take(rt: &impl Abort, inbox: &mut Inbox) {
     for wanted in [Some(Method::Get), None] {
         let shown = inbox.peek(c1).map(|packet| packet.method);
         let taken = inbox.next(c1).map(|packet| packet.method);
-        assert_eq!(rt; (shown, taken), (wanted, wanted));
+        assert_eq!(rt; shown, wanted);
+        assert_eq!(rt; taken, wanted);
         assert_eq!(rt; inbox.handed(c1), 1);
     }
 }
