@@ -1,6 +1,6 @@
 //! Lines and scripts.
 
-ghost use Rattle.std.specs.Prelude.{◌≡◌, ◌==◌, true, ◌≤◌, ◌<◌, ◌^◌, ◌+◌, ℕ, map, IfOk, OnOk, IfSome, length};
+ghost use Rattle.std.specs.Prelude.{◌≡◌, ◌==◌, ◌||◌, true, ◌≤◌, ◌<◌, ◌^◌, ◌+◌, ℕ, map, IfOk, OnOk, IfSome, length};
 ghost use Rattle.std.specs.List.{list_all, list_any};
 ghost use Rattle.act_scripts.specs.Gives.{Gives};
 ghost use Rattle.act_scripts.specs.Spelled.{IsLineOf, Leaves, GivesScript, mode_of, count_of, spelled_script, numbered};
@@ -63,14 +63,26 @@ fn are_plain(bytes: &[u8]) -> bool
     bytes.iter().all(|byte| 0x20 <= *byte && *byte <= 0x7e)
 }
 
-/// Whether a line is short and plain.
-fn check_plain(line: &[u8]) -> Result<(), LineFault>
+/// Whether each byte prints, is a space or ends a line. It looks at all of them, as a machine does fastest.
+fn are_plain_lines(bytes: &[u8]) -> bool
+    ensures { result ≡ list_all (λ b. is_plain_byte b || (b == 10)) bytes.now }
+{
+    let mut plain = true;
+    for byte in bytes {
+        plain &= (0x20 <= *byte && *byte <= 0x7e) || *byte == b'\n';
+    }
+    plain
+}
+
+/// Whether a line is short and plain. Of the lines of a plain script the latter is known.
+fn check_plain(line: &[u8], is_known: bool) -> Result<(), LineFault>
+    requires { is_known ≡ true → list_all is_plain_byte line.now ≡ true }
     ensures { Gives (λ _. line.now) result (plain_at line.now) }
 {
     if line.len() > MOST_LINE_BYTES {
         return Err(BAD_LINE);
     }
-    if !are_plain(line) {
+    if !is_known && !are_plain(line) {
         return Err(BAD_LINE);
     }
     Ok(())
@@ -97,11 +109,13 @@ fn line_of<'a>(
     mode: Mode,
     words: &mut Vec<&'a str>,
     line: &'a [u8],
+    is_plain: bool,
 ) -> Result<Option<Line>, LineFault>
+    requires { is_plain ≡ true → list_all is_plain_byte line.now ≡ true }
     ensures said { Gives (λ x. x) result (line_at (forms_of mode) line.now) }
     ensures of_mode { IfOk result (λ said. IfSome said (IsLineOf mode)) }
 {
-    check_plain(line)?;
+    check_plain(line, is_plain)?;
     match line {
         [] | [b'#', ..] => Ok(None),
         _ => {
@@ -234,15 +248,17 @@ fn add_line<'a>(
     script: &mut Script,
     words: &mut Vec<&'a str>,
     line: &'a [u8],
+    is_plain: bool,
     number: u32,
 ) -> Result<(), LineFault>
-    requires { mode_of script.old.items ≡ mode }
+    requires mode { mode_of script.old.items ≡ mode }
+    requires plain { is_plain ≡ true → list_all is_plain_byte line.now ≡ true }
     ensures sound { AreSound (map role_casting script.old.casts) → AreSound (map role_casting script.new.casts) }
     ensures mode { mode_of script.new.items ≡ mode }
     ensures read { Leaves result script.new (line_added (forms_of mode) (spelled_script script.old) number line.now) }
     ensures few { count_of script.new.items ≤ count_of script.old.items + 1 }
 {
-    match line_of(alloc, mode, words, line)? {
+    match line_of(alloc, mode, words, line, is_plain)? {
         None => Ok(()),
         Some(line) => add(script, line, number),
     }
@@ -268,10 +284,11 @@ fn read_lines(alloc: Global, bytes: &[u8], mode: Mode) -> Result<Script, ScriptF
 {
     let mut script = empty(alloc, mode);
     let mut words = Vec::new(alloc);
+    let is_plain = are_plain_lines(bytes);
     let mut number = 0;
     for line in bytes.split(|byte| *byte == b'\n') {
         number += 1;
-        match add_line(alloc, mode, &mut script, &mut words, line, number) {
+        match add_line(alloc, mode, &mut script, &mut words, line, is_plain, number) {
             Ok(()) => {}
             Err(fault) => return Err(fault_in(number, fault)),
         }

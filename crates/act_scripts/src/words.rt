@@ -1,6 +1,6 @@
 //! The words of a line.
 
-ghost use Rattle.std.specs.Prelude.{◌≡◌, ◌<◌, Some, IfOk};
+ghost use Rattle.std.specs.Prelude.{◌≡◌, ◌<◌, List, [], ◌∷◌, Some, IfOk};
 ghost use Rattle.std.specs.List.{list_all};
 ghost use Rattle.std.specs.Char.{is_ascii_digit};
 ghost use Rattle.act_scripts.specs.Gives.{Gives};
@@ -71,11 +71,26 @@ fn is_numeral_text(digits: &[u8]) -> bool
     are_digits(digits)
 }
 
+/// The number that one digit spells.
+#[tactic(auto, unfolding(act_rules::specs::Words::number_at))]
+fn number_of_digit(digit: u8) -> Result<u32, LineFault>
+    ensures { Gives (λ x. x) result (number_at (digit ∷ [])) }
+{
+    match digit {
+        b'0'..=b'9' => Ok((digit - b'0') as u32),
+        _ => Err(BAD_LINE),
+    }
+}
+
 /// The number that a word spells, in its one spelling.
 #[tactic(auto, using(crate::proofs::Numbers::number_from_parse), unfolding(act_rules::specs::Words::number_at))]
 pub(crate) fn number_of(word: &str) -> Result<u32, LineFault>
     ensures { Gives (λ x. x) result (number_at word.now) }
 {
+    // Names and many futures have one digit, which wants no parser.
+    if let [digit] = word.as_bytes() {
+        return number_of_digit(*digit);
+    }
     if !is_numeral_text(word.as_bytes()) {
         return Err(BAD_LINE);
     }

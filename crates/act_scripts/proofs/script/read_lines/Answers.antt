@@ -1,11 +1,17 @@
-use Rattle.std.proofs.Common.{◌≡◌, ◌==◌, ◌+◌, ◌<◌, length, get_or, arith, rules, tests}
+use Rattle.std.proofs.Common.{◌≡◌, ◌==◌, ◌+◌, ◌<◌, length, get_or, arith, rules, tests, sym, ◌∙◌}
 use Rattle.std.proofs.lemmas.List.{length_push}
 use Rattle.std.proofs.lemmas.Iterator.Consumers.{YieldsList-turn, YieldsList-end}
 use Rattle.std.proofs.lemmas.Iterator.Splits.{YieldsList-from_slice_split}
 use Rattle.act_rules.specs.Grammar.{forms_of, lines_in}
 use Rattle.act_scripts.specs.Spelled.{spelled_script}
+use Rattle.act_scripts.proofs.Plain.{line_is_plain}
 use Rattle.act_scripts.proofs.Lines.{goes_on, ends, is_done}
 use Rattle.act_scripts.proofs.script.read_lines.Goals as goal
+
+pub add_line-requires-clause-plain : goal.add_line-requires-clause-plain
+add_line-requires-clause-plain c = λ known.
+    line_is_plain c.args.bytes.now c.in-Some.line.now _ (sym c.are_plain_lines-is_plain.ensures ∙ known)
+    (YieldsList-turn (YieldsList-from_slice_split _ (λ b. b == 10) c.args.bytes.now (cc) (cc) (cc) (λ x r q k. search (rules, tests))) c.loop-line.yielded _ c.loop-line.yielded_by _ _ c.in-Some.line c.in-Some.is c.next.ensures.steps)
 
 pub loop-line-preserved : goal.loop-line-preserved
 loop-line-preserved c =
