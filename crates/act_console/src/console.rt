@@ -59,12 +59,14 @@ fn report_of_script(alloc: Global, stock: Stock, script: Script) -> Result<Strin
     report_on(alloc, stock, roles, events)
 }
 
-/// What there is to be written of the script that bytes spell.
-fn output_of(alloc: Global, stock: Stock, bytes: &[u8]) -> Result<Output, NoMemory>
+/// What there is to be written of the script that bytes spell. They are let go once they are read.
+fn output_of(alloc: Global, stock: Stock, bytes: Vec<u8>) -> Result<Output, NoMemory>
     requires ready { IsReady ⟦<Boxed as Actor>⟧.state stock }
-    ensures { IfOk result (λ answer. IsPlayOutput answer (spelled Play bytes.now)) }
+    ensures { IfOk result (λ answer. IsPlayOutput answer (spelled Play bytes.items)) }
 {
-    match read_script(alloc, bytes, Mode::Play) {
+    let read = read_script(alloc, bytes.as_slice(), Mode::Play);
+    drop(bytes);
+    match read {
         Ok(script) => {
             let text = report_of_script(alloc, stock, script)?;
             Ok(Output::Report(text))
@@ -93,7 +95,7 @@ pub fn play_script<R: Read, W: Write>(
     ensures { ScriptPlayed (R.remaining reader.old) (R.remaining reader.new) (W.contents writer.old) (W.contents writer.new) result }
 {
     let bytes = read_whole(alloc, reader)?;
-    match output_of(alloc, stock, &bytes) {
+    match output_of(alloc, stock, bytes) {
         Ok(answer) => write_output(writer, answer),
         Err(_) => Err(ConsoleFault::Memory),
     }

@@ -1,6 +1,7 @@
 //! The text of a report.
 ghost use Rattle.std.specs.Prelude.{◌≡◌, ◌≤◌, ◌++◌, List, [], OnOk, OnErr, IfOk, string_bytes, length, option_copied};
 ghost use Rattle.std.specs.List.{flat_map};
+ghost use Rattle.std.specs.Vec.{vec_len};
 ghost use Rattle.act_types.specs.Texts.{space, actor_text, settled_text};
 ghost use Rattle.act_rules.specs.History.{Casting, opening};
 ghost use Rattle.act_rules.specs.Report.{line, placed, one_to, outcome_line, outcome_lines, future_text, kept_text, item_line, report};
@@ -24,6 +25,19 @@ use std::alloc::{AllocError, Global};
 
 /// Room for what a report tells of one event: its line, and mostly those of a future and of its run.
 const EVENT_BYTES: usize = 40;
+
+/// After so many events the room that they had is given back.
+const EVENTS_AT_ONCE: usize = 1024;
+
+/// Gives the room of the events that happened back, after each so many of them.
+fn give_back(left: &mut Vec<Event>, place: usize)
+    ensures items { left.new.items ≡ left.old.items }
+    ensures len { vec_len left.new ≡ vec_len left.old }
+{
+    if place % EVENTS_AT_ONCE == 0 {
+        left.shrink_to_fit();
+    }
+}
 
 /// Adds the line of an outcome.
 fn push_outcome(text: &mut String, place: usize, outcome: &Outcome) -> Result<(), AllocError>
@@ -301,14 +315,18 @@ fn play_all<K: Actor>(
     ensures { OnOk result (AreTold events (world_seen K.state world.old) (world_seen K.state world.new)
         (string_bytes text.old) (string_bytes text.new)) }
 {
+    let mut left = events.into_vec();
+    // The next event stands last, so that the room of those that happened can be given back.
+    left.reverse();
     let mut place = 0;
-    for event in events.into_vec() {
+    while let Some(event) = left.pop() {
         let outcome = world.apply(&event);
         if is_memory(&outcome) {
             return Err(NoMemory);
         }
         push_outcome(text, place, &outcome)?;
         place += 1;
+        give_back(&mut left, place);
     }
     Ok(())
 }

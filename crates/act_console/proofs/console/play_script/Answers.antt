@@ -1,11 +1,7 @@
-use Rattle.std.proofs.Common.{ℕ, List, subst}
-use Rattle.act_rules.specs.declared.script.Mode.TheVariants.{Play}
-use Rattle.act_rules.specs.Grammar.{spelled}
-use Rattle.act_console.specs.Console.{IsPlayOutput}
 use Rattle.act_console.proofs.Told.{play_told}
 use Rattle.act_console.proofs.console.play_script.Goals as goal
 
 pub returns-in-Ok : goal.returns-in-Ok
 returns-in-Ok g c =
     play_told (g.R.Read.remaining c.args.reader.now) (g.R.Read.remaining c.read_whole.new.reader) (g.W.Write.contents c.args.writer.now) (g.W.Write.contents c.write_output.new.writer) c.in_ok-bytes.bytes.items c.in_ok-bytes.ensures.ok c.in-Ok.answer c.write_output.result
-    (subst (λ (bytes : List ℕ). IsPlayOutput c.in-Ok.answer (spelled Play bytes)) c.deref.ensures.value c.in-Ok.ensures) c.write_output.ensures
+    c.in-Ok.ensures c.write_output.ensures
