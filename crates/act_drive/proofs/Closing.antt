@@ -16,7 +16,7 @@ use Rattle.act_drive.specs.Driven.{Waits, Winds}
 use Rattle.act_drive.proofs.Desks.{stays_same, stays_trans}
 
 pub winds_same : (desk : Desk) → Winds desk desk
-winds_same desk = record { stay = stays_same desk desk refl refl refl; calls = refl; kills = refl; heard = λ notice has. has; handles = λ a. (refl, omega arith) }
+winds_same desk = record { stay = stays_same desk desk refl refl refl refl; calls = refl; kills = refl; heard = λ notice has. has; handles = λ a. (refl, omega arith) }
 
 pub winds_trans : (one two three : Desk) → Winds one two → Winds two three → Winds one three
 winds_trans one two three a b = record { stay = stays_trans one two three a.stay b.stay; calls = b.calls ∙ a.calls; kills = b.kills ∙ a.kills; heard = λ notice has. b.heard notice (a.heard notice has); handles = λ n. ((b.handles n).0 ∙ (a.handles n).0, omega (arith, (b.handles n).1, (a.handles n).1)) }
@@ -47,7 +47,7 @@ less_handles handles a b =
 
 pub released_winds : (old between new : Desk) (a : ℕ) → Waits old between → new.owner ≡ with_handles between.owner (without_copy a between.owner.handles) → new.passes ≡ between.passes → Winds old new
 released_winds old between new a waits is passes = record {
-  stay = stays_trans old between new waits.stay (stays_same between new (ap (λ (o : OwnerValue). o.id) is) (ap (λ (o : OwnerValue). o.limits) is) passes);
+  stay = stays_trans old between new waits.stay (stays_same between new (ap (λ (o : OwnerValue). o.id) is) (ap (λ (o : OwnerValue). o.kept) is) (ap (λ (o : OwnerValue). o.limits) is) passes);
   calls = ap (λ (o : OwnerValue). o.calls) is ∙ waits.calls;
   kills = ap (λ (p : CallerPasses). p.kills.items) passes ∙ waits.kills;
   heard = λ notice has. rw passes (waits.heard notice has);

@@ -14,6 +14,7 @@ use Rattle.act_types.specs.declared.message.Notice.{Notice}
 use Rattle.act_types.specs.declared.message.Notice.TheVariants.{Answered, Death}
 use Rattle.act_rules.specs.declared.history.Submission.{Submission}
 use Rattle.act_rules.specs.declared.history.RunItem.{RunItem}
+use Rattle.act_rules.specs.RunList.{Answer}
 use Rattle.act_rules.specs.Submissions.{calls_to, copies_held, kept_at}
 use Rattle.act_handles.specs.Handles.{copies_in}
 use Rattle.act_handles.specs.declared.handles.Handle.{Handle}
@@ -130,6 +131,9 @@ calling_heard lines old new notice is collects letters kills hand flags calling 
       record {
         stay = record {
           id = ap (λ (o : OwnerValue). o.id) is ∙ keeps.0;
+          kept = λ k answer has.
+              subst (λ (o : OwnerValue). kept_at o.kept k ≡ Some answer) (sym is)
+              ((step old.owner (Noticed notice) calling.places).kept k (ap is_some has) ∙ has);
           limits = ap (λ (o : OwnerValue). o.limits) is ∙ keeps.3;
           passes = record {
             letters = ap (λ (v : _). map bare_post v.items) letters;
@@ -148,9 +152,10 @@ pub desk_same : (new : Desk) (o : OwnerValue) (p : CallerPasses) (h : Option Let
 desk_same new o p h a b c =
     ap (λ (x : OwnerValue). record { owner = x; passes = new.passes; hand = new.hand; noted = new.noted }) a ∙ ap (λ (x : CallerPasses). record { owner = o; passes = x; hand = new.hand; noted = new.noted }) b ∙ ap (λ (x : Option Letter). record { owner = o; passes = p; hand = x; noted = new.noted }) c
 
-pub stays_same : (old new : Desk) → new.owner.id ≡ old.owner.id → new.owner.limits ≡ old.owner.limits → new.passes ≡ old.passes → Stays old new
-stays_same old new id limits passes = record {
+pub stays_same : (old new : Desk) → new.owner.id ≡ old.owner.id → new.owner.kept ≡ old.owner.kept → new.owner.limits ≡ old.owner.limits → new.passes ≡ old.passes → Stays old new
+stays_same old new id kept limits passes = record {
   id = id;
+  kept = λ k answer has. ap (λ (l : List (Option Answer)). kept_at l k) kept ∙ has;
   limits = limits;
   passes = record {
     letters = ap (λ (p : CallerPasses). map bare_post p.letters.items) passes;
@@ -162,6 +167,7 @@ stays_same old new id limits passes = record {
 pub stays_trans : (one two three : Desk) → Stays one two → Stays two three → Stays one three
 stays_trans one two three a b = record {
   id = b.id ∙ a.id;
+  kept = λ k answer has. b.kept k answer (a.kept k answer has);
   limits = b.limits ∙ a.limits;
   passes = record {
     letters = b.passes.letters ∙ a.passes.letters;
@@ -171,7 +177,7 @@ stays_trans one two three a b = record {
 }
 
 pub waits_same : (desk : Desk) → Waits desk desk
-waits_same desk = record { stay = stays_same desk desk refl refl refl; calls = refl; handles = refl; kills = refl; heard = λ notice has. has }
+waits_same desk = record { stay = stays_same desk desk refl refl refl refl; calls = refl; handles = refl; kills = refl; heard = λ notice has. has }
 
 pub waits_trans : (one two three : Desk) → Waits one two → Waits two three → Waits one three
 waits_trans one two three a b = record { stay = stays_trans one two three a.stay b.stay; calls = b.calls ∙ a.calls; handles = b.handles ∙ a.handles; kills = b.kills ∙ a.kills; heard = λ notice has. b.heard notice (a.heard notice has) }
@@ -182,6 +188,7 @@ pub posted_waits : (old new : Desk) (at : ℕ) (seat : Seat (PutterValue Letter 
 posted_waits old new at seat pass here same is letters kills collects = record {
   stay = record {
     id = ap (λ (o : OwnerValue). o.id) is;
+    kept = λ k answer has. ap (λ (o : OwnerValue). kept_at o.kept k) is ∙ has;
     limits = ap (λ (o : OwnerValue). o.limits) is;
     passes = record {
       letters = ap (λ (l : List (Seat (PutterValue Letter Unit))). map bare_post l) letters ∙ map-set_same bare_post old.passes.letters.items at (record { place = seat.place; pass = pass }) seat (same ∙ ap bare_post here);

@@ -10,6 +10,7 @@ use Rattle.std.proofs.lemmas.Bool.Decides.{eqb_tells, leb_tells}
 use Rattle.std.proofs.lemmas.List.Elements.{All-push, All-set}
 use Rattle.act_types.specs.declared.message.Notice.{Notice}
 use Rattle.act_types.specs.declared.message.Notice.TheVariants.{Death}
+use Rattle.act_rules.specs.Submissions.{kept_at}
 use Rattle.act_rules.specs.declared.history.RunItem.{RunItem}
 use Rattle.act_rules.specs.declared.script.Step.{Step}
 use Rattle.act_rules.specs.declared.script.Step.TheVariants.{Kill}
@@ -150,6 +151,7 @@ pub asked_stays : (old new : Desk) (at : ℕ) (seat : Seat (PutterValue Asked �
     → new.owner ≡ old.owner → new.passes.kills.items ≡ set old.passes.kills.items at (record { place = seat.place; pass = pass }) → new.passes.letters ≡ old.passes.letters → new.passes.collects ≡ old.passes.collects → Stays old new
 asked_stays old new at seat pass here same is kills letters collects = record {
   id = ap (λ (o : OwnerValue). o.id) is;
+  kept = λ k answer has. ap (λ (o : OwnerValue). kept_at o.kept k) is ∙ has;
   limits = ap (λ (o : OwnerValue). o.limits) is;
   passes = record {
     letters = ap (λ (v : _). map bare_post v.items) letters;

@@ -10,3 +10,6 @@ pub mod Keeps
 pub mod Noted
 pub mod Through
 pub mod Seats
+pub mod CodeSteps
+pub mod AtWork
+pub mod Worked

@@ -6,6 +6,7 @@ use Rattle.act_rules.specs.declared.history.Submission.{Submission}
 use Rattle.act_rules.specs.declared.script.Step.{Step}
 use Rattle.act_rules.specs.declared.script.Step.TheVariants.{Kill}
 use Rattle.act_rules.specs.Plans.{planned, holds, done_by, nothing_done, is_refused, kills_to}
+use Rattle.act_rules.specs.RunList.{Answer}
 use Rattle.act_rules.specs.Submissions.{calls_to, copies_held, kept_at}
 use Rattle.act_handles.specs.Handles.{copies_in, actors_in}
 use Rattle.act_owner.specs.Owner.{OwnerValue, opened_under, packet_at, is_sent}
@@ -149,9 +150,14 @@ pub record PassesStay (old new : CallerPasses) : Type 0 where
   pub kills : map bare_ask new.kills.items ≡ map bare_ask old.kills.items
   pub collects : new.collects ≡ record old.collects { taken = new.collects.taken }
 
--- it is the same caller, under the same limits, at the same lines
+-- an answer that was kept is kept on
+abbrev pub KeptOn : List (Option Answer) → List (Option Answer) → Type 0
+KeptOn before later = (k : ℕ) (answer : Answer) → kept_at before k ≡ Some answer → kept_at later k ≡ Some answer
+
+-- it is the same caller, under the same limits, at the same lines, and forgets no answer
 pub record Stays (old new : Desk) : Type 0 where
   pub id : new.owner.id ≡ old.owner.id
+  pub kept : KeptOn old.owner.kept new.owner.kept
   pub limits : new.owner.limits ≡ old.owner.limits
   pub passes : PassesStay old.passes new.passes
 

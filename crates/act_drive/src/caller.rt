@@ -43,7 +43,7 @@ impl Desk {
     }
 
     /// A turn after each so many steps, where `since` counts them from one turn to the next.
-    fn turn_after<R: Wait>(
+    pub(crate) fn turn_after<R: Wait>(
         &mut self,
         rt: &R,
         alloc: Global,
@@ -99,7 +99,7 @@ impl Desk {
     }
 
     /// Lets all handles go.
-    fn close<R: Wait>(&mut self, rt: &R, lines: &CallerLines) -> Result<(), NoMemory>
+    pub(crate) fn close<R: Wait>(&mut self, rt: &R, lines: &CallerLines) -> Result<(), NoMemory>
         requires calling { IsCalling lines.now self.old }
         ensures calling { IsCalling lines.now self.new }
         ensures winds { Winds self.old self.new }

@@ -1,6 +1,6 @@
 //! A caller at work.
 
-ghost use Rattle.std.specs.Prelude.{◌≡◌, ◌<◌, length, slice_index_or, slice_set, if◌then◌else◌, All, None, Some, IfSome, IfNone, OnOk, is_some, true};
+ghost use Rattle.std.specs.Prelude.{◌≡◌, ◌<◌, length, slice_index_or, slice_set, if◌then◌else◌, All, None, Some, Ok, IfSome, IfNone, OnOk, is_some, true};
 ghost use Rattle.std.specs.List.{list_all};
 ghost use Rattle.act_rules.specs.Submissions.{kept_at};
 ghost use Rattle.act_drive.specs.Driven.{IsCalling, Waits, IsApart, IsAtSeat, actor_of, is_note};
@@ -270,6 +270,7 @@ impl Desk {
         ensures calling { IsCalling lines.now self.new }
         ensures waits { Waits self.old self.new }
         ensures answered { OnOk result (is_some (kept_at self.new.owner.kept k) ≡ true) }
+        ensures kept { is_some (kept_at self.old.owner.kept k) ≡ true → result ≡ Ok tt }
     {
         let mut patience = Patience::new();
         for _ in rt.forever() {

@@ -1,13 +1,24 @@
-//! The thread of a caller: it does the steps of a plan, and sends and collects meanwhile.
+//! The thread of a caller: it does the steps of a plan, or runs code of its own, and sends and
+//! collects meanwhile.
 #![tactic(auto)]
 
 mod caller;
+mod code;
+mod coded;
 mod desk;
 mod laws;
+mod lent;
+mod refusals;
 mod room;
+mod session;
 mod starve;
 mod steps;
+mod told;
 
 pub use caller::{Driven, Plan, drive};
+pub use code::{Code, GaveUp};
+pub use coded::drive_code;
 pub use desk::{CallerLines, CallerPasses};
 pub use laws::letters_stand_at_their_seats;
+pub use refusals::{KillRefusal, WaitRefusal};
+pub use session::Session;

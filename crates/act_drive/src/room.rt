@@ -14,7 +14,7 @@ use std::sync::Wait;
 
 impl Desk {
     /// Whether the actor's limit doesn't refuse the call. It doesn't where something else does.
-    fn has_room(&self, a: ActorId, args: &ListOf<Arg>) -> bool
+    pub(crate) fn has_room(&self, a: ActorId, args: &ListOf<Arg>) -> bool
         ensures room { result ≡ true → submission_refusal self.now.owner a args.now ≢ Some PendingLimit }
         ensures full { result ≡ false → submission_refusal self.now.owner a args.now ≡ Some PendingLimit }
     {

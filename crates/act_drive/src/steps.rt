@@ -1,6 +1,6 @@
 //! The steps of a plan.
 
-ghost use Rattle.std.specs.Prelude.{◌≡◌, ◌≢◌, ◌<◌, length, true, false, is_some, All, Some, IfSome, IfNone, OnOk};
+ghost use Rattle.std.specs.Prelude.{◌≡◌, ◌≢◌, ◌<◌, length, true, false, is_some, All, Some, None, Ok, IfSome, IfNone, OnOk, OnErr};
 ghost use Rattle.act_rules.specs.declared.script.Step.TheVariants.{Submit, Copy, Release, Kill, Await};
 ghost use Rattle.act_rules.specs.Submissions.{kept_at};
 ghost use Rattle.act_handles.specs.Handles.{copies_in, without_copy};
@@ -10,6 +10,7 @@ ghost use Rattle.act_mailbox.specs.declared.mail.Letter.TheVariants.{Note};
 ghost use Rattle.act_drive.specs.declared.desk.CallerLines.{CallerLines};
 ghost use Rattle.act_drive.specs.Driven.{IsCalling, FollowsBy, IsAtKillSeat, IsElsewhere, AsksMore, Stays, Waits, Winds};
 ghost use Rattle.act_drive.specs.Parts.{IsAwaited};
+ghost use Rattle.act_drive.specs.Sessions.{seen_of, use_refusal, Hears};
 
 use crate::desk::{CallerLines as Lines, Desk};
 use act_mailbox::{Control, ControlCaller, Letter};
@@ -97,6 +98,7 @@ impl Desk {
             self.new.hand ≡ Some (Note (release_note self.old.owner a))) }
         ensures winds { Winds self.old self.new }
         ensures handles { OnOk result (self.new.owner.handles ≡ without_copy a self.old.owner.handles) }
+        ensures accepted { use_refusal (seen_of self.old.owner) a ≡ None → result ≡ Ok tt }
     {
         self.clear(rt, lines);
         match self.owner.release(a) {
@@ -163,6 +165,8 @@ impl Desk {
         ensures calling { IsCalling lines.now self.new }
         ensures stays { Stays self.old self.new }
         ensures follows { OnOk result (FollowsBy lines.now (Kill a) self.old self.new) }
+        ensures hears { Hears (seen_of self.old.owner) (seen_of self.new.owner) }
+        ensures waits { OnErr result (Waits self.old self.new) }
     {
         let mut patience = Patience::new();
         for _ in rt.forever() {
@@ -178,7 +182,7 @@ impl Desk {
     }
 
     /// Goes on when the kill was asked, or its actor is known dead.
-    fn kill<R: Wait>(
+    pub(crate) fn kill<R: Wait>(
         &mut self,
         rt: &R,
         alloc: Global,
@@ -189,6 +193,8 @@ impl Desk {
         ensures calling { IsCalling lines.now self.new }
         ensures stays { Stays self.old self.new }
         ensures follows { OnOk result (FollowsBy lines.now (Kill a) self.old self.new) }
+        ensures hears { Hears (seen_of self.old.owner) (seen_of self.new.owner) }
+        ensures waits { OnErr result (Waits self.old self.new) }
     {
         match self.owner.ask_kill(a) {
             Err(_) => Err(NoMemory),

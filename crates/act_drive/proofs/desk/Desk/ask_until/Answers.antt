@@ -2,6 +2,7 @@ use Rattle.std.proofs.Common.{refl, rules, ◌≡◌, true}
 use Rattle.act_owner.specs.Owner.{is_dead}
 use Rattle.act_drive.proofs.Desks.{stays_trans, waits_trans}
 use Rattle.act_drive.proofs.Kills.{kill_follows, kills_dead}
+use Rattle.act_drive.proofs.CodeSteps.{on_err}
 use Rattle.act_drive.proofs.desk.Desk.ask_until.Goals as goal
 
 pub returns-then-is_dead-clause-follows : goal.returns-then-is_dead-clause-follows
@@ -25,3 +26,7 @@ loop-preserved g c = record {
 
 pub returns-then-ask-clause-stays : goal.returns-then-ask-clause-stays
 returns-then-ask-clause-stays g c = stays_trans _ _ _ c.loop.invariant.waits.stay c.ask.ensures.stays
+
+pub returns-in_err-wait_turn-clause-waits : goal.returns-in_err-wait_turn-clause-waits
+returns-in_err-wait_turn-clause-waits g c =
+    on_err c.from_residual.result _ (waits_trans _ _ _ (waits_trans _ _ _ c.loop.invariant.waits (c.ask.ensures.refused c.if-ask.false)) c.in_err-wait_turn.ensures.waits)

@@ -6,3 +6,6 @@ loop-heard-preserved c = record {
   calling = c.collect.ensures.calling;
   waits = waits_trans _ _ _ c.loop-heard.invariant.waits c.collect.ensures.waits;
 }
+
+pub returns-then-not-collect-clause-waits : goal.returns-then-not-collect-clause-waits
+returns-then-not-collect-clause-waits c = waits_trans _ _ _ c.loop-heard.invariant.waits c.collect.ensures.waits

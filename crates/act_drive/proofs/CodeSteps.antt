@@ -1,0 +1,169 @@
+-- The steps of a caller's own code: what is told of each, and what it does.
+use Rattle.std.proofs.Common.{◌≡◌, ◌≢◌, ℕ, zero, suc, ◌<◌, Bool, true, false, nat_lt, nat_le, List, [], ◌∷◌, ◌++◌, length, map, Option, Some, None, Ok, Err, Result, is_some, refl, sym, ◌∙◌, ap, subst, arith, inl, inr, ◌⊎◌}
+use Rattle.std.specs.Prelude.{unwrap_or, IfErr, OnErr}
+use Rattle.std.specs.Result.{IsErrAnd}
+use Rattle.std.specs.Option.{option_or}
+use Rattle.std.specs.List.{list_all}
+use Rattle.act_types.specs.declared.call.Method.{Method}
+use Rattle.act_types.specs.declared.call.Arg.{Arg}
+use Rattle.act_types.specs.declared.message.KillNote.{KillNote}
+use Rattle.act_types.specs.declared.message.ReleaseNote.{ReleaseNote}
+use Rattle.act_types.specs.declared.limits.TheConstants.{MOST_ARGS, MOST_CALLS}
+use Rattle.act_rules.specs.declared.history.Submission.{Submission}
+use Rattle.act_rules.specs.declared.outcome.HandleRefusal.{HandleRefusal}
+use Rattle.act_rules.specs.declared.outcome.SubmitRefusal.{SubmitRefusal}
+use Rattle.act_rules.specs.declared.outcome.SubmitRefusal.TheVariants.{NoActor, NoHandle, TooManyArgs, BadFuture, TooManyCalls, PendingLimit, NoMemory}
+use Rattle.act_rules.specs.declared.script.Step.{Step}
+use Rattle.act_rules.specs.declared.script.Step.TheVariants.{Submit, Copy, Release, Kill}
+use Rattle.act_rules.specs.RunList.{Answer}
+use Rattle.act_rules.specs.Submissions.{needs, is_earlier, copies_held, kept_at, submit_refusal, limit_refusal, copy_refusal, handle_refusal}
+use Rattle.act_rules.specs.Plans.{done_by, nothing_done}
+use Rattle.act_rules.proofs.Lists.{option_or-none}
+use Rattle.act_handles.specs.Handles.{copies_in, with_copy, or_else}
+use Rattle.act_handles.specs.declared.handles.Handle.{Handle}
+use Rattle.act_handles.proofs.Lookups.{copies-with_number}
+use Rattle.act_owner.specs.Owner.{OwnerValue, submission_refusal, limit_of, pending, with_call, with_handles}
+use Rattle.act_drive.specs.declared.desk.CallerLines.{CallerLines}
+use Rattle.act_drive.specs.declared.desk.Desk.{Desk}
+use Rattle.act_drive.specs.declared.desk.CallerPasses.{CallerPasses}
+use Rattle.act_drive.specs.Driven.{KeptOn, bare_post, bare_ask, Stays, Waits, FollowsBy}
+use Rattle.act_drive.specs.Sessions.{Seen, seen_of, call_refusal, use_refusal, IsLater, Hears, Submits}
+use Rattle.act_drive.specs.Lent.{Does}
+use Rattle.act_drive.proofs.PlanSteps.{follows_waits, submit_follows, copy_follows}
+
+-- ---- answers
+
+kept_before : (xs ys : List (Option Answer)) (k : ℕ) (answer : Answer) → kept_at xs k ≡ Some answer → kept_at (xs ++ ys) k ≡ Some answer
+kept_before [] ys k answer has = absurd (cc has)
+kept_before (x ∷ xs) ys zero answer has = has
+kept_before (x ∷ xs) ys (suc k) answer has = kept_before xs ys k answer has
+
+some_is : {A : Type 0} (o : Option A) → is_some o ≡ true → (x : A) × (o ≡ Some x)
+some_is None is = absurd (cc is)
+some_is (Some x) is = (x, refl)
+
+pub kept_still : (before later : List (Option Answer)) (k : ℕ) → KeptOn before later → is_some (kept_at before k) ≡ true → is_some (kept_at later k) ≡ true
+kept_still before later k on has =
+    let answer = some_is (kept_at before k) has in
+    ap (λ (o : Option Answer). is_some o) (on k answer.0 answer.1)
+
+pub kept_below : (kept : List (Option Answer)) (k : ℕ) → is_some (kept_at kept k) ≡ true → k < length kept
+kept_below [] k has = absurd (cc has)
+kept_below (x ∷ kept) zero has = omega arith
+kept_below (x ∷ kept) (suc k) has = let below = kept_below kept k has in omega (arith, below)
+
+-- ---- what is seen
+
+pub hears_waits : (old new : Desk) → Waits old new → Hears (seen_of old.owner) (seen_of new.owner)
+hears_waits old new waits = record { calls = waits.calls; handles = waits.handles; later = record { limits = waits.stay.limits; kept = waits.stay.kept } }
+
+pub submits_hears : (call : Submission) (old mid new : Seen) → Submits call old mid → Hears mid new → Submits call old new
+submits_hears call old mid new submits hears = record {
+  calls = hears.calls ∙ submits.calls;
+  copies = λ a. ap (λ (h : List Handle). copies_in a h) hears.handles ∙ submits.copies a;
+  later = record {
+    limits = hears.later.limits ∙ submits.later.limits;
+    kept = λ k answer has. hears.later.kept k answer (submits.later.kept k answer has);
+  };
+}
+
+pub stays_submitted : (old new : Desk) (a : ℕ) (method : Method) (args : List Arg) → new.owner ≡ with_call old.owner a method args → new.passes ≡ old.passes → Stays old new
+stays_submitted old new a method args is passes = record {
+  id = ap (λ (o : OwnerValue). o.id) is;
+  kept = λ k answer has. subst (λ (o : OwnerValue). kept_at o.kept k ≡ Some answer) (sym is) (kept_before old.owner.kept _ k answer has);
+  limits = ap (λ (o : OwnerValue). o.limits) is;
+  passes = record {
+    letters = ap (λ (p : CallerPasses). map bare_post p.letters.items) passes;
+    kills = ap (λ (p : CallerPasses). map bare_ask p.kills.items) passes;
+    collects = ap (λ (p : CallerPasses). p.collects) passes ∙ sym (ap (λ (p : CallerPasses). record old.passes.collects { taken = p.collects.taken }) passes);
+  };
+}
+
+pub submits_waited : (old mid new : Desk) (a : ℕ) (method : Method) (args : List Arg) → Waits old mid → Stays mid new → new.owner ≡ with_call mid.owner a method args
+    → Submits (record { actor = a; method = method; args = args }) (seen_of old.owner) (seen_of new.owner)
+submits_waited old mid new a method args waits stays is = record {
+  calls = ap (λ (o : OwnerValue). o.calls) is ∙ ap (λ (l : List Submission). l ++ record { actor = a; method = method; args = args } ∷ []) waits.calls;
+  copies = λ b. ap (λ (o : OwnerValue). copies_in b o.handles) is ∙ copies-with_number a b mid.owner.handles ∙ ap (λ (h : List Handle). copies_in b h) waits.handles;
+  later = record {
+    limits = stays.limits ∙ waits.stay.limits;
+    kept = λ k answer has. stays.kept k answer (waits.stay.kept k answer has);
+  };
+}
+
+-- ---- refusals
+
+no_limit : (one two three four five : Bool) → needs one NoActor (needs two NoHandle (needs three TooManyArgs (needs four BadFuture (needs five TooManyCalls None)))) ≡ Some PendingLimit → ⊥
+no_limit false two three four five is = cc is
+no_limit true false three four five is = cc is
+no_limit true true false four five is = cc is
+no_limit true true true false five is = cc is
+no_limit true true true true false is = cc is
+no_limit true true true true true is = cc is
+
+or_limit : (refusal limit : Option SubmitRefusal) → (refusal ≡ Some PendingLimit → ⊥) → option_or refusal limit ≡ Some PendingLimit → refusal ≡ None
+or_limit None limit not_so is = refl
+or_limit (Some r) limit not_so is = absurd (not_so is)
+
+-- the limit's refusal comes last
+pub limit_last : (owner : OwnerValue) (a : ℕ) (args : List Arg) → submission_refusal owner a args ≡ Some PendingLimit → call_refusal (seen_of owner) a args ≡ None
+limit_last owner a args is = or_limit (call_refusal (seen_of owner) a args) (limit_refusal (limit_of owner a) (pending owner a)) (λ full. no_limit (is_some (copies_in a owner.handles)) (nat_lt 0 (copies_held (copies_in a owner.handles))) (nat_le (length args) MOST_ARGS) (list_all (is_earlier (length owner.calls)) args) (nat_lt (length owner.calls) MOST_CALLS) full) is
+
+in_room : (refusal : Option SubmitRefusal) (limit : Option ℕ) (pending : ℕ) → option_or refusal (limit_refusal limit pending) ≢ Some PendingLimit → option_or refusal (limit_refusal limit pending) ≡ refusal
+in_room (Some r) limit pending room = refl
+in_room None None pending room = refl
+in_room None (Some limit) pending room = go (nat_lt pending limit) room
+  where
+    go : (b : Bool) → needs b PendingLimit None ≢ Some PendingLimit → needs b PendingLimit None ≡ None
+    go true is = refl
+    go false is = absurd (is refl)
+
+-- while a caller waits no reason to refuse a call comes or goes, its limit apart
+pub call_refusal_waits : (old mid : Desk) (a : ℕ) (args : List Arg) → Waits old mid → call_refusal (seen_of mid.owner) a args ≡ call_refusal (seen_of old.owner) a args
+call_refusal_waits old mid a args waits =
+    ap (λ (h : List Handle). submit_refusal (copies_in a h) (length mid.owner.calls) args) waits.handles
+    ∙ ap (λ (l : List Submission). submit_refusal (copies_in a old.owner.handles) (length l) args) waits.calls
+
+-- where there is room, only that
+pub refusal_in_room : (old mid : Desk) (a : ℕ) (args : List Arg) → Waits old mid → submission_refusal mid.owner a args ≢ Some PendingLimit → submission_refusal mid.owner a args ≡ call_refusal (seen_of old.owner) a args
+refusal_in_room old mid a args waits room =
+    in_room (call_refusal (seen_of mid.owner) a args) (limit_of mid.owner a) (pending mid.owner a) room ∙ call_refusal_waits old mid a args waits
+
+pub accepted_before : (old mid : Desk) (a : ℕ) (args : List Arg) → Waits old mid → submission_refusal mid.owner a args ≡ None → call_refusal (seen_of old.owner) a args ≡ None
+accepted_before old mid a args waits accepted = sym (call_refusal_waits old mid a args waits) ∙ option_or-none _ _ accepted
+
+-- a call that is refused for another reason than memory was refused before any waiting
+pub refused_same : (r : SubmitRefusal) (before : Option SubmitRefusal) (old mid new : Desk) → r ≡ unwrap_or before NoMemory → new ≡ mid → (mid ≡ old) ⊎ (before ≡ None) → r ≢ NoMemory → new ≡ old
+refused_same r before old mid new told is (inl same) other = is ∙ same
+refused_same r before old mid new told is (inr none) other = absurd (other (told ∙ ap (λ (o : Option SubmitRefusal). unwrap_or o NoMemory) none))
+
+-- what holds of the refusal that `?` hands on
+pub handed_on : {A E : Type 0} (result : Result A E) (e : E) (P : E → Type 0) → IsErrAnd result (λ y. y ≡ e) → P e → IfErr result P
+handed_on (Ok x) e P is holds = tt
+handed_on (Err y) e P is holds = subst P (sym is) holds
+
+pub on_err : {A E : Type 0} (result : Result A E) (P : Type 0) → P → OnErr result P
+on_err (Ok x) P is = tt
+on_err (Err e) P is = is
+
+-- ---- steps
+
+-- a step that is done, where what would refuse it is none
+pub does_submit : (lines : CallerLines) (old mid new : Desk) (a : ℕ) (method : Method) (args : List Arg) → Waits old mid → new.owner ≡ with_call mid.owner a method args → new.passes ≡ mid.passes → call_refusal (seen_of old.owner) a args ≡ None → Does lines (Submit a method args) old new
+does_submit lines old mid new a method args waits is passes fine actors steps f =
+    submit_follows lines mid new a method args is passes actors steps
+    (ap (λ (o : Option ℕ). is_some (submit_refusal o (length (done_by actors nothing_done steps).submitted) args)) (sym (f.copies a))
+    ∙ ap (λ (l : List Submission). is_some (submit_refusal (copies_in a old.owner.handles) (length l) args)) (sym f.calls)
+    ∙ ap (λ (o : Option SubmitRefusal). is_some o) fine)
+    (follows_waits lines actors steps old mid waits f)
+
+pub does_copy : (lines : CallerLines) (old new : Desk) (a : ℕ) → new.owner ≡ with_handles old.owner (with_copy a old.owner.handles) → new.passes ≡ old.passes → copy_refusal (copies_in a old.owner.handles) ≡ None → Does lines (Copy a) old new
+does_copy lines old new a is passes fine actors steps f =
+    copy_follows lines old new a is passes actors steps (ap (λ (o : Option ℕ). is_some (copy_refusal o)) (sym (f.copies a)) ∙ ap (λ (o : Option HandleRefusal). is_some o) fine) f
+
+pub does_release : (lines : CallerLines) (old new : Desk) (a : ℕ) → FollowsBy lines (Release a) old new → use_refusal (seen_of old.owner) a ≡ None → Does lines (Release a) old new
+does_release lines old new a follows fine actors steps f =
+    follows actors steps (ap (λ (o : Option ℕ). is_some (handle_refusal o)) (sym (f.copies a)) ∙ ap (λ (o : Option HandleRefusal). is_some o) fine) f
+
+pub does_kill : (lines : CallerLines) (old new : Desk) (a : ℕ) → FollowsBy lines (Kill a) old new → use_refusal (seen_of old.owner) a ≡ None → Does lines (Kill a) old new
+does_kill lines old new a follows fine actors steps f =
+    follows actors steps (ap (λ (o : Option ℕ). is_some (handle_refusal o)) (sym (f.copies a)) ∙ ap (λ (o : Option HandleRefusal). is_some o) fine) f

@@ -1,0 +1,20 @@
+use Rattle.std.proofs.Common.{◌≡◌, ◌∙◌, ap}
+use Rattle.std.specs.Prelude.{unwrap_or}
+use Rattle.act_rules.specs.declared.outcome.SubmitRefusal.{SubmitRefusal}
+use Rattle.act_rules.specs.declared.outcome.SubmitRefusal.TheVariants.{NoMemory}
+use Rattle.act_rules.specs.declared.script.Step.TheVariants.{Submit}
+use Rattle.act_drive.specs.Sessions.{Seen, call_refusal}
+use Rattle.act_drive.proofs.CodeSteps.{handed_on}
+use Rattle.act_drive.proofs.AtWork.{work_does, work_waits}
+use Rattle.act_drive.proofs.lent.Lent.enter.Goals as goal
+
+pub invariant_of-self : goal.invariant_of-self
+invariant_of-self g c = work_waits _ _ _ _ _ c.self.invariant c.in_err-k.ensures.calling c.in_err-k.ensures.waits
+
+pub invariant_of-self-2 : goal.invariant_of-self-2
+invariant_of-self-2 g c = work_does _ _ _ _ _ (Submit c.args.actor c.args.method c.args.args) c.self.invariant c.in_ok-k.ensures.calling c.in_ok-k.ensures.stays c.in_ok-k.ensures.does
+
+pub returns-in_err-k-clause-refusal : goal.returns-in_err-k-clause-refusal
+returns-in_err-k-clause-refusal g c =
+    handed_on c.from_residual.result c.in_err-k.field-0.0 (λ (r : SubmitRefusal). r ≡ unwrap_or (call_refusal c.args.self.now c.args.actor c.args.args) NoMemory) c.from_residual.ensures.1
+    (c.in_err-k.ensures.refusal ∙ ap (λ (s : Seen). unwrap_or (call_refusal s c.args.actor c.args.args) NoMemory) c.self.view_is)

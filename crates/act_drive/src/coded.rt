@@ -1,0 +1,141 @@
+//! A caller's thread that runs code of its own.
+
+ghost use Rattle.std.specs.Prelude.{◌≡◌, ℕ, List, [], All, OnOk, true, false};
+ghost use Rattle.act_rules.specs.declared.script.Step.{Step as AStep};
+ghost use Rattle.act_drive.specs.declared.desk.CallerLines.{CallerLines as SomeLines};
+ghost use Rattle.act_drive.specs.declared.desk.Desk.{Desk as ADesk};
+ghost use Rattle.act_drive.specs.Driven.{IsCalling, Follows, Stays, IsFresh, HasDone, HasEnded};
+ghost use Rattle.act_drive.specs.Coded.{HasRunCode};
+ghost use Rattle.act_drive.specs.Lent.{HasWorked};
+
+use crate::caller::Driven;
+use crate::code::Code;
+use crate::desk::{CallerLines, CallerPasses, Desk, NUMBERS};
+use crate::lent::{Lent, Opening};
+use act_owner::Owner;
+use act_types::{MOST_CALLS, NoMemory};
+use std::alloc::Global;
+use std::marker::{Brand, PhantomData};
+use std::sync::Wait;
+
+impl Opening for Brand {
+    ghost actors = { [] };
+
+    ghost began = { λ _ _. Unit {0} };
+}
+
+impl Desk {
+    /// Lets all handles go, and goes on until all is answered.
+    fn wind_up<R: Wait>(
+        &mut self,
+        rt: &R,
+        alloc: Global,
+        lines: &CallerLines,
+    ) -> Result<(), NoMemory>
+        requires calling { IsCalling lines.now self.old }
+        ensures calling { IsCalling lines.now self.new }
+        ensures stays { Stays self.old self.new }
+        ensures calls { OnOk result (self.new.owner.calls ≡ self.old.owner.calls) }
+        ensures done { OnOk result ((actors : List ℕ) (steps : List AStep) → Follows lines.now actors steps self.old →
+            HasDone lines.now actors steps self.new.owner self.new.passes) }
+    {
+        // What is ready is posted before the notes of the last handles.
+        self.turn(rt, alloc, lines)?;
+        self.close(rt, lines)?;
+        self.finish(rt, alloc, lines)?;
+        Ok(())
+    }
+
+    /// The end of a caller whose code came to its end, or gave up. Whether it did, or memory was
+    /// refused.
+    fn end_code<R: Wait>(
+        &mut self,
+        rt: &R,
+        alloc: Global,
+        lines: &CallerLines,
+        has_given_up: bool,
+    ) -> bool
+        requires calling { IsCalling lines.now self.old }
+        ensures calling { IsCalling lines.now self.new }
+        ensures stays { Stays self.old self.new }
+        ensures given_up { result ≡ false → has_given_up ≡ false }
+        ensures calls { result ≡ false → self.new.owner.calls ≡ self.old.owner.calls }
+        ensures done { result ≡ false → (actors : List ℕ) (steps : List AStep) → Follows lines.now actors steps self.old →
+            HasDone lines.now actors steps self.new.owner self.new.passes }
+        ensures ended { result ≡ true → All (HasEnded lines.now.controls.now self.new.owner self.new.passes) self.new.passes.kills.items }
+    {
+        if !has_given_up && self.wind_up(rt, alloc, lines).is_ok() {
+            return false;
+        }
+        self.starve(rt, lines);
+        true
+    }
+}
+
+/// Runs the code over a desk.
+fn work<R: Wait, O: Opening, C: Code>(
+    rt: &R,
+    alloc: Global,
+    desk: Desk,
+    code: C,
+    lines: &CallerLines,
+) -> Driven
+    requires calling { IsCalling lines.now desk }
+    requires follows { Follows lines.now O.actors [] desk }
+    requires began { O.began lines.now desk }
+    requires only { (at : SomeLines) (other : ADesk) → O.began at other → (at ≡ lines.now) × (other ≡ desk) }
+    ensures { HasWorked lines.now O.actors desk (C.tells code) result }
+{
+    let mut code = code;
+    let mut lent: Lent<'_, R, O> = Lent {
+        rt,
+        alloc,
+        lines,
+        desk,
+        since: 0,
+        of: PhantomData,
+    };
+    let has_given_up = code.run(&mut lent).is_err();
+    let Lent { mut desk, .. } = lent;
+    let starved = desk.end_code(rt, alloc, lines, has_given_up);
+    let Desk { owner, passes, .. } = desk;
+    Driven {
+        owner,
+        starved,
+        passes,
+    }
+}
+
+/// Makes room for about as many calls as the code will submit. Where memory doesn't serve for so many
+/// at once, room is made call by call.
+fn make_room<C: Code>(owner: &mut Owner, code: &C)
+    ensures { owner.new ≡ owner.old }
+{
+    let calls = code.calls().min(MOST_CALLS as usize);
+    let _ = owner.reserve(calls);
+}
+
+/// Runs a caller's code, lets all handles go, and ends when all is answered. A caller whose code gave
+/// up, or that is refused memory at its end, asks the kill of each of its actors, and ends when each
+/// has told its death or needs nothing more of it.
+pub fn drive_code<R: Wait, C: Code>(
+    rt: &R,
+    alloc: Global,
+    owner: Owner,
+    code: C,
+    lines: &CallerLines,
+    passes: CallerPasses,
+) -> Driven
+    requires fresh { IsFresh lines.now owner passes }
+    ensures { HasRunCode lines.now owner passes (C.tells code) result }
+{
+    let mut owner = owner;
+    make_room(&mut owner, &code);
+    let desk = Desk {
+        owner,
+        passes,
+        hand: None,
+        noted: [false; NUMBERS],
+    };
+    work::<R, Brand, C>(rt, alloc, desk, code, lines)
+}

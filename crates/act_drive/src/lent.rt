@@ -1,0 +1,153 @@
+//! A caller at work, as it is lent to its code.
+
+ghost use Rattle.std.specs.Prelude.{◌≡◌, ◌≢◌, length, None, IfOk, OnOk, IfErr, OnErr, unwrap_or};
+ghost use Rattle.act_rules.specs.declared.outcome.SubmitRefusal.TheVariants.{NoMemory as NoRoom};
+ghost use Rattle.act_drive.specs.Sessions.{call_refusal, Hears, Submits};
+
+use crate::desk::{CallerLines, Desk};
+use crate::refusals::{KillRefusal, WaitRefusal};
+use crate::session::Session;
+use act_handles::HandleRefusal;
+use act_rules::SubmitRefusal;
+use act_types::{ActorId, Answer, Arg, FutureId, ListOf, Method};
+use std::alloc::Global;
+use std::marker::{Model, PhantomData};
+use std::sync::Wait;
+
+/// From which desk a session began. It is known in proofs alone.
+pub(crate) trait Opening {
+    ghost use Rattle.std.specs.Prelude.{ℕ, List};
+    ghost use Rattle.act_drive.specs.declared.desk.CallerLines.{CallerLines};
+    ghost use Rattle.act_drive.specs.declared.desk.Desk.{Desk};
+
+    ghost actors: { List ℕ };
+
+    ghost began: { CallerLines → Desk → Type 0 };
+}
+
+/// A desk that is lent to its caller's code. `since` counts the submissions from one turn to the next.
+#[derive(Drop)]
+pub(crate) struct Lent<'a, R, O: Opening> {
+    pub(crate) rt: &'a R,
+    pub(crate) alloc: Global,
+    pub(crate) lines: &'a CallerLines<'a>,
+    pub(crate) desk: Desk,
+    pub(crate) since: u32,
+    pub(crate) of: PhantomData<O>,
+}
+
+impl<'a, R, O: Opening> Model for Lent<'a, R, O> {
+    ghost use Rattle.act_drive.specs.Sessions.{Seen, seen_of};
+    ghost use Rattle.act_drive.specs.Lent.{IsAtWork};
+
+    ghost Value = { Seen };
+
+    ghost view = { λ s. seen_of s.desk.owner };
+
+    ghost invariant = { λ s. IsAtWork O.actors (O.began s.lines.now) s.lines.now s.desk };
+}
+
+impl<'a, R: Wait, O: Opening> Lent<'a, R, O> {
+    /// Submits a call, and takes no turn but to wait.
+    fn enter(
+        &mut self,
+        actor: ActorId,
+        method: Method,
+        args: ListOf<Arg>,
+    ) -> Result<FutureId, SubmitRefusal>
+        ensures future { IfOk result (λ k. k ≡ length self.old.calls) }
+        ensures accepted { OnOk result (call_refusal self.old actor args ≡ None) }
+        ensures submits { OnOk result (Submits (record { actor = actor; method = method; args = args }) self.old self.new) }
+        ensures refusal { IfErr result (λ refusal. refusal ≡ unwrap_or (call_refusal self.old actor args) NoRoom) }
+        ensures refused { IfErr result (λ refusal. refusal ≢ NoRoom → self.new ≡ self.old) }
+        ensures hears { OnErr result (Hears self.old self.new) }
+    {
+        let k = self
+            .desk
+            .submit_told(self.rt, self.alloc, self.lines, actor, method, args)?;
+        Ok(k)
+    }
+
+    /// A turn after each so many submissions. What it can't send for want of memory is sent later.
+    fn turn_after(&mut self)
+        ensures hears { Hears self.old self.new }
+    {
+        let _ = self
+            .desk
+            .turn_after(self.rt, self.alloc, self.lines, &mut self.since);
+    }
+}
+
+impl<'a, R: Wait, O: Opening> Session for Lent<'a, R, O> {
+    ghost seen = { λ lent. lent };
+
+    fn submit(
+        &mut self,
+        actor: ActorId,
+        method: Method,
+        args: ListOf<Arg>,
+    ) -> Result<FutureId, SubmitRefusal> {
+        let k = self.enter(actor, method, args)?;
+        self.turn_after();
+        Ok(k)
+    }
+
+    fn wait(&mut self, k: FutureId) -> Result<(), WaitRefusal> {
+        if k.number() >= self.desk.owner.count() {
+            return Err(WaitRefusal::NoFuture);
+        }
+        match self.desk.wait_for(self.rt, self.alloc, self.lines, k) {
+            Ok(()) => Ok(()),
+            Err(_) => Err(WaitRefusal::NoMemory),
+        }
+    }
+
+    fn answer(&self, k: FutureId) -> Option<&Answer> {
+        self.desk.owner.answer(k)
+    }
+
+    fn copy(&mut self, actor: ActorId) -> Result<u32, HandleRefusal> {
+        let copies = self.desk.copy_told(actor)?;
+        Ok(copies)
+    }
+
+    fn release(&mut self, actor: ActorId) -> Result<(), HandleRefusal> {
+        if let Some(refusal) = self.desk.use_refusal(actor) {
+            return Err(refusal);
+        }
+        let Ok(()) = self.desk.release(self.rt, self.lines, actor) else {
+            unreachable!()
+        };
+        Ok(())
+    }
+
+    fn kill(&mut self, actor: ActorId) -> Result<(), KillRefusal> {
+        if let Some(refusal) = self.desk.use_refusal(actor) {
+            return Err(KillRefusal::Handle(refusal));
+        }
+        match self.desk.kill(self.rt, self.alloc, self.lines, actor) {
+            Ok(()) => Ok(()),
+            Err(_) => Err(KillRefusal::NoMemory),
+        }
+    }
+
+    fn pending(&self, actor: ActorId) -> u32 {
+        self.desk.owner.pending(actor)
+    }
+
+    fn limit(&self, actor: ActorId) -> Option<u32> {
+        self.desk.owner.limit(actor)
+    }
+
+    fn holds(&self, actor: ActorId) -> u32 {
+        self.desk.owner.holds(actor)
+    }
+
+    fn count(&self) -> u32 {
+        self.desk.owner.count()
+    }
+
+    fn alloc(&self) -> Global {
+        self.alloc
+    }
+}

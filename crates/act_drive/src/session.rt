@@ -1,0 +1,115 @@
+//! What a caller's own code is lent: its caller, while it runs.
+
+ghost use Rattle.std.specs.Prelude.{◌≡◌, ◌≢◌, ◌⊎◌, ◌<◌, ◌≤◌, length, None, Ok, IfOk, OnOk, IfErr, OnErr, is_some, true, unwrap_or, nat_lt, if◌then◌else◌, option_copied};
+ghost use Rattle.act_types.specs.declared.limits.TheConstants.{MOST_CALLS};
+ghost use Rattle.act_rules.specs.Submissions.{kept_at, copies_held};
+ghost use Rattle.act_rules.specs.declared.outcome.SubmitRefusal.TheVariants.{NoMemory as NoRoom};
+ghost use Rattle.act_handles.specs.Handles.{copies_in, copied, with_copy, or_else};
+ghost use Rattle.act_drive.specs.declared.refusals.WaitRefusal.TheVariants.{NoFuture, NoMemory as NoRoomToWait};
+ghost use Rattle.act_drive.specs.declared.refusals.KillRefusal.TheVariants.{NoMemory as NoRoomToAsk};
+ghost use Rattle.act_drive.specs.Sessions.{Seen, pending_of, limit_of, call_refusal, use_refusal, kill_refusal, Hears, Submits, LetsGo};
+
+use crate::refusals::{KillRefusal, WaitRefusal};
+use act_handles::HandleRefusal;
+use act_rules::SubmitRefusal;
+use act_types::{ActorId, Answer, Arg, FutureId, ListOf, Method};
+use std::alloc::Global;
+
+/// A caller, as its own code has it while it runs. What is ready is sent, and what comes is
+/// collected, in the calls that wait, and in others from time to time. A call that was refused memory
+/// may be made again.
+pub trait Session {
+    ghost seen: { Self → Seen };
+
+    /// Submits a call, and gives its future. While as many calls of the actor have no answer as its
+    /// limit allows, it waits, so that it is never refused by `PendingLimit`.
+    fn submit(
+        &mut self,
+        actor: ActorId,
+        method: Method,
+        args: ListOf<Arg>,
+    ) -> Result<FutureId, SubmitRefusal>
+        ensures future { IfOk result (λ k. k ≡ length (seen self.old).calls) }
+        ensures accepted { OnOk result (call_refusal (seen self.old) actor args ≡ None) }
+        ensures submits { OnOk result (Submits (record { actor = actor; method = method; args = args }) (seen self.old) (seen self.new)) }
+        ensures refusal { IfErr result (λ refusal. refusal ≡ unwrap_or (call_refusal (seen self.old) actor args) NoRoom) }
+        ensures refused { IfErr result (λ refusal. refusal ≢ NoRoom → seen self.new ≡ seen self.old) }
+        ensures hears { OnErr result (Hears (seen self.old) (seen self.new)) };
+
+    /// Goes on when a future of this caller has an answer. It is not refused where the answer is
+    /// kept.
+    fn wait(&mut self, k: FutureId) -> Result<(), WaitRefusal>
+        ensures answered { OnOk result (is_some (kept_at (seen self.new).kept k) ≡ true) }
+        ensures known { OnOk result (k < length (seen self.old).calls) }
+        ensures refusal { IfErr result (λ refusal. refusal ≡ (if nat_lt k (length (seen self.old).calls) then NoRoomToWait else NoFuture)) }
+        ensures refused { IfErr result (λ refusal. refusal ≢ NoRoomToWait → seen self.new ≡ seen self.old) }
+        ensures kept { is_some (kept_at (seen self.old).kept k) ≡ true → result ≡ Ok tt }
+        ensures hears { Hears (seen self.old) (seen self.new) };
+
+    /// Submits a call, waits for its answer, and gives its future. By `NoMemory` it may be that the
+    /// call was submitted, and only the waiting was refused: `count` tells.
+    fn ask(
+        &mut self,
+        actor: ActorId,
+        method: Method,
+        args: ListOf<Arg>,
+    ) -> Result<FutureId, SubmitRefusal>
+        ensures future { IfOk result (λ k. k ≡ length (seen self.old).calls) }
+        ensures accepted { OnOk result (call_refusal (seen self.old) actor args ≡ None) }
+        ensures submits { OnOk result (Submits (record { actor = actor; method = method; args = args }) (seen self.old) (seen self.new)) }
+        ensures answered { IfOk result (λ k. is_some (kept_at (seen self.new).kept k) ≡ true) }
+        ensures refusal { IfErr result (λ refusal. refusal ≡ unwrap_or (call_refusal (seen self.old) actor args) NoRoom) }
+        ensures refused { IfErr result (λ refusal. refusal ≢ NoRoom → seen self.new ≡ seen self.old) }
+        ensures either { OnErr result (Hears (seen self.old) (seen self.new)
+            ⊎ Submits (record { actor = actor; method = method; args = args }) (seen self.old) (seen self.new)) }
+    {
+        let k = self.submit(actor, method, args)?;
+        match self.wait(k) {
+            Ok(()) => Ok(k),
+            Err(_) => Err(SubmitRefusal::NoMemory),
+        }
+    }
+
+    /// The answer that is kept for a future, if one is. It waits for none.
+    fn answer(&self, k: FutureId) -> Option<&Answer>
+        ensures { option_copied result ≡ kept_at (seen self.now).kept k };
+
+    /// Adds a copy of the actor's handle and gives their number. An `Err` changes nothing.
+    fn copy(&mut self, actor: ActorId) -> Result<u32, HandleRefusal>
+        ensures value { result ≡ copied actor (seen self.old).handles }
+        ensures ok { OnOk result (seen self.new ≡ record (seen self.old) { handles = with_copy actor (seen self.old).handles }) }
+        ensures err { OnErr result (seen self.new ≡ seen self.old) };
+
+    /// Lets a copy of the actor's handle go. After the last one the actor is told that no call of this
+    /// caller follows. An `Err` changes nothing.
+    fn release(&mut self, actor: ActorId) -> Result<(), HandleRefusal>
+        ensures value { result ≡ or_else (use_refusal (seen self.old) actor) tt }
+        ensures ok { OnOk result (LetsGo actor (seen self.old) (seen self.new)) }
+        ensures err { OnErr result (seen self.new ≡ seen self.old) };
+
+    /// Asks for the actor's kill, unless its death is known.
+    fn kill(&mut self, actor: ActorId) -> Result<(), KillRefusal>
+        ensures accepted { OnOk result (use_refusal (seen self.old) actor ≡ None) }
+        ensures refusal { IfErr result (λ refusal. refusal ≡ kill_refusal (seen self.old) actor) }
+        ensures refused { IfErr result (λ refusal. refusal ≢ NoRoomToAsk → seen self.new ≡ seen self.old) }
+        ensures hears { Hears (seen self.old) (seen self.new) };
+
+    /// How many calls of the actor have no answer yet.
+    fn pending(&self, actor: ActorId) -> u32
+        ensures { result ≡ pending_of (seen self.now) actor };
+
+    /// How many calls of the actor may have no answer yet: none where nothing limits them.
+    fn limit(&self, actor: ActorId) -> Option<u32>
+        ensures { result ≡ limit_of (seen self.now) actor };
+
+    /// How many copies of the actor's handle are held.
+    fn holds(&self, actor: ActorId) -> u32
+        ensures { result ≡ copies_held (copies_in actor (seen self.now).handles) };
+
+    /// How many calls were submitted, which is the number of the next call's future.
+    fn count(&self) -> u32
+        ensures value { result ≡ length (seen self.now).calls }
+        ensures limit { result ≤ MOST_CALLS };
+
+    fn alloc(&self) -> Global;
+}
