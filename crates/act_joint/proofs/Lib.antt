@@ -6,3 +6,4 @@ pub mod Fitting
 pub mod Found
 pub mod Given
 pub mod Joint
+pub mod ByCode

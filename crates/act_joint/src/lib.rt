@@ -3,4 +3,4 @@
 
 mod laws;
 
-pub use laws::joined_runs_are_consistent;
+pub use laws::{joined_callers_are_consistent, joined_runs_are_consistent};
