@@ -1,7 +1,6 @@
 -- What each caller of a run left, at its place.
 use Rattle.std.proofs.Common.{◌≡◌, ℕ, ◌<◌, false, List, length, map, get_or, slice_get, Some, sym, ap, ◌∙◌, subst, All, Contains}
 use Rattle.std.proofs.lemmas.Option.{get_or_from_slice_get}
-use Rattle.act_rules.specs.declared.script.Step.{Step}
 use Rattle.act_rules.specs.Consistent.{IsFront}
 use Rattle.act_rules.specs.Plans.{planned}
 use Rattle.act_rules.proofs.Unique.{map-slice_get}
@@ -26,6 +25,7 @@ use Rattle.act_lines.proofs.Places.{at_other, all_at}
 use Rattle.act_joint.specs.Left.{IsDriven, LettersAudited, KillsAudited}
 use Rattle.act_joint.proofs.Elements.{IsIn, in_from_contains, contains_from_in, all_in, all_by_places}
 use Rattle.act_executor.specs.Audits.{SitsAtMail, SitsAtControl, HasSeats, LetterTold, KillTold}
+use Rattle.act_executor.specs.Conducts.{Doing}
 use Rattle.act_executor.specs.Joins.{IsDrivenAt}
 use Rattle.act_executor.proofs.Owners.{own_actors}
 use Rattle.act_executor.proofs.Actors.{served_seen}
@@ -37,25 +37,26 @@ LetterSeat = Seat (PutterValue Letter Unit)
 abbrev KillSeat : Type 0
 KillSeat = Seat (PutterValue Asked ℕ)
 
-module _ (lines : Lines) (part : Part) (caller : Seat CallerPasses) (d : Driven) (is : IsCaller lines part caller) (driven : IsDrivenAt lines part caller d) where
+module _ (lines : Lines) (does : Doing) (part : Part) (caller : Seat CallerPasses) (d : Driven) (is : IsCaller lines part caller) (driven : IsDrivenAt lines does part caller d) where
   pub caller_is : d.owner.id ≡ part.caller
-  caller_is = driven.driven_is.id
+  caller_is = driven.driven_is.driven_is.id
 
   pub same_replies_line : d.passes.collects.line ≡ caller.pass.collects.line
-  same_replies_line = ap (λ (t : TakerValue _ _). t.line) driven.driven_is.stay.collects
+  same_replies_line = ap (λ (t : TakerValue _ _). t.line) driven.driven_is.driven_is.stay.collects
 
-  -- the caller did its plan
-  pub is_driven : (actors : List ℕ) (plan : List Step) → part.actors.items ≡ actors → part.plan.items ≡ plan → d.starved ≡ false → IsDriven lines.mails.items lines.controls.items actors plan d
-  is_driven actors plan known steps fed =
-      let has = driven.driven_is in
+  -- the caller did its steps
+  pub is_driven : (actors : List ℕ) → part.actors.items ≡ actors → d.starved ≡ false → IsDriven lines.mails.items lines.controls.items actors driven.driven_is.steps d
+  is_driven actors known fed =
+      let has = driven.driven_is.driven_is in
+      let steps = driven.driven_is.steps in
       let done = has.done fed in
       let own : actors_in (opened_under part.limits.items part.caller part.actors.items).handles ≡ actors = own_actors part.limits.items part.caller part.actors.items ∙ known in
       record {
         letters = subst (λ (l : List MailValue). All (HasPosted l d.owner) d.passes.letters.items) driven.mails has.letters;
         hears = has.hears;
-        calls = done.calls ∙ (λ i. planned (own i) (steps i));
+        calls = done.calls ∙ (λ i. planned (own i) steps);
         answered = done.answered;
-        kills = subst (λ (l : List ControlValue). All (HasAsked l plan d.passes.collects.taken) d.passes.kills.items) driven.controls (subst (λ (p : List Step). All (HasAsked driven.at.controls.now p d.passes.collects.taken) d.passes.kills.items) steps done.kills);
+        kills = subst (λ (l : List ControlValue). All (HasAsked l steps d.passes.collects.taken) d.passes.kills.items) driven.controls done.kills;
       }
 
   abbrev own_line : RepliesValue
@@ -71,13 +72,13 @@ module _ (lines : Lines) (part : Part) (caller : Seat CallerPasses) (d : Driven)
   pub has_seats : HasSeats lines d
   has_seats = record {
     letters = all_by_places (SitsAtMail lines.mails.items) d.passes.letters.items (λ k seat at.
-        let old = at_other bare_post bare_post caller.pass.letters.items d.passes.letters.items (sym driven.driven_is.stay.letters) k seat at in
+        let old = at_other bare_post bare_post caller.pass.letters.items d.passes.letters.items (sym driven.driven_is.driven_is.stay.letters) k seat at in
         let was = all_at (IsFreshSeat lines.mails.items part.caller) caller.pass.letters.items k old.0 letter_seats old.1 in
         let place : old.0.place ≡ seat.place = ap (λ (s : LetterSeat). s.place) old.2 in
         let line : old.0.pass.line ≡ seat.pass.line = ap (λ (s : LetterSeat). s.pass.line) old.2 in
         (subst (λ (p : ℕ). p < length lines.mails.items) place was.below, λ m. ap (λ (p : ℕ). (get_or lines.mails.items p m).line) (sym place) ∙ was.line m ∙ line));
     kills = all_by_places (SitsAtControl lines.controls.items) d.passes.kills.items (λ k seat at.
-        let old = at_other bare_ask bare_ask caller.pass.kills.items d.passes.kills.items (sym driven.driven_is.stay.kills) k seat at in
+        let old = at_other bare_ask bare_ask caller.pass.kills.items d.passes.kills.items (sym driven.driven_is.driven_is.stay.kills) k seat at in
         let was = all_at (IsKillSeat lines.controls.items) caller.pass.kills.items k old.0 kill_seats old.1 in
         let place : old.0.place ≡ seat.place = ap (λ (s : KillSeat). s.place) old.2 in
         let line : old.0.pass.line ≡ seat.pass.line = ap (λ (s : KillSeat). s.pass.line) old.2 in
@@ -91,7 +92,7 @@ module _ (lines : Lines) (part : Part) (caller : Seat CallerPasses) (d : Driven)
     letters_audited has of_actor told =
         let in_map = in_from_contains (map (λ (s : LetterSeat). s.place) caller.pass.letters.items) j has in
         let old = map-slice_get (λ (s : LetterSeat). s.place) caller.pass.letters.items in_map.place j in_map.at in
-        let new = at_other bare_post bare_post d.passes.letters.items caller.pass.letters.items driven.driven_is.stay.letters in_map.place old.0 old.1 in
+        let new = at_other bare_post bare_post d.passes.letters.items caller.pass.letters.items driven.driven_is.driven_is.stay.letters in_map.place old.0 old.1 in
         let was = all_at (IsFreshSeat lines.mails.items part.caller) caller.pass.letters.items in_map.place old.0 letter_seats old.1 in
         let seat = new.0 in
         let place : seat.place ≡ j = ap (λ (s : LetterSeat). s.place) new.2 ∙ old.2 in
@@ -115,7 +116,7 @@ module _ (lines : Lines) (part : Part) (caller : Seat CallerPasses) (d : Driven)
         let key : KillSeat → ℕ × ℕ = λ s. (s.place, s.pass.number) in
         let in_map = in_from_contains (map key caller.pass.kills.items) (j, part.caller) has in
         let old = map-slice_get key caller.pass.kills.items in_map.place (j, part.caller) in_map.at in
-        let new = at_other bare_ask bare_ask d.passes.kills.items caller.pass.kills.items driven.driven_is.stay.kills in_map.place old.0 old.1 in
+        let new = at_other bare_ask bare_ask d.passes.kills.items caller.pass.kills.items driven.driven_is.driven_is.stay.kills in_map.place old.0 old.1 in
         let seat = new.0 in
         let place : seat.place ≡ j = ap (λ (s : KillSeat). s.place) new.2 ∙ ap (λ (p : ℕ × ℕ). p.0) old.2 in
         let number : seat.pass.number ≡ part.caller = ap (λ (s : KillSeat). s.pass.number) new.2 ∙ ap (λ (p : ℕ × ℕ). p.1) old.2 in

@@ -1,7 +1,7 @@
 -- That what a run leaves fits the casts and plans that it was given.
-use Rattle.std.proofs.Common.{◌≡◌, ℕ, ◌+◌, ◌∷◌, ◌++◌, true, false, List, [], length, map, get_or, slice_get, Some, sym, ap, ◌∙◌, subst, refl, arith, All, Contains, ◌≢◌}
-use Rattle.std.specs.Prelude.{option_map}
-use Rattle.std.specs.List.{range_with_len}
+use Rattle.std.proofs.Common.{◌≡◌, ℕ, ◌+◌, ◌∷◌, ◌++◌, true, false, List, [], length, map, get_or, slice_get, Some, sym, ap, ◌∙◌, subst, refl, arith, All, AllPairs, Contains, ◌≢◌}
+use Rattle.std.specs.Prelude.{Option, option_map}
+use Rattle.std.specs.List.{range_with_len, list_any}
 use Rattle.std.specs.Global.{Vec}
 use Rattle.std.proofs.lemmas.Simd.{map-map}
 use Rattle.std.proofs.lemmas.List.{length-map}
@@ -15,8 +15,8 @@ use Rattle.act_rules.specs.History.{Casting, contains, actors_naming}
 use Rattle.act_types.specs.declared.limits.TheConstants.{MOST_ACTORS, MOST_CALLERS}
 use Rattle.act_rules.specs.Report.{one_to}
 use Rattle.act_rules.proofs.Unique.{map-slice_get}
-use Rattle.act_rules.proofs.Lists.{element, AllPairs-map}
-use Rattle.act_owner.specs.Owner.{OwnerValue}
+use Rattle.act_rules.proofs.Lists.{element, AllPairs-map, list_any-map}
+use Rattle.act_owner.specs.Owner.{OwnerValue, opened_under}
 use Rattle.act_actor.specs.declared.cast.Cast.{Cast}
 use Rattle.act_actor.specs.Cast.{IsFitting}
 use Rattle.act_actor.specs.Casts.{casting}
@@ -32,19 +32,24 @@ use Rattle.act_serve.specs.Served.{EndSeen, end_seen, id_of, caller_at}
 use Rattle.act_drive.specs.declared.caller.Driven.{Driven}
 use Rattle.act_plans.specs.declared.part.Part.{Part}
 use Rattle.act_plans.specs.declared.rising.Prepared.{Prepared}
-use Rattle.act_plans.specs.Prepared.{part_seen, part_of, callers_named_by, by_rising_actor, HasNumbers}
+use Rattle.act_drive.specs.Sessions.{Seen}
+use Rattle.act_plans.specs.Prepared.{by_rising_actor}
 use Rattle.act_plans.specs.Runs.{limits_naming, callers_of, actors_of, cast_at, plan_of}
 use Rattle.act_plans.proofs.Castings.{parts_seen, plans_are, actors_are, limits_are, actors_seen, each_cast_seen}
+use Rattle.act_plans.proofs.Keys.{pairs_of_map}
 use Rattle.act_lines.proofs.Places.{as_long, at_other, all_at}
 use Rattle.act_joint.specs.Joined.{IsJoined, is_starved}
 use Rattle.act_joint.specs.Left.{ServedSeen, IsServed, IsDriven, AreAudited, AreCasts, AreJoined}
+use Rattle.act_joint.specs.ByCode.{code_of, opened_of, IsDrivenBy, AreJoinedBy, IsJoinedBy}
 use Rattle.act_joint.proofs.Elements.{all_by_places, range_at}
 use Rattle.act_joint.proofs.Ends.{joined as joined_is}
+use Rattle.act_joint.proofs.ByCode.{is_joined_by as joined_by_is}
 use Rattle.act_executor.specs.declared.joined.Joined.{Joined}
 use Rattle.act_executor.specs.Audits.{KillTold, CallerTold, NoticeTold, Left, left_of}
 use Rattle.act_executor.specs.Work.{IsUnusedStarter}
 use Rattle.act_executor.specs.Joins.{ended_starved}
-use Rattle.act_executor.specs.Runs.{HasRun, plan_seen}
+use Rattle.act_executor.specs.Conducts.{Doing, does_code, CodesFit}
+use Rattle.act_executor.specs.Runs.{HasRun, IsPrepared, plan_seen}
 use Rattle.act_executor.proofs.Settled.{seen_through}
 use Rattle.act_executor.proofs.Actors.{served_seen, is_served, notices_audited, same_id, not_starved}
 use Rattle.act_executor.proofs.Callers.{caller_is, is_driven, letters_audited, kills_audited}
@@ -57,9 +62,8 @@ front_none (x ∷ xs) front = let none : length (x ∷ xs ++ front.0) ≡ 0 = ap
 abbrev KillSeat : Type 0
 KillSeat = Seat (PutterValue Asked ℕ)
 
-module _ {K : Type 0} (state : K → KindState) (casts : List (Cast K)) (plans : List (ℕ × Vec Step)) (prepared : Prepared K) (joined : Joined K)
-    (fit : IsFitting casts) (numbers : All HasNumbers casts) (rising : prepared.casts.items ≡ by_rising_actor casts)
-    (parts_are : map part_seen prepared.parts.items ≡ map (part_of casts plans) (callers_named_by casts)) (run : HasRun state prepared joined) where
+module _ {K : Type 0} (state : K → KindState) (does : ℕ → Doing) (casts : List (Cast K)) (plans : List (ℕ × Vec Step)) (prepared : Prepared K) (joined : Joined K)
+    (fit : IsFitting casts) (is : IsPrepared state casts plans prepared) (run : HasRun state does prepared joined) where
   abbrev seen : List Casting
   seen = map (casting state) casts
 
@@ -84,8 +88,8 @@ module _ {K : Type 0} (state : K → KindState) (casts : List (Cast K)) (plans :
   abbrev at_actor : (j : ℕ) (a : Finished K) → slice_get actors j ≡ Some a → ActorAt state now parts run.opened run.opening actors run.served j a
   at_actor j a at = actor_at state now parts run.opened run.opening actors run.served j a at
 
-  abbrev at_caller : (i : ℕ) (d : Driven) → slice_get callers i ≡ Some d → CallerAt state now parts run.opened run.opening callers run.driven i d
-  at_caller i d at = caller_there state now parts run.opened run.opening callers run.driven i d at
+  abbrev at_caller : (i : ℕ) (d : Driven) → slice_get callers i ≡ Some d → CallerAt state now parts run.opened run.opening does callers run.driven i d
+  at_caller i d at = caller_there state now parts run.opened run.opening does callers run.driven i d at
 
   -- the actor before the comparison
   before : (j : ℕ) (f : Finished K) → slice_get last j ≡ Some f → (a : Finished K) × (slice_get actors j ≡ Some a) × (left_of f ≡ left_of a)
@@ -94,8 +98,8 @@ module _ {K : Type 0} (state : K → KindState) (casts : List (Cast K)) (plans :
   casts_are : AreCasts seen
   casts_are = record {
     differ = AllPairs-map (λ (one other : Casting). one.actor ≢ other.actor) (casting state) casts fit.actors;
-    actors = All-map (λ (cast : Casting). Contains (one_to MOST_ACTORS) cast.actor) (casting state) casts (λ k d lt. (numbers k d lt).actor);
-    callers = All-map (λ (cast : Casting). All (λ (c : ℕ). Contains (one_to MOST_CALLERS) c) cast.callers) (casting state) casts (λ k d lt. (numbers k d lt).callers);
+    actors = All-map (λ (cast : Casting). Contains (one_to MOST_ACTORS) cast.actor) (casting state) casts (λ k d lt. (is.numbers k d lt).actor);
+    callers = All-map (λ (cast : Casting). All (λ (c : ℕ). Contains (one_to MOST_CALLERS) c) cast.callers) (casting state) casts (λ k d lt. (is.numbers k d lt).callers);
   }
 
   owners_are : map (λ (d : Driven). d.owner.id) callers ≡ callers_of seen
@@ -103,8 +107,8 @@ module _ {K : Type 0} (state : K → KindState) (casts : List (Cast K)) (plans :
       let one = at_caller i d at in
       let both : Some one.part ≡ Some part = sym one.at_part ∙ there in
       let same : one.part ≡ part = cc in
-      caller_is lines one.part one.caller d one.is (run.driven.each i one.part one.caller d one.at_part one.at_caller at) ∙ ap (λ (p : Part). p.caller) same)
-      ∙ parts_seen state casts plans parts parts_are
+      caller_is lines (does one.part.caller) one.part one.caller d one.is (run.driven.each i one.part one.caller d one.at_part one.at_caller at) ∙ ap (λ (p : Part). p.caller) same)
+      ∙ parts_seen state casts plans parts is.parts_are
 
   actors_are_now : map (λ (a : Finished K). id_of (end_seen state a.ended)) actors ≡ map (λ (cast : Cast K). cast.actor) now
   actors_are_now = maps_agree (λ (a : Finished K). id_of (end_seen state a.ended)) (λ (cast : Cast K). cast.actor) actors now run.served.long (λ j a cast at there.
@@ -116,11 +120,11 @@ module _ {K : Type 0} (state : K → KindState) (casts : List (Cast K)) (plans :
   ends_are : map (λ (s : ServedSeen). id_of s.end) (map (served_seen state) last) ≡ actors_of seen
   ends_are = map-map (λ (s : ServedSeen). id_of s.end) (served_seen state) last
       ∙ seen_through (λ (l : Left K). id_of (end_seen state l.ended)) last actors run.compared.same ∙ actors_are_now
-      ∙ ap (map (λ (cast : Cast K). cast.actor)) rising ∙ actors_seen state casts
+      ∙ ap (map (λ (cast : Cast K). cast.actor)) is.rising ∙ actors_seen state casts
 
   -- the cast of an actor is the one that was given for it
   cast_is : (j : ℕ) (cast : Cast K) → slice_get now j ≡ Some cast → cast_at cast.actor seen ≡ Some (casting state cast)
-  cast_is j cast at = all_at (λ (c : Cast K). cast_at c.actor seen ≡ Some (casting state c)) (by_rising_actor casts) j cast (each_cast_seen state casts) (ap (λ (l : List (Cast K)). slice_get l j) (sym rising) ∙ at)
+  cast_is j cast at = all_at (λ (c : Cast K). cast_at c.actor seen ≡ Some (casting state c)) (by_rising_actor casts) j cast (each_cast_seen state casts) (ap (λ (l : List (Cast K)). slice_get l j) (sym is.rising) ∙ at)
 
   -- an actor at its end: the thread's, and what was compared
   record End (j : ℕ) (s : ServedSeen) : Type 0 where
@@ -153,24 +157,39 @@ module _ {K : Type 0} (state : K → KindState) (casts : List (Cast K)) (plans :
       let is = is_served state lines e.there.cast e.there.exec e.a e.there.is (run.served.each j e.there.cast e.there.exec e.a e.there.at_cast e.there.at_exec e.at_a) e.f e.same in
       subst (λ (x : ServedSeen). IsServed lines.replies.items cast x) (sym e.s_is) (subst (λ (c : Casting). IsServed lines.replies.items c (served_seen state e.f)) (own_cast j s cast e of) is))
 
-  all_driven : All (λ (d : Driven). IsDriven lines.mails.items lines.controls.items (actors_naming d.owner.id seen) (plan_of d.owner.id (map plan_seen plans)) d) callers
-  all_driven = all_by_places (λ (d : Driven). IsDriven lines.mails.items lines.controls.items (actors_naming d.owner.id seen) (plan_of d.owner.id (map plan_seen plans)) d) callers (λ i d at.
+  -- a caller did some steps to the end, and they are what was to be done
+  pub record Did (d : Driven) : Type 0 where
+    pub steps : List Step
+    pub did : IsDriven lines.mails.items lines.controls.items (actors_naming d.owner.id seen) steps d
+    pub does_so : does d.owner.id (plan_of d.owner.id (map plan_seen plans)) steps (opened_of d.owner.id seen) d.owner
+
+  did_at : (i : ℕ) (d : Driven) → slice_get callers i ≡ Some d → Did d
+  did_at i d at =
       let one = at_caller i d at in
       let drove = run.driven.each i one.part one.caller d one.at_part one.at_caller at in
-      let id : d.owner.id ≡ one.part.caller = caller_is lines one.part one.caller d one.is drove in
-      let known = all_at (λ (part : Part). part.actors.items ≡ actors_naming part.caller seen) parts i one.part (actors_are state casts plans parts parts_are) one.at_part in
-      let steps = all_at (λ (part : Part). part.plan.items ≡ plan_of part.caller (map plan_seen plans)) parts i one.part (plans_are state casts plans parts parts_are) one.at_part in
+      let id : d.owner.id ≡ one.part.caller = caller_is lines (does one.part.caller) one.part one.caller d one.is drove in
+      let known = all_at (λ (part : Part). part.actors.items ≡ actors_naming part.caller seen) parts i one.part (actors_are state casts plans parts is.parts_are) one.at_part in
+      let limited = all_at (λ (part : Part). part.limits.items ≡ limits_naming part.caller seen) parts i one.part (limits_are state casts plans parts is.parts_are) one.at_part in
+      let planned = all_at (λ (part : Part). part.plan.items ≡ plan_of part.caller (map plan_seen plans)) parts i one.part (plans_are state casts plans parts is.parts_are) one.at_part in
       let fed = all_at (λ (c : Driven). c.starved ≡ false) callers i d run.compared.fed_callers at in
-      is_driven lines one.part one.caller d one.is drove (actors_naming d.owner.id seen) (plan_of d.owner.id (map plan_seen plans))
-      (known ∙ ap (λ (n : ℕ). actors_naming n seen) (sym id)) (steps ∙ ap (λ (n : ℕ). plan_of n (map plan_seen plans)) (sym id)) fed)
+      let actors : one.part.actors.items ≡ actors_naming d.owner.id seen = known ∙ ap (λ (n : ℕ). actors_naming n seen) (sym id) in
+      let limits : one.part.limits.items ≡ limits_naming d.owner.id seen = limited ∙ ap (λ (n : ℕ). limits_naming n seen) (sym id) in
+      let plan : one.part.plan.items ≡ plan_of d.owner.id (map plan_seen plans) = planned ∙ ap (λ (n : ℕ). plan_of n (map plan_seen plans)) (sym id) in
+      let steps = drove.driven_is.steps in
+      let At : ℕ × List Step × OwnerValue → Type 0 = λ x. does x.0 x.1 steps x.2 d.owner in
+      record {
+        steps = steps;
+        did = is_driven lines (does one.part.caller) one.part one.caller d one.is drove (actors_naming d.owner.id seen) actors fed;
+        does_so = subst At (λ k. (sym id k, plan k, opened_under (limits k) (sym id k) (actors k))) (drove.driven_is.does_so fed);
+      }
 
   -- each caller keeps the limits of the casts
   limits : All (λ (d : Driven). d.owner.limits ≡ limits_naming d.owner.id seen) callers
   limits = all_by_places (λ (d : Driven). d.owner.limits ≡ limits_naming d.owner.id seen) callers (λ i d at.
       let one = at_caller i d at in
       let drove = run.driven.each i one.part one.caller d one.at_part one.at_caller at in
-      let known = all_at (λ (part : Part). part.limits.items ≡ limits_naming part.caller seen) parts i one.part (limits_are state casts plans parts parts_are) one.at_part in
-      drove.driven_is.limits ∙ known ∙ ap (λ (n : ℕ). limits_naming n seen) (sym (caller_is lines one.part one.caller d one.is drove)))
+      let known = all_at (λ (part : Part). part.limits.items ≡ limits_naming part.caller seen) parts i one.part (limits_are state casts plans parts is.parts_are) one.at_part in
+      drove.driven_is.driven_is.limits ∙ known ∙ ap (λ (n : ℕ). limits_naming n seen) (sym (caller_is lines (does one.part.caller) one.part one.caller d one.is drove)))
 
   -- ---- the audits
 
@@ -197,15 +216,15 @@ module _ {K : Type 0} (state : K → KindState) (casts : List (Cast K)) (plans :
       let one = at_caller i d at_d in
       let drove = run.driven.each i one.part one.caller d one.at_part one.at_caller at_d in
       let served = run.served.each j e.there.cast e.there.exec e.a e.there.at_cast e.there.at_exec e.at_a in
-      let id : d.owner.id ≡ one.part.caller = caller_is lines one.part one.caller d one.is drove in
+      let id : d.owner.id ≡ one.part.caller = caller_is lines (does one.part.caller) one.part one.caller d one.is drove in
       let name : id_of s.end ≡ e.there.cast.actor = named j s e in
       let listed : contains one.part.caller e.there.cast.callers ≡ true = ap (λ (n : ℕ). contains n e.there.cast.callers) (sym id) ∙ ap (λ (c : Casting). contains d.owner.id c.callers) (own_cast j s cast e of) ∙ names in
       let pair = run.opening.paired i j e.there.cast one.part e.there.exec one.caller e.there.at_cast one.at_part e.there.at_exec one.at_caller listed in
       let told = all_at (CallerTold last) callers i d run.compared.callers at_d in
       let notices = all_at (λ (x : Finished K). All (NoticeTold callers) x.passes.notices.items) actors j e.a run.compared.notices e.at_a in
       let both : AreAudited lines.mails.items lines.controls.items lines.replies.items e.there.cast.actor one.part.caller d (served_seen state e.f) = record {
-        letters = letters_audited lines one.part one.caller d one.is drove state j e.there.cast.actor last e.f e.at_f pair.letters (mail_of j e.there.cast e.there.at_cast) told.letters;
-        kills = kills_audited lines one.part one.caller d one.is drove state j e.there.cast.actor last e.f e.at_f pair.kills (control_of j e.there.cast e.there.at_cast) told.kills;
+        letters = letters_audited lines (does one.part.caller) one.part one.caller d one.is drove state j e.there.cast.actor last e.f e.at_f pair.letters (mail_of j e.there.cast e.there.at_cast) told.letters;
+        kills = kills_audited lines (does one.part.caller) one.part one.caller d one.is drove state j e.there.cast.actor last e.f e.at_f pair.kills (control_of j e.there.cast e.there.at_cast) told.kills;
         notices = notices_audited state lines e.there.cast e.there.exec e.a e.there.is served i one.part.caller callers d e.f e.same pair.notices (line_of i one.part one.at_part) at_d notices;
       } in
       let At : ℕ × ℕ × ServedSeen → Type 0 = λ x. AreAudited lines.mails.items lines.controls.items lines.replies.items x.0 x.1 d x.2 in
@@ -239,11 +258,69 @@ module _ {K : Type 0} (state : K → KindState) (casts : List (Cast K)) (plans :
       let no_want = all_at (λ (x : Finished K). ended_starved x.ended ≡ false) actors j e.a run.compared.fed e.at_a in
       ap (λ (x : ServedSeen). is_starved x.end) e.s_is ∙ ap (λ (l : Left K). is_starved (end_seen state l.ended)) e.same ∙ not_starved state e.a.ended no_want)
 
-  are_joined : AreJoined lines.mails.items lines.controls.items lines.replies.items seen (map plan_seen plans) callers (map (served_seen state) last)
-  are_joined = record { casts_are = casts_are; callers = owners_are; actors = ends_are; all_served = all_served; all_driven = all_driven; limits = limits; audited = audited; starter = unasked; fed = fed }
+  -- no two of them are one caller
+  differ : AllPairs (λ (one other : Driven). one.owner.id ≢ other.owner.id) callers
+  differ =
+      let ids : map (λ (d : Driven). d.owner.id) callers ≡ map (λ (part : Part). part.caller) parts = owners_are ∙ sym (parts_seen state casts plans parts is.parts_are) in
+      let apart : AllPairs (λ (one other : ℕ). one ≢ other) (map (λ (part : Part). part.caller) parts) = AllPairs-map (λ (one other : ℕ). one ≢ other) (λ (part : Part). part.caller) parts run.matched.parts_differ in
+      pairs_of_map (λ (d : Driven). d.owner.id) callers (subst (AllPairs (λ (one other : ℕ). one ≢ other)) (sym ids) apart)
 
-  pub is_joined : IsJoined seen (map plan_seen plans) joined.owners.items (map (λ (f : Finished K). end_seen state f.ended) last)
-  is_joined =
-      let whole = joined_is are_joined in
-      let At : List OwnerValue × List EndSeen → Type 0 = λ p. IsJoined seen (map plan_seen plans) p.0 p.1 in
-      subst At (λ k. (sym run.compared.owners k, map-map (λ (s : ServedSeen). s.end) (served_seen state) last k)) whole
+  abbrev ends : List EndSeen
+  ends = map (λ (f : Finished K). end_seen state f.ended) last
+
+  -- where each did its plan
+  module _ (by_plan : (c : ℕ) (plan steps : List Step) (before later : OwnerValue) → does c plan steps before later → steps ≡ plan) where
+    all_driven : All (λ (d : Driven). IsDriven lines.mails.items lines.controls.items (actors_naming d.owner.id seen) (plan_of d.owner.id (map plan_seen plans)) d) callers
+    all_driven = all_by_places (λ (d : Driven). IsDriven lines.mails.items lines.controls.items (actors_naming d.owner.id seen) (plan_of d.owner.id (map plan_seen plans)) d) callers (λ i d at.
+        let one = did_at i d at in
+        subst (λ (plan : List Step). IsDriven lines.mails.items lines.controls.items (actors_naming d.owner.id seen) plan d) (by_plan d.owner.id (plan_of d.owner.id (map plan_seen plans)) one.steps (opened_of d.owner.id seen) d.owner one.does_so) one.did)
+
+    are_joined : AreJoined lines.mails.items lines.controls.items lines.replies.items seen (map plan_seen plans) callers (map (served_seen state) last)
+    are_joined = record { casts_are = casts_are; callers = owners_are; actors = ends_are; all_served = all_served; all_driven = all_driven; limits = limits; audited = audited; starter = unasked; fed = fed }
+
+    pub is_joined : IsJoined seen (map plan_seen plans) joined.owners.items ends
+    is_joined =
+        let whole = joined_is are_joined in
+        let At : List OwnerValue × List EndSeen → Type 0 = λ p. IsJoined seen (map plan_seen plans) p.0 p.1 in
+        subst At (λ k. (sym run.compared.owners k, map-map (λ (s : ServedSeen). s.end) (served_seen state) last k)) whole
+
+  -- where some did what their code decided
+  module _ {C : Type 0} (tells : C → Seen → Seen → Type 0) (codes : List (ℕ × C)) (fits : CodesFit casts plans codes)
+      (by_code : (c : ℕ) (plan steps : List Step) (before later : OwnerValue) → does c plan steps before later → does_code tells (code_of c codes) plan steps before later) where
+    all_driven_by : All (IsDrivenBy tells lines.mails.items lines.controls.items seen (map plan_seen plans) codes) callers
+    all_driven_by = all_by_places (IsDrivenBy tells lines.mails.items lines.controls.items seen (map plan_seen plans) codes) callers (λ i d at.
+        let one = did_at i d at in
+        let plan = plan_of d.owner.id (map plan_seen plans) in
+        let before = opened_of d.owner.id seen in
+        let so = by_code d.owner.id plan one.steps before d.owner one.does_so in
+        record {
+          steps = one.steps;
+          did = one.did;
+          planned = λ none. subst (λ (o : Option C). does_code tells o plan one.steps before d.owner) none so;
+          told = λ code some. subst (λ (o : Option C). does_code tells o plan one.steps before d.owner) some so;
+        })
+
+    codes_named : All (λ (given : ℕ × C). list_any (λ (cast : Casting). contains given.0 cast.callers) seen ≡ true) codes
+    codes_named k d below = list_any-map (λ (cast : Casting). contains (get_or codes k d).0 cast.callers) (casting state) casts ∙ fits.named k d below
+
+    are_joined_by : AreJoinedBy tells lines.mails.items lines.controls.items lines.replies.items seen (map plan_seen plans) codes callers (map (served_seen state) last)
+    are_joined_by = record {
+      casts_are = casts_are;
+      callers = owners_are;
+      differ = differ;
+      actors = ends_are;
+      all_served = all_served;
+      all_driven = all_driven_by;
+      limits = limits;
+      audited = audited;
+      starter = unasked;
+      fed = fed;
+      codes_differ = fits.differ;
+      codes_named = codes_named;
+    }
+
+    pub is_joined_by : IsJoinedBy tells seen (map plan_seen plans) codes joined.owners.items ends
+    is_joined_by =
+        let whole = joined_by_is tells lines.mails.items lines.controls.items lines.replies.items seen (map plan_seen plans) codes callers (map (served_seen state) last) are_joined_by in
+        let At : List OwnerValue × List EndSeen → Type 0 = λ p. IsJoinedBy tells seen (map plan_seen plans) codes p.0 p.1 in
+        subst At (λ k. (sym run.compared.owners k, map-map (λ (s : ServedSeen). s.end) (served_seen state) last k)) whole

@@ -19,6 +19,7 @@ use Rattle.act_lines.specs.declared.opened.Opened.{Opened}
 use Rattle.act_lines.specs.Opened.{IsExec, IsCaller, AreOpened}
 use Rattle.act_lines.proofs.Places.{as_long, all_at}
 use Rattle.act_joint.proofs.Elements.{all_by_places, range_at}
+use Rattle.act_executor.specs.Conducts.{Doing}
 use Rattle.act_executor.specs.Audits.{SitsAtReplies, SitsAtControl, HasSeats}
 use Rattle.act_executor.specs.Work.{IsUnusedStarter}
 use Rattle.act_executor.specs.Joins.{AreServed, AreDriven, AreStarters}
@@ -104,7 +105,7 @@ module _ {K : Type 0} (state : K → KindState) (casts : List (Cast K)) (parts :
     pub actors_sit : All (λ (a : Finished K). All (SitsAtReplies opened.lines.replies.items) a.passes.notices.items) actors
     actors_sit = all_by_places (λ (a : Finished K). All (SitsAtReplies opened.lines.replies.items) a.passes.notices.items) actors (λ j actor at. let one = actor_at j actor at in sits state opened.lines one.cast one.exec actor one.is (served.each j one.cast one.exec actor one.at_cast one.at_exec at))
 
-  module _ (driven : List Driven) (drove : AreDriven opened.lines parts callers driven) where
+  module _ (does : ℕ → Doing) (driven : List Driven) (drove : AreDriven opened.lines does parts callers driven) where
     -- the part and the passes of a caller
     pub record CallerAt (i : ℕ) (d : Driven) : Type 0 where
       pub part : Part
@@ -128,10 +129,10 @@ module _ {K : Type 0} (state : K → KindState) (casts : List (Cast K)) (parts :
         let one = caller_at i d there in
         let both : Some one.caller ≡ Some caller = sym one.at_caller ∙ at in
         let same : one.caller ≡ caller = cc in
-        ap (λ (c : Seat CallerPasses). c.pass.collects.line) (sym same) ∙ sym (same_replies_line opened.lines one.part one.caller d one.is (drove.each i one.part one.caller d one.at_part one.at_caller there)))
+        ap (λ (c : Seat CallerPasses). c.pass.collects.line) (sym same) ∙ sym (same_replies_line opened.lines (does one.part.caller) one.part one.caller d one.is (drove.each i one.part one.caller d one.at_part one.at_caller there)))
 
     pub callers_sit : All (HasSeats opened.lines) driven
-    callers_sit = all_by_places (HasSeats opened.lines) driven (λ i d at. let one = caller_at i d at in has_seats opened.lines one.part one.caller d one.is (drove.each i one.part one.caller d one.at_part one.at_caller at))
+    callers_sit = all_by_places (HasSeats opened.lines) driven (λ i d at. let one = caller_at i d at in has_seats opened.lines (does one.part.caller) one.part one.caller d one.is (drove.each i one.part one.caller d one.at_part one.at_caller at))
 
 -- the starter's passes are of the lines at their places
 pub starters_sit : (controls : List ControlValue) (seats : List (Seat (PutterValue Asked ℕ))) → AreStarters controls seats → All (SitsAtControl controls) seats

@@ -11,11 +11,11 @@ use Rattle.act_serve.specs.declared.seat.Finished.{Finished}
 use Rattle.act_serve.specs.Served.{HasServed, end_seen}
 use Rattle.act_drive.specs.declared.desk.CallerPasses.{CallerPasses}
 use Rattle.act_drive.specs.declared.caller.Driven.{Driven}
-use Rattle.act_drive.specs.Driven.{HasDriven}
 use Rattle.act_plans.specs.declared.part.Part.{Part}
 use Rattle.act_lines.specs.declared.opened.Lines.{Lines}
 use Rattle.act_executor.specs.declared.work.Serving.{Serving}
 use Rattle.act_executor.specs.declared.work.Driving.{Driving}
+use Rattle.act_executor.specs.Conducts.{Doing, HasConducted}
 use Rattle.act_executor.specs.Work.{IsServedBy, IsDrivenBy, ActorStart, serving_start, cast_start, CallerStart, driving_start, part_start}
 use Rattle.act_executor.specs.Joins.{AreServed, AreDriven}
 use Rattle.act_rules.proofs.Lists.{element, length-zip_same}
@@ -53,19 +53,19 @@ all_served state lines casts execs servings actors long starts each = record {
       subst P start (each_at (IsServedBy state) servings actors j serving.0 actor each serving.1 at_actor);
 }
 
-pub all_driven : (lines : Lines) (parts : List Part) (callers : List (Seat CallerPasses)) (drivings : List Driving) (driven : List Driven) →
-    length callers ≡ length parts → map driving_start drivings ≡ map (part_start lines) (zip parts callers) → Each IsDrivenBy drivings driven → AreDriven lines parts callers driven
-all_driven lines parts callers drivings driven long starts each = record {
-  long = each.0 ∙ tasks_long driving_start (part_start lines) drivings parts callers starts long;
+pub all_driven : {D : Type 0} (does : D → Doing) (lines : Lines) (conduct_of : ℕ → D) (parts : List Part) (callers : List (Seat CallerPasses)) (drivings : List (Driving D)) (driven : List Driven) →
+    length callers ≡ length parts → map driving_start drivings ≡ map (part_start lines conduct_of) (zip parts callers) → Each (IsDrivenBy does) drivings driven → AreDriven lines (λ c. does (conduct_of c)) parts callers driven
+all_driven {D = D} does lines conduct_of parts callers drivings driven long starts each = record {
+  long = each.0 ∙ tasks_long driving_start (part_start lines conduct_of) drivings parts callers starts long;
   each = λ i part caller d at_part at_caller at_d.
       let below = slice_get_within driven i d at_d in
       let driving = element drivings i (omega (arith, below, each.0)) in
-      let start = starts_at driving_start (part_start lines) drivings parts callers i driving.0 part caller starts driving.1 at_part at_caller in
-      let P : CallerStart → Type 0 = λ s. HasDriven driving.0.lines s.owner s.passes s.plan d in
+      let start = starts_at driving_start (part_start lines conduct_of) drivings parts callers i driving.0 part caller starts driving.1 at_part at_caller in
+      let P : CallerStart D → Type 0 = λ s. HasConducted driving.0.lines s.owner s.passes (does s.conduct s.plan) d in
       record {
         at = driving.0.lines;
-        mails = ap (λ (s : CallerStart). s.mails) start;
-        controls = ap (λ (s : CallerStart). s.controls) start;
-        driven_is = subst P start (each_at IsDrivenBy drivings driven i driving.0 d each driving.1 at_d);
+        mails = ap (λ (s : CallerStart D). s.mails) start;
+        controls = ap (λ (s : CallerStart D). s.controls) start;
+        driven_is = subst P start (each_at (IsDrivenBy does) drivings driven i driving.0 d each driving.1 at_d);
       };
 }

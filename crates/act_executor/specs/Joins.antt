@@ -16,7 +16,7 @@ use Rattle.act_serve.specs.Served.{HasServed, end_seen}
 use Rattle.act_drive.specs.declared.desk.CallerLines.{CallerLines}
 use Rattle.act_drive.specs.declared.desk.CallerPasses.{CallerPasses}
 use Rattle.act_drive.specs.declared.caller.Driven.{Driven}
-use Rattle.act_drive.specs.Driven.{HasDriven}
+use Rattle.act_executor.specs.Conducts.{Doing, HasConducted}
 use Rattle.act_plans.specs.declared.part.Part.{Part}
 use Rattle.act_lines.specs.declared.opened.Lines.{Lines}
 use Rattle.act_executor.specs.declared.joined.Ends.{Ends}
@@ -37,16 +37,16 @@ pub record AreServed {K : Type 0} (state : K → KindState) (lines : Lines) (cas
       HasServed (state cast.kind) cast.actor lines.replies.items exec.pass (end_seen state actor.ended) actor.passes
 
 -- the caller of a part was driven, at these lines
-pub record IsDrivenAt (lines : Lines) (part : Part) (caller : Seat CallerPasses) (driven : Driven) : Type 0 where
+pub record IsDrivenAt (lines : Lines) (does : Doing) (part : Part) (caller : Seat CallerPasses) (driven : Driven) : Type 0 where
   pub at : CallerLines
   pub mails : at.mails.now ≡ lines.mails.items
   pub controls : at.controls.now ≡ lines.controls.items
-  pub driven_is : HasDriven at (opened_under part.limits.items part.caller part.actors.items) caller.pass part.plan.items driven
+  pub driven_is : HasConducted at (opened_under part.limits.items part.caller part.actors.items) caller.pass (does part.plan.items) driven
 
 -- each part's caller was driven, with its passes
-pub record AreDriven (lines : Lines) (parts : List Part) (callers : List (Seat CallerPasses)) (driven : List Driven) : Type 0 where
+pub record AreDriven (lines : Lines) (does : ℕ → Doing) (parts : List Part) (callers : List (Seat CallerPasses)) (driven : List Driven) : Type 0 where
   pub long : length driven ≡ length parts
-  pub each : (i : ℕ) (part : Part) (caller : Seat CallerPasses) (d : Driven) → slice_get parts i ≡ Some part → slice_get callers i ≡ Some caller → slice_get driven i ≡ Some d → IsDrivenAt lines part caller d
+  pub each : (i : ℕ) (part : Part) (caller : Seat CallerPasses) (d : Driven) → slice_get parts i ≡ Some part → slice_get callers i ≡ Some caller → slice_get driven i ≡ Some d → IsDrivenAt lines (does part.caller) part caller d
 
 -- the starter has a pass on each control line, and asked nothing
 pub record AreStarters (controls : List ControlValue) (seats : List (Seat (PutterValue Asked ℕ))) : Type 0 where

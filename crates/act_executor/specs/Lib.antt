@@ -1,4 +1,5 @@
 pub mod Audits
+pub mod Conducts
 pub mod Joins
 pub mod Runs
 pub mod Work

@@ -1,10 +1,15 @@
 -- What a run leaves, and why one has no end to show.
-use Rattle.std.specs.Prelude.{◌≡◌, ℕ, List, Some, None}
+use Rattle.std.specs.Prelude.{◌≡◌, ℕ, List, map, Some, None, All}
 use Rattle.act_types.specs.KindState.{KindState}
 use Rattle.std.specs.Global.{Vec}
 use Rattle.act_rules.specs.declared.script.Step.{Step}
 use Rattle.act_rules.specs.History.{Casting}
+use Rattle.act_rules.specs.Plans.{first_bad}
+use Rattle.act_actor.specs.declared.cast.Cast.{Cast}
+use Rattle.act_actor.specs.Casts.{casting}
 use Rattle.act_plans.specs.Runs.{first_bad_plan}
+use Rattle.act_plans.specs.Parts.{AreMatched, HasLimits}
+use Rattle.act_plans.specs.Prepared.{by_rising_actor, callers_named_by, part_seen, part_of, HasNumbers}
 use Rattle.act_tasks.specs.declared.Refusal.{Refusal}
 use Rattle.act_tasks.specs.declared.Refusal.TheVariants as refusal
 use Rattle.act_plans.specs.declared.rising.Prepared.{Prepared}
@@ -13,6 +18,7 @@ use Rattle.act_lines.specs.Opened.{AreOpened}
 use Rattle.act_executor.specs.declared.joined.Ends.{Ends}
 use Rattle.act_executor.specs.declared.joined.Joined.{Joined}
 use Rattle.act_executor.specs.declared.run.RunFault.{RunFault}
+use Rattle.act_executor.specs.Conducts.{Doing}
 use Rattle.act_executor.specs.Joins.{AreServed, AreDriven, AreStarters, AreCompared}
 use Rattle.act_executor.specs.declared.run.RunFault.TheVariants.{TooMany, BadPlan, NoThread, NoMemory}
 
@@ -40,11 +46,22 @@ IsFault casts plans NoThread = first_bad_plan casts plans ≡ None
 IsFault casts plans NoMemory = Unit {0}
 
 -- lines were opened for what was prepared, all threads ended at them, and their lines were compared
-pub record HasRun {K : Type 0} (state : K → KindState) (prepared : Prepared K) (joined : Joined K) : Type 0 where
+pub record HasRun {K : Type 0} (state : K → KindState) (does : ℕ → Doing) (prepared : Prepared K) (joined : Joined K) : Type 0 where
   pub opened : Opened
   pub ends : Ends K
+  pub matched : AreMatched prepared.casts.items prepared.parts.items
   pub opening : AreOpened prepared.casts.items prepared.parts.items opened
   pub served : AreServed state opened.lines prepared.casts.items opened.execs.items ends.actors.items
-  pub driven : AreDriven opened.lines prepared.parts.items opened.callers.items ends.callers.items
+  pub driven : AreDriven opened.lines does prepared.parts.items opened.callers.items ends.callers.items
   pub starters : AreStarters opened.lines.controls.items ends.starters.items
   pub compared : AreCompared ends joined
+
+-- the casts and the parts of these casts and plans, where no step of a plan would be refused
+pub record IsPrepared {K : Type 0} (state : K → KindState) (casts : List (Cast K)) (plans : List (ℕ × Vec Step)) (prepared : Prepared K) : Type 0 where
+  pub rising : prepared.casts.items ≡ by_rising_actor casts
+  pub parts_are : map part_seen prepared.parts.items ≡ map (part_of casts plans) (callers_named_by casts)
+  pub matched : AreMatched prepared.casts.items prepared.parts.items
+  pub limits : All HasLimits prepared.parts.items
+  pub numbers : All HasNumbers casts
+  pub fits : All (λ part. first_bad part.actors.items part.plan.items ≡ None) prepared.parts.items
+  pub good : first_bad_plan (map (casting state) casts) (map plan_seen plans) ≡ None

@@ -21,11 +21,12 @@ use Rattle.act_serve.specs.Served.{HasServed, end_seen}
 use Rattle.act_serve.specs.Turns.{PassesOf, IsFresh}
 use Rattle.act_drive.specs.declared.desk.CallerPasses.{CallerPasses}
 use Rattle.act_drive.specs.declared.caller.Driven.{Driven}
-use Rattle.act_drive.specs.Driven.{HasDriven, IsFresh as IsFreshCaller}
+use Rattle.act_drive.specs.Driven.{IsFresh as IsFreshCaller}
 use Rattle.act_plans.specs.declared.part.Part.{Part}
 use Rattle.act_lines.specs.declared.opened.Lines.{Lines}
 use Rattle.act_tasks.specs.Each.{Each}
 use Rattle.act_executor.specs.Audits.{SitsAtControl}
+use Rattle.act_executor.specs.Conducts.{Doing, HasConducted}
 use Rattle.act_executor.specs.declared.starter.Starter.{Starter}
 use Rattle.act_executor.specs.declared.work.Serving.{Serving}
 use Rattle.act_executor.specs.declared.work.Driving.{Driving}
@@ -39,12 +40,12 @@ abbrev pub IsServedBy : {K G : Type 0} → (K → KindState) → Serving K G →
 IsServedBy state serving finished = let now = live_seen state serving.live in HasServed now.state now.id serving.lines.replies.now serving.passes (end_seen state finished.ended) finished.passes
 
 -- a caller's thread may run
-abbrev pub CanDrive : Driving → Type 0
+abbrev pub CanDrive : {D : Type 0} → Driving D → Type 0
 CanDrive driving = IsFreshCaller driving.lines driving.owner driving.passes × (first_bad (actors_in driving.owner.handles) driving.plan.items ≡ None)
 
 -- what it leaves
-abbrev pub IsDrivenBy : Driving → Driven → Type 0
-IsDrivenBy driving driven = HasDriven driving.lines driving.owner driving.passes driving.plan.items driven
+abbrev pub IsDrivenBy : {D : Type 0} → (D → Doing) → Driving D → Driven → Type 0
+IsDrivenBy does driving driven = HasConducted driving.lines driving.owner driving.passes (does driving.conduct driving.plan.items) driven
 
 -- how an actor begins
 pub record ActorStart : Type 0 where
@@ -60,18 +61,19 @@ abbrev pub cast_start : {K : Type 0} → (K → KindState) → List RepliesValue
 cast_start state replies given = record { id = given.0.actor; state = state given.0.kind; passes = given.1.pass; replies = replies }
 
 -- how a caller begins
-pub record CallerStart : Type 0 where
+pub record CallerStart (D : Type 0) : Type 0 where
   pub owner : OwnerValue
   pub plan : List Step
+  pub conduct : D
   pub passes : CallerPasses
   pub mails : List MailValue
   pub controls : List ControlValue
 
-abbrev pub driving_start : Driving → CallerStart
-driving_start driving = record { owner = driving.owner; plan = driving.plan.items; passes = driving.passes; mails = driving.lines.mails.now; controls = driving.lines.controls.now }
+abbrev pub driving_start : {D : Type 0} → Driving D → CallerStart D
+driving_start driving = record { owner = driving.owner; plan = driving.plan.items; conduct = driving.conduct; passes = driving.passes; mails = driving.lines.mails.now; controls = driving.lines.controls.now }
 
-abbrev pub part_start : Lines → Part × Seat CallerPasses → CallerStart
-part_start lines given = record { owner = opened_under given.0.limits.items given.0.caller given.0.actors.items; plan = given.0.plan.items; passes = given.1.pass; mails = lines.mails.items; controls = lines.controls.items }
+abbrev pub part_start : {D : Type 0} → Lines → (ℕ → D) → Part × Seat CallerPasses → CallerStart D
+part_start lines conduct_of given = record { owner = opened_under given.0.limits.items given.0.caller given.0.actors.items; plan = given.0.plan.items; conduct = conduct_of given.0.caller; passes = given.1.pass; mails = lines.mails.items; controls = lines.controls.items }
 
 -- the starter's pass at its place of the control lines, with which nothing was asked
 pub record IsUnusedStarter (controls : List ControlValue) (seat : Seat (PutterValue Asked ℕ)) : Type 0 where

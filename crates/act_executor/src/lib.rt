@@ -2,13 +2,21 @@
 #![tactic(auto)]
 
 mod audits;
+mod by_code;
+mod conduct;
+mod fitting;
 mod joined;
 mod run;
 mod starter;
 mod work;
 
-pub use act_drive::{CallerLines, CallerPasses, Driven, drive};
+pub use act_drive::{
+    CallerLines, CallerPasses, Code, Driven, GaveUp, KillRefusal, Session, WaitRefusal, drive,
+    drive_code,
+};
 pub use act_plans::{Plan, plans_fit};
 pub use act_serve::{Ended, ExecLines, ExecPasses, Finished, Gate, NoGate, serve};
+pub use by_code::run_callers;
+pub use fitting::codes_fit;
 pub use joined::Joined;
 pub use run::{RunFault, run_plans};

@@ -14,8 +14,9 @@ ghost use Rattle.act_lines.specs.Opened.{IsExec, IsCaller};
 ghost use Rattle.act_joint.specs.Joined.{IsJoined};
 ghost use Rattle.act_executor.specs.Joins.{AreServed, AreDriven, AreStarters};
 ghost use Rattle.act_executor.specs.Work.{IsReady, IsServedBy, CanDrive, IsDrivenBy, CanStop};
-ghost use Rattle.act_executor.specs.Runs.{plan_seen, HasRun, IsFault, IsThreadFault, fault_of};
+ghost use Rattle.act_executor.specs.Runs.{plan_seen, HasRun, IsPrepared, IsFault, IsThreadFault, fault_of};
 
+use crate::conduct::{ByPlan, Conduct, Conducts};
 use crate::joined::{Ends, Joined, settle};
 use crate::starter::{Starter, starter_at};
 use crate::work::{Driving, Serving, drivings, servings};
@@ -119,18 +120,18 @@ struct Passes {
 }
 
 /// Runs the tasks in threads of their own.
-fn run_tasks<R: Threads + Wait + Sync, K: Actor + Send, G: Gate>(
+fn run_tasks<R: Threads + Wait + Sync, K: Actor + Send, D: Conduct + Send, G: Gate>(
     rt: &R,
     alloc: Global,
     servings: Vec<Serving<K, G>>,
-    drivings: Vec<Driving>,
+    drivings: Vec<Driving<D>>,
     starter: Starter,
 ) -> Result<Ends<K>, RunFault>
     requires servings { All (IsReady K.state) servings.items }
     requires drivings { All CanDrive drivings.items }
     requires starter { CanStop starter }
     ensures actors { IfOk result (λ ends. Each (IsServedBy K.state) servings.entry.items ends.actors.items) }
-    ensures callers { IfOk result (λ ends. Each IsDrivenBy drivings.entry.items ends.callers.items) }
+    ensures callers { IfOk result (λ ends. Each (IsDrivenBy D.does) drivings.entry.items ends.callers.items) }
     ensures starters { IfOk result (λ ends. ends.starters.items ≡ starter.entry.seats.items) }
     ensures fault { IfErr result IsThreadFault }
 {
@@ -144,10 +145,11 @@ fn run_tasks<R: Threads + Wait + Sync, K: Actor + Send, G: Gate>(
 }
 
 /// Runs each actor and each caller in a thread of its own, at these lines.
-fn run_threads<R: Threads + Wait + Sync, K: Actor + Send, G: Gate>(
+fn run_threads<R: Threads + Wait + Sync, K: Actor + Send, D: Conducts, G: Gate>(
     rt: &R,
     alloc: Global,
     prepared: Prepared<K>,
+    conducts: D,
     lines: &Lines,
     passes: Passes,
     gate: &G,
@@ -162,7 +164,7 @@ fn run_threads<R: Threads + Wait + Sync, K: Actor + Send, G: Gate>(
     requires callers { Each (IsCaller lines.now) prepared.parts.items passes.callers.items }
     requires starters { passes.starters.items ≡ map (λ control. new_putter control.line starter) lines.now.controls.items }
     ensures actors { IfOk result (λ ends. AreServed K.state lines.now prepared.casts.items passes.execs.items ends.actors.items) }
-    ensures callers { IfOk result (λ ends. AreDriven lines.now prepared.parts.items passes.callers.items ends.callers.items) }
+    ensures callers { IfOk result (λ ends. AreDriven lines.now (λ c. D.One.does (D.of conducts c)) prepared.parts.items passes.callers.items ends.callers.items) }
     ensures starters { IfOk result (λ ends. AreStarters lines.now.controls.items ends.starters.items) }
     ensures fault { IfErr result IsThreadFault }
 {
@@ -173,23 +175,24 @@ fn run_threads<R: Threads + Wait + Sync, K: Actor + Send, G: Gate>(
         starters,
     } = passes;
     let servings = servings(alloc, casts, lines, execs, gate)?;
-    let drivings = drivings(alloc, parts, lines, callers)?;
+    let drivings = drivings(alloc, parts, conducts, lines, callers)?;
     let starter = starter_at(alloc, lines.controls.as_slice(), starters)?;
     let ends = run_tasks(rt, alloc, servings, drivings, starter)?;
     Ok(ends)
 }
 
 /// Opens all lines, runs all threads, and compares what they left.
-fn run_prepared<R: Threads + Wait + Sync, K: Actor + Send, G: Gate>(
+pub(crate) fn run_prepared<R: Threads + Wait + Sync, K: Actor + Send, D: Conducts, G: Gate>(
     rt: &R,
     alloc: Global,
     prepared: Prepared<K>,
+    conducts: D,
     gate: &G,
 ) -> Result<Joined<K>, RunFault>
     requires matched { AreMatched prepared.casts.items prepared.parts.items }
     requires limits { All HasLimits prepared.parts.items }
     requires fits { All (λ part. first_bad part.actors.items part.plan.items ≡ None) prepared.parts.items }
-    ensures joined { IfOk result (HasRun K.state prepared) }
+    ensures joined { IfOk result (HasRun K.state (λ c. D.One.does (D.of conducts c)) prepared) }
     ensures fault { IfErr result IsThreadFault }
 {
     let opened = open_lines(alloc, prepared.casts.as_slice(), prepared.parts.as_slice())?;
@@ -204,9 +207,27 @@ fn run_prepared<R: Threads + Wait + Sync, K: Actor + Send, G: Gate>(
         callers,
         starters,
     };
-    let ends = run_threads(rt, alloc, prepared, &lines, passes, gate)?;
+    let ends = run_threads(rt, alloc, prepared, conducts, &lines, passes, gate)?;
     let joined = settle(rt, alloc, &lines, ends)?;
     Ok(joined)
+}
+
+/// What is prepared of the casts and the plans, where no step of a plan would be refused.
+pub(crate) fn prepare_good<K: Actor>(
+    alloc: Global,
+    casts: Vec<Cast<K>>,
+    plans: Vec<(CallerId, Plan)>,
+) -> Result<Prepared<K>, RunFault>
+    requires fit { IsFitting casts.items }
+    requires plans { PlansFit casts.items plans.items }
+    ensures prepared { IfOk result (IsPrepared K.state casts.items plans.items) }
+    ensures fault { IfErr result (IsFault (map (casting K.state) casts.items) (map plan_seen plans.items)) }
+{
+    let prepared = prepare(alloc, casts, plans)?;
+    if let Some(bad) = first_bad_part(alloc, prepared.parts.as_slice())? {
+        return Err(RunFault::BadPlan(bad.0, bad.1));
+    }
+    Ok(prepared)
 }
 
 /// Runs each actor and each caller in a thread of its own, each caller by its plan, and ends when
@@ -227,10 +248,7 @@ pub fn run_plans<R: Threads + Wait + Sync, K: Actor + Send, G: Gate>(
     ensures good { IfOk result (λ _. first_bad_plan (map (casting K.state) casts.items) (map plan_seen plans.items) ≡ None) }
     ensures fault { IfErr result (IsFault (map (casting K.state) casts.items) (map plan_seen plans.items)) }
 {
-    let prepared = prepare(alloc, casts, plans)?;
-    if let Some(bad) = first_bad_part(alloc, prepared.parts.as_slice())? {
-        return Err(RunFault::BadPlan(bad.0, bad.1));
-    }
-    let joined = run_prepared(rt, alloc, prepared, gate)?;
+    let prepared = prepare_good(alloc, casts, plans)?;
+    let joined = run_prepared(rt, alloc, prepared, ByPlan, gate)?;
     Ok(joined)
 }

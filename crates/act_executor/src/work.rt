@@ -1,6 +1,6 @@
 //! What the threads are given.
 
-ghost use Rattle.std.specs.Prelude.{◌≡◌, ◌<◌, length, map, zip, All, None, IfOk};
+ghost use Rattle.std.specs.Prelude.{◌≡◌, ◌≢◌, ◌<◌, length, map, zip, All, AllPairs, None, IfOk};
 ghost use Rattle.act_rules.specs.Plans.{first_bad};
 ghost use Rattle.act_actor.specs.Cast.{CallersDiffer};
 ghost use Rattle.act_tasks.specs.Each.{Each, EachReady};
@@ -8,8 +8,9 @@ ghost use Rattle.act_plans.specs.Parts.{HasLimits};
 ghost use Rattle.act_lines.specs.Opened.{IsExec, IsCaller};
 ghost use Rattle.act_executor.specs.Work.{IsReady, IsServedBy, CanDrive, IsDrivenBy, serving_start, cast_start, driving_start, part_start};
 
+use crate::conduct::{Conduct, Conducts};
 use act_actor::{Cast, Live};
-use act_drive::{CallerLines, CallerPasses, Driven, Plan, drive};
+use act_drive::{CallerLines, CallerPasses, Driven, Plan};
 use act_kinds::Actor;
 use act_lines::Lines;
 use act_owner::Owner;
@@ -56,30 +57,32 @@ impl<'a, K: Actor + Send, G: Gate> Task for Serving<'a, K, G> {
 
 /// What a caller's thread is given.
 #[derive(Drop)]
-pub(crate) struct Driving<'a> {
+pub(crate) struct Driving<'a, D> {
     alloc: Global,
     owner: Owner,
     plan: Plan,
+    conduct: D,
     lines: CallerLines<'a>,
     passes: CallerPasses,
 }
 
-impl<'a> Task for Driving<'a> {
+impl<'a, D: Conduct + Send> Task for Driving<'a, D> {
     type Output = Driven;
 
     ghost ready = { CanDrive };
 
-    ghost done = { IsDrivenBy };
+    ghost done = { IsDrivenBy D.does };
 
     fn run<R: Wait>(self, rt: &R) -> Driven {
         let Driving {
             alloc,
             owner,
             plan,
+            conduct,
             lines,
             passes,
         } = self;
-        drive(rt, alloc, owner, plan, &lines, passes)
+        conduct.drive(rt, alloc, owner, plan, &lines, passes)
     }
 }
 
@@ -143,19 +146,20 @@ pub(crate) fn servings<'a, K: Actor, G>(
 }
 
 /// What one caller's thread is given.
-fn one_driving<'a>(
+fn one_driving<'a, D: Conduct>(
     alloc: Global,
     part: Part,
+    conduct: D,
     lines: &'a Lines,
     caller: Seat<CallerPasses>,
-) -> Result<Driving<'a>, NoMemory>
+) -> Result<Driving<'a, D>, NoMemory>
     requires actors { CallersDiffer part.actors.items }
     requires limits { HasLimits part }
     requires place { caller.place < length lines.now.replies.items }
     requires caller { IsCaller lines.now part caller }
     requires fits { first_bad part.actors.items part.plan.items ≡ None }
     ensures ready { IfOk result CanDrive }
-    ensures start { IfOk result (λ driving. driving_start driving ≡ part_start lines.now (part, caller)) }
+    ensures start { IfOk result (λ driving. driving_start driving ≡ part_start lines.now (λ _. conduct) (part, caller)) }
 {
     let Part {
         caller: id,
@@ -174,30 +178,35 @@ fn one_driving<'a>(
         alloc,
         owner,
         plan,
+        conduct,
         lines,
         passes: pass,
     })
 }
 
 /// What the callers' threads are given.
-pub(crate) fn drivings<'a>(
+pub(crate) fn drivings<'a, D: Conducts>(
     alloc: Global,
     parts: Vec<Part>,
+    conducts: D,
     lines: &'a Lines,
     callers: Vec<Seat<CallerPasses>>,
-) -> Result<Vec<Driving<'a>>, NoMemory>
+) -> Result<Vec<Driving<'a, D::One>>, NoMemory>
     requires actors { All (λ part. CallersDiffer part.actors.items) parts.items }
     requires limits { All HasLimits parts.items }
+    requires differ { AllPairs (λ one other. one.caller ≢ other.caller) parts.items }
     requires places { All (λ caller. caller.place < length lines.now.replies.items) callers.items }
     requires callers { Each (IsCaller lines.now) parts.items callers.items }
     requires fits { All (λ part. first_bad part.actors.items part.plan.items ≡ None) parts.items }
     ensures ready { IfOk result (λ drivings. All CanDrive drivings.items) }
     ensures starts { IfOk result (λ drivings.
-        map driving_start drivings.items ≡ map (part_start lines.now) (zip parts.items callers.items)) }
+        map driving_start drivings.items ≡ map (part_start lines.now (D.of conducts)) (zip parts.items callers.items)) }
 {
+    let mut conducts = conducts;
     let mut drivings = Vec::new(alloc);
     for (part, caller) in parts.into_iter().zip(callers) {
-        drivings.push(one_driving(alloc, part, lines, caller)?)?;
+        let conduct = conducts.take(part.caller);
+        drivings.push(one_driving(alloc, part, conduct, lines, caller)?)?;
     }
     Ok(drivings)
 }

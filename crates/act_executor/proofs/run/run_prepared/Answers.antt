@@ -1,3 +1,4 @@
+use Rattle.std.proofs.Common.{ℕ}
 use Rattle.act_executor.proofs.Prepared.{opened_for, exec_places_below, caller_places_below, mail_lines, control_lines, reply_lines, actors_sit, callers_sit, starters_sit}
 use Rattle.act_executor.proofs.run.run_prepared.Goals as goal
 
@@ -39,7 +40,7 @@ settle-requires-clause-controls g c =
 pub settle-requires-clause-replies : goal.settle-requires-clause-replies
 settle-requires-clause-replies g c =
     let ok = opened_for c.args.prepared.casts.items c.as_slice.result.now c.args.prepared.parts.items c.as_slice-2.result.now c.in_ok-opened.opened c.as_slice.ensures.value c.as_slice-2.ensures.value c.in_ok-opened.ensures in
-    reply_lines g.K.Actor.state c.args.prepared.casts.items c.args.prepared.parts.items c.in_ok-opened.opened ok c.in_ok-ends.ends.callers.items c.in_ok-ends.ensures.callers
+    reply_lines g.K.Actor.state c.args.prepared.casts.items c.args.prepared.parts.items c.in_ok-opened.opened ok (λ (caller : ℕ). g.D.One.Conduct.does (g.D.Conducts.of c.args.conducts caller)) c.in_ok-ends.ends.callers.items c.in_ok-ends.ensures.callers
 
 pub settle-requires-clause-actors : goal.settle-requires-clause-actors
 settle-requires-clause-actors g c =
@@ -49,7 +50,7 @@ settle-requires-clause-actors g c =
 pub settle-requires-clause-callers : goal.settle-requires-clause-callers
 settle-requires-clause-callers g c =
     let ok = opened_for c.args.prepared.casts.items c.as_slice.result.now c.args.prepared.parts.items c.as_slice-2.result.now c.in_ok-opened.opened c.as_slice.ensures.value c.as_slice-2.ensures.value c.in_ok-opened.ensures in
-    callers_sit g.K.Actor.state c.args.prepared.casts.items c.args.prepared.parts.items c.in_ok-opened.opened ok c.in_ok-ends.ends.callers.items c.in_ok-ends.ensures.callers
+    callers_sit g.K.Actor.state c.args.prepared.casts.items c.args.prepared.parts.items c.in_ok-opened.opened ok (λ (caller : ℕ). g.D.One.Conduct.does (g.D.Conducts.of c.args.conducts caller)) c.in_ok-ends.ends.callers.items c.in_ok-ends.ensures.callers
 
 pub settle-requires-clause-starters : goal.settle-requires-clause-starters
 settle-requires-clause-starters g c = starters_sit c.in_ok-opened.opened.lines.controls.items c.in_ok-ends.ends.starters.items c.in_ok-ends.ensures.starters
@@ -57,4 +58,4 @@ settle-requires-clause-starters g c = starters_sit c.in_ok-opened.opened.lines.c
 pub returns-clause-joined : goal.returns-clause-joined
 returns-clause-joined g c =
     let ok = opened_for c.args.prepared.casts.items c.as_slice.result.now c.args.prepared.parts.items c.as_slice-2.result.now c.in_ok-opened.opened c.as_slice.ensures.value c.as_slice-2.ensures.value c.in_ok-opened.ensures in
-    record { opened = c.in_ok-opened.opened; ends = c.in_ok-ends.ends; opening = ok; served = c.in_ok-ends.ensures.actors; driven = c.in_ok-ends.ensures.callers; starters = c.in_ok-ends.ensures.starters; compared = c.in_ok-joined.ensures }
+    record { opened = c.in_ok-opened.opened; ends = c.in_ok-ends.ends; matched = c.requires.matched; opening = ok; served = c.in_ok-ends.ensures.actors; driven = c.in_ok-ends.ensures.callers; starters = c.in_ok-ends.ensures.starters; compared = c.in_ok-joined.ensures }

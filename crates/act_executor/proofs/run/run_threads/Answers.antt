@@ -11,7 +11,7 @@ pub returns-clause-actors : goal.returns-clause-actors
 returns-clause-actors g c = all_served g.K.Actor.state c.args.lines.now c.args.prepared.casts.items c.args.passes.execs.items c.in_ok-servings.servings.items c.in_ok-ends.ends.actors.items c.requires.execs.0 c.in_ok-servings.ensures.starts c.in_ok-ends.ensures.actors
 
 pub returns-clause-callers : goal.returns-clause-callers
-returns-clause-callers g c = all_driven c.args.lines.now c.args.prepared.parts.items c.args.passes.callers.items c.in_ok-drivings.drivings.items c.in_ok-ends.ends.callers.items c.requires.callers.0 c.in_ok-drivings.ensures.starts c.in_ok-ends.ensures.callers
+returns-clause-callers g c = all_driven g.D.One.Conduct.does c.args.lines.now (g.D.Conducts.of c.args.conducts) c.args.prepared.parts.items c.args.passes.callers.items c.in_ok-drivings.drivings.items c.in_ok-ends.ends.callers.items c.requires.callers.0 c.in_ok-drivings.ensures.starts c.in_ok-ends.ensures.callers
 
 pub returns-clause-starters : goal.returns-clause-starters
 returns-clause-starters g c =

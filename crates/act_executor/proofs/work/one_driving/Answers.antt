@@ -8,7 +8,7 @@ use Rattle.act_executor.proofs.Owners.{can_drive, opened_for_part, limits_differ
 use Rattle.act_executor.proofs.work.one_driving.Goals as goal
 
 pub returns-clause-ready : goal.returns-clause-ready
-returns-clause-ready c =
+returns-clause-ready g c =
     let lines = c.args.lines.now in
     let mails : c.as_slice-2.result.now ≡ lines.mails.items = search rules in
     let controls : c.as_slice-3.result.now ≡ lines.controls.items = search rules in
@@ -19,15 +19,15 @@ returns-clause-ready c =
     can_drive (record { mails = c.as_slice-2.result; controls = c.as_slice-3.result; replies = c.index.result }) c.in_ok-owner.owner c.args.part.limits.items c.args.part.caller c.args.part.actors.items c.args.caller.pass c.args.part.plan.items (c.in_ok-owner.ensures ∙ ap (opened_with c.args.part.caller) limits ∙ opened_for_part c.args.part c.requires.limits) unused c.requires.fits
 
 pub open_with-requires-clause-distinct : goal.open_with-requires-clause-distinct
-open_with-requires-clause-distinct c =
+open_with-requires-clause-distinct g c =
     let limits : c.as_slice.result.now ≡ c.args.part.limits.items = search rules in
     subst (AllPairs (λ (one other : ℕ × Option ℕ). one.0 ≢ other.0)) (sym limits) (limits_differ c.args.part c.requires.limits c.requires.actors)
 
 pub returns-clause-start : goal.returns-clause-start
-returns-clause-start c =
+returns-clause-start g c =
     let lines = c.args.lines.now in
     let limits : c.as_slice.result.now ≡ c.args.part.limits.items = search rules in
     let mails : c.as_slice-2.result.now ≡ lines.mails.items = search rules in
     let controls : c.as_slice-3.result.now ≡ lines.controls.items = search rules in
     let owner = c.in_ok-owner.ensures ∙ ap (opened_with c.args.part.caller) limits ∙ opened_for_part c.args.part c.requires.limits in
-    λ i. record { owner = owner i; plan = c.args.part.plan.items; passes = c.args.caller.pass; mails = mails i; controls = controls i }
+    λ i. record { owner = owner i; plan = c.args.part.plan.items; conduct = c.args.conduct; passes = c.args.caller.pass; mails = mails i; controls = controls i }

@@ -1,0 +1,27 @@
+use Rattle.std.proofs.Common.{◌≡◌, ℕ, map, sym, subst}
+use Rattle.act_actor.specs.Casts.{casting}
+use Rattle.act_executor.specs.declared.run.RunFault.{RunFault}
+use Rattle.act_joint.specs.ByCode.{code_of}
+use Rattle.act_executor.specs.Conducts.{does_code}
+use Rattle.act_executor.specs.Runs.{plan_seen, IsFault, IsThreadFault}
+use Rattle.act_executor.proofs.Faults.{err_only, of_threads}
+use Rattle.act_executor.proofs.Joining.{is_joined_by}
+use Rattle.act_executor.proofs.by_code.run_callers.Goals as goal
+
+pub returns-in_err-prepared-clause-fault : goal.returns-in_err-prepared-clause-fault
+returns-in_err-prepared-clause-fault g c =
+    let casts = map (casting g.K.Actor.state) c.args.casts.items in
+    let plans = map plan_seen c.args.plans.items in
+    err_only c.from_residual.result (λ (f : RunFault). f ≡ c.in_err-prepared.field-0.0) (IsFault casts plans) c.from_residual.ensures.1 (λ f is. subst (IsFault casts plans) (sym is) c.in_err-prepared.ensures.fault)
+
+pub returns-in_err-joined-clause-fault : goal.returns-in_err-joined-clause-fault
+returns-in_err-joined-clause-fault g c =
+    let casts = map (casting g.K.Actor.state) c.args.casts.items in
+    let plans = map plan_seen c.args.plans.items in
+    err_only c.from_residual-in_err-joined.result (λ (f : RunFault). f ≡ c.in_err-joined.field-0.0) (IsFault casts plans) c.from_residual-in_err-joined.ensures.1 (λ f is. of_threads casts plans f c.in_ok-prepared.ensures.prepared.good (subst IsThreadFault (sym is) c.in_err-joined.ensures.fault))
+
+pub returns-clause-joined : goal.returns-clause-joined
+returns-clause-joined g c =
+    let codes = c.args.codes.items in
+    is_joined_by g.K.Actor.state (λ (caller : ℕ). does_code g.C.Code.tells (code_of caller codes)) c.args.casts.items c.args.plans.items c.in_ok-prepared.prepared c.in_ok-joined.joined c.requires.fit c.in_ok-prepared.ensures.prepared c.in_ok-joined.ensures.joined
+    g.C.Code.tells codes c.requires.codes (λ _ plan steps before later so. so)
