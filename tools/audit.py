@@ -767,18 +767,31 @@ class Audit:
 SPEC_SORTS = {"abbrev", "unfoldable", "record", "data"}
 HEAD = """# What to read to believe it
 
-This page is for somebody who trusts the checker and nobody else. `python3 tools/audit.py` makes it, and `./test` fails where it is out of date.
+This page is for somebody who trusts the checker and nobody else. `python3 tools/audit.py` makes it, and `./test` fails
+where it is out of date.
 
-1. Four public functions carry what the service promises: `World::play`, `play_script`, `run_plans` and `threads_script`. Their clauses are the promises.
-2. Each clause is proved of its function's body. What it means hangs on the definitions that it reaches by its words, and on nothing else of ours.
-3. The first list has every definition that these clauses reach, and none that they don't reach. **What a definition needs stands before it.**
-4. So read from the top. The list has a part for each function, which ends with its clauses; what an earlier part has isn't repeated.
-5. Each line is a definition: its file, the line of the file on which it begins, how many lines it has with its comment, and which words of ours it needs.
-6. What is in italics is declared in Rust: a type, a constant, a trait. A type stands there with its declaration; of its fields those count that some listed text names.
-7. Where a type has an `impl Model`, contracts see its values by the view of that. The second list has these views, and what they reach beyond the first list.
-8. Words of std and of the kit stand at the end, by name alone. What is trusted beside them is told in the README.
-9. For these clauses nothing else of ours has to be read: no proof, no other function, no test. `python3 tools/audit.py --text` prints all that is listed, in the order of this page.
-10. The tool fails where a word means nothing or two things. How it follows words is told in its head.
+1. Four public functions carry what the service promises: `World::play`, `play_script`, `run_plans` and
+   `threads_script`. Their clauses (postconditions) are the promises.
+2. Each clause is proved of its function's body. What it means hangs on the definitions that it reaches by its words,
+   and on nothing else of ours.
+3. The first list has every definition that these clauses reach, and none that they don't reach. **What a definition
+   needs stands before it.**
+
+How to read the lists:
+
+- Read from the top. The first list has a part for each function, which ends with its clauses. What an earlier part has
+  isn't repeated.
+- Each line is a definition. It tells its file, the line of the file on which it begins, how many lines it has with its
+  comment, and which words of ours it needs.
+- What is in italics is declared in Rust: a type, a constant, a trait. A type stands there with its declaration; of its
+  fields those count that some listed text names.
+- Where a type has an `impl Model`, contracts see its values by the view of that (an abstraction function). The second
+  list has these views, and what they reach beyond the first list.
+- Words of std and of the kit stand at the end, by name alone. What is trusted beside them is told in the README.
+- For these clauses nothing else of ours has to be read: no proof, no other function, no test.
+  `python3 tools/audit.py --text` prints all that is listed, in the order of this page.
+- The tool fails where a word means nothing or two things. How it follows words is told in its head.
+- [glossary.md](glossary.md) has the words beside the field's.
 """
 
 
@@ -846,8 +859,9 @@ def page_of(audit):
     yield HEAD
     specs, lines = tally([each for each in audit.by_words if is_spec(each)])
     types, lines_of_types = tally([each for each in audit.by_words if not is_spec(each) and each not in clauses])
-    yield f"The four functions have {tally(clauses)[1]} lines of clauses, their heads included. They reach **{specs} definitions of {lines} lines**, of the"
-    yield f"{audit.sources.count_of_definitions()} in all specs, and {types} declarations in Rust of {lines_of_types} lines. By crate, with what the views add:\n"
+    yield f"The four functions have {tally(clauses)[1]} lines of clauses, their heads included. They reach"
+    yield f"**{specs} definitions of {lines} lines**, of the {audit.sources.count_of_definitions()} in all specs,"
+    yield f"and {types} declarations in Rust of {lines_of_types} lines. By crate, with what the views add:\n"
     yield from totals_of(audit)
     yield "\n## What the clauses reach\n"
     for section in sections_of(audit):

@@ -2,7 +2,17 @@
 """Checks what pages say twice: the version, and which tools there are.
 
 The version is the newest of CHANGELOG.md, and each place of VERSIONED must name it and no other. tools/README.md must
-have a line for each tool, and for nothing else.
+have a line for each tool, and for nothing else. Each line of docs/glossary.md ends with a name and its file, which
+must have that name. Each crate of crates.txt has a README.md of at most 30 lines, which tells on which crates it stands.
+
+The pages of PLAIN, and those READMEs, have no line over 120 columns, but where a block quotes a file. No sentence of
+their prose is over 30 words. Of docs/audit.md the part before its second heading counts. It is counted so:
+
+  - Prose is what stands in no block: neither behind a fence nor four spaces in. Headings and pictures are none.
+  - A paragraph, an item of a list and a cell of a table are each a text of their own.
+  - A sentence ends at a `.`, `?` or `!` before a space or the end of its text; `..` ends none, nor do `:` and `;`.
+  - A word is what stands between spaces and has a letter or a digit. A piece of code is one word, and of a link its
+    text counts.
 """
 import re
 
@@ -10,6 +20,24 @@ import program
 from program import TOP
 
 VERSIONED = ["README.md", "crates.txt", "crates/ray_actors/src/main.rt"]
+GLOSSARY = "docs/glossary.md"
+PLAIN = [
+    "README.md",
+    "CONTRIBUTING.md",
+    "docs/architecture.md",
+    "docs/audit.md",
+    GLOSSARY,
+    "docs/library.md",
+    "docs/rules.md",
+    "tools/README.md",
+]
+HEAD_ALONE = {"docs/audit.md"}
+# What a crate's README may have.
+MOST_LINES = 30
+MOST_COLUMNS = 120
+MOST_WORDS = 30
+# The lines of the glossary that are of no single file.
+WITHOUT_FILE = ("- **clause, premise**", "- **must-fail edit**")
 NOT_TOOLS = {"README.md", "__pycache__"}
 
 
@@ -38,8 +66,100 @@ def faults_of_tools():
     yield from (f"tools/README.md has {name}, which isn't there" for name in sorted(listed - there))
 
 
+def faults_of_words():
+    """The lines of the glossary whose name isn't where they say."""
+    for number, line in enumerate((TOP / GLOSSARY).read_text().split("\n"), 1):
+        if not line.startswith("- ") or line.startswith(WITHOUT_FILE):
+            continue
+        found = re.search(r"`(\w+)`, ([\w/.]+)$", line)
+        path = program.CRATES / found[2] if found else None
+        if not found or not path.is_file():
+            yield f"{GLOSSARY}:{number} names no file"
+        elif not re.search(rf"\b{found[1]}\b", path.read_text()):
+            yield f"{GLOSSARY}:{number}: {found[2]} has no {found[1]}"
+
+
+def faults_of_crates():
+    """The crates without a README.md, and those in which it is long."""
+    for crate in sorted(program.listed()):
+        page = program.CRATES / crate / "README.md"
+        if not page.is_file():
+            yield f"crates/{crate} has no README.md"
+        elif (count := page.read_text().count("\n")) > MOST_LINES:
+            yield f"crates/{crate}/README.md has {count} lines, and may have {MOST_LINES}"
+        elif told_below(page) != sorted(program.listed()[crate]):
+            yield f"crates/{crate}/README.md tells other crates below it than crates.txt"
+
+
+def told_below(page):
+    """The crates on which this one stands, as its README tells."""
+    found = re.search(r"^- \*\*Stands on\*\*: (.*?)\.$", page.read_text(), re.MULTILINE | re.DOTALL)
+    words = re.split(r"; of the kit: |,", " ".join(found[1].split())) if found else []
+    return sorted(word.strip() for word in words if word.strip() != "none of the others")
+
+
+# Plain English.
+
+
+def lines_of(page):
+    """The lines of a page that count, each with its number and whether it stands in a block."""
+    fenced, headings = False, 0
+    for number, line in enumerate((TOP / page).read_text().split("\n"), 1):
+        headings += not fenced and line.startswith("#")
+        if page in HEAD_ALONE and headings > 1:
+            return
+        is_fence = line.startswith("```")
+        yield number, line, fenced or is_fence or line.startswith("    ")
+        fenced ^= is_fence
+
+
+def texts_of(page):
+    """The texts of a page, each with the number of its first line."""
+    first, text = 0, []
+    for number, line, in_block in [*lines_of(page), (0, "", False)]:
+        item = re.match(r" *(?:[-*]|\d+\.) +", line)
+        ends = in_block or not line.strip() or line.startswith(("#", "|", "!["))
+        if text and (ends or item):
+            yield first, " ".join(text)
+            text = []
+        if line.startswith("|") and not in_block:
+            yield from ((number, cell) for cell in re.split(r"(?<!\\)\|", line))
+        elif not ends:
+            first = first if text else number
+            text.append(line[item.end() if item else 0 :].strip())
+
+
+def sentences_of(text):
+    """The sentences of a text, with a piece of code as one word and of a link its text."""
+    plain = re.sub(r"\[([^\]]*)\]\([^)]*\)", r"\1", re.sub(r"`[^`]*`", "code", text))
+    return re.split(r'(?<=[^.][.?!])[)"*]*\s+', plain)
+
+
+def words_of(sentence):
+    return [word for word in sentence.split() if re.search(r"\w", word)]
+
+
+def faults_of_style(page):
+    """The lines of a page that are too long, and its sentences."""
+    for number, line, in_block in lines_of(page):
+        if len(line) > MOST_COLUMNS and not in_block:
+            yield f"{page}:{number} has {len(line)} columns, and may have {MOST_COLUMNS}"
+    for number, text in texts_of(page):
+        for sentence in sentences_of(text):
+            if (count := len(words_of(sentence))) > MOST_WORDS:
+                start = " ".join(sentence.split()[:6])
+                yield f"{page}:{number}: a sentence of {count} words, and it may have {MOST_WORDS}: {start} .."
+
+
 def main():
-    faults = [*faults_of_versions(version()), *faults_of_tools()]
+    plain = [*PLAIN, *sorted(str(path.relative_to(TOP)) for path in TOP.glob("crates/*/README.md"))]
+    faults = [
+        *faults_of_versions(version()),
+        *faults_of_tools(),
+        *faults_of_words(),
+        *faults_of_crates(),
+        *(fault for page in plain for fault in faults_of_style(page)),
+    ]
     for fault in faults:
         print(fault)
     print(f"pages: version {version()}: {len(faults)} failed")

@@ -3,7 +3,8 @@
 
 A page quotes by a fenced block whose first line names the file, as "```rust crates/../main.rt". The lines
 of the block must stand in that file one after another, but for the spaces that all of them begin with. The
-README has to quote the first program whole, and the page on the library shows no code but quotes.
+README has to quote the first program whole. The page on the library and the README of each crate show no code but
+quotes, and each crate's README shows some.
 """
 import sys
 from dataclasses import dataclass
@@ -15,6 +16,10 @@ LIBRARY = "docs/library.md"
 # The files that a page quotes whole, or in part.
 WHOLE = {README: ["crates/first_program/src/main.rt"], LIBRARY: []}
 IN_PART = {README: [], LIBRARY: ["crates/traced_run/src/main.rt"]}
+# The README of each crate.
+OF_CRATES = sorted(str(path.relative_to(TOP)) for path in TOP.glob("crates/*/README.md"))
+# Pages that show no code but quotes.
+QUOTES_ALONE = {LIBRARY, *OF_CRATES}
 FENCE = "```"
 
 
@@ -87,19 +92,22 @@ def indented(others):
 def faults_in(page):
     """What is wrong with a page, each with its line."""
     blocks, others = parts_of(page)
-    named = [block for block in blocks if page == LIBRARY or block.path()]
-    told = [(block.first, fault) for block in named if (fault := fault_of(block, WHOLE[page]))]
-    if page == LIBRARY:
+    whole, in_part = WHOLE.get(page, []), IN_PART.get(page, [])
+    named = [block for block in blocks if page in QUOTES_ALONE or block.path()]
+    told = [(block.first, fault) for block in named if (fault := fault_of(block, whole))]
+    if page in QUOTES_ALONE:
         told += [(number, "code stands here without a fence") for number in indented(others)]
+    if not named:
+        told.append((1, "the page quotes nothing"))
     quoted = {block.path() for block in named}
-    missing = [path for path in WHOLE[page] + IN_PART[page] if path not in quoted]
+    missing = [path for path in whole + in_part if path not in quoted]
     return told + [(1, f"the page doesn't quote {path}") for path in missing], len(named)
 
 
 def main():
     """Whether each page is as the code is."""
     failed, count = 0, 0
-    for page in (README, LIBRARY):
+    for page in (README, LIBRARY, *OF_CRATES):
         faults, quotes = faults_in(page)
         for line, fault in sorted(faults):
             print(f"quoted: {page}:{line}: {fault}")
