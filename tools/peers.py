@@ -1,12 +1,12 @@
 #!/usr/bin/env python3
 """Measures runs of plans in threads beside other actor systems, which do the same work on the same machine.
 
-    tools/peers.py [--small] [--may-miss] [--calls N] [--turns N] [--rounds N] [--program PATH]
+    tools/peers.py [--small] [--may-miss] [--crews CxA,..] [--calls N] [--turns N] [--rounds N] [--program PATH]
 
 Callers add 1 to counters, in four styles: each waits for each answer before its next call, or sends all its
-calls and then takes their answers; and each calls one counter, or all in turns. ray_bench, the proved program, is
-measured with several numbers of callers and actors, and beside the peers, whose sources stand in tools/peers, with
-two callers and two actors. All programs run by turns in each round, and a figure is the median of all turns.
+calls and then takes their answers; and each calls one counter, or all in turns. ray_bench, the proved program, and
+the peers, whose sources stand in tools/peers, are measured side by side with each number of callers and actors. All
+programs run by turns in each round, and a figure is the median of all turns. Large crews make fewer calls a caller.
 
 A peer's clock begins when its counters stand and ends when its callers have ended. Ours takes in the whole of
 run_plans: it opens the lines, starts a thread for each actor and each caller, retires the actors and compares what
@@ -40,14 +40,16 @@ SOURCES = TOP / "tools/peers"
 REGISTRY = "/usr/share/cargo/registry"  # Debian's crates
 
 CREWS = [(1, 1), (2, 2), (4, 4), (16, 8)]  # callers and actors
-CREW_OF_PEERS = (2, 2)
 STYLES = {
     "each awaited, one actor": ["wait", "own"],
     "each awaited, all actors": ["wait", "both"],
     "all sent, one actor": ["future", "own"],
     "all sent, all actors": ["future", "both"],
 }
+GOALS = {"all sent, all actors": 1.0}  # of ours beside the best peer
+GOAL = 1.25  # in the other styles
 CALLS = 60_000  # of each caller
+CALLERS_WITH_ALL = 4  # a larger crew makes as many calls in all as this one
 TURNS = 3
 ROUNDS = 5
 SMALL_CALLS = 2_000
@@ -144,16 +146,22 @@ class Contender:
 
     def rates(self, style, calls, turns):
         """How many thousand calls a second each turn had."""
-        words = [str(calls), *STYLES[style], str(turns)]
+        callers, actors = self.crew
+        each = calls_of_each(callers, calls)
+        words = [str(callers), str(actors), str(each), *STYLES[style], str(turns)]
         micros = [int(figure) for figure in FIGURE.findall(run([*self.command, *words]))]
         if len(micros) != turns:
             raise Failed(f"{len(micros)} figures for {turns} turns")
-        return [self.crew[0] * calls * 1_000 / max(each, 1) for each in micros]
+        return [callers * each * 1_000 / max(took, 1) for took in micros]
 
 
-def contenders_of(program, peers):
-    ours = [Contender("ours", crew, (program, *map(str, crew))) for crew in CREWS]
-    return ours + [Contender(name, CREW_OF_PEERS, tuple(command)) for name, command in peers.items()]
+def calls_of_each(callers, calls):
+    return calls if callers <= CALLERS_WITH_ALL else max(1, calls * CALLERS_WITH_ALL // callers)
+
+
+def contenders_of(program, peers, crews):
+    programs = {"Ours": [program], **peers}
+    return [Contender(name, crew, tuple(command)) for crew in crews for name, command in programs.items()]
 
 
 def measure(contenders, calls, turns, rounds):
@@ -185,22 +193,18 @@ def medians(rates, contenders, style):
     return [statistics.median(rates[each, style]) if rates[each, style] else None for each in contenders]
 
 
-def show_crews(rates, ours):
-    rows = [[style, *map(shown, medians(rates, ours, style))] for style in STYLES]
-    show_table(["{} x {}".format(*each.crew) for each in ours], rows)
-
-
 def beside_best(own, others):
     best = max(filter(None, others), default=None)
     return f"{own / best:.2f}" if own and best else "-"
 
 
-def show_peers(rates, own, others):
+def show_crew(rates, own, others):
     rows = []
     for style in STYLES:
         first, *rest = medians(rates, [own, *others], style)
-        rows.append([style, *map(shown, [first, *rest]), beside_best(first, rest)])
-    show_table(["Ours", *(each.name for each in others), "Ours / best peer"], rows)
+        goal = f"{GOALS.get(style, GOAL):.2f}"
+        rows.append([style, *map(shown, [first, *rest]), beside_best(first, rest), goal])
+    show_table([*(each.name for each in [own, *others]), "Ours / best peer", "Goal"], rows)
 
 
 def load():
@@ -210,19 +214,27 @@ def load():
 def show(rates, contenders, chosen, load_before):
     taken = f"{chosen.rounds * chosen.turns} turns of {chosen.calls:,} calls a caller"
     print(f"Thousands of calls a second, the median of {taken}, on {os.cpu_count()} cores. The load average was")
-    print(f"{load_before} before the first turn and {load()} after the last one.\n")
-    ours = [each for each in contenders if each.name == "ours"]
-    print("Ours, by callers x actors:\n")
-    show_crews(rates, ours)
-    print("Beside the peers, {} x {}:\n".format(*CREW_OF_PEERS))
-    own = next(each for each in ours if each.crew == CREW_OF_PEERS)
-    show_peers(rates, own, [each for each in contenders if each not in ours])
+    print(f"{load_before} before the first turn and {load()} after the last one. Of more than {CALLERS_WITH_ALL} callers")
+    print(f"each makes fewer calls: as many in all as of {CALLERS_WITH_ALL}.\n")
+    for crew in chosen.crews:
+        print("{} x {}, callers x actors:\n".format(*crew))
+        own, *others = (each for each in contenders if each.crew == crew)
+        show_crew(rates, own, others)
+
+
+def crews_of(words):
+    """The crews that these words name, as 2x2,16x8."""
+    crews = [tuple(map(int, word.split("x"))) for word in words.split(",")]
+    if any(len(crew) != 2 or not 1 <= crew[0] <= 16 or not 1 <= crew[1] <= 8 for crew in crews):
+        raise ValueError(words)
+    return crews
 
 
 def chosen_options():
     options = argparse.ArgumentParser(description=__doc__.splitlines()[0])
     options.add_argument("--small", action="store_true", help="one turn of each, with few calls")
     options.add_argument("--may-miss", action="store_true", help="no failure where no peer can be built")
+    options.add_argument("--crews", type=crews_of, default=CREWS, help="callers x actors, as 2x2,16x8")
     options.add_argument("--calls", type=int, default=CALLS, help="calls of each caller")
     options.add_argument("--turns", type=int, default=TURNS, help="turns of each program in a round")
     options.add_argument("--rounds", type=int, default=ROUNDS)
@@ -240,7 +252,7 @@ def main():
     chosen = chosen_options()
     with tempfile.TemporaryDirectory(prefix="peers-") as folder:
         peers, missing = build_peers(folder)
-        contenders = contenders_of(chosen.program, peers)
+        contenders = contenders_of(chosen.program, peers, chosen.crews)
         load_before = load()
         rates, wrong = measure(contenders, chosen.calls, chosen.turns, chosen.rounds)
         show(rates, contenders, chosen, load_before)

@@ -1,5 +1,6 @@
-// Two callers, each on a thread of its own, and two counters of the C++ Actor Framework, on its scheduler:
-// add_calls CALLS wait|future own|both TURNS. Prints the microseconds of each turn, from the callers' start to their end.
+// Callers, each on a thread of its own, and counters of the C++ Actor Framework, on its scheduler:
+// add_calls CALLERS COUNTERS CALLS wait|future own|both TURNS. A caller calls one counter, or all in turns.
+// Prints the microseconds of each turn, from the callers' start to their end.
 #include <caf/all.hpp>
 
 #include <chrono>
@@ -55,13 +56,19 @@ int64_t total_of(actor_system& system, const actor& counter) {
   return answer_of(self->request(counter, infinite, get_atom::value));
 }
 
-void take_turn(actor_system& system, size_t calls, bool waits, bool own) {
+struct crew {
+  size_t callers, counters;
+};
+
+void take_turn(actor_system& system, crew size, size_t calls, bool waits, bool own) {
   using clock = std::chrono::steady_clock;
-  std::vector<actor> counters{system.spawn(counter), system.spawn(counter)};
+  std::vector<actor> counters;
+  for (size_t place = 0; place < size.counters; ++place)
+    counters.push_back(system.spawn(counter));
   auto begin = clock::now();
   std::vector<std::thread> callers;
-  for (size_t caller = 0; caller < 2; ++caller) {
-    auto called = own ? std::vector<actor>{counters[caller]} : counters;
+  for (size_t caller = 0; caller < size.callers; ++caller) {
+    auto called = own ? std::vector<actor>{counters[caller % size.counters]} : counters;
     callers.emplace_back([&system, called, calls, waits] { call(system, called, calls, waits); });
   }
   for (auto& caller : callers)
@@ -72,16 +79,17 @@ void take_turn(actor_system& system, size_t calls, bool waits, bool own) {
     total += total_of(system, one);
     anon_send_exit(one, exit_reason::user_shutdown);
   }
-  if (total != static_cast<int64_t>(2 * calls))
+  if (total != static_cast<int64_t>(size.callers * calls))
     std::abort();
   std::printf("%lld us\n", static_cast<long long>(took));
 }
 
 void caf_main(actor_system& system, const actor_system_config& config) {
   const auto& words = config.remainder;
-  size_t calls = std::stoul(words.at(0)), turns = std::stoul(words.at(3));
-  for (size_t turn = 0; turn < turns; ++turn)
-    take_turn(system, calls, words.at(1) == "wait", words.at(2) == "own");
+  auto number = [&](size_t place) { return std::stoul(words.at(place)); };
+  crew size{number(0), number(1)};
+  for (size_t turn = 0; turn < number(5); ++turn)
+    take_turn(system, size, number(2), words.at(3) == "wait", words.at(4) == "own");
 }
 
 CAF_MAIN()

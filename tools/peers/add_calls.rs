@@ -1,8 +1,8 @@
-//! Two callers and two counters, each on a thread of its own: add_calls CALLS wait|future own|both TURNS.
+//! Callers and counters, each on a thread of its own: add_calls CALLERS COUNTERS CALLS wait|future own|both TURNS.
 //!
-//! A counter has an unbounded channel for an inbox, that of std or, with the feature `crossbeam`, that of
-//! crossbeam-channel. A call carries a future, which the counter fills with its total. Prints the microseconds of
-//! each turn, from the callers' start to their end.
+//! A caller calls one counter, or all in turns. A counter has an unbounded channel for an inbox, that of std or, with the
+//! feature `crossbeam`, that of crossbeam-channel. A call carries a future, which the counter fills with its total.
+//! Prints the microseconds of each turn, from the callers' start to their end.
 #[cfg(feature = "crossbeam")]
 use crossbeam_channel::{unbounded as channel, Receiver, Sender};
 #[cfg(not(feature = "crossbeam"))]
@@ -69,17 +69,17 @@ fn call(counters: &[Sender<Call>], calls: usize, waits: bool) {
     }
 }
 
-fn take_turn(calls: usize, waits: bool, own: bool) {
-    let (counters, counting): (Vec<_>, Vec<_>) = (0..2)
+fn take_turn(crew: (usize, usize), calls: usize, waits: bool, own: bool) {
+    let (counters, counting): (Vec<_>, Vec<_>) = (0..crew.1)
         .map(|_| {
             let (counter, inbox) = channel();
             (counter, thread::spawn(move || count(inbox)))
         })
         .unzip();
     let begin = Instant::now();
-    let callers: Vec<_> = (0..2)
+    let callers: Vec<_> = (0..crew.0)
         .map(|caller| {
-            let called = if own { vec![counters[caller].clone()] } else { counters.clone() };
+            let called = if own { vec![counters[caller % crew.1].clone()] } else { counters.clone() };
             thread::spawn(move || call(&called, calls, waits))
         })
         .collect();
@@ -91,14 +91,14 @@ fn take_turn(calls: usize, waits: bool, own: bool) {
         counter.send(Call::Stop).unwrap();
     }
     let total: i64 = counting.into_iter().map(|counter| counter.join().unwrap()).sum();
-    assert_eq!(total, 2 * calls as i64);
+    assert_eq!(total, (crew.0 * calls) as i64);
     println!("{} us", took.as_micros());
 }
 
 fn main() {
     let words: Vec<_> = std::env::args().collect();
-    let (calls, turns): (usize, usize) = (words[1].parse().unwrap(), words[4].parse().unwrap());
-    for _ in 0..turns {
-        take_turn(calls, words[2] == "wait", words[3] == "own");
+    let number = |place: usize| words[place].parse::<usize>().unwrap();
+    for _ in 0..number(6) {
+        take_turn((number(1), number(2)), number(3), words[4] == "wait", words[5] == "own");
     }
 }

@@ -1,5 +1,6 @@
 //! Whole runs, with what must come of them whatever the schedule.
 
+mod codes;
 mod gates;
 mod kills;
 mod limits;

@@ -78,7 +78,7 @@ fn push_ends<K: Actor>(text: &mut String, actors: &[Finished<K>]) -> Result<(), 
     Ok(())
 }
 
-fn text_of<K: Actor>(alloc: Global, joined: &Joined<K>) -> Result<String, NoMemory> {
+pub(super) fn text_of<K: Actor>(alloc: Global, joined: &Joined<K>) -> Result<String, NoMemory> {
     let mut text = String::new(alloc);
     push_owners(&mut text, joined.owners.as_slice())?;
     push_ends(&mut text, joined.actors.as_slice())?;

@@ -1,0 +1,137 @@
+//! Callers by code of their own, well used and badly.
+
+mod bad;
+mod doing;
+
+use super::scene::{Given, Ids, Row, all_actors, all_callers, counters, few_ids, limited, plans_of};
+use super::told::text_of;
+use act_actor::{Cast, cast_fits};
+use act_executor::{NoGate, Plan, RunFault, codes_fit, plans_fit, run_callers};
+use act_kinds::Counter;
+use act_types::{CallerId, Method, NoMemory};
+use doing::Doing;
+use std::alloc::Global;
+use std::process::Abort;
+use std::sync::Wait;
+use std::test::Fail;
+use std::thread::Threads;
+
+/// Runs counters with these plans and codes, and tells what is left. What doesn't fit is too many.
+fn told<R: Threads + Wait + Sync>(
+    rt: &R,
+    alloc: Global,
+    casts: Vec<Cast<Counter>>,
+    plans: Vec<(CallerId, Plan)>,
+    codes: Vec<(CallerId, Doing)>,
+) -> Result<String, RunFault> {
+    if cast_fits(casts.as_slice())
+        && plans_fit(casts.as_slice(), plans.as_slice())
+        && codes_fit(casts.as_slice(), plans.as_slice(), codes.as_slice())
+    {
+        let joined = run_callers(rt, alloc, casts, plans, codes, &NoGate)?;
+        return Ok(text_of(alloc, &joined)?);
+    }
+    Err(RunFault::TooMany)
+}
+
+/// Code for each of these callers.
+fn codes_of(
+    alloc: Global,
+    codes: &[(CallerId, Doing)],
+) -> Result<Vec<(CallerId, Doing)>, NoMemory> {
+    let mut given = Vec::new(alloc);
+    for code in codes {
+        given.push(*code)?;
+    }
+    Ok(given)
+}
+
+/// Runs two counters that callers 1 and 2 may call: caller 1 by this code, caller 2 by these steps.
+fn one_code<R: Threads + Wait + Sync>(
+    rt: &R,
+    alloc: Global,
+    doing: Doing,
+    steps: &[(CallerId, Row)],
+) -> Result<String, RunFault> {
+    let Ids { c1, c2, a1, a2, .. } = few_ids();
+    let casts = counters(alloc, &[a1, a2], &[c1, c2])?;
+    let plans = plans_of(alloc, &[c2], steps)?;
+    let codes = codes_of(alloc, &[(c1, doing)])?;
+    told(rt, alloc, casts, plans, codes)
+}
+
+/// Of such a run this is to be left.
+fn tell<R: Threads + Wait + Sync + Abort>(
+    rt: &R,
+    alloc: Global,
+    doing: Doing,
+    steps: &[(CallerId, Row)],
+    wanted: &str,
+) -> Result<(), RunFault> {
+    let text = one_code(rt, alloc, doing, steps)?;
+    assert_eq!(rt; text.as_str(), wanted);
+    Ok(())
+}
+
+/// The code adds 1 until it is answered 3, beside a plan. A code that asks for no more adds once.
+#[test]
+fn answers_decide(rt: HostRuntime) -> Result<(), Fail> {
+    let Ids { c2, a1, a2, .. } = few_ids();
+    let steps = [(c2, Row::Call(a2, Method::Add, Given::Int(5)))];
+    let thrice = "c1: 1 2 3\nc2: 5\na1 retired counter 3: c1.0 c1.1 c1.2\na2 retired counter 5: c2.0\n";
+    tell(&rt, rt.alloc(), Doing::CountsTo(a1, 3), &steps, thrice)?;
+    let once = "c1: 1\nc2: 5\na1 retired counter 1: c1.0\na2 retired counter 5: c2.0\n";
+    tell(&rt, rt.alloc(), Doing::CountsTo(a1, 1), &steps, once)?;
+    Ok(())
+}
+
+/// A code hands on the answer of a call that it doesn't wait for.
+#[test]
+fn an_answer_handed_on(rt: HostRuntime) -> Result<(), Fail> {
+    let Ids { a1, a2, .. } = few_ids();
+    let wanted = "c1: 4 4\nc2:\na1 retired counter 4: c1.0\na2 retired counter 4: c1.1\n";
+    tell(&rt, rt.alloc(), Doing::HandsOn(a1, a2, 4), &[], wanted)?;
+    Ok(())
+}
+
+/// Under a limit of 1 a code submits four calls, each of which waits for the answer before.
+#[test]
+fn a_full_limit_waits(rt: HostRuntime) -> Result<(), Fail> {
+    let alloc = rt.alloc();
+    let Ids { c1, a1, .. } = few_ids();
+    let casts = limited(counters(alloc, &[a1], &[c1])?, 1);
+    let codes = codes_of(alloc, &[(c1, Doing::FillsUp(a1, 4))])?;
+    let text = told(&rt, alloc, casts, Vec::new(alloc), codes)?;
+    let wanted = "c1: 1 2 3 4\na1 retired counter 4: c1.0 c1.1 c1.2 c1.3\n";
+    assert_eq!(rt; text.as_str(), wanted);
+    Ok(())
+}
+
+/// Code for each of these callers, which calls the first so many actors.
+fn all_add_one(
+    alloc: Global,
+    actors: u32,
+    callers: &[CallerId],
+) -> Result<Vec<(CallerId, Doing)>, NoMemory> {
+    let mut codes = Vec::new(alloc);
+    for caller in callers {
+        codes.push((*caller, Doing::AddsToEach(actors)))?;
+    }
+    Ok(codes)
+}
+
+/// Sixteen callers by code, each of which adds 1 to each of eight actors.
+#[test]
+fn sixteen_codes_and_eight_actors(rt: HostRuntime) -> Result<(), Fail> {
+    let alloc = rt.alloc();
+    let actors = all_actors(alloc)?;
+    let callers = all_callers(alloc)?;
+    let casts = counters(alloc, actors.as_slice(), callers.as_slice())?;
+    let codes = all_add_one(alloc, 8, callers.as_slice())?;
+    let text = told(&rt, alloc, casts, Vec::new(alloc), codes)?;
+    for actor in &actors {
+        let line = format!(in alloc; "\n{actor} retired counter 16: ")?;
+        assert!(rt; text.as_str().contains(line.as_str()), "{actor}");
+    }
+    Ok(())
+}

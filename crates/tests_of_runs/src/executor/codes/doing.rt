@@ -1,0 +1,137 @@
+//! What the code of a test's caller does.
+
+ghost use Rattle.std.specs.Prelude.{Unit};
+
+use act_executor::{Code, GaveUp, Session};
+use act_types::{ActorId, Answer, Arg, FutureId, ListOf, Method, NoMemory, Value};
+use std::alloc::Global;
+
+/// What one caller does.
+#[derive(Clone, Copy)]
+pub(super) enum Doing {
+    /// Adds 1 until it is answered as much.
+    CountsTo(ActorId, i64),
+    /// Adds so much to the first, and its answer to the second.
+    HandsOn(ActorId, ActorId, i64),
+    /// Adds 1 so many times, and waits for none. At most one of the calls may have no answer.
+    FillsUp(ActorId, u32),
+    /// Adds 1 to each of the first so many actors.
+    AddsToEach(u32),
+    /// Adds 1 so many times, and gives up.
+    GivesUp(ActorId, u32),
+    /// Submits nothing.
+    Rests,
+    /// Waits for a future that it doesn't have.
+    WaitsForNone,
+    /// Lets its handle go, uses it all the same, and goes on with the other.
+    LetsGo(ActorId, ActorId),
+    /// Uses an actor that it has no handle of.
+    AsksAStranger(ActorId),
+    /// Asks for the kill, and adds 1.
+    Kills(ActorId),
+}
+
+/// A number as an argument.
+pub(super) fn int(alloc: Global, number: i64) -> Result<ListOf<Arg>, NoMemory> {
+    let mut args = ListOf::new(alloc);
+    args.push(Arg::Plain(Value::Int(number)))?;
+    Ok(args)
+}
+
+/// The answer of a call as an argument.
+fn later(alloc: Global, k: FutureId) -> Result<ListOf<Arg>, NoMemory> {
+    let mut args = ListOf::new(alloc);
+    args.push(Arg::Fut(k))?;
+    Ok(args)
+}
+
+/// Whether the answer is this number.
+fn is_int(answer: Option<&Answer>, number: i64) -> bool {
+    match answer {
+        Some(Ok(Value::Int(value))) => *value == number,
+        _ => false,
+    }
+}
+
+/// Adds 1, and waits for the answer.
+pub(super) fn ask_one<S: Session>(session: &mut S, a: ActorId) -> Result<FutureId, GaveUp> {
+    let one = int(session.alloc(), 1)?;
+    Ok(session.ask(a, Method::Add, one)?)
+}
+
+/// Adds 1.
+fn submit_one<S: Session>(session: &mut S, a: ActorId) -> Result<(), GaveUp> {
+    let one = int(session.alloc(), 1)?;
+    session.submit(a, Method::Add, one)?;
+    Ok(())
+}
+
+fn count_to<S: Session>(session: &mut S, a: ActorId, number: i64) -> Result<(), GaveUp> {
+    for _ in 0..100u32 {
+        let k = ask_one(session, a)?;
+        if is_int(session.answer(k), number) {
+            return Ok(());
+        }
+    }
+    Err(GaveUp)
+}
+
+fn hand_on<S: Session>(
+    session: &mut S,
+    one: ActorId,
+    other: ActorId,
+    number: i64,
+) -> Result<(), GaveUp> {
+    let args = int(session.alloc(), number)?;
+    let k = session.submit(one, Method::Add, args)?;
+    let args = later(session.alloc(), k)?;
+    session.submit(other, Method::Add, args)?;
+    Ok(())
+}
+
+/// Gives up where the limit isn't 1, or more than one call has no answer.
+fn fill_up<S: Session>(session: &mut S, a: ActorId, calls: u32) -> Result<(), GaveUp> {
+    for _ in 0..calls {
+        submit_one(session, a)?;
+        if session.limit(a) != Some(1) || session.pending(a) > 1 {
+            return Err(GaveUp);
+        }
+    }
+    Ok(())
+}
+
+fn add_to_each<S: Session>(session: &mut S, actors: u32) -> Result<(), GaveUp> {
+    for before in 0..actors {
+        let Some(a) = ActorId::new(before as u8 + 1) else {
+            return Err(GaveUp);
+        };
+        submit_one(session, a)?;
+    }
+    Ok(())
+}
+
+fn give_up<S: Session>(session: &mut S, a: ActorId, calls: u32) -> Result<(), GaveUp> {
+    for _ in 0..calls {
+        submit_one(session, a)?;
+    }
+    Err(GaveUp)
+}
+
+impl Code for Doing {
+    ghost tells = { λ _ _ _. Unit {0} };
+
+    fn run<S: Session>(&mut self, session: &mut S) -> Result<(), GaveUp> {
+        match *self {
+            Doing::CountsTo(a, number) => count_to(session, a, number),
+            Doing::HandsOn(one, other, number) => hand_on(session, one, other, number),
+            Doing::FillsUp(a, calls) => fill_up(session, a, calls),
+            Doing::AddsToEach(actors) => add_to_each(session, actors),
+            Doing::GivesUp(a, calls) => give_up(session, a, calls),
+            Doing::Rests => Ok(()),
+            Doing::WaitsForNone => super::bad::wait_for_none(session),
+            Doing::LetsGo(a, other) => super::bad::let_go(session, a, other),
+            Doing::AsksAStranger(a) => super::bad::ask_a_stranger(session, a),
+            Doing::Kills(a) => super::bad::kill(session, a),
+        }
+    }
+}
