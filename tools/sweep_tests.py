@@ -8,7 +8,7 @@ error that says so, and no other. An actor or a caller in a thread of its own en
 by then what is due. Anything else is a failure, as a run is that doesn't end, and so is a test of which
 no call is refused.
 
-Each of the others is a run of callers and actors in threads. It ends, whatever is refused: as if
+Each of the others is a run of callers and actors in threads, by plans or by code. It ends, whatever is refused: as if
 nothing were, or the test's result is want of memory or, since the start of a thread asks for memory, of
 a thread; and always want of a thread where one is refused. The number of requests may vary there, so
 the sweep goes on until no run that it saw made so many.
@@ -31,6 +31,7 @@ TESTS += [("tests_of_worlds", f"world::{row}") for row in ROWS]
 TESTS += [("tests_of_own_kinds", "memory::refused_memory_changes_nothing")]
 TESTS += [("tests_of_threads", f"{part}::refused_memory_starves") for part in ["serve", "drive::starved"]]
 ONCE = ["a_table_and_an_account", "kills::a_kill_once", "terminates::a_terminate_once", "limits::waiting_pushes_once"]
+ONCE += ["codes::answers_decide", "codes::bad::gives_up", "codes::bad::lets_all_go"]
 RUNS = [("tests_of_runs", f"executor::{run}") for run in ONCE]
 RUNS += [("tests_of_own_kinds", "queue::in_threads_beside_a_known_kind")]
 PASSED = 0
