@@ -3,7 +3,9 @@
 mod bad;
 mod doing;
 
-use super::scene::{Given, Ids, Row, all_actors, all_callers, counters, few_ids, limited, plans_of};
+use super::scene::{
+    Given, Ids, Row, all_actors, all_callers, counters, few_ids, limited, plans_of,
+};
 use super::told::text_of;
 use act_actor::{Cast, cast_fits};
 use act_executor::{NoGate, Plan, RunFault, codes_fit, plans_fit, run_callers};
@@ -78,7 +80,8 @@ fn tell<R: Threads + Wait + Sync + Abort>(
 fn answers_decide(rt: HostRuntime) -> Result<(), Fail> {
     let Ids { c2, a1, a2, .. } = few_ids();
     let steps = [(c2, Row::Call(a2, Method::Add, Given::Int(5)))];
-    let thrice = "c1: 1 2 3\nc2: 5\na1 retired counter 3: c1.0 c1.1 c1.2\na2 retired counter 5: c2.0\n";
+    let thrice =
+        "c1: 1 2 3\nc2: 5\na1 retired counter 3: c1.0 c1.1 c1.2\na2 retired counter 5: c2.0\n";
     tell(&rt, rt.alloc(), Doing::CountsTo(a1, 3), &steps, thrice)?;
     let once = "c1: 1\nc2: 5\na1 retired counter 1: c1.0\na2 retired counter 5: c2.0\n";
     tell(&rt, rt.alloc(), Doing::CountsTo(a1, 1), &steps, once)?;
@@ -107,15 +110,11 @@ fn a_full_limit_waits(rt: HostRuntime) -> Result<(), Fail> {
     Ok(())
 }
 
-/// Code for each of these callers, which calls the first so many actors.
-fn all_add_one(
-    alloc: Global,
-    actors: u32,
-    callers: &[CallerId],
-) -> Result<Vec<(CallerId, Doing)>, NoMemory> {
+/// Code for each of these callers, which calls all actors.
+fn all_add_one(alloc: Global, callers: &[CallerId]) -> Result<Vec<(CallerId, Doing)>, NoMemory> {
     let mut codes = Vec::new(alloc);
     for caller in callers {
-        codes.push((*caller, Doing::AddsToEach(actors)))?;
+        codes.push((*caller, Doing::AddsToEach))?;
     }
     Ok(codes)
 }
@@ -127,7 +126,7 @@ fn sixteen_codes_and_eight_actors(rt: HostRuntime) -> Result<(), Fail> {
     let actors = all_actors(alloc)?;
     let callers = all_callers(alloc)?;
     let casts = counters(alloc, actors.as_slice(), callers.as_slice())?;
-    let codes = all_add_one(alloc, 8, callers.as_slice())?;
+    let codes = all_add_one(alloc, callers.as_slice())?;
     let text = told(&rt, alloc, casts, Vec::new(alloc), codes)?;
     for actor in &actors {
         let line = format!(in alloc; "\n{actor} retired counter 16: ")?;

@@ -68,10 +68,12 @@ pub(super) fn kill<S: Session>(session: &mut S, a: ActorId) -> Result<(), GaveUp
 
 /// Whether the run ended for want of memory. Other faults stay what they are.
 fn gave_up(run: Result<String, RunFault>) -> Result<bool, RunFault> {
-    match run {
-        Ok(_) => Ok(false),
-        Err(RunFault::NoMemory) => Ok(true),
-        Err(fault) => Err(fault),
+    let Err(fault) = run else {
+        return Ok(false);
+    };
+    match fault {
+        RunFault::NoMemory => Ok(true),
+        _ => Err(fault),
     }
 }
 

@@ -1,9 +1,7 @@
 //! What the code of a test's caller does.
 
-ghost use Rattle.std.specs.Prelude.{Unit};
-
 use act_executor::{Code, GaveUp, Session};
-use act_types::{ActorId, Answer, Arg, FutureId, ListOf, Method, NoMemory, Value};
+use act_types::{ActorId, Answer, Arg, FutureId, ListOf, MOST_ACTORS, Method, NoMemory, Value};
 use std::alloc::Global;
 
 /// What one caller does.
@@ -15,8 +13,8 @@ pub(super) enum Doing {
     HandsOn(ActorId, ActorId, i64),
     /// Adds 1 so many times, and waits for none. At most one of the calls may have no answer.
     FillsUp(ActorId, u32),
-    /// Adds 1 to each of the first so many actors.
-    AddsToEach(u32),
+    /// Adds 1 to each of eight actors.
+    AddsToEach,
     /// Adds 1 so many times, and gives up.
     GivesUp(ActorId, u32),
     /// Submits nothing.
@@ -100,12 +98,9 @@ fn fill_up<S: Session>(session: &mut S, a: ActorId, calls: u32) -> Result<(), Ga
     Ok(())
 }
 
-fn add_to_each<S: Session>(session: &mut S, actors: u32) -> Result<(), GaveUp> {
-    for before in 0..actors {
-        let Some(a) = ActorId::new(before as u8 + 1) else {
-            return Err(GaveUp);
-        };
-        submit_one(session, a)?;
+fn add_to_each<S: Session>(session: &mut S) -> Result<(), GaveUp> {
+    for before in 0..MOST_ACTORS {
+        submit_one(session, ActorId::new(before + 1).unwrap())?;
     }
     Ok(())
 }
@@ -121,17 +116,18 @@ impl Code for Doing {
     ghost tells = { λ _ _ _. Unit {0} };
 
     fn run<S: Session>(&mut self, session: &mut S) -> Result<(), GaveUp> {
-        match *self {
-            Doing::CountsTo(a, number) => count_to(session, a, number),
-            Doing::HandsOn(one, other, number) => hand_on(session, one, other, number),
-            Doing::FillsUp(a, calls) => fill_up(session, a, calls),
-            Doing::AddsToEach(actors) => add_to_each(session, actors),
-            Doing::GivesUp(a, calls) => give_up(session, a, calls),
+        let doing = &*self;
+        match doing {
+            Doing::CountsTo(a, number) => count_to(session, *a, *number),
+            Doing::HandsOn(one, other, number) => hand_on(session, *one, *other, *number),
+            Doing::FillsUp(a, calls) => fill_up(session, *a, *calls),
+            Doing::AddsToEach => add_to_each(session),
+            Doing::GivesUp(a, calls) => give_up(session, *a, *calls),
             Doing::Rests => Ok(()),
             Doing::WaitsForNone => super::bad::wait_for_none(session),
-            Doing::LetsGo(a, other) => super::bad::let_go(session, a, other),
-            Doing::AsksAStranger(a) => super::bad::ask_a_stranger(session, a),
-            Doing::Kills(a) => super::bad::kill(session, a),
+            Doing::LetsGo(a, other) => super::bad::let_go(session, *a, *other),
+            Doing::AsksAStranger(a) => super::bad::ask_a_stranger(session, *a),
+            Doing::Kills(a) => super::bad::kill(session, *a),
         }
     }
 }
