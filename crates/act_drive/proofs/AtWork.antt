@@ -1,5 +1,5 @@
 -- A session at work.
-use Rattle.std.proofs.Common.{◌≡◌, ℕ, List, [], ◌∷◌, ◌++◌}
+use Rattle.std.proofs.Common.{ℕ, List, [], ◌∷◌, ◌++◌}
 use Rattle.act_rules.specs.declared.script.Step.{Step}
 use Rattle.act_drive.specs.declared.desk.CallerLines.{CallerLines}
 use Rattle.act_drive.specs.declared.desk.Desk.{Desk}

@@ -6,20 +6,17 @@ use Rattle.std.specs.Option.{option_or}
 use Rattle.std.specs.List.{list_all}
 use Rattle.act_types.specs.declared.call.Method.{Method}
 use Rattle.act_types.specs.declared.call.Arg.{Arg}
-use Rattle.act_types.specs.declared.message.KillNote.{KillNote}
-use Rattle.act_types.specs.declared.message.ReleaseNote.{ReleaseNote}
 use Rattle.act_types.specs.declared.limits.TheConstants.{MOST_ARGS, MOST_CALLS}
 use Rattle.act_rules.specs.declared.history.Submission.{Submission}
 use Rattle.act_rules.specs.declared.outcome.HandleRefusal.{HandleRefusal}
 use Rattle.act_rules.specs.declared.outcome.SubmitRefusal.{SubmitRefusal}
 use Rattle.act_rules.specs.declared.outcome.SubmitRefusal.TheVariants.{NoActor, NoHandle, TooManyArgs, BadFuture, TooManyCalls, PendingLimit, NoMemory}
-use Rattle.act_rules.specs.declared.script.Step.{Step}
 use Rattle.act_rules.specs.declared.script.Step.TheVariants.{Submit, Copy, Release, Kill}
 use Rattle.act_rules.specs.RunList.{Answer}
 use Rattle.act_rules.specs.Submissions.{needs, is_earlier, copies_held, kept_at, submit_refusal, limit_refusal, copy_refusal, handle_refusal}
 use Rattle.act_rules.specs.Plans.{done_by, nothing_done}
 use Rattle.act_rules.proofs.Lists.{option_or-none}
-use Rattle.act_handles.specs.Handles.{copies_in, with_copy, or_else}
+use Rattle.act_handles.specs.Handles.{copies_in, with_copy}
 use Rattle.act_handles.specs.declared.handles.Handle.{Handle}
 use Rattle.act_handles.proofs.Lookups.{copies-with_number}
 use Rattle.act_owner.specs.Owner.{OwnerValue, submission_refusal, limit_of, pending, with_call, with_handles}
@@ -27,7 +24,7 @@ use Rattle.act_drive.specs.declared.desk.CallerLines.{CallerLines}
 use Rattle.act_drive.specs.declared.desk.Desk.{Desk}
 use Rattle.act_drive.specs.declared.desk.CallerPasses.{CallerPasses}
 use Rattle.act_drive.specs.Driven.{KeptOn, bare_post, bare_ask, Stays, Waits, FollowsBy}
-use Rattle.act_drive.specs.Sessions.{Seen, seen_of, call_refusal, use_refusal, IsLater, Hears, Submits}
+use Rattle.act_drive.specs.Sessions.{Seen, seen_of, call_refusal, use_refusal, Hears, Submits}
 use Rattle.act_drive.specs.Lent.{Does}
 use Rattle.act_drive.proofs.PlanSteps.{follows_waits, submit_follows, copy_follows}
 
@@ -55,16 +52,12 @@ kept_below (x ∷ kept) (suc k) has = let below = kept_below kept k has in omega
 -- ---- what is seen
 
 pub hears_waits : (old new : Desk) → Waits old new → Hears (seen_of old.owner) (seen_of new.owner)
-hears_waits old new waits = record { calls = waits.calls; handles = waits.handles; later = record { limits = waits.stay.limits; kept = waits.stay.kept } }
+hears_waits old new waits = record { calls = waits.calls; handles = waits.handles }
 
 pub submits_hears : (call : Submission) (old mid new : Seen) → Submits call old mid → Hears mid new → Submits call old new
 submits_hears call old mid new submits hears = record {
   calls = hears.calls ∙ submits.calls;
   copies = λ a. ap (λ (h : List Handle). copies_in a h) hears.handles ∙ submits.copies a;
-  later = record {
-    limits = hears.later.limits ∙ submits.later.limits;
-    kept = λ k answer has. hears.later.kept k answer (submits.later.kept k answer has);
-  };
 }
 
 pub stays_submitted : (old new : Desk) (a : ℕ) (method : Method) (args : List Arg) → new.owner ≡ with_call old.owner a method args → new.passes ≡ old.passes → Stays old new
@@ -79,15 +72,11 @@ stays_submitted old new a method args is passes = record {
   };
 }
 
-pub submits_waited : (old mid new : Desk) (a : ℕ) (method : Method) (args : List Arg) → Waits old mid → Stays mid new → new.owner ≡ with_call mid.owner a method args
+pub submits_waited : (old mid new : Desk) (a : ℕ) (method : Method) (args : List Arg) → Waits old mid → new.owner ≡ with_call mid.owner a method args
     → Submits (record { actor = a; method = method; args = args }) (seen_of old.owner) (seen_of new.owner)
-submits_waited old mid new a method args waits stays is = record {
+submits_waited old mid new a method args waits is = record {
   calls = ap (λ (o : OwnerValue). o.calls) is ∙ ap (λ (l : List Submission). l ++ record { actor = a; method = method; args = args } ∷ []) waits.calls;
   copies = λ b. ap (λ (o : OwnerValue). copies_in b o.handles) is ∙ copies-with_number a b mid.owner.handles ∙ ap (λ (h : List Handle). copies_in b h) waits.handles;
-  later = record {
-    limits = stays.limits ∙ waits.stay.limits;
-    kept = λ k answer has. stays.kept k answer (waits.stay.kept k answer has);
-  };
 }
 
 -- ---- refusals

@@ -53,16 +53,13 @@ pub record IsLater (old new : Seen) : Type 0 where
 pub record Hears (old new : Seen) : Type 0 where
   pub calls : new.calls ≡ old.calls
   pub handles : new.handles ≡ old.handles
-  pub later : IsLater old new
 
 -- this call is submitted after the others, and no handle is copied or let go
 pub record Submits (call : Submission) (old new : Seen) : Type 0 where
   pub calls : new.calls ≡ old.calls ++ call ∷ []
   pub copies : (a : ℕ) → copies_in a new.handles ≡ copies_in a old.handles
-  pub later : IsLater old new
 
 -- a copy of the actor's handle is let go, and nothing is submitted
 pub record LetsGo (a : ℕ) (old new : Seen) : Type 0 where
   pub calls : new.calls ≡ old.calls
   pub handles : new.handles ≡ without_copy a old.handles
-  pub later : IsLater old new

@@ -2,7 +2,7 @@
 
 ghost use Rattle.std.specs.Prelude.{◌≡◌, ◌≢◌, length, None, IfOk, OnOk, IfErr, OnErr, unwrap_or};
 ghost use Rattle.act_rules.specs.declared.outcome.SubmitRefusal.TheVariants.{NoMemory as NoRoom};
-ghost use Rattle.act_drive.specs.Sessions.{call_refusal, Hears, Submits};
+ghost use Rattle.act_drive.specs.Sessions.{call_refusal, IsLater, Hears, Submits};
 
 use crate::desk::{CallerLines, Desk};
 use crate::refusals::{KillRefusal, WaitRefusal};
@@ -61,6 +61,7 @@ impl<'a, R: Wait, O: Opening> Lent<'a, R, O> {
         ensures refusal { IfErr result (λ refusal. refusal ≡ unwrap_or (call_refusal self.old actor args) NoRoom) }
         ensures refused { IfErr result (λ refusal. refusal ≢ NoRoom → self.new ≡ self.old) }
         ensures hears { OnErr result (Hears self.old self.new) }
+        ensures on { IsLater self.old self.new }
     {
         let k = self
             .desk
@@ -71,6 +72,7 @@ impl<'a, R: Wait, O: Opening> Lent<'a, R, O> {
     /// A turn after each so many submissions. What it can't send for want of memory is sent later.
     fn turn_after(&mut self)
         ensures hears { Hears self.old self.new }
+        ensures on { IsLater self.old self.new }
     {
         let _ = self
             .desk

@@ -7,7 +7,7 @@ ghost use Rattle.act_rules.specs.declared.outcome.SubmitRefusal.TheVariants.{NoM
 ghost use Rattle.act_handles.specs.Handles.{copies_in, copied, with_copy, or_else};
 ghost use Rattle.act_drive.specs.declared.refusals.WaitRefusal.TheVariants.{NoFuture, NoMemory as NoRoomToWait};
 ghost use Rattle.act_drive.specs.declared.refusals.KillRefusal.TheVariants.{NoMemory as NoRoomToAsk};
-ghost use Rattle.act_drive.specs.Sessions.{Seen, pending_of, limit_of, call_refusal, use_refusal, kill_refusal, Hears, Submits, LetsGo};
+ghost use Rattle.act_drive.specs.Sessions.{Seen, pending_of, limit_of, call_refusal, use_refusal, kill_refusal, IsLater, Hears, Submits, LetsGo};
 
 use crate::refusals::{KillRefusal, WaitRefusal};
 use act_handles::HandleRefusal;
@@ -34,7 +34,8 @@ pub trait Session {
         ensures submits { OnOk result (Submits (record { actor = actor; method = method; args = args }) (seen self.old) (seen self.new)) }
         ensures refusal { IfErr result (λ refusal. refusal ≡ unwrap_or (call_refusal (seen self.old) actor args) NoRoom) }
         ensures refused { IfErr result (λ refusal. refusal ≢ NoRoom → seen self.new ≡ seen self.old) }
-        ensures hears { OnErr result (Hears (seen self.old) (seen self.new)) };
+        ensures hears { OnErr result (Hears (seen self.old) (seen self.new)) }
+        ensures on { IsLater (seen self.old) (seen self.new) };
 
     /// Goes on when a future of this caller has an answer. It is not refused where the answer is
     /// kept.
@@ -44,7 +45,8 @@ pub trait Session {
         ensures refusal { IfErr result (λ refusal. refusal ≡ (if nat_lt k (length (seen self.old).calls) then NoRoomToWait else NoFuture)) }
         ensures refused { IfErr result (λ refusal. refusal ≢ NoRoomToWait → seen self.new ≡ seen self.old) }
         ensures kept { is_some (kept_at (seen self.old).kept k) ≡ true → result ≡ Ok tt }
-        ensures hears { Hears (seen self.old) (seen self.new) };
+        ensures hears { Hears (seen self.old) (seen self.new) }
+        ensures on { IsLater (seen self.old) (seen self.new) };
 
     /// Submits a call, waits for its answer, and gives its future. By `NoMemory` it may be that the
     /// call was submitted, and only the waiting was refused: `count` tells.
@@ -62,6 +64,7 @@ pub trait Session {
         ensures refused { IfErr result (λ refusal. refusal ≢ NoRoom → seen self.new ≡ seen self.old) }
         ensures either { OnErr result (Hears (seen self.old) (seen self.new)
             ⊎ Submits (record { actor = actor; method = method; args = args }) (seen self.old) (seen self.new)) }
+        ensures on { IsLater (seen self.old) (seen self.new) }
     {
         let k = self.submit(actor, method, args)?;
         match self.wait(k) {
@@ -78,21 +81,24 @@ pub trait Session {
     fn copy(&mut self, actor: ActorId) -> Result<u32, HandleRefusal>
         ensures value { result ≡ copied actor (seen self.old).handles }
         ensures ok { OnOk result (seen self.new ≡ record (seen self.old) { handles = with_copy actor (seen self.old).handles }) }
-        ensures err { OnErr result (seen self.new ≡ seen self.old) };
+        ensures err { OnErr result (seen self.new ≡ seen self.old) }
+        ensures on { IsLater (seen self.old) (seen self.new) };
 
     /// Lets a copy of the actor's handle go. After the last one the actor is told that no call of this
     /// caller follows. An `Err` changes nothing.
     fn release(&mut self, actor: ActorId) -> Result<(), HandleRefusal>
         ensures value { result ≡ or_else (use_refusal (seen self.old) actor) tt }
         ensures ok { OnOk result (LetsGo actor (seen self.old) (seen self.new)) }
-        ensures err { OnErr result (seen self.new ≡ seen self.old) };
+        ensures err { OnErr result (seen self.new ≡ seen self.old) }
+        ensures on { IsLater (seen self.old) (seen self.new) };
 
     /// Asks for the actor's kill, unless its death is known.
     fn kill(&mut self, actor: ActorId) -> Result<(), KillRefusal>
         ensures accepted { OnOk result (use_refusal (seen self.old) actor ≡ None) }
         ensures refusal { IfErr result (λ refusal. refusal ≡ kill_refusal (seen self.old) actor) }
         ensures refused { IfErr result (λ refusal. refusal ≢ NoRoomToAsk → seen self.new ≡ seen self.old) }
-        ensures hears { Hears (seen self.old) (seen self.new) };
+        ensures hears { Hears (seen self.old) (seen self.new) }
+        ensures on { IsLater (seen self.old) (seen self.new) };
 
     /// How many calls of the actor have no answer yet.
     fn pending(&self, actor: ActorId) -> u32

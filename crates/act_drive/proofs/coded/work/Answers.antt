@@ -1,4 +1,4 @@
-use Rattle.std.proofs.Common.{rules, ◌≡◌, subst, false}
+use Rattle.std.proofs.Common.{rules, subst}
 use Rattle.act_drive.specs.declared.desk.CallerLines.{CallerLines}
 use Rattle.act_drive.specs.Driven.{IsCalling}
 use Rattle.act_drive.proofs.Worked.{has_worked}

@@ -34,4 +34,4 @@ returns-clause-does g c =
     (accepted_before c.args.self.now c.wait_if_full.new.self c.args.a c.args.args waits c.in_ok-k.ensures.accepted)
 
 pub returns-clause-submits : goal.returns-clause-submits
-returns-clause-submits g c = submits_waited c.args.self.now c.wait_if_full.new.self c.enter.new.self c.args.a c.args.method c.args.args c.in_ok-wait_if_full.ensures.waits c.in_ok-k.ensures.stays c.in_ok-k.ensures.ok
+returns-clause-submits g c = submits_waited c.args.self.now c.wait_if_full.new.self c.enter.new.self c.args.a c.args.method c.args.args c.in_ok-wait_if_full.ensures.waits c.in_ok-k.ensures.ok
