@@ -1,0 +1,6 @@
+pub mod Balances
+pub mod Sums
+pub mod Books
+pub mod Calls
+pub mod Works
+pub mod Tries

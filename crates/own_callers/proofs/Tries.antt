@@ -1,0 +1,51 @@
+-- A retry, try by try.
+use Rattle.std.proofs.Common.{◌≡◌, ℕ, ◌+◌, ◌<◌, List, [], ◌∷◌, length, replicate, Option, Some, None, is_some, true, false, refl, ap, sym, ◌∙◌, arith, inl, inr}
+use Rattle.std.specs.Prelude.{◌⊎◌}
+use Rattle.act_types.specs.declared.value.Value.TheVariants.{Int}
+use Rattle.act_types.specs.declared.call.Arg.{Arg}
+use Rattle.act_types.specs.declared.call.Arg.TheVariants.{Plain}
+use Rattle.act_types.specs.declared.call.Method.TheVariants.{Withdraw}
+use Rattle.act_rules.specs.RunList.{Answer}
+use Rattle.act_rules.specs.Submissions.{kept_at}
+use Rattle.act_drive.specs.Sessions.{Seen, IsLater, Submits}
+use Rattle.own_callers.specs.declared.retry.Retry.{Retry}
+use Rattle.own_callers.specs.Retry.{tries, is_lacking, HasFailed, HasTried}
+use Rattle.own_callers.proofs.Calls.{called, kept_same}
+use Rattle.own_callers.proofs.Works.{replicate_more, length_of, last_or_before}
+
+pub none_failed : (r : Retry) (seen : Seen) → seen.calls ≡ [] → HasFailed r 0 seen
+none_failed r seen none = record { calls = none; failed = λ k below. absurd (omega (arith, below)) }
+
+lacking_there : (o : Option Answer) → is_lacking o ≡ true → is_some o ≡ true
+lacking_there None lacking = cc
+lacking_there (Some answer) lacking = refl
+
+-- one try more
+module _ (r : Retry) (n : ℕ) (old new : Seen) (k : ℕ) (args : List Arg) (so : HasFailed r n old) (amount : args ≡ Plain (Int r.amount) ∷ []) (future : k ≡ length old.calls)
+    (submits : Submits (record { actor = r.account; method = Withdraw; args = args }) old new) (on : IsLater old new) where
+  place : k ≡ n
+  place = future ∙ length_of old.calls n (tries r) so.calls
+
+  calls : new.calls ≡ replicate (n + 1) (tries r)
+  calls = called r.account Withdraw (Plain (Int r.amount) ∷ []) args (replicate n (tries r)) old new amount so.calls submits ∙ replicate_more n (tries r)
+
+  still : (j : ℕ) → j < n → is_lacking (kept_at new.kept j) ≡ true
+  still j below = ap is_lacking (kept_same old new j on (lacking_there (kept_at old.kept j) (so.failed j below))) ∙ so.failed j below
+
+  pub fails_more : is_lacking (kept_at new.kept k) ≡ true → HasFailed r (n + 1) new
+  fails_more lacking = record { calls = calls; failed = λ j below. go j (last_or_before j n below) }
+    where
+      go : (j : ℕ) → (j ≡ n) ⊎ (j < n) → is_lacking (kept_at new.kept j) ≡ true
+      go j (inl same) = ap (λ (m : ℕ). is_lacking (kept_at new.kept m)) (same ∙ sym place) ∙ lacking
+      go j (inr less) = still j less
+
+  -- the last try is answered otherwise
+  pub tried : n < r.most → is_some (kept_at new.kept k) ≡ true → is_lacking (kept_at new.kept k) ≡ false → HasTried r new
+  tried few there other = record {
+    before = n;
+    few = few;
+    calls = calls;
+    failed = still;
+    asked = ap (λ (m : ℕ). is_some (kept_at new.kept m)) (sym place) ∙ there;
+    last = ap (λ (m : ℕ). is_lacking (kept_at new.kept m)) (sym place) ∙ other;
+  }

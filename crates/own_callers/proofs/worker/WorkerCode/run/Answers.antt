@@ -1,0 +1,23 @@
+use Rattle.std.proofs.Common.{rules, ◌≡◌, ◌∷◌, [], ap, sym, ◌∙◌, Some, false, pos}
+use Rattle.std.specs.Prelude.{option_copied}
+use Rattle.act_types.specs.declared.value.Value.TheVariants.{Int}
+use Rattle.act_types.specs.declared.call.Arg.TheVariants.{Plain}
+use Rattle.act_rules.specs.RunList.{Answer}
+use Rattle.own_callers.specs.Worker.{is_job}
+use Rattle.own_callers.proofs.Works.{works_more, worked}
+use Rattle.own_callers.proofs.worker.WorkerCode.run.Goals as goal
+
+pub loop-jobs-preserved : goal.loop-jobs-preserved
+loop-jobs-preserved g c = λ fresh.
+    works_more c.args.self.now c.loop-jobs.jobs (g.S.Session.seen c.loop-jobs.session) (g.S.Session.seen c.ask.new.self) c.in_ok-k.k c.dequeue.result c.new.result
+    (c.loop-jobs.invariant fresh) c.dequeue.ensures c.new.ensures c.in_ok-k.ensures.future c.in_ok-k.ensures.submits c.ask.ensures.on
+    (ap is_job (sym c.answer.ensures ∙ ap option_copied c.in-Some-Ok.is) ∙ ap (λ (a : Answer). is_job (Some a)) c.in-Some-Ok.field-0-is)
+
+pub returns-in_default : goal.returns-in_default
+returns-in_default g c = λ fresh.
+    let none : is_job (option_copied c.answer.result) ≡ false = search rules in
+    let number : c.in_ok-number.field-0 ≡ Plain (Int (pos c.loop-jobs.jobs)) ∷ [] = search rules in
+    worked c.args.self.now c.loop-jobs.jobs (g.S.Session.seen c.loop-jobs.session) (g.S.Session.seen c.ask.new.self) c.in_ok-k.k c.dequeue.result c.new.result
+    (c.loop-jobs.invariant fresh) c.dequeue.ensures c.new.ensures c.in_ok-k.ensures.future c.in_ok-k.ensures.submits c.ask.ensures.on
+    (g.S.Session.seen c.ask-in_default.new.self) c.in_ok-number.field-0 c.in_ok-k.ensures.answered (ap is_job (sym c.answer.ensures) ∙ none) number
+    c.in_ok-ask.ensures.submits c.ask-in_default.ensures.on

@@ -1,0 +1,44 @@
+-- What an account holds after its calls, by what they put in and took out.
+use Rattle.std.specs.Prelude.{◌≡◌, ℕ, ◌+◌, List, [], ◌∷◌, map, zip, Option, Some, Ok, pos, unsigned_abs}
+use Rattle.std.specs.List.{sum_by}
+use Rattle.act_types.specs.declared.value.Value.TheVariants.{Int}
+use Rattle.act_types.specs.declared.call.Method.{Method}
+use Rattle.act_types.specs.declared.call.Method.TheVariants.{Deposit, Withdraw}
+use Rattle.act_types.specs.declared.call.Settled.{Settled}
+use Rattle.act_types.specs.declared.call.Settled.TheVariants.{Good}
+use Rattle.act_types.specs.KindState.{KindState, AccountAt}
+use Rattle.act_rules.specs.declared.history.RunItem.{RunItem}
+use Rattle.act_rules.specs.declared.history.Submission.{Submission}
+use Rattle.act_rules.specs.RunList.{Answer, answers_from, state_after}
+use Rattle.act_rules.specs.Submissions.{calls_to, kept_at, settled}
+
+-- what a granted deposit puts in, and what a granted withdrawal takes out
+abbrev pub put_by : Option Answer → Method → List Settled → ℕ
+put_by (Some (Ok (Int left))) Deposit (Good (Int n) ∷ []) = unsigned_abs n
+put_by answer method args = 0
+
+abbrev pub taken_by : Option Answer → Method → List Settled → ℕ
+taken_by (Some (Ok (Int left))) Withdraw (Good (Int n) ∷ []) = unsigned_abs n
+taken_by answer method args = 0
+
+-- what the calls of a run list put in, and what they took out
+abbrev pub put_in : KindState → List RunItem → ℕ
+put_in state items = sum_by (λ ran. put_by (Some ran.1) ran.0.method ran.0.args) (zip items (answers_from state items))
+
+abbrev pub taken_in : KindState → List RunItem → ℕ
+taken_in state items = sum_by (λ ran. taken_by (Some ran.1) ran.0.method ran.0.args) (zip items (answers_from state items))
+
+-- an account is left, and what it holds, with what was taken out, is what it opened with, with what was put in
+pub record HoldsWhatWasPutIn (n : ℕ) (items : List RunItem) : Type 0 where
+  pub balance : ℕ
+  pub left : state_after (AccountAt (pos n)) items ≡ AccountAt (pos balance)
+  pub kept : balance + taken_in (AccountAt (pos n)) items ≡ n + put_in (AccountAt (pos n)) items
+
+-- what a caller's calls put into an actor, and what they took out of it, by the answers that are kept for them
+abbrev pub put_of : ℕ → List Submission → List (Option Answer) → ℕ
+put_of a calls kept =
+    sum_by (λ call. put_by (kept_at kept call.0) call.1.method (map (settled kept) call.1.args)) (calls_to a calls)
+
+abbrev pub taken_of : ℕ → List Submission → List (Option Answer) → ℕ
+taken_of a calls kept =
+    sum_by (λ call. taken_by (kept_at kept call.0) call.1.method (map (settled kept) call.1.args)) (calls_to a calls)

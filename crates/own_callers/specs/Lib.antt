@@ -1,0 +1,5 @@
+pub mod Accounts
+pub mod Clerk
+pub mod Retry
+pub mod Transfer
+pub mod Worker

@@ -1,0 +1,37 @@
+-- What a retry submits, and what it tells.
+use Rattle.std.specs.Prelude.{◌≡◌, ◌⊎◌, ℕ, ◌+◌, ◌<◌, Bool, true, false, [], ◌∷◌, replicate, Option, Some, Err, is_some}
+use Rattle.act_types.specs.declared.value.Value.TheVariants.{Int}
+use Rattle.act_types.specs.declared.fault.Fault.TheVariants.{Insufficient}
+use Rattle.act_types.specs.declared.call.Arg.TheVariants.{Plain}
+use Rattle.act_types.specs.declared.call.Method.TheVariants.{Withdraw}
+use Rattle.act_rules.specs.declared.history.Submission.{Submission}
+use Rattle.act_rules.specs.RunList.{Answer}
+use Rattle.act_rules.specs.Submissions.{kept_at}
+use Rattle.act_drive.specs.Sessions.{Seen}
+use Rattle.own_callers.specs.declared.retry.Retry.{Retry}
+
+-- the call that it makes
+abbrev pub tries : Retry → Submission
+tries r = record { actor = r.account; method = Withdraw; args = Plain (Int r.amount) ∷ [] }
+
+-- whether the answer is that the account holds too little
+abbrev pub is_lacking : Option Answer → Bool
+is_lacking (Some (Err Insufficient)) = true
+is_lacking answer = false
+
+-- it tried so often as it may, and each time the account held too little
+pub record HasFailed (r : Retry) (count : ℕ) (seen : Seen) : Type 0 where
+  pub calls : seen.calls ≡ replicate count (tries r)
+  pub failed : (k : ℕ) → k < count → is_lacking (kept_at seen.kept k) ≡ true
+
+-- it tried so often, and was answered otherwise the last time alone
+pub record HasTried (r : Retry) (seen : Seen) : Type 0 where
+  pub before : ℕ
+  pub few : before < r.most
+  pub calls : seen.calls ≡ replicate (before + 1) (tries r)
+  pub failed : (k : ℕ) → k < before → is_lacking (kept_at seen.kept k) ≡ true
+  pub asked : is_some (kept_at seen.kept before) ≡ true
+  pub last : is_lacking (kept_at seen.kept before) ≡ false
+
+abbrev pub retry_tells : Retry → Seen → Seen → Type 0
+retry_tells r old new = old.calls ≡ [] → HasFailed r r.most new ⊎ HasTried r new

@@ -1,0 +1,57 @@
+-- What a transfer submits, and how it ends.
+use Rattle.std.specs.Prelude.{◌≡◌, ◌⊎◌, ℤ, int_le, Bool, true, false, is_some, [], ◌∷◌, Option, Some, Ok}
+use Rattle.act_types.specs.declared.value.Value.TheVariants.{Int}
+use Rattle.act_types.specs.declared.call.Arg.TheVariants.{Plain}
+use Rattle.act_types.specs.declared.call.Method.TheVariants.{Balance, Deposit, Withdraw}
+use Rattle.act_rules.specs.declared.history.Submission.{Submission}
+use Rattle.act_rules.specs.RunList.{Answer}
+use Rattle.act_rules.specs.Submissions.{kept_at}
+use Rattle.act_drive.specs.Sessions.{Seen}
+use Rattle.own_callers.specs.declared.transfer.Transfer.{Transfer}
+
+-- ---- its three calls
+
+abbrev pub asks : Transfer → Submission
+asks t = record { actor = t.from; method = Balance; args = [] }
+
+abbrev pub withdraws : Transfer → Submission
+withdraws t = record { actor = t.from; method = Withdraw; args = Plain (Int t.amount) ∷ [] }
+
+abbrev pub deposits : Transfer → Submission
+deposits t = record { actor = t.to; method = Deposit; args = Plain (Int t.amount) ∷ [] }
+
+-- ---- how it ends
+
+-- whether the answer is a number, and one of at least the amount
+abbrev pub is_number : Option Answer → Bool
+is_number (Some (Ok (Int n))) = true
+is_number answer = false
+
+abbrev pub is_enough : ℤ → Option Answer → Bool
+is_enough amount (Some (Ok (Int n))) = int_le amount n
+is_enough amount answer = false
+
+-- it asked for the balance, was not told as much, and did no more
+pub record HasStopped (t : Transfer) (seen : Seen) : Type 0 where
+  pub calls : seen.calls ≡ asks t ∷ []
+  pub asked : is_some (kept_at seen.kept 0) ≡ true
+  pub short : is_enough t.amount (kept_at seen.kept 0) ≡ false
+
+-- it was told as much, and was refused the withdrawal
+pub record IsRefused (t : Transfer) (seen : Seen) : Type 0 where
+  pub calls : seen.calls ≡ asks t ∷ withdraws t ∷ []
+  pub enough : is_enough t.amount (kept_at seen.kept 0) ≡ true
+  pub asked : is_some (kept_at seen.kept 1) ≡ true
+  pub refused : is_number (kept_at seen.kept 1) ≡ false
+
+-- it was told as much, was granted the withdrawal, and deposited what it withdrew
+pub record HasMoved (t : Transfer) (seen : Seen) : Type 0 where
+  pub calls : seen.calls ≡ asks t ∷ withdraws t ∷ deposits t ∷ []
+  pub enough : is_enough t.amount (kept_at seen.kept 0) ≡ true
+  pub granted : is_number (kept_at seen.kept 1) ≡ true
+
+abbrev pub HasEnded : Transfer → Seen → Type 0
+HasEnded t seen = HasStopped t seen ⊎ (IsRefused t seen ⊎ HasMoved t seen)
+
+abbrev pub transfer_tells : Transfer → Seen → Seen → Type 0
+transfer_tells t old new = old.calls ≡ [] → HasEnded t new

@@ -1,0 +1,33 @@
+-- What a worker submits, and what it tells.
+use Rattle.std.specs.Prelude.{◌≡◌, ℕ, ◌+◌, ◌<◌, [], ◌∷◌, ◌++◌, replicate, Option, Some, Ok, Bool, true, false, is_some, pos, codes}
+use Rattle.act_types.specs.declared.value.Value.TheVariants.{Int}
+use Rattle.act_types.specs.declared.call.Arg.TheVariants.{Plain}
+use Rattle.act_types.specs.declared.call.Method.TheVariants.{Add, Own}
+use Rattle.act_rules.specs.declared.history.Submission.{Submission}
+use Rattle.act_rules.specs.RunList.{Answer}
+use Rattle.act_rules.specs.Submissions.{kept_at}
+use Rattle.act_drive.specs.Sessions.{Seen}
+use Rattle.own_callers.specs.declared.worker.Worker.{Worker}
+
+-- it takes a job, and it adds their number
+abbrev pub takes : Worker → Submission
+takes w = record { actor = w.queue; method = Own (codes "dequeue"); args = [] }
+
+abbrev pub adds : Worker → ℕ → Submission
+adds w jobs = record { actor = w.counter; method = Add; args = Plain (Int (pos jobs)) ∷ [] }
+
+-- whether the answer is a job, and no fault
+abbrev pub is_job : Option Answer → Bool
+is_job (Some (Ok job)) = true
+is_job answer = false
+
+-- it was given so many jobs, one after another, then none, and added their number to the counter
+pub record HasWorked (w : Worker) (seen : Seen) : Type 0 where
+  pub jobs : ℕ
+  pub calls : seen.calls ≡ replicate (jobs + 1) (takes w) ++ adds w jobs ∷ []
+  pub given : (k : ℕ) → k < jobs → is_job (kept_at seen.kept k) ≡ true
+  pub asked : is_some (kept_at seen.kept jobs) ≡ true
+  pub none : is_job (kept_at seen.kept jobs) ≡ false
+
+abbrev pub worker_tells : Worker → Seen → Seen → Type 0
+worker_tells w old new = old.calls ≡ [] → HasWorked w new

@@ -1,0 +1,15 @@
+//! Callers that are code, each a page.
+#![tactic(auto)]
+
+mod args;
+mod clerk;
+mod laws;
+mod retry;
+mod transfer;
+mod worker;
+
+pub use clerk::Clerk;
+pub use laws::holds_what_was_put_in;
+pub use retry::Retry;
+pub use transfer::Transfer;
+pub use worker::Worker;

@@ -1,0 +1,34 @@
+//! A retry: a caller that makes a call again after a fault that may pass.
+
+use crate::args::number;
+use act_executor::{Code, GaveUp, Session};
+use act_types::{ActorId, Fault, Method};
+
+/// Withdraws an amount, and tries again where the account holds too little, so many times at most.
+#[derive(Clone, Copy, Debug)]
+pub struct Retry {
+    pub account: ActorId,
+    pub amount: i64,
+    pub most: u32,
+}
+
+impl Code for Retry {
+    ghost use Rattle.own_callers.specs.Retry.{retry_tells};
+
+    ghost tells = { retry_tells };
+
+    fn calls(&self) -> usize {
+        1
+    }
+
+    fn run<S: Session>(&mut self, session: &mut S) -> Result<(), GaveUp> {
+        for _ in 0..self.most {
+            let args = number(session.alloc(), self.amount)?;
+            let k = session.ask(self.account, Method::Withdraw, args)?;
+            let Some(Err(Fault::Insufficient)) = session.answer(k) else {
+                return Ok(());
+            };
+        }
+        Ok(())
+    }
+}

@@ -1,0 +1,40 @@
+//! A transfer: a caller that moves an amount from one account to another.
+
+use crate::args::number;
+use act_executor::{Code, GaveUp, Session};
+use act_types::{ActorId, ListOf, Method, Value};
+
+/// Moves an amount from one account to another, if the first one holds as much.
+#[derive(Clone, Copy, Debug)]
+pub struct Transfer {
+    pub from: ActorId,
+    pub to: ActorId,
+    pub amount: i64,
+}
+
+impl Code for Transfer {
+    ghost use Rattle.own_callers.specs.Transfer.{transfer_tells};
+
+    ghost tells = { transfer_tells };
+
+    fn calls(&self) -> usize {
+        3
+    }
+
+    fn run<S: Session>(&mut self, session: &mut S) -> Result<(), GaveUp> {
+        let alloc = session.alloc();
+        let asked = session.ask(self.from, Method::Balance, ListOf::new(alloc))?;
+        let Some(Ok(Value::Int(balance))) = session.answer(asked) else {
+            return Ok(());
+        };
+        if *balance < self.amount {
+            return Ok(());
+        }
+        let taken = session.ask(self.from, Method::Withdraw, number(alloc, self.amount)?)?;
+        let Some(Ok(Value::Int(_))) = session.answer(taken) else {
+            return Ok(());
+        };
+        session.ask(self.to, Method::Deposit, number(alloc, self.amount)?)?;
+        Ok(())
+    }
+}

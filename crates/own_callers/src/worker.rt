@@ -1,0 +1,40 @@
+//! A worker: a caller that takes jobs from a queue until it gives none.
+
+ghost use Rattle.std.specs.Prelude.{◌≡◌, codes};
+ghost use Rattle.act_types.specs.declared.call.Method.TheVariants.{Own};
+
+use crate::args::number;
+use act_executor::{Code, GaveUp, Session};
+use act_types::{ActorId, ListOf, MOST_CALLS, Method, Name};
+
+/// Takes jobs from a queue until it gives none, and adds their number to a counter.
+#[derive(Clone, Copy, Debug)]
+pub struct Worker {
+    pub queue: ActorId,
+    pub counter: ActorId,
+}
+
+/// The method that takes a job from a queue.
+fn dequeue() -> Method
+    ensures { result ≡ Own (codes "dequeue") }
+{
+    Method::Own(Name::new("dequeue").unwrap())
+}
+
+impl Code for Worker {
+    ghost use Rattle.own_callers.specs.Worker.{worker_tells};
+
+    ghost tells = { worker_tells };
+
+    fn run<S: Session>(&mut self, session: &mut S) -> Result<(), GaveUp> {
+        let alloc = session.alloc();
+        for jobs in 0..MOST_CALLS {
+            let k = session.ask(self.queue, dequeue(), ListOf::new(alloc))?;
+            let Some(Ok(_)) = session.answer(k) else {
+                session.ask(self.counter, Method::Add, number(alloc, i64::from(jobs))?)?;
+                return Ok(());
+            };
+        }
+        Err(GaveUp)
+    }
+}
