@@ -4,3 +4,4 @@ pub mod Books
 pub mod Calls
 pub mod Works
 pub mod Tries
+pub mod Orders

@@ -1,4 +1,6 @@
 pub mod Accounts
+pub mod Buyer
+pub mod Buyers
 pub mod Clerk
 pub mod Retry
 pub mod Transfer

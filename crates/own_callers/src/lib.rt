@@ -2,12 +2,16 @@
 #![tactic(auto)]
 
 mod args;
+mod buyer;
+mod buyers;
 mod clerk;
 mod laws;
 mod retry;
 mod transfer;
 mod worker;
 
+pub use buyer::Buyer;
+pub use buyers::run_buyers;
 pub use clerk::Clerk;
 pub use laws::holds_what_was_put_in;
 pub use retry::Retry;

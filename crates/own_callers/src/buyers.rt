@@ -1,0 +1,42 @@
+//! A run of buyers, beside callers with plans.
+
+ghost use Rattle.std.specs.Prelude.{map, All, IfErr, IfOk};
+ghost use Rattle.act_actor.specs.Cast.{IsFitting};
+ghost use Rattle.act_actor.specs.Casts.{casting};
+ghost use Rattle.act_serve.specs.Served.{end_seen};
+ghost use Rattle.act_plans.specs.Parts.{PlansFit};
+ghost use Rattle.act_joint.specs.ByCode.{IsJoinedBy};
+ghost use Rattle.act_executor.specs.Conducts.{CodesFit};
+ghost use Rattle.act_executor.specs.Runs.{plan_seen, IsFault};
+ghost use Rattle.own_callers.specs.Buyer.{buyer_tells};
+ghost use Rattle.own_callers.specs.Buyers.{HasLeft};
+
+use crate::buyer::Buyer;
+use act_actor::Cast;
+use act_executor::{Joined, NoGate, Plan, RunFault, run_callers};
+use act_kinds::Actor;
+use act_types::CallerId;
+use std::alloc::Global;
+use std::sync::Wait;
+use std::thread::Threads;
+
+/// Runs buyers. Whatever else is done with purses and shops, each of them ordered only what it paid for.
+pub fn run_buyers<R: Threads + Wait + Sync, K: Actor + Send>(
+    rt: &R,
+    alloc: Global,
+    casts: Vec<Cast<K>>,
+    plans: Vec<(CallerId, Plan)>,
+    buyers: Vec<(CallerId, Buyer)>,
+) -> Result<Joined<K>, RunFault>
+    requires casts { IsFitting casts.items }
+    requires plans { PlansFit casts.items plans.items }
+    requires codes { CodesFit casts.items plans.items buyers.items }
+    ensures joined { IfOk result (λ joined.
+        IsJoinedBy buyer_tells (map (casting K.state) casts.items) (map plan_seen plans.items) buyers.items joined.owners.items
+        (map (λ actor. end_seen K.state actor.ended) joined.actors.items)) }
+    ensures paid { IfOk result (λ joined. All (HasLeft joined.owners.items) buyers.items) }
+    ensures fault { IfErr result (IsFault (map (casting K.state) casts.items) (map plan_seen plans.items)) }
+{
+    let joined = run_callers(rt, alloc, casts, plans, buyers, &NoGate)?;
+    Ok(joined)
+}
