@@ -2,20 +2,19 @@
 use Rattle.std.proofs.Common.{◌≡◌, ℕ, List, Contains, refl, subst}
 use Rattle.std.specs.Prelude.{Ok}
 use Rattle.act_types.specs.declared.value.Value.TheVariants.{Int}
-use Rattle.act_types.specs.declared.call.Method.TheVariants.{Push}
 use Rattle.act_rules.specs.declared.history.Submission.{Submission}
 use Rattle.act_rules.specs.History.{Casting}
 use Rattle.act_owner.specs.Owner.{OwnerValue}
 use Rattle.act_drive.specs.Sessions.{Seen, seen_of, IsLater}
 use Rattle.act_joint.specs.ByCode.{HasTold}
 use Rattle.own_callers.specs.declared.buyer.Buyer.{Buyer}
-use Rattle.own_callers.specs.Buyer.{HasPaid, buyer_tells}
+use Rattle.own_callers.specs.Buyer.{HasPaid, buyer_tells, order}
 use Rattle.own_callers.specs.Buyers.{HasLeft}
 
 still_paid : (buyer : Buyer) (old new : Seen) → new.calls ≡ old.calls → IsLater old new → HasPaid buyer old → HasPaid buyer new
 still_paid buyer old new same later has =
     record { paid = λ args ordered.
-      let paid = has.paid args (subst (λ (calls : List Submission). Contains calls (record { actor = buyer.shop; method = Push; args = args })) same ordered) in
+      let paid = has.paid args (subst (λ (calls : List Submission). Contains calls (order buyer args)) same ordered) in
       (paid.0, later.kept 0 (Ok (Int paid.0)) paid.1) }
 
 pub has_left : (casts : List Casting) (owners : List OwnerValue) (given : ℕ × Buyer) → HasTold buyer_tells casts owners given → HasLeft owners given
