@@ -49,7 +49,7 @@ fn push_outcome(text: &mut String, place: usize, outcome: &Outcome) -> Result<()
         Ok(did) => push_did(text, did)?,
         Err(refusal) => write!(text, "refused {refusal}")?,
     }
-    text.push_str("\n")
+    text.push('\n')
 }
 
 /// Adds a line for each outcome.
@@ -90,7 +90,7 @@ fn push_line(
         (future_text caller k ++ space ++ actor_text actor ++ kept_text (option_copied kept.entry))) }
 {
     push_future_name(text, caller, k)?;
-    text.push_str(" ")?;
+    text.push(' ')?;
     push_actor_name(text, actor)?;
     push_kept(text, kept)
 }
@@ -345,6 +345,7 @@ pub(crate) fn play_and_report<K: Actor>(
     ensures consistent { OnOk result ((casts : List Casting) → Stands casts [] (world_seen K.state world.old) →
         IsConsistent casts (world_seen K.state world.new)) }
 {
+    world.make_room(events.as_slice());
     let mut text = String::with_capacity(alloc, events.len() * EVENT_BYTES)?;
     play_all(world, events, &mut text)?;
     world.consistent();

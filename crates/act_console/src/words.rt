@@ -27,6 +27,17 @@ fn push_int(text: &mut String, number: i64) -> Result<(), AllocError>
     text.push_str(buffer.format(number))
 }
 
+/// Adds the number of a caller or an actor. Most have one digit, which wants no buffer.
+#[tactic(auto, using(std::proofs::lemmas::Fmt::decimal_digit))]
+fn push_small(text: &mut String, number: u8) -> Result<(), AllocError>
+    ensures { OnOk result (string_bytes text.new ≡ string_bytes text.old ++ decimal number) }
+{
+    match number {
+        0..=9 => text.push((b'0' + number) as char),
+        _ => push_number(text, number as u64),
+    }
+}
+
 /// Adds a word and the number after it.
 pub(crate) fn push_numbered(text: &mut String, word: &str, number: u64) -> Result<(), AllocError>
     ensures { OnOk result (string_bytes text.new ≡ string_bytes text.old ++ word.now ++ decimal number) }
@@ -43,7 +54,8 @@ pub(crate) fn push_future_name(
 ) -> Result<(), AllocError>
     ensures { OnOk result (string_bytes text.new ≡ string_bytes text.old ++ future_text caller k) }
 {
-    push_numbered(text, "c", caller.number() as u64)?;
+    text.push('c')?;
+    push_small(text, caller.number())?;
     push_numbered(text, ".", k.number() as u64)
 }
 
@@ -64,7 +76,8 @@ fn push_named(
 pub(crate) fn push_actor_name(text: &mut String, actor: ActorId) -> Result<(), AllocError>
     ensures { OnOk result (string_bytes text.new ≡ string_bytes text.old ++ actor_text actor) }
 {
-    push_numbered(text, "a", actor.number() as u64)
+    text.push('a')?;
+    push_small(text, actor.number())
 }
 
 /// Adds a value.

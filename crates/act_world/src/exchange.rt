@@ -6,9 +6,10 @@ ghost use Rattle.act_world.specs.Exchange.{is_owner, naming_refusal, mailed_to, 
 ghost use Rattle.act_world.specs.Stands.{is_memory};
 
 use act_owner::Owner;
-use act_rules::{HandleRefusal, WorldRefusal};
+use act_rules::{Event, HandleRefusal, WorldRefusal};
 use act_types::{
-    ActorId, CallerId, CopyOf, FewOf, FutureId, Method, NoMemory, Notice, Packet, ReleaseNote,
+    ActorId, CallerId, CopyOf, FewOf, FutureId, MOST_CALLS, Method, NoMemory, Notice, Packet,
+    ReleaseNote,
 };
 use std::alloc::Global;
 use std::marker::Model;
@@ -107,7 +108,37 @@ pub(crate) fn place_of(owners: &[Owner], c: CallerId) -> Option<usize>
     owners.iter().position(|owner| owner.id() == c)
 }
 
+/// How many calls the events submit, by the number of the caller.
+fn submissions(events: &[Event]) -> [usize; 17] {
+    let mut counts: [usize; 17] = [0; 17];
+    for event in events {
+        if let Event::Submit(c, _, _, _) = event {
+            let count = &mut counts[c.number() as usize];
+            *count = count.saturating_add(1);
+        }
+    }
+    counts
+}
+
+/// Makes room for so many calls more of each caller, as far as memory serves.
+fn make_room_for(owners: &mut [Owner], counts: &[usize; 17])
+    ensures { owners.new ≡ owners.old }
+{
+    for owner in owners.iter_mut() {
+        let count = counts[owner.id().number() as usize];
+        let _ = owner.reserve(count.min(MOST_CALLS as usize));
+    }
+}
+
 impl Exchange {
+    /// Makes room for the calls that events submit. Where memory doesn't serve for so many at once,
+    /// room is made call by call.
+    pub(crate) fn make_room(&mut self, events: &[Event])
+        ensures { self.new ≡ self.old }
+    {
+        make_room_for(&mut self.owners, &submissions(events));
+    }
+
     /// Where it asks for memory.
     pub(crate) fn alloc(&self) -> Global {
         *self.mail.allocator()

@@ -185,6 +185,14 @@ impl<K: Actor> World<K> {
             && letters + notices + count < MOST_PLACES
     }
 
+    /// Makes room for the calls that events submit, so that memory is asked for once and not call by
+    /// call. It refuses nothing: where memory doesn't serve for so many, room is made call by call.
+    pub fn make_room(&mut self, events: &[Event])
+        ensures { world_seen K.state self.new ≡ world_seen K.state self.old }
+    {
+        self.exchange.make_room(events);
+    }
+
     /// Does an event, and tells what it did or the first refusal that met it.
     pub fn apply(&mut self, event: &Event) -> Result<Did, WorldRefusal>
         requires room { HasRoom 1 (world_seen K.state self.old).exchange }
