@@ -4,4 +4,5 @@ pub mod Books
 pub mod Calls
 pub mod Works
 pub mod Tries
+pub mod Left
 pub mod Orders

@@ -3,5 +3,6 @@ pub mod Buyer
 pub mod Buyers
 pub mod Clerk
 pub mod Retry
+pub mod Runs
 pub mod Transfer
 pub mod Worker

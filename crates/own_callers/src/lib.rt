@@ -7,6 +7,7 @@ mod buyers;
 mod clerk;
 mod laws;
 mod retry;
+mod run;
 mod transfer;
 mod worker;
 
@@ -15,5 +16,6 @@ pub use buyers::run_buyers;
 pub use clerk::Clerk;
 pub use laws::holds_what_was_put_in;
 pub use retry::Retry;
+pub use run::{run_clerks, run_transfers};
 pub use transfer::Transfer;
 pub use worker::Worker;

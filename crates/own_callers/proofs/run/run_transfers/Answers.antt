@@ -1,0 +1,18 @@
+use Rattle.std.proofs.Common.{map}
+use Rattle.act_actor.specs.Casts.{casting}
+use Rattle.act_serve.specs.Served.{end_seen}
+use Rattle.own_callers.proofs.Left.{transferred, are_balanced}
+use Rattle.own_callers.proofs.run.run_transfers.Goals as goal
+
+pub returns-clause-guarded : goal.returns-clause-guarded
+returns-clause-guarded g c =
+    let casts = map (casting g.K.Actor.state) c.args.casts.items in
+    let left = c.in_ok-joined.joined in
+    λ k d below. transferred casts left.owners.items _ (c.in_ok-joined.ensures.joined.told k d below)
+
+pub returns-clause-kept : goal.returns-clause-kept
+returns-clause-kept g c =
+    let state = g.K.Actor.state in
+    let left = c.in_ok-joined.joined in
+    let by = c.in_ok-joined.ensures.joined in
+    are_balanced (map (casting state) c.args.casts.items) by.steps left.owners.items (map (λ actor. end_seen state actor.ended) left.actors.items) by.joined

@@ -1,0 +1,77 @@
+//! Runs of such callers: what each of them tells of its owner, and what the accounts and queues hold.
+
+ghost use Rattle.std.specs.Prelude.{◌≡◌, [], ℕ, map, All, IfErr, IfOk};
+ghost use Rattle.act_actor.specs.Cast.{IsFitting};
+ghost use Rattle.act_actor.specs.Casts.{casting};
+ghost use Rattle.act_serve.specs.Served.{end_seen};
+ghost use Rattle.act_plans.specs.Parts.{PlansFit};
+ghost use Rattle.act_joint.specs.ByCode.{IsJoinedBy};
+ghost use Rattle.act_joint.specs.Joined.{end_of};
+ghost use Rattle.act_executor.specs.Conducts.{CodesFit};
+ghost use Rattle.act_executor.specs.Runs.{plan_seen, IsFault};
+ghost use Rattle.act_own.specs.Kept.{EndKeeps, OpensAt};
+ghost use Rattle.own_kinds.specs.Queue.{IsInOrder, queue_at, queue_step, queue_text};
+ghost use Rattle.own_callers.specs.Clerk.{clerk_tells};
+ghost use Rattle.own_callers.specs.Runs.{HasTransferred, AreBalanced};
+ghost use Rattle.own_callers.specs.Transfer.{transfer_tells};
+
+use crate::clerk::Clerk;
+use crate::transfer::Transfer;
+use act_actor::Cast;
+use act_executor::{Joined, NoGate, Plan, RunFault, run_callers};
+use act_kinds::Actor;
+use act_types::CallerId;
+use std::alloc::Global;
+use std::sync::Wait;
+use std::thread::Threads;
+
+/// Runs transfers, one a caller, and plans of other callers. Whatever the schedule, money is neither made
+/// nor lost: an account that retired holds what it opened with and what all put in, less what they took out.
+pub fn run_transfers<R: Threads + Wait + Sync, K: Actor + Send>(
+    rt: &R,
+    alloc: Global,
+    casts: Vec<Cast<K>>,
+    plans: Vec<(CallerId, Plan)>,
+    transfers: Vec<(CallerId, Transfer)>,
+) -> Result<Joined<K>, RunFault>
+    requires fit { IsFitting casts.items }
+    requires plans { PlansFit casts.items plans.items }
+    requires codes { CodesFit casts.items plans.items transfers.items }
+    ensures joined { IfOk result (λ joined.
+        IsJoinedBy transfer_tells (map (casting K.state) casts.items) (map plan_seen plans.items) transfers.items
+        joined.owners.items (map (λ actor. end_seen K.state actor.ended) joined.actors.items)) }
+    ensures guarded { IfOk result (λ joined. All (HasTransferred joined.owners.items) transfers.items) }
+    ensures kept { IfOk result (λ joined. AreBalanced (map (casting K.state) casts.items) joined.owners.items
+        (map (λ actor. end_seen K.state actor.ended) joined.actors.items)) }
+    ensures fault { IfErr result (IsFault (map (casting K.state) casts.items) (map plan_seen plans.items)) }
+{
+    let joined = run_callers(rt, alloc, casts, plans, transfers, &NoGate)?;
+    Ok(joined)
+}
+
+/// Runs callers of different code, and plans of others. Accounts keep their money. What is taken out of a
+/// queue that opened empty, and then what waits there, is what was put in, in order.
+pub fn run_clerks<R: Threads + Wait + Sync, K: Actor + Send>(
+    rt: &R,
+    alloc: Global,
+    casts: Vec<Cast<K>>,
+    plans: Vec<(CallerId, Plan)>,
+    clerks: Vec<(CallerId, Clerk)>,
+) -> Result<Joined<K>, RunFault>
+    requires fit { IsFitting casts.items }
+    requires plans { PlansFit casts.items plans.items }
+    requires codes { CodesFit casts.items plans.items clerks.items }
+    ensures joined { IfOk result (λ joined.
+        IsJoinedBy clerk_tells (map (casting K.state) casts.items) (map plan_seen plans.items) clerks.items
+        joined.owners.items (map (λ actor. end_seen K.state actor.ended) joined.actors.items)) }
+    ensures kept { IfOk result (λ joined. AreBalanced (map (casting K.state) casts.items) joined.owners.items
+        (map (λ actor. end_seen K.state actor.ended) joined.actors.items)) }
+    ensures order { IfOk result (λ joined. (a : ℕ) →
+        OpensAt queue_step queue_text (map (casting K.state) casts.items) a [] →
+        EndKeeps queue_step queue_text IsInOrder (queue_at [])
+        (end_of a (map (λ actor. end_seen K.state actor.ended) joined.actors.items))) }
+    ensures fault { IfErr result (IsFault (map (casting K.state) casts.items) (map plan_seen plans.items)) }
+{
+    let joined = run_callers(rt, alloc, casts, plans, clerks, &NoGate)?;
+    Ok(joined)
+}
