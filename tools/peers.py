@@ -1,22 +1,24 @@
 #!/usr/bin/env python3
-"""Measures runs of plans in threads beside other actor systems, which do the same work on the same machine.
+"""Measures runs in threads beside other actor systems, which do the same work on the same machine.
 
-    tools/peers.py [--small] [--may-miss] [--crews CxA,..] [--calls N] [--turns N] [--rounds N] [--program PATH]
+    tools/peers.py [--small] [--may-miss] [--crews CxA,..] [--calls N] [--turns N] [--rounds N] [--program PATH] [--code PATH]
 
 Callers add 1 to counters, in four styles: each waits for each answer before its next call, or sends all its
-calls and then takes their answers; and each calls one counter, or all in turns. ray_bench, the proved program, and
-the peers, whose sources stand in tools/peers, are measured side by side with each number of callers and actors. All
-programs run by turns in each round, and a figure is the median of all turns. Large crews make fewer calls a caller.
+calls and then takes their answers; and each calls one counter, or all in turns. Two proved programs are ours: the
+callers of ray_bench have plans, and those of ray_bench_code have code, which makes its calls as it goes, looks at
+each answer, and gives up at a fault. Both and the peers, whose sources stand in tools/peers, are measured side by side
+with each number of callers and actors. All programs run by turns in each round, and a figure is the median of all
+turns. Large crews make fewer calls a caller.
 
 A peer's clock begins when its counters stand and ends when its callers have ended. Ours takes in the whole of
-run_plans: it opens the lines, starts a thread for each actor and each caller, retires the actors and compares what
-all of them left. Its plans are made before, while a peer makes its calls as it goes. Each program looks at
-the counts after a turn, and fails where a call is missing.
+run_plans, or of run_callers: it opens the lines, starts a thread for each actor and each caller, retires the actors
+and compares what all of them left. Plans are made before. Each program looks at the counts after a turn, and
+fails where a call is missing.
 
 The peers are built into a temporary folder, offline, with what Debian has (erlang-base, libcaf-dev,
 librust-crossbeam-channel-dev). What can't be built is named, and the others are measured. Where none can be built, it
 ends with status 2, as a failure of the machine's set-up; with --may-miss that is no failure. It fails where
-ray_bench or a peer that was built does, or prints no figure. With --small each runs once, with few calls, to see
+one of ours or a peer that was built does, or prints no figure. With --small each runs once, with few calls, to see
 that all works. Figures need a machine that does nothing else.
 """
 import argparse
@@ -36,9 +38,11 @@ from dataclasses import dataclass
 from program import TOP, proved
 
 PROGRAM = TOP / "crates/ray_bench/out/ray_bench"
+CODE = TOP / "crates/ray_bench_code/out/ray_bench_code"
 SOURCES = TOP / "tools/peers"
 REGISTRY = "/usr/share/cargo/registry"  # Debian's crates
 
+OURS = ["Plans", "Code"]
 CREWS = [(1, 1), (2, 2), (4, 4), (16, 8)]  # callers and actors
 STYLES = {
     "each awaited, one actor": ["wait", "own"],
@@ -159,9 +163,10 @@ def calls_of_each(callers, calls):
     return calls if callers <= CALLERS_WITH_ALL else max(1, calls * CALLERS_WITH_ALL // callers)
 
 
-def contenders_of(program, peers, crews):
-    programs = {"Ours": [program], **peers}
-    return [Contender(name, crew, tuple(command)) for crew in crews for name, command in programs.items()]
+def contenders_of(programs, peers, crews):
+    """Ours, by plans and by code, and the peers, for each crew."""
+    commands = {**{name: [program] for name, program in zip(OURS, programs)}, **peers}
+    return [Contender(name, crew, tuple(command)) for crew in crews for name, command in commands.items()]
 
 
 def measure(contenders, calls, turns, rounds):
@@ -193,18 +198,20 @@ def medians(rates, contenders, style):
     return [statistics.median(rates[each, style]) if rates[each, style] else None for each in contenders]
 
 
-def beside_best(own, others):
-    best = max(filter(None, others), default=None)
-    return f"{own / best:.2f}" if own and best else "-"
+def ratio(one, other):
+    return f"{one / other:.2f}" if one and other else "-"
 
 
-def show_crew(rates, own, others):
+def show_crew(rates, plans, code, peers):
+    """The figures of a crew: ours and the peers', and how ours compare."""
     rows = []
     for style in STYLES:
-        first, *rest = medians(rates, [own, *others], style)
+        by_plans, by_code, *rest = medians(rates, [plans, code, *peers], style)
+        best = max(filter(None, rest), default=None)
         goal = f"{GOALS.get(style, GOAL):.2f}"
-        rows.append([style, *map(shown, [first, *rest]), beside_best(first, rest), goal])
-    show_table([*(each.name for each in [own, *others]), "Ours / best peer", "Goal"], rows)
+        rows.append([style, *map(shown, [by_plans, by_code, *rest]), ratio(by_code, by_plans), ratio(by_plans, best), goal])
+    names = [each.name for each in [plans, code, *peers]]
+    show_table([*names, "Code / plans", "Plans / best peer", "Goal"], rows)
 
 
 def load():
@@ -218,8 +225,8 @@ def show(rates, contenders, chosen, load_before):
     print(f"each makes fewer calls: as many in all as of {CALLERS_WITH_ALL}.\n")
     for crew in chosen.crews:
         print("{} x {}, callers x actors:\n".format(*crew))
-        own, *others = (each for each in contenders if each.crew == crew)
-        show_crew(rates, own, others)
+        plans, code, *peers = (each for each in contenders if each.crew == crew)
+        show_crew(rates, plans, code, peers)
 
 
 def crews_of(words):
@@ -238,13 +245,14 @@ def chosen_options():
     options.add_argument("--calls", type=int, default=CALLS, help="calls of each caller")
     options.add_argument("--turns", type=int, default=TURNS, help="turns of each program in a round")
     options.add_argument("--rounds", type=int, default=ROUNDS)
-    options.add_argument("--program", type=pathlib.Path, default=PROGRAM)
+    options.add_argument("--program", type=pathlib.Path, default=PROGRAM, help="the one with plans")
+    options.add_argument("--code", type=pathlib.Path, default=CODE, help="the one with code")
     chosen = options.parse_args()
     if chosen.small:
         chosen.calls, chosen.turns, chosen.rounds = SMALL_CALLS, 1, 1
     if min(chosen.calls, chosen.turns, chosen.rounds) < 1:
         options.error("calls, turns and rounds are 1 or more")
-    chosen.program = proved("peers", chosen.program)
+    chosen.programs = [proved("peers", path) for path in (chosen.program, chosen.code)]
     return chosen
 
 
@@ -252,7 +260,7 @@ def main():
     chosen = chosen_options()
     with tempfile.TemporaryDirectory(prefix="peers-") as folder:
         peers, missing = build_peers(folder)
-        contenders = contenders_of(chosen.program, peers, chosen.crews)
+        contenders = contenders_of(chosen.programs, peers, chosen.crews)
         load_before = load()
         rates, wrong = measure(contenders, chosen.calls, chosen.turns, chosen.rounds)
         show(rates, contenders, chosen, load_before)

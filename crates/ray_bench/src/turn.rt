@@ -1,7 +1,6 @@
 //! One run, and how long it took.
 
-ghost use Rattle.std.specs.Prelude.{◌≡◌, ◌==◌, ◌&&◌, IfOk, length, map, is_some};
-ghost use Rattle.std.specs.List.{list_all};
+ghost use Rattle.std.specs.Prelude.{IfOk, map};
 ghost use Rattle.act_actor.specs.Cast.{IsFitting};
 ghost use Rattle.act_actor.specs.Casts.{casting};
 ghost use Rattle.act_serve.specs.Served.{end_seen};
@@ -9,32 +8,17 @@ ghost use Rattle.act_plans.specs.Parts.{PlansFit};
 ghost use Rattle.act_joint.specs.Joined.{IsJoined};
 ghost use Rattle.act_executor.specs.Runs.{plan_seen};
 
-use crate::stop::Stop;
-use crate::work::{Work, casts_of, plans_of};
+use crate::plans::plans_of;
 use act_actor::{Cast, cast_fits};
 use act_executor::{Joined, NoGate, Plan, plans_fit, run_plans};
 use act_kinds::Actor;
-use act_owner::Owner;
 use act_types::CallerId;
+use bench_work::{Stop, Work, are_served, casts_of};
 use std::alloc::Global;
 use std::rt::Clock;
 use std::sync::Wait;
 use std::thread::Threads;
 use std::time::Instant;
-
-/// Whether a caller made so many calls, and each was answered.
-fn is_served(owner: &Owner, calls: u32) -> bool
-    ensures { result ≡ (length owner.now.calls == calls) && list_all is_some owner.now.kept }
-{
-    owner.count() == calls && owner.all_answered()
-}
-
-/// Whether each caller made so many calls, and each was answered.
-fn are_served(owners: &[Owner], calls: u32) -> bool
-    ensures { result ≡ list_all (λ owner. (length owner.calls == calls) && list_all is_some owner.kept) owners.now }
-{
-    owners.iter().all(|owner| is_served(owner, calls))
-}
 
 /// What a run left, and how many microseconds it took.
 #[derive(Drop)]

@@ -1,8 +1,8 @@
 use Rattle.std.proofs.Common.{◌≡◌, map}
 use Rattle.act_rules.specs.Report.{one_to}
 use Rattle.act_executor.specs.Runs.{plan_seen}
-use Rattle.ray_bench.specs.Work.{part_of}
-use Rattle.ray_bench.proofs.work.plans_of.Given as goal
+use Rattle.ray_bench.specs.Plans.{part_of}
+use Rattle.ray_bench.proofs.plans.plans_of.Given as goal
 
 -- the part of each caller so far
 abbrev pub invariant-loop-before : goal.invariant-loop-before

@@ -2,7 +2,7 @@
 
 ghost use Rattle.std.specs.Prelude.{◌≡◌};
 ghost use Rattle.std.specs.Process.{exit_status};
-ghost use Rattle.ray_bench.specs.Status.{status_of};
+ghost use Rattle.bench_work.specs.Status.{status_of};
 
 use act_executor::RunFault;
 use act_types::NoMemory;
@@ -12,8 +12,8 @@ use thiserror::Error;
 
 /// Why the program ends before its last turn.
 #[derive(Clone, Copy, Debug, PartialEq, Eq, Error)]
-pub(crate) enum Stop {
-    #[error("usage: ray_bench CALLERS ACTORS CALLS wait|future own|both TURNS")]
+pub enum Stop {
+    #[error("usage: ray_bench, or ray_bench_code, CALLERS ACTORS CALLS wait|future own|both TURNS")]
     Usage,
     #[error("a run left a call without an answer")]
     Unanswered,
@@ -50,7 +50,7 @@ impl From<RunFault> for Stop {
 }
 
 /// 1 for a run that went wrong, 2 for the command line, 3 for memory or a thread, 4 for the clock or writing.
-pub(crate) fn exit_code(stop: &Stop) -> ExitCode
+pub fn exit_code(stop: &Stop) -> ExitCode
     ensures { exit_status result ≡ status_of stop.now }
 {
     ExitCode::from(match stop {

@@ -1,7 +1,8 @@
 use Rattle.std.proofs.Common.{◌≡◌}
 use Rattle.std.specs.Prelude.{flat_map}
-use Rattle.ray_bench.specs.Work.{places, steps_at}
-use Rattle.ray_bench.proofs.work.plan_of.Given as goal
+use Rattle.bench_work.specs.Work.{places}
+use Rattle.ray_bench.specs.Plans.{steps_at}
+use Rattle.ray_bench.proofs.plans.plan_of.Given as goal
 
 -- what is done at each place so far
 abbrev pub invariant-loop-place : goal.invariant-loop-place

@@ -1,7 +1,7 @@
 use Rattle.std.proofs.Common.{◌≡◌, map, All, None, pos}
 use Rattle.act_rules.specs.Report.{one_to}
-use Rattle.ray_bench.specs.Work.{cast_of, cast_seen}
-use Rattle.ray_bench.proofs.work.casts_of.Given as goal
+use Rattle.bench_work.specs.Work.{cast_of, cast_seen}
+use Rattle.bench_work.proofs.work.casts_of.Given as goal
 
 -- the cast of each actor so far, without a limit and at 0
 abbrev pub invariant-loop-before : goal.invariant-loop-before

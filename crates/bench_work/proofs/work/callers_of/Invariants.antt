@@ -1,8 +1,8 @@
 use Rattle.std.proofs.Common.{◌≡◌}
 use Rattle.std.specs.Prelude.{filter}
 use Rattle.act_rules.specs.Report.{one_to}
-use Rattle.ray_bench.specs.Work.{actor_at, reaches}
-use Rattle.ray_bench.proofs.work.callers_of.Given as goal
+use Rattle.bench_work.specs.Work.{actor_at, reaches}
+use Rattle.bench_work.proofs.work.callers_of.Given as goal
 
 -- each caller so far that calls the actor
 abbrev pub invariant-loop-before : goal.invariant-loop-before

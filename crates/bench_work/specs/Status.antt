@@ -1,7 +1,7 @@
 -- The statuses that the program ends with.
 use Rattle.std.specs.Prelude.{ℕ}
-use Rattle.ray_bench.specs.declared.stop.Stop.{Stop}
-use Rattle.ray_bench.specs.declared.stop.Stop.TheVariants.{Usage, Unanswered, BadPlan, Memory, Thread, Io}
+use Rattle.bench_work.specs.declared.stop.Stop.{Stop}
+use Rattle.bench_work.specs.declared.stop.Stop.TheVariants.{Usage, Unanswered, BadPlan, Memory, Thread, Io}
 
 abbrev pub status_of : Stop → ℕ
 status_of Usage = 2

@@ -8,9 +8,9 @@ use std::rt::Env;
 
 /// What the command line asks for.
 #[derive(Clone, Copy, Debug, PartialEq, Eq)]
-pub(crate) struct Order {
-    pub(crate) work: Work,
-    pub(crate) turns: u32,
+pub struct Order {
+    pub work: Work,
+    pub turns: u32,
 }
 
 fn last_caller(word: &str) -> Option<CallerId> {
@@ -63,7 +63,7 @@ fn order_of(words: &[String]) -> Option<Order> {
 }
 
 /// What the command line asks for. Words that are no text are refused as others are.
-pub(crate) fn order_given(rt: &(impl Env + AllocGlobal)) -> Result<Order, Stop> {
+pub fn order_given(rt: &(impl Env + AllocGlobal)) -> Result<Order, Stop> {
     let args = env::args(rt).map_err(|_| Stop::Usage)?;
     let words: Vec<String> = args.collect(rt.alloc()).map_err(|_| Stop::Memory)?;
     order_of(&words).ok_or(Stop::Usage)

@@ -1,0 +1,26 @@
+-- What each caller of a measured run does.
+use Rattle.std.specs.Prelude.{ℕ, List, [], ◌∷◌, flat_map}
+use Rattle.act_types.specs.declared.call.Method.TheVariants.{Add}
+use Rattle.act_rules.specs.declared.script.Step.{Step}
+use Rattle.act_rules.specs.declared.script.Step.TheVariants.{Submit, Await}
+use Rattle.bench_work.specs.Work.{actor_at, one_more, places}
+use Rattle.bench_work.specs.declared.work.Style.{Style}
+use Rattle.bench_work.specs.declared.work.Style.TheVariants.{Wait, Future}
+use Rattle.bench_work.specs.declared.work.Work.{Work}
+
+-- what a caller does beside a call: it awaits its answer, or goes on
+abbrev pub awaits : Style → ℕ → List Step
+awaits Wait place = Await place ∷ []
+awaits Future place = []
+
+-- what a caller does at a place: a call that adds 1
+abbrev pub steps_at : Work → ℕ → ℕ → List Step
+steps_at work caller place = Submit (actor_at work caller place) Add one_more ∷ awaits work.style place
+
+-- all that a caller does
+abbrev pub plan_of : Work → ℕ → List Step
+plan_of work caller = flat_map (steps_at work caller) (places work.calls)
+
+-- a caller, and all that it does
+abbrev pub part_of : Work → ℕ → ℕ × List Step
+part_of work caller = (caller, plan_of work caller)

@@ -1,0 +1,24 @@
+-- What the code of a measured caller submits, and what it tells.
+use Rattle.std.specs.Prelude.{◌≡◌, ℕ, List, ◌++◌, map}
+use Rattle.act_types.specs.declared.call.Method.TheVariants.{Add}
+use Rattle.act_rules.specs.declared.history.Submission.{Submission}
+use Rattle.act_drive.specs.Sessions.{Seen}
+use Rattle.bench_work.specs.Work.{actor_at, one_more, places}
+use Rattle.bench_work.specs.declared.work.Work.{Work}
+use Rattle.ray_bench_code.specs.declared.adder.Adder.{Adder}
+
+-- the call of a caller at a place: one that adds 1
+abbrev pub call_at : Work → ℕ → ℕ → Submission
+call_at work caller place = record { actor = actor_at work caller place; method = Add; args = one_more }
+
+-- so many calls of a caller, from its first one on
+abbrev pub calls_of : Work → ℕ → ℕ → List Submission
+calls_of work caller count = map (call_at work caller) (places count)
+
+-- all calls of the work are submitted, in their order
+abbrev pub adder_tells : Adder → Seen → Seen → Type 0
+adder_tells adder old new = new.calls ≡ old.calls ++ calls_of adder.work adder.me adder.work.calls
+
+-- a caller, and its code
+abbrev pub adder_of : Work → ℕ → ℕ × Adder
+adder_of work caller = (caller, record { work = work; me = caller })
