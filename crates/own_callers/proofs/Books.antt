@@ -19,11 +19,11 @@ use Rattle.act_rules.proofs.AsSubmitted.{filter-slice_get}
 use Rattle.act_rules.proofs.Unique.{map-slice_get}
 use Rattle.own_callers.proofs.Sums.{sum_by_same, sum_by_map, by_keys, of_key}
 
-all_by_places : {A : Type 0} (P : A → Type 0) (xs : List A) → ((k : ℕ) (x : A) → slice_get xs k ≡ Some x → P x) → All P xs
+pub all_by_places : {A : Type 0} (P : A → Type 0) (xs : List A) → ((k : ℕ) (x : A) → slice_get xs k ≡ Some x → P x) → All P xs
 all_by_places P xs f k d below = f k _ (slice_get-get_or xs k d below)
 
 -- each call of a caller stands at its future
-enumerated_at : (calls : List Submission) (k : ℕ) (call : ℕ × Submission) → slice_get (enumerate_from 0 calls) k ≡ Some call → slice_get calls call.0 ≡ Some call.1
+pub enumerated_at : (calls : List Submission) (k : ℕ) (call : ℕ × Submission) → slice_get (enumerate_from 0 calls) k ≡ Some call → slice_get calls call.0 ≡ Some call.1
 enumerated_at calls k call at = go (slice_get calls k) refl (sym (slice_get-enumerate_from 0 calls k) ∙ at)
   where
     go : (o : Option Submission) → slice_get calls k ≡ o → option_map (λ (x : Submission). (0 + k, x)) o ≡ Some call → slice_get calls call.0 ≡ Some call.1
@@ -44,7 +44,7 @@ module _ (moved : Option Answer → Method → List Settled → ℕ) where
   abbrev pub by_log : KindState → List RunItem → ℕ
   by_log state items = sum_by ran (zip items (answers_from state items))
 
-  abbrev call_moved : List (Option Answer) → ℕ × Submission → ℕ
+  abbrev pub call_moved : List (Option Answer) → ℕ × Submission → ℕ
   call_moved kept call = moved (kept_at kept call.0) call.1.method (map (settled kept) call.1.args)
 
   abbrev pub by_calls : ℕ → List Submission → List (Option Answer) → ℕ
@@ -98,7 +98,7 @@ module _ (moved : Option Answer → Method → List Settled → ℕ) where
       (a : ℕ) (alive : is_dead a ≡ false)
       (ran_all : (c : ℕ) → map (λ item. item.future) (items_of c (runs a)) ≡ map (λ call. call.0) (calls_to a (calls c))) where
     -- an item of the actor's is a call to it
-    to_actor : (p : ℕ) (item : RunItem) (call : Submission) → slice_get (runs a) p ≡ Some item → slice_get (calls item.caller) item.future ≡ Some call → call.actor ≡ a
+    pub to_actor : (p : ℕ) (item : RunItem) (call : Submission) → slice_get (runs a) p ≡ Some item → slice_get (calls item.caller) item.future ≡ Some call → call.actor ≡ a
     to_actor p item call at is = go _ (slice_get-filter (λ (one : RunItem). one.caller == item.caller) (runs a) p item at (eq-eqb item.caller item.caller refl))
       where
         go : (q : ℕ) → slice_get (items_of item.caller (runs a)) q ≡ Some item → call.actor ≡ a

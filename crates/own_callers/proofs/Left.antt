@@ -83,7 +83,7 @@ module _ (casts : List Casting) (plans : List (ℕ × List Step)) (owners : List
           let has : contains c (map (λ (one : OwnerValue). one.id) owners) ≡ true = is_contained c (map (λ (one : OwnerValue). one.id) owners) (record { place = found.inside.place; at = at }) in
           cc
 
-  own : (k : ℕ) (owner : OwnerValue) → slice_get owners k ≡ Some owner → owner_of owner.id owners ≡ Some owner
+  pub own : (k : ℕ) (owner : OwnerValue) → slice_get owners k ≡ Some owner → owner_of owner.id owners ≡ Some owner
   own k owner at =
       let some = finds (λ (one : OwnerValue). one.id == owner.id) owners k owner at (eq-eqb owner.id owner.id refl) in
       let found = found_is (λ (one : OwnerValue). one.id == owner.id) owners some.one some.is in
@@ -110,7 +110,7 @@ module _ (casts : List Casting) (plans : List (ℕ × List Step)) (owners : List
         let both : Some ran.cast.opening ≡ Some (AccountAt (pos n)) = sym at ∙ opens in
         cc
 
-    ran_all : (c : ℕ) → map (λ item. item.future) (items_of c (log_in ends a)) ≡ map (λ call. call.0) (calls_to a (calls_in owners c))
+    pub ran_all : (c : ℕ) → map (λ item. item.future) (items_of c (log_in ends a)) ≡ map (λ call. call.0) (calls_to a (calls_in owners c))
     ran_all c =
         ap (λ (items : List RunItem). map (λ (item : RunItem). item.future) (items_of c items)) log
         ∙ ran.calls c

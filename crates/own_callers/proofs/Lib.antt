@@ -5,4 +5,5 @@ pub mod Calls
 pub mod Works
 pub mod Tries
 pub mod Left
+pub mod Totals
 pub mod Orders

@@ -1,5 +1,5 @@
 -- Sums over lists, and over the parts of a list.
-use Rattle.std.proofs.Common.{◌≡◌, ◌≢◌, ℕ, suc, ◌+◌, ◌==◌, Bool, true, false, cond, List, [], ◌∷◌, map, filter, refl, ap, sym, ◌∙◌, arith, All, AllPairs, ne_eqb, eqb-true, eq-eqb}
+use Rattle.std.proofs.Common.{◌≡◌, ◌≢◌, ℕ, suc, ◌+◌, ◌==◌, Bool, true, false, cond, List, [], ◌∷◌, get_or, map, filter, refl, ap, sym, ◌∙◌, arith, All, AllPairs, ne_eqb, eqb-true, eq-eqb}
 use Rattle.std.specs.Prelude.{◌||◌}
 use Rattle.std.specs.List.{sum_by, list_any}
 use Rattle.std.proofs.lemmas.List.Elements.{All-head, All-tail}
@@ -39,6 +39,18 @@ sum_by_nothing {A = A} (x ∷ xs) =
     let rest : sum_by (λ (y : A). 0) xs ≡ 0 = sum_by_nothing xs in
     let all : sum_by (λ (y : A). 0) (x ∷ xs) ≡ 0 + sum_by (λ (y : A). 0) xs = sum_by-cons (λ (y : A). 0) x xs in
     omega (arith, rest, all)
+
+-- a sum of sums, the other way round
+pub sum_by_turned : {A B : Type 0} (f : A → B → ℕ) (xs : List A) (ys : List B) → sum_by (λ x. sum_by (f x) ys) xs ≡ sum_by (λ y. sum_by (λ x. f x y) xs) ys
+sum_by_turned f [] ys = sym (sum_by_nothing ys)
+sum_by_turned {A = A} {B = B} f (x ∷ xs) ys =
+    let rest : sum_by (λ (z : A). sum_by (f z) ys) xs ≡ sum_by (λ (y : B). sum_by (λ (z : A). f z y) xs) ys = sum_by_turned f xs ys in
+    let all : sum_by (λ (z : A). sum_by (f z) ys) (x ∷ xs) ≡ sum_by (f x) ys + sum_by (λ (z : A). sum_by (f z) ys) xs = sum_by-cons (λ (z : A). sum_by (f z) ys) x xs in
+    let both : sum_by (λ (y : B). f x y + sum_by (λ (z : A). f z y) xs) ys ≡ sum_by (f x) ys + sum_by (λ (y : B). sum_by (λ (z : A). f z y) xs) ys =
+    sum_by_both (f x) (λ (y : B). sum_by (λ (z : A). f z y) xs) ys in
+    let each : sum_by (λ (y : B). sum_by (λ (z : A). f z y) (x ∷ xs)) ys ≡ sum_by (λ (y : B). f x y + sum_by (λ (z : A). f z y) xs) ys =
+    sum_by_same (λ (y : B). sum_by (λ (z : A). f z y) (x ∷ xs)) (λ (y : B). f x y + sum_by (λ (z : A). f z y) xs) ys (λ k d below. sum_by-cons (λ (z : A). f z (get_or ys k d)) x xs) in
+    omega (arith, rest, all, both, each)
 
 -- a term for one number alone, in a list without it, and in a list of distinct numbers that has it
 abbrev only : ℕ → ℕ → ℕ → ℕ

@@ -1,6 +1,6 @@
 -- What an account holds after its calls, by what they put in and took out.
 use Rattle.std.specs.Prelude.{◌≡◌, ℕ, ◌+◌, List, [], ◌∷◌, map, zip, Option, Some, Ok, pos, unsigned_abs}
-use Rattle.std.specs.List.{sum_by}
+use Rattle.std.specs.List.{sum_by, enumerate_from}
 use Rattle.act_types.specs.declared.value.Value.TheVariants.{Int}
 use Rattle.act_types.specs.declared.call.Method.{Method}
 use Rattle.act_types.specs.declared.call.Method.TheVariants.{Deposit, Withdraw}
@@ -42,3 +42,17 @@ put_of a calls kept =
 abbrev pub taken_of : ℕ → List Submission → List (Option Answer) → ℕ
 taken_of a calls kept =
     sum_by (λ call. taken_by (kept_at kept call.0) call.1.method (map (settled kept) call.1.args)) (calls_to a calls)
+
+-- the same, of all its calls
+abbrev pub all_put : List Submission → List (Option Answer) → ℕ
+all_put calls kept =
+    sum_by (λ call. put_by (kept_at kept call.0) call.1.method (map (settled kept) call.1.args)) (enumerate_from 0 calls)
+
+abbrev pub all_taken : List Submission → List (Option Answer) → ℕ
+all_taken calls kept =
+    sum_by (λ call. taken_by (kept_at kept call.0) call.1.method (map (settled kept) call.1.args)) (enumerate_from 0 calls)
+
+-- what an account holds
+abbrev pub held : Option KindState → ℕ
+held (Some (AccountAt (pos n))) = n
+held state = 0

@@ -1,16 +1,16 @@
 -- What a run leaves of its transfers, and of its accounts.
-use Rattle.std.specs.Prelude.{◌≡◌, ℕ, ◌+◌, List, Some, pos}
+use Rattle.std.specs.Prelude.{◌≡◌, ℕ, ◌+◌, List, Some, pos, All}
 use Rattle.std.specs.List.{sum_by}
 use Rattle.act_types.specs.KindState.{KindState, AccountAt}
 use Rattle.act_rules.specs.History.{Casting, opening, opening_of}
 use Rattle.act_owner.specs.Owner.{OwnerValue}
 use Rattle.act_actor.specs.Value.{RetiredSeen}
-use Rattle.act_serve.specs.Served.{EndSeen, Retired}
+use Rattle.act_serve.specs.Served.{EndSeen, Retired, id_of}
 use Rattle.act_drive.specs.Sessions.{seen_of}
 use Rattle.act_joint.specs.Joined.{owner_of, end_of}
 use Rattle.own_callers.specs.declared.transfer.Transfer.{Transfer}
 use Rattle.own_callers.specs.Transfer.{HasEnded}
-use Rattle.own_callers.specs.Accounts.{put_of, taken_of}
+use Rattle.own_callers.specs.Accounts.{put_of, taken_of, all_put, all_taken, held}
 
 -- an owner is left of the caller that made a transfer, and what it submitted and keeps is how the transfer ended
 pub record HasTransferred (owners : List OwnerValue) (given : ℕ × Transfer) : Type 0 where
@@ -35,3 +35,24 @@ pub record IsBalanced (a n : ℕ) (owners : List OwnerValue) (state : KindState)
 abbrev pub AreBalanced : List Casting → List OwnerValue → List EndSeen → Type 0
 AreBalanced casts owners ends = (a n : ℕ) (retired : RetiredSeen) → opening_of a (opening casts) ≡ Some (AccountAt (pos n)) →
     end_of a ends ≡ Some (Retired retired) → IsBalanced a n owners retired.state
+
+-- what an actor holds at its end, if it retired, and what its cast opened it with
+abbrev pub held_last : EndSeen → ℕ
+held_last (Retired retired) = held (Some retired.state)
+held_last end = 0
+
+abbrev pub held_first : List Casting → EndSeen → ℕ
+held_first casts end = held (opening_of (id_of end) (opening casts))
+
+-- an actor that opened as an account, and retired
+pub record IsAccount (casts : List Casting) (end : EndSeen) : Type 0 where
+  pub retired : RetiredSeen
+  pub is : end ≡ Retired retired
+  pub n : ℕ
+  pub opens : opening_of (id_of end) (opening casts) ≡ Some (AccountAt (pos n))
+
+-- where all actors are accounts that retired: what they hold, and what all took out, is what they held, and what all put in
+abbrev pub KeepsTheSum : List Casting → List OwnerValue → List EndSeen → Type 0
+KeepsTheSum casts owners ends = All (IsAccount casts) ends →
+    sum_by held_last ends + sum_by (λ owner. all_taken owner.calls owner.kept) owners
+    ≡ sum_by (held_first casts) ends + sum_by (λ owner. all_put owner.calls owner.kept) owners

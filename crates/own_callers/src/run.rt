@@ -12,7 +12,7 @@ ghost use Rattle.act_executor.specs.Runs.{plan_seen, IsFault};
 ghost use Rattle.act_own.specs.Kept.{EndKeeps, OpensAt};
 ghost use Rattle.own_kinds.specs.Queue.{IsInOrder, queue_at, queue_step, queue_text};
 ghost use Rattle.own_callers.specs.Clerk.{clerk_tells};
-ghost use Rattle.own_callers.specs.Runs.{HasTransferred, AreBalanced};
+ghost use Rattle.own_callers.specs.Runs.{HasTransferred, AreBalanced, KeepsTheSum};
 ghost use Rattle.own_callers.specs.Transfer.{transfer_tells};
 
 use crate::clerk::Clerk;
@@ -42,6 +42,8 @@ pub fn run_transfers<R: Threads + Wait + Sync, K: Actor + Send>(
         joined.owners.items (map (λ actor. end_seen K.state actor.ended) joined.actors.items)) }
     ensures guarded { IfOk result (λ joined. All (HasTransferred joined.owners.items) transfers.items) }
     ensures kept { IfOk result (λ joined. AreBalanced (map (casting K.state) casts.items) joined.owners.items
+        (map (λ actor. end_seen K.state actor.ended) joined.actors.items)) }
+    ensures sum { IfOk result (λ joined. KeepsTheSum (map (casting K.state) casts.items) joined.owners.items
         (map (λ actor. end_seen K.state actor.ended) joined.actors.items)) }
     ensures fault { IfErr result (IsFault (map (casting K.state) casts.items) (map plan_seen plans.items)) }
 {
