@@ -1,31 +1,75 @@
 -- A session at work.
-use Rattle.std.proofs.Common.{ℕ, List, [], ◌∷◌, ◌++◌}
+use Rattle.std.proofs.Common.{◌≡◌, ℕ, suc, ◌+◌, ◌<◌, Bool, List, [], ◌∷◌, ◌++◌, length, get_or, set, replicate, sym, ◌∙◌, ap, subst, arith, inl, inr}
+use Rattle.std.specs.Prelude.{if◌then◌else◌}
+use Rattle.std.proofs.lemmas.Bool.Decides.{eqb_tells, leb_tells}
+use Rattle.std.proofs.lemmas.List.{get_or-set_other, get_or-replicate, get_or_past, length-replicate}
+use Rattle.std.proofs.lemmas.Grind.{get_or-set_at}
 use Rattle.act_rules.specs.declared.script.Step.{Step}
+use Rattle.act_rules.specs.declared.script.Step.TheVariants.{Kill}
 use Rattle.act_drive.specs.declared.desk.CallerLines.{CallerLines}
 use Rattle.act_drive.specs.declared.desk.Desk.{Desk}
-use Rattle.act_drive.specs.Driven.{IsCalling, Stays, Waits}
+use Rattle.act_drive.specs.Driven.{IsCalling, Stays, Waits, Follows}
 use Rattle.act_drive.specs.Lent.{Does, IsAtWork}
-use Rattle.act_drive.proofs.Desks.{stays_trans}
-use Rattle.act_drive.proofs.PlanSteps.{follows_waits}
+use Rattle.act_drive.proofs.Desks.{stays_trans, waits_same}
+use Rattle.act_rules.specs.Plans.{kills_to}
+use Rattle.act_drive.proofs.PlanSteps.{follows_waits, kills_more}
+
+all_same : (x n a : ℕ) → get_or (replicate n x) a x ≡ x
+all_same x n a = elim (leb_tells (suc a) n) [
+  | inl t ↦ get_or-replicate n a x x t.1
+  | inr f ↦ let long : length (replicate n x) ≡ n = length-replicate n x in get_or_past (replicate n x) a x (omega (arith, f.1, long))
+]
+
+-- at first
+pub work_begun : (actors : List ℕ) (began : Desk → Type 0) (lines : CallerLines) (desk : Desk) → IsCalling lines desk → began desk → Follows lines actors [] desk → IsAtWork actors began lines desk (replicate 9 0)
+work_begun actors began lines desk calling so follows = record {
+  calling = calling;
+  opened = desk;
+  began_so = so;
+  stays = (waits_same desk).stay;
+  steps = [];
+  follows = follows;
+  asked = all_same 0 9;
+}
 
 -- a step more
-pub work_does : (actors : List ℕ) (began : Desk → Type 0) (lines : CallerLines) (old new : Desk) (step : Step) → IsAtWork actors began lines old → IsCalling lines new → Stays old new → Does lines step old new → IsAtWork actors began lines new
-work_does actors began lines old new step was calling stays does = record {
+pub work_step : (actors : List ℕ) (began : Desk → Type 0) (lines : CallerLines) (old new : Desk) (step : Step) (kills more : List ℕ) → IsAtWork actors began lines old kills → IsCalling lines new → Stays old new → Does lines step old new → ((a : ℕ) → get_or more a 0 ≡ get_or kills a 0 + kills_to a (step ∷ [])) → IsAtWork actors began lines new more
+work_step actors began lines old new step kills more was calling stays does grown = record {
   calling = calling;
   opened = was.opened;
   began_so = was.began_so;
   stays = stays_trans was.opened old new was.stays stays;
   steps = was.steps ++ step ∷ [];
   follows = does actors was.steps was.follows;
+  asked = λ a. grown a ∙ ap (λ (n : ℕ). n + kills_to a (step ∷ [])) (was.asked a) ∙ sym (kills_more a was.steps step);
 }
 
+-- the same of a step that is no kill
+pub work_does : (actors : List ℕ) (began : Desk → Type 0) (lines : CallerLines) (old new : Desk) (step : Step) (kills : List ℕ) → ((a : ℕ) → kills_to a (step ∷ []) ≡ 0) → IsAtWork actors began lines old kills → IsCalling lines new → Stays old new → Does lines step old new → IsAtWork actors began lines new kills
+work_does actors began lines old new step kills none was calling stays does = work_step actors began lines old new step kills kills was calling stays does (λ a. let none_to = none a in omega (arith, none_to))
+
+kill_grown : (kills : List ℕ) (a : ℕ) → a < length kills → (b : ℕ) → get_or (set kills a (get_or kills a 0 + 1)) b 0 ≡ get_or kills b 0 + kills_to b (Kill a ∷ [])
+kill_grown kills a below b = elim (eqb_tells a b) [
+  | inl t ↦ get_or-set_at kills a b (get_or kills a 0 + 1) 0 (sym t.1) below ∙ ap (λ (n : ℕ). get_or kills n 0 + 1) t.1 ∙ sym (ap (λ (c : Bool). get_or kills b 0 + length (if c then Kill a ∷ [] else [])) t.0)
+  | inr f ↦ let same = get_or-set_other kills a b (get_or kills a 0 + 1) 0 (λ e. f.1 (sym e)) in
+      let none : kills_to b (Kill a ∷ []) ≡ 0 = ap (λ (c : Bool). length (if c then Kill a ∷ [] else [])) f.0 in
+      omega (arith, same, none)
+]
+
+-- a kill, at the place of the actor's number
+pub work_kill : (actors : List ℕ) (began : Desk → Type 0) (lines : CallerLines) (old new : Desk) (a n : ℕ) (kills : List ℕ) → n ≡ a → n < length kills → IsAtWork actors began lines old kills → IsCalling lines new → Stays old new → Does lines (Kill a) old new
+    → IsAtWork actors began lines new (set kills n (get_or kills n 0 + 1))
+work_kill actors began lines old new a n kills is below was calling stays does =
+    work_step actors began lines old new (Kill a) kills _ was calling stays does (subst (λ (m : ℕ). (b : ℕ) → get_or (set kills n (get_or kills n 0 + 1)) b 0 ≡ get_or kills b 0 + kills_to b (Kill m ∷ [])) is (kill_grown kills n below))
+
 -- a wait
-pub work_waits : (actors : List ℕ) (began : Desk → Type 0) (lines : CallerLines) (old new : Desk) → IsAtWork actors began lines old → IsCalling lines new → Waits old new → IsAtWork actors began lines new
-work_waits actors began lines old new was calling waits = record {
+pub work_waits : (actors : List ℕ) (began : Desk → Type 0) (lines : CallerLines) (old new : Desk) (kills : List ℕ) → IsAtWork actors began lines old kills → IsCalling lines new → Waits old new → IsAtWork actors began lines new kills
+work_waits actors began lines old new kills was calling waits = record {
   calling = calling;
   opened = was.opened;
   began_so = was.began_so;
   stays = stays_trans was.opened old new was.stays waits.stay;
   steps = was.steps;
   follows = follows_waits lines actors was.steps old new waits was.follows;
+  asked = was.asked;
 }

@@ -52,12 +52,13 @@ kept_below (x ∷ kept) (suc k) has = let below = kept_below kept k has in omega
 -- ---- what is seen
 
 pub hears_waits : (old new : Desk) → Waits old new → Hears (seen_of old.owner) (seen_of new.owner)
-hears_waits old new waits = record { calls = waits.calls; handles = waits.handles }
+hears_waits old new waits = record { calls = waits.calls; handles = waits.handles; kills = refl }
 
 pub submits_hears : (call : Submission) (old mid new : Seen) → Submits call old mid → Hears mid new → Submits call old new
 submits_hears call old mid new submits hears = record {
   calls = hears.calls ∙ submits.calls;
   copies = λ a. ap (λ (h : List Handle). copies_in a h) hears.handles ∙ submits.copies a;
+  kills = hears.kills ∙ submits.kills;
 }
 
 pub stays_submitted : (old new : Desk) (a : ℕ) (method : Method) (args : List Arg) → new.owner ≡ with_call old.owner a method args → new.passes ≡ old.passes → Stays old new
@@ -77,6 +78,7 @@ pub submits_waited : (old mid new : Desk) (a : ℕ) (method : Method) (args : Li
 submits_waited old mid new a method args waits is = record {
   calls = ap (λ (o : OwnerValue). o.calls) is ∙ ap (λ (l : List Submission). l ++ record { actor = a; method = method; args = args } ∷ []) waits.calls;
   copies = λ b. ap (λ (o : OwnerValue). copies_in b o.handles) is ∙ copies-with_number a b mid.owner.handles ∙ ap (λ (h : List Handle). copies_in b h) waits.handles;
+  kills = refl;
 }
 
 -- ---- refusals

@@ -1,6 +1,7 @@
 -- What the parts of a session leave.
-use Rattle.std.specs.Prelude.{◌≡◌, true, false, ℕ, List, ◌∷◌, ◌++◌, [], All}
+use Rattle.std.specs.Prelude.{◌≡◌, true, false, ℕ, List, ◌∷◌, ◌++◌, [], slice_index_or, All}
 use Rattle.act_rules.specs.declared.script.Step.{Step}
+use Rattle.act_rules.specs.Plans.{kills_to}
 use Rattle.act_drive.specs.declared.desk.CallerLines.{CallerLines}
 use Rattle.act_drive.specs.declared.desk.Desk.{Desk}
 use Rattle.act_drive.specs.declared.caller.Driven.{Driven}
@@ -12,14 +13,15 @@ use Rattle.act_drive.specs.Coded.{IsTold}
 abbrev pub Does : CallerLines → Step → Desk → Desk → Type 0
 Does lines step old new = (actors : List ℕ) (steps : List Step) → Follows lines actors steps old → Follows lines actors (steps ++ step ∷ []) new
 
--- a desk at work: it is that of the caller that began, and it did some steps
-pub record IsAtWork (actors : List ℕ) (began : Desk → Type 0) (lines : CallerLines) (desk : Desk) : Type 0 where
+-- a desk at work: it is that of the caller that began, it did some steps, and so many kills were asked
+pub record IsAtWork (actors : List ℕ) (began : Desk → Type 0) (lines : CallerLines) (desk : Desk) (kills : List ℕ) : Type 0 where
   pub calling : IsCalling lines desk
   pub opened : Desk
   pub began_so : began opened
   pub stays : Stays opened desk
   pub steps : List Step
   pub follows : Follows lines actors steps desk
+  pub asked : (a : ℕ) → slice_index_or kills a 0 ≡ kills_to a steps
 
 -- what a caller by code of its own leaves of a desk
 pub record HasWorked (lines : CallerLines) (actors : List ℕ) (start : Desk) (tells : Seen → Seen → Type 0) (driven : Driven) : Type 0 where
@@ -27,6 +29,7 @@ pub record HasWorked (lines : CallerLines) (actors : List ℕ) (start : Desk) (t
   pub is : driven ≡ record { owner = new.owner; starved = driven.starved; passes = new.passes }
   pub calling : IsCalling lines new
   pub stays : Stays start new
-  pub done : driven.starved ≡ false → (steps : List Step) × (HasDone lines actors steps new.owner new.passes)
+  pub steps : List Step
+  pub done : driven.starved ≡ false → HasDone lines actors steps new.owner new.passes
   pub ended : driven.starved ≡ true → All (HasEnded lines.controls.now new.owner new.passes) new.passes.kills.items
-  pub told : driven.starved ≡ false → IsTold tells start.owner new.owner
+  pub told : driven.starved ≡ false → IsTold tells steps start.owner new.owner

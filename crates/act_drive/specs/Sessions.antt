@@ -1,5 +1,5 @@
 -- What a caller's own code sees of its caller, and what contracts say of a session.
-use Rattle.std.specs.Prelude.{◌≡◌, ℕ, ◌==◌, List, [], ◌∷◌, ◌++◌, length, zip, count_by, find, Option, option_and_then}
+use Rattle.std.specs.Prelude.{◌≡◌, ℕ, ◌+◌, ◌==◌, nat_lt, if◌then◌else◌, List, [], ◌∷◌, ◌++◌, length, zip, count_by, find, replicate, slice_index_or, Option, option_and_then}
 use Rattle.std.specs.Option.{option_map_or}
 use Rattle.act_types.specs.declared.call.Arg.{Arg}
 use Rattle.act_rules.specs.declared.history.Submission.{Submission}
@@ -11,18 +11,25 @@ use Rattle.act_handles.specs.declared.handles.Handle.{Handle}
 use Rattle.act_handles.specs.Handles.{copies_in, without_copy}
 use Rattle.act_owner.specs.Owner.{OwnerValue, waits_for}
 use Rattle.act_drive.specs.declared.refusals.KillRefusal.{KillRefusal}
-use Rattle.act_drive.specs.declared.refusals.KillRefusal.TheVariants.{Handle as BadHandle, NoMemory}
+use Rattle.act_drive.specs.declared.refusals.KillRefusal.TheVariants.{Handle as BadHandle, TooManyKills, NoMemory}
+use Rattle.act_drive.specs.declared.session.TheConstants.{MOST_KILLS}
 use Rattle.act_drive.specs.Driven.{KeptOn}
 
--- what code sees of its caller: its calls so far, the answers kept so far, its handles, and its limits
+-- what code sees of its caller: its calls so far, the answers kept so far, its handles, and its limits; and how many kills it asked of each actor, by the actors' numbers
 pub record Seen : Type 0 where
   pub calls : List Submission
   pub kept : List (Option Answer)
   pub handles : List Handle
   pub limits : List (ℕ × Option ℕ)
+  pub kills : List ℕ
 
+-- what code sees of a caller that asked no kill yet
 abbrev pub seen_of : OwnerValue → Seen
-seen_of owner = record { calls = owner.calls; kept = owner.kept; handles = owner.handles; limits = owner.limits }
+seen_of owner = record { calls = owner.calls; kept = owner.kept; handles = owner.handles; limits = owner.limits; kills = replicate 9 0 }
+
+-- how many kills of an actor were asked
+abbrev pub kills_of : Seen → ℕ → ℕ
+kills_of seen a = slice_index_or seen.kills a 0
 
 -- how many calls of an actor have no answer yet
 abbrev pub pending_of : Seen → ℕ → ℕ
@@ -42,24 +49,33 @@ use_refusal seen a = handle_refusal (copies_in a seen.handles)
 
 -- why a kill is not asked, where one is refused
 abbrev pub kill_refusal : Seen → ℕ → KillRefusal
-kill_refusal seen a = option_map_or BadHandle (use_refusal seen a) NoMemory
+kill_refusal seen a = option_map_or BadHandle (use_refusal seen a) (if nat_lt (kills_of seen a) MOST_KILLS then NoMemory else TooManyKills)
 
 -- it is the same caller, later: its limits are the same, and no answer is forgotten
 pub record IsLater (old new : Seen) : Type 0 where
   pub limits : new.limits ≡ old.limits
   pub kept : KeptOn old.kept new.kept
 
--- nothing is submitted, and no handle changes
+-- nothing is submitted, no handle changes, and no kill is asked
 pub record Hears (old new : Seen) : Type 0 where
   pub calls : new.calls ≡ old.calls
   pub handles : new.handles ≡ old.handles
+  pub kills : new.kills ≡ old.kills
 
--- this call is submitted after the others, and no handle is copied or let go
+-- this call is submitted after the others, no handle is copied or let go, and no kill is asked
 pub record Submits (call : Submission) (old new : Seen) : Type 0 where
   pub calls : new.calls ≡ old.calls ++ call ∷ []
   pub copies : (a : ℕ) → copies_in a new.handles ≡ copies_in a old.handles
+  pub kills : new.kills ≡ old.kills
 
--- a copy of the actor's handle is let go, and nothing is submitted
+-- a copy of the actor's handle is let go, nothing is submitted, and no kill is asked
 pub record LetsGo (a : ℕ) (old new : Seen) : Type 0 where
   pub calls : new.calls ≡ old.calls
   pub handles : new.handles ≡ without_copy a old.handles
+  pub kills : new.kills ≡ old.kills
+
+-- one kill more is asked of the actor, nothing is submitted, and no handle changes
+pub record AsksKill (a : ℕ) (old new : Seen) : Type 0 where
+  pub calls : new.calls ≡ old.calls
+  pub handles : new.handles ≡ old.handles
+  pub kills : (b : ℕ) → kills_of new b ≡ (if b == a then kills_of old b + 1 else kills_of old b)

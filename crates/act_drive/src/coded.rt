@@ -93,6 +93,7 @@ fn work<R: Wait, O: Opening, C: Code>(
         lines,
         desk,
         since: 0,
+        kills: [0; NUMBERS],
         of: PhantomData,
     };
     let has_given_up = code.run(&mut lent).is_err();

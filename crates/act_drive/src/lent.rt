@@ -4,9 +4,9 @@ ghost use Rattle.std.specs.Prelude.{◌≡◌, ◌≢◌, length, None, IfOk, On
 ghost use Rattle.act_rules.specs.declared.outcome.SubmitRefusal.TheVariants.{NoMemory as NoRoom};
 ghost use Rattle.act_drive.specs.Sessions.{call_refusal, IsLater, Hears, Submits};
 
-use crate::desk::{CallerLines, Desk};
+use crate::desk::{CallerLines, Desk, NUMBERS};
 use crate::refusals::{KillRefusal, WaitRefusal};
-use crate::session::Session;
+use crate::session::{MOST_KILLS, Session};
 use act_handles::HandleRefusal;
 use act_rules::SubmitRefusal;
 use act_types::{ActorId, Answer, Arg, FutureId, ListOf, Method};
@@ -25,7 +25,8 @@ pub(crate) trait Opening {
     ghost began: { CallerLines → Desk → Type 0 };
 }
 
-/// A desk that is lent to its caller's code. `since` counts the submissions from one turn to the next.
+/// A desk that is lent to its caller's code. `since` counts the submissions from one turn to the next,
+/// and `kills` the kills asked of each actor, by its number.
 #[derive(Drop)]
 pub(crate) struct Lent<'a, R, O: Opening> {
     pub(crate) rt: &'a R,
@@ -33,6 +34,7 @@ pub(crate) struct Lent<'a, R, O: Opening> {
     pub(crate) lines: &'a CallerLines<'a>,
     pub(crate) desk: Desk,
     pub(crate) since: u32,
+    pub(crate) kills: [u32; NUMBERS],
     pub(crate) of: PhantomData<O>,
 }
 
@@ -42,9 +44,9 @@ impl<'a, R, O: Opening> Model for Lent<'a, R, O> {
 
     ghost Value = { Seen };
 
-    ghost view = { λ s. seen_of s.desk.owner };
+    ghost view = { λ s. record (seen_of s.desk.owner) { kills = s.kills } };
 
-    ghost invariant = { λ s. IsAtWork O.actors (O.began s.lines.now) s.lines.now s.desk };
+    ghost invariant = { λ s. IsAtWork O.actors (O.began s.lines.now) s.lines.now s.desk s.kills };
 }
 
 impl<'a, R: Wait, O: Opening> Lent<'a, R, O> {
@@ -127,8 +129,15 @@ impl<'a, R: Wait, O: Opening> Session for Lent<'a, R, O> {
         if let Some(refusal) = self.desk.use_refusal(actor) {
             return Err(KillRefusal::Handle(refusal));
         }
+        let number = actor.number() as usize;
+        if self.kills[number] >= MOST_KILLS {
+            return Err(KillRefusal::TooManyKills);
+        }
         match self.desk.kill(self.rt, self.alloc, self.lines, actor) {
-            Ok(()) => Ok(()),
+            Ok(()) => {
+                self.kills[number] += 1;
+                Ok(())
+            }
             Err(_) => Err(KillRefusal::NoMemory),
         }
     }
@@ -143,6 +152,10 @@ impl<'a, R: Wait, O: Opening> Session for Lent<'a, R, O> {
 
     fn holds(&self, actor: ActorId) -> u32 {
         self.desk.owner.holds(actor)
+    }
+
+    fn kills(&self, actor: ActorId) -> u32 {
+        self.kills[actor.number() as usize]
     }
 
     fn count(&self) -> u32 {

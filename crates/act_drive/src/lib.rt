@@ -21,4 +21,4 @@ pub use coded::drive_code;
 pub use desk::{CallerLines, CallerPasses};
 pub use laws::letters_stand_at_their_seats;
 pub use refusals::{KillRefusal, WaitRefusal};
-pub use session::Session;
+pub use session::{MOST_KILLS, Session};

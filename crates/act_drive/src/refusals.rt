@@ -28,6 +28,8 @@ impl Error for WaitRefusal {}
 #[derive(Clone, Copy, Debug, PartialEq, Eq)]
 pub enum KillRefusal {
     Handle(HandleRefusal),
+    /// `MOST_KILLS` of the actor were asked.
+    TooManyKills,
     /// The actor's line was full, and meanwhile a call that is ready could not be sent. The kill may
     /// be asked again.
     NoMemory,
@@ -37,6 +39,7 @@ impl fmt::Display for KillRefusal {
     fn fmt<W: fmt::Write>(&self, f: &mut fmt::Formatter<W>) -> fmt::Result {
         f.write_str(match self {
             KillRefusal::Handle(refusal) => refusal.word(),
+            KillRefusal::TooManyKills => "TooManyKills",
             KillRefusal::NoMemory => "NoMemory",
         })
     }

@@ -7,13 +7,17 @@ ghost use Rattle.act_rules.specs.declared.outcome.SubmitRefusal.TheVariants.{NoM
 ghost use Rattle.act_handles.specs.Handles.{copies_in, copied, with_copy, or_else};
 ghost use Rattle.act_drive.specs.declared.refusals.WaitRefusal.TheVariants.{NoFuture, NoMemory as NoRoomToWait};
 ghost use Rattle.act_drive.specs.declared.refusals.KillRefusal.TheVariants.{NoMemory as NoRoomToAsk};
-ghost use Rattle.act_drive.specs.Sessions.{Seen, pending_of, limit_of, call_refusal, use_refusal, kill_refusal, IsLater, Hears, Submits, LetsGo};
+ghost use Rattle.act_drive.specs.declared.session.TheConstants.{MOST_KILLS};
+ghost use Rattle.act_drive.specs.Sessions.{Seen, pending_of, limit_of, kills_of, call_refusal, use_refusal, kill_refusal, IsLater, Hears, Submits, LetsGo, AsksKill};
 
 use crate::refusals::{KillRefusal, WaitRefusal};
 use act_handles::HandleRefusal;
 use act_rules::SubmitRefusal;
 use act_types::{ActorId, Answer, Arg, FutureId, ListOf, Method};
 use std::alloc::Global;
+
+/// How many kills of one actor a session asks at most.
+pub const MOST_KILLS: u32 = 65_536;
 
 /// A caller, as its own code has it while it runs. What is ready is sent, and what comes is
 /// collected, in the calls that wait, and in others from time to time. A call that was refused memory
@@ -92,12 +96,14 @@ pub trait Session {
         ensures err { OnErr result (seen self.new ≡ seen self.old) }
         ensures on { IsLater (seen self.old) (seen self.new) };
 
-    /// Asks for the actor's kill, unless its death is known.
+    /// Asks for the actor's kill. Where its death is known the kill is counted, and nothing is sent.
     fn kill(&mut self, actor: ActorId) -> Result<(), KillRefusal>
         ensures accepted { OnOk result (use_refusal (seen self.old) actor ≡ None) }
+        ensures few { OnOk result (kills_of (seen self.old) actor < MOST_KILLS) }
+        ensures asks { OnOk result (AsksKill actor (seen self.old) (seen self.new)) }
         ensures refusal { IfErr result (λ refusal. refusal ≡ kill_refusal (seen self.old) actor) }
         ensures refused { IfErr result (λ refusal. refusal ≢ NoRoomToAsk → seen self.new ≡ seen self.old) }
-        ensures hears { Hears (seen self.old) (seen self.new) }
+        ensures hears { OnErr result (Hears (seen self.old) (seen self.new)) }
         ensures on { IsLater (seen self.old) (seen self.new) };
 
     /// How many calls of the actor have no answer yet.
@@ -111,6 +117,10 @@ pub trait Session {
     /// How many copies of the actor's handle are held.
     fn holds(&self, actor: ActorId) -> u32
         ensures { result ≡ copies_held (copies_in actor (seen self.now).handles) };
+
+    /// How many kills of the actor were asked.
+    fn kills(&self, actor: ActorId) -> u32
+        ensures { result ≡ kills_of (seen self.now) actor };
 
     /// How many calls were submitted, which is the number of the next call's future.
     fn count(&self) -> u32

@@ -30,7 +30,7 @@ does_plan plan steps before later = steps ≡ plan
 -- what its code tells holds, or it did its plan where it has none
 abbrev pub does_code : {C : Type 0} → (C → Seen → Seen → Type 0) → Option C → Doing
 does_code tells None plan steps before later = steps ≡ plan
-does_code tells (Some code) plan steps before later = IsTold (tells code) before later
+does_code tells (Some code) plan steps before later = IsTold (tells code) steps before later
 
 -- for some steps all that is said of a plan, and that they are what was to be done
 pub record HasConducted (lines : CallerLines) (owner : OwnerValue) (before : CallerPasses) (does : List Step → OwnerValue → OwnerValue → Type 0) (driven : Driven) : Type 0 where

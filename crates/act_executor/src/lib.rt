@@ -11,8 +11,8 @@ mod starter;
 mod work;
 
 pub use act_drive::{
-    CallerLines, CallerPasses, Code, Driven, GaveUp, KillRefusal, Session, WaitRefusal, drive,
-    drive_code,
+    CallerLines, CallerPasses, Code, Driven, GaveUp, KillRefusal, MOST_KILLS, Session, WaitRefusal,
+    drive, drive_code,
 };
 pub use act_plans::{Plan, plans_fit};
 pub use act_serve::{Ended, ExecLines, ExecPasses, Finished, Gate, NoGate, serve};

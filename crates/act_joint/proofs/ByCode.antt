@@ -75,12 +75,13 @@ module _ {C : Type 0} (tells : C → Seen → Seen → Type 0) (mails : List Mai
   record DidBy (d : Driven) (steps : List Step) : Type 0 where
     did : IsDriven mails controls (actors_naming d.owner.id casts) steps d
     planned : code_of d.owner.id codes ≡ None → steps ≡ plan_of d.owner.id plans
+    told : (code : C) → code_of d.owner.id codes ≡ Some code → IsTold (tells code) steps (opened_of d.owner.id casts) d.owner
 
   driver_at : (i : ℕ) (d : Driven) → slice_get driven i ≡ Some d → IsDrivenBy tells mails controls casts plans codes d
   driver_at i d at = all_in (IsDrivenBy tells mails controls casts plans codes) driven d j.all_driven (record { place = i; at = at })
 
   each : (i : ℕ) (d : Driven) → slice_get driven i ≡ Some d → Did DidBy d
-  each i d at = let is = driver_at i d at in record { steps = is.steps; is = record { did = is.did; planned = is.planned } }
+  each i d at = let is = driver_at i d at in record { steps = is.steps; is = record { did = is.did; planned = is.planned; told = is.told } }
 
   steps : List (ℕ × List Step)
   steps = made DidBy plans driven each
@@ -116,7 +117,7 @@ module _ {C : Type 0} (tells : C → Seen → Seen → Type 0) (mails : List Mai
   abbrev owners : List OwnerValue
   owners = map (λ (d : Driven). d.owner) driven
 
-  told : (k : ℕ) (given : ℕ × C) → slice_get codes k ≡ Some given → HasTold tells casts owners given
+  told : (k : ℕ) (given : ℕ × C) → slice_get codes k ≡ Some given → HasTold tells casts steps owners given
   told k given at =
       let named = any_is (λ (cast : Casting). contains given.0 cast.callers) casts (all_in (λ (g : ℕ × C). list_any (λ (cast : Casting). contains g.0 cast.callers) casts ≡ true) codes given j.codes_named (record { place = k; at = at })) in
       let found = driven_named are_joined named.0 given.0 named.1.inside (contains_is given.0 named.0.callers named.1.passes) in
@@ -124,11 +125,11 @@ module _ {C : Type 0} (tells : C → Seen → Seen → Type 0) (mails : List Mai
       let is = found_is (λ (x : Driven). x.owner.id == given.0) driven d found.is in
       let id : d.owner.id ≡ given.0 = eqb-true d.owner.id given.0 is.passes in
       let code : code_of given.0 codes ≡ Some given.1 = found_code codes k given j.codes_differ at in
-      let says = (driver_at is.inside.place d is.inside.at).told given.1 (subst (λ (n : ℕ). code_of n codes ≡ Some given.1) (sym id) code) in
+      let says = (theirs is.inside.place d is.inside.at).told given.1 (subst (λ (n : ℕ). code_of n codes ≡ Some given.1) (sym id) code) in
       record {
         owner = d.owner;
         left = owner_is are_joined given.0 (Some d) found.is;
-        told = subst (λ (n : ℕ). IsTold (tells given.1) (opened_of n casts) d.owner) id says;
+        told = subst (λ (n : ℕ). IsTold (tells given.1) (plan_of n steps) (opened_of n casts) d.owner) id says;
       }
 
   pub is_joined_by : IsJoinedBy tells casts plans codes owners (map (λ (s : ServedSeen). s.end) served)
@@ -136,5 +137,5 @@ module _ {C : Type 0} (tells : C → Seen → Seen → Type 0) (mails : List Mai
     steps = steps;
     joined = joined_is are_joined;
     planned = as_planned;
-    told = all_by_places (HasTold tells casts owners) codes told;
+    told = all_by_places (HasTold tells casts steps owners) codes told;
   }

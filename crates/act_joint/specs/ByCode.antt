@@ -24,25 +24,25 @@ code_of c codes = option_map (λ given. given.1) (find (λ given. given.0 == c) 
 abbrev pub opened_of : ℕ → List Casting → OwnerValue
 opened_of c casts = opened_under (limits_naming c casts) c (actors_naming c casts)
 
--- an owner is left of the caller that a code was given to, and what the code tells holds of the caller as it was opened and as it is left
-pub record HasTold {C : Type 0} (tells : C → Seen → Seen → Type 0) (casts : List Casting) (owners : List OwnerValue) (given : ℕ × C) : Type 0 where
+-- an owner is left of the caller that a code was given to, and what the code tells holds of the caller as it was opened and as it is left, by the steps that it did
+pub record HasTold {C : Type 0} (tells : C → Seen → Seen → Type 0) (casts : List Casting) (steps : List (ℕ × List Step)) (owners : List OwnerValue) (given : ℕ × C) : Type 0 where
   pub owner : OwnerValue
   pub left : owner_of given.0 owners ≡ Some owner
-  pub told : IsTold (tells given.1) (opened_of given.0 casts) owner
+  pub told : IsTold (tells given.1) (plan_of given.0 steps) (opened_of given.0 casts) owner
 
 -- callers by plans and callers by code, in threads: some steps were run as any plans are; a caller without code did its plan, and what each code tells holds
 pub record IsJoinedBy {C : Type 0} (tells : C → Seen → Seen → Type 0) (casts : List Casting) (plans : List (ℕ × List Step)) (codes : List (ℕ × C)) (owners : List OwnerValue) (ends : List EndSeen) : Type 0 where
   pub steps : List (ℕ × List Step)
   pub joined : IsJoined casts steps owners ends
   pub planned : (c : ℕ) → code_of c codes ≡ None → plan_of c steps ≡ plan_of c plans
-  pub told : All (HasTold tells casts owners) codes
+  pub told : All (HasTold tells casts steps owners) codes
 
 -- a caller did some steps to the end: its plan where it has no code, and else what its code tells holds
 pub record IsDrivenBy {C : Type 0} (tells : C → Seen → Seen → Type 0) (mails : List MailValue) (controls : List ControlValue) (casts : List Casting) (plans : List (ℕ × List Step)) (codes : List (ℕ × C)) (d : Driven) : Type 0 where
   pub steps : List Step
   pub did : IsDriven mails controls (actors_naming d.owner.id casts) steps d
   pub planned : code_of d.owner.id codes ≡ None → steps ≡ plan_of d.owner.id plans
-  pub told : (code : C) → code_of d.owner.id codes ≡ Some code → IsTold (tells code) (opened_of d.owner.id casts) d.owner
+  pub told : (code : C) → code_of d.owner.id codes ≡ Some code → IsTold (tells code) steps (opened_of d.owner.id casts) d.owner
 
 -- as `AreJoined`, where each code is of another caller, which some cast names
 pub record AreJoinedBy {C : Type 0} (tells : C → Seen → Seen → Type 0) (mails : List MailValue) (controls : List ControlValue) (replies : List RepliesValue) (casts : List Casting) (plans : List (ℕ × List Step)) (codes : List (ℕ × C)) (driven : List Driven) (served : List ServedSeen) : Type 0 where
