@@ -34,6 +34,7 @@ ONCE = ["a_table_and_an_account", "kills::a_kill_once", "terminates::a_terminate
 ONCE += ["codes::answers_decide", "codes::bad::gives_up", "codes::bad::lets_all_go"]
 RUNS = [("tests_of_runs", f"executor::{run}") for run in ONCE]
 RUNS += [("tests_of_own_kinds", "queue::in_threads_beside_a_known_kind")]
+RUNS += [("tests_of_own_callers", f"transfers::{run}") for run in ["moves_what_is_there", "the_sum_is_kept"]]
 PASSED = 0
 FAILED = 101
 # What a test writes whose result is an error. A failed assertion writes something else, and ends by a signal.
