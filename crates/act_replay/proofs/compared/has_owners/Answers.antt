@@ -1,0 +1,18 @@
+use Rattle.std.proofs.Common.{arith}
+use Rattle.act_rules.specs.Laws.{history}
+use Rattle.act_replay.specs.Play.{IsOwnerIn}
+use Rattle.act_replay.proofs.Each.{each_more, not_each, each}
+use Rattle.act_replay.proofs.compared.has_owners.Goals as goal
+
+pub loop-owner-preserved : goal.loop-owner-preserved
+loop-owner-preserved g c = λ casts events stands.
+    each_more (IsOwnerIn (history casts events)) c.args.owners.now c.loop-owner.owner-index c.owner-item.result c.has_owner.result c.loop-owner-test.true c.owner-item.is
+    (c.has_owner.ensures casts events stands) c.if-not-has_owner.false (c.loop-owner.invariant casts events stands)
+
+pub returns-then-not-has_owner : goal.returns-then-not-has_owner
+returns-then-not-has_owner g c = λ casts events stands.
+    not_each (IsOwnerIn (history casts events)) c.args.owners.now c.loop-owner.owner-index c.owner-item.result c.has_owner.result c.loop-owner-test.true c.owner-item.is
+    (c.has_owner.ensures casts events stands) c.if-not-has_owner.true
+
+pub returns : goal.returns
+returns g c = λ casts events stands. each (IsOwnerIn (history casts events)) c.args.owners.now c.loop-owner.owner-index (omega arith) (c.loop-owner.invariant casts events stands)

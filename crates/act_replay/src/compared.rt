@@ -1,0 +1,181 @@
+//! A list of events, played in a world and compared with what a run in threads left.
+
+ghost use Rattle.std.specs.Prelude.{◌≡◌, ◌↔◌, ◌<◌, ◌^◌, List, [], length, map, IfOk, IsOk, IsTrue, All};
+ghost use Rattle.act_rules.specs.declared.event.Event.{Event as Happening};
+ghost use Rattle.act_rules.specs.History.{Casting, opening};
+ghost use Rattle.act_rules.specs.Laws.{history};
+ghost use Rattle.act_rules.specs.Rules.{outcomes};
+ghost use Rattle.act_actor.specs.Cast.{IsFitting};
+ghost use Rattle.act_actor.specs.Casts.{casting};
+ghost use Rattle.act_serve.specs.Served.{end_seen, id_of};
+ghost use Rattle.act_world.specs.Stands.{Stands, HasRoom};
+ghost use Rattle.act_world.specs.Value.{stage_seen, world_seen};
+ghost use Rattle.act_replay.specs.Play.{IsOwnerIn, IsEndIn, IsSameEnd, IsPlayOf};
+
+use crate::same::{same_log, same_owner};
+use act_kinds::{Actor, Boxed};
+use act_owner::Owner;
+use act_rules::Outcome;
+use act_serve::{Ended, Finished};
+use act_types::{ActorId, NoMemory};
+use act_world::{Cast, Event, Stage, World};
+use std::alloc::Global;
+
+/// Whether an event was accepted.
+fn is_accepted(told: &Outcome) -> bool
+    ensures { IsTrue result ↔ IsOk told.now }
+{
+    told.is_ok()
+}
+
+/// Whether all events were accepted.
+fn are_accepted(told: &[Outcome]) -> bool
+    ensures { IsTrue result ↔ All IsOk told.now }
+{
+    for outcome in told {
+        if !is_accepted(outcome) {
+            return false;
+        }
+    }
+    true
+}
+
+/// Plays events in a world, and tells whether all of them were accepted.
+fn play_in<J: Actor>(
+    alloc: Global,
+    world: &mut World<J>,
+    events: &[Event],
+) -> Result<bool, NoMemory>
+    requires room { HasRoom (length events.now) (world_seen J.state world.old).exchange }
+    ensures accepted { IfOk result (λ is.
+        (casts : List Casting) → Stands casts [] (world_seen J.state world.old) →
+        IsTrue is ↔ All IsOk (outcomes (opening casts) events.now)) }
+    ensures stands { IfOk result (λ _.
+        (casts : List Casting) → Stands casts [] (world_seen J.state world.old) →
+        Stands casts events.now (world_seen J.state world.new)) }
+{
+    let mut told = Vec::new(alloc);
+    let Ok(()) = world.play(events, &mut told) else {
+        return Err(NoMemory);
+    };
+    Ok(are_accepted(&told))
+}
+
+/// Whether the world has the caller, with the same calls and the same answers.
+fn has_owner<J: Actor>(world: &World<J>, owner: &Owner) -> bool
+    ensures { (casts : List Casting) (events : List Happening) →
+        Stands casts events (world_seen J.state world.now) →
+        IsTrue result ↔ IsOwnerIn (history casts events) owner.now }
+{
+    match world.owner(owner.id()) {
+        None => false,
+        Some(other) => same_owner(owner, other),
+    }
+}
+
+/// Whether the world has each of these callers.
+fn has_owners<J: Actor>(world: &World<J>, owners: &[Owner]) -> bool
+    ensures { (casts : List Casting) (events : List Happening) →
+        Stands casts events (world_seen J.state world.now) →
+        IsTrue result ↔ All (IsOwnerIn (history casts events)) owners.now }
+{
+    for owner in owners {
+        if !has_owner(world, owner) {
+            return false;
+        }
+    }
+    true
+}
+
+/// The actor that ended.
+fn id_of<K: Actor>(ended: &Ended<K>) -> ActorId
+    ensures { result ≡ id_of (end_seen K.state ended.now) }
+{
+    match ended {
+        Ended::Killed(dead) | Ended::Starved(dead) => dead.id(),
+        Ended::Retired(retired) => retired.id(),
+    }
+}
+
+/// Whether the actor of a world ran the same as one of threads, and ended in the same way.
+fn same_end<J: Actor, K: Actor>(stage: Stage<'_, J>, ended: &Ended<K>) -> bool
+    ensures { IsTrue result ↔ IsSameEnd (stage_seen J.state stage.entry) (end_seen K.state ended.now) }
+{
+    match (stage, ended) {
+        (Stage::Dead(dead), Ended::Killed(other)) => same_log(dead.log(), other.log()),
+        (Stage::Retired(retired), Ended::Retired(other)) => same_log(retired.log(), other.log()),
+        _ => false,
+    }
+}
+
+/// Whether the world has the actor, which ran the same and ended in the same way.
+fn has_end<J: Actor, K: Actor>(world: &World<J>, ended: &Ended<K>) -> bool
+    ensures { (casts : List Casting) (events : List Happening) →
+        Stands casts events (world_seen J.state world.now) →
+        IsTrue result ↔ IsEndIn (history casts events) (end_seen K.state ended.now) }
+{
+    match world.stage(id_of(ended)) {
+        None => false,
+        Some(stage) => same_end(stage, ended),
+    }
+}
+
+/// Whether the world has each of these actors.
+fn has_ends<J: Actor, K: Actor>(world: &World<J>, actors: &[Finished<K>]) -> bool
+    ensures { (casts : List Casting) (events : List Happening) →
+        Stands casts events (world_seen J.state world.now) →
+        IsTrue result ↔ All (λ actor. IsEndIn (history casts events) (end_seen K.state actor.ended)) actors.now }
+{
+    for actor in actors {
+        if !has_end(world, &actor.ended) {
+            return false;
+        }
+    }
+    true
+}
+
+/// Whether all events are accepted in a world that was just opened, and it ends with these callers
+/// and these actors.
+fn ends_so<J: Actor, K: Actor>(
+    alloc: Global,
+    world: &mut World<J>,
+    events: &[Event],
+    owners: &[Owner],
+    actors: &[Finished<K>],
+) -> Result<bool, NoMemory>
+    requires room { HasRoom (length events.now) (world_seen J.state world.old).exchange }
+    ensures { IfOk result (λ is.
+        (casts : List Casting) → Stands casts [] (world_seen J.state world.old) →
+        IsTrue is ↔
+        IsPlayOf casts events.now owners.now
+        (map (λ actor. end_seen K.state actor.ended) actors.now)) }
+{
+    let accepted = play_in(alloc, world, events)?;
+    if !accepted {
+        return Ok(false);
+    }
+    if !has_owners(world, owners) {
+        return Ok(false);
+    }
+    Ok(has_ends(world, actors))
+}
+
+/// Whether the events are a play of what these callers and these actors are left with, in a world
+/// of these casts. The casts' kinds are in their opening states again.
+pub fn is_play_of<K: Actor>(
+    alloc: Global,
+    casts: Vec<Cast>,
+    events: &[Event],
+    owners: &[Owner],
+    actors: &[Finished<K>],
+) -> Result<bool, NoMemory>
+    requires fit { IsFitting casts.items }
+    requires few { length events.now < 2 ^ 32 }
+    ensures { IfOk result (λ is. IsTrue is ↔
+        IsPlayOf (map (casting ⟦<Boxed as Actor>⟧.state) casts.items) events.now owners.now
+        (map (λ actor. end_seen K.state actor.ended) actors.now)) }
+{
+    let mut world = World::open(alloc, casts)?;
+    let is = ends_so(alloc, &mut world, events, owners, actors)?;
+    Ok(is)
+}

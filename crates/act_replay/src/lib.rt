@@ -1,0 +1,12 @@
+//! A run in threads, written down as a play: a list of events that the rules accept, and that ends
+//! in what the threads left.
+#![tactic(auto)]
+
+mod compared;
+mod progress;
+mod rebuilt;
+mod run;
+mod same;
+
+pub use compared::is_play_of;
+pub use run::{RecordFault, play_of};

@@ -1,0 +1,101 @@
+//! Runs of several shapes, each of which is found to be a play.
+
+use super::scene::{Ids, Row, few_ids, recorded};
+use act_replay::RecordFault;
+use std::alloc::Global;
+use std::sync::Wait;
+use std::test::Fail;
+use std::thread::Threads;
+
+/// One caller passes answers on between both counters, and the other adds to both.
+fn answers_passed_on<R: Threads + Wait + Sync>(
+    rt: &R,
+    alloc: Global,
+    pending: Option<u32>,
+) -> Result<(), RecordFault> {
+    let Ids { a1, a2, .. } = few_ids();
+    let one = [
+        Row::Add(a1, 1),
+        Row::AddAnswer(a2, 0),
+        Row::Await(1),
+        Row::AddAnswer(a1, 1),
+        Row::Get(a2),
+    ];
+    let two = [Row::Add(a2, 5), Row::AddAnswer(a1, 0), Row::Get(a1)];
+    recorded(rt, alloc, pending, &one, &two)?;
+    Ok(())
+}
+
+/// Memory and threads are refused from outside, at most once.
+#[test]
+fn answers_passed_on_once(rt: HostRuntime) -> Result<(), Fail> {
+    answers_passed_on(&rt, rt.alloc(), None)?;
+    Ok(())
+}
+
+#[test]
+fn answers_in_every_schedule(rt: HostRuntime) -> Result<(), Fail> {
+    for _ in 0..50u32 {
+        answers_passed_on(&rt, rt.alloc(), None)?;
+    }
+    Ok(())
+}
+
+#[test]
+fn answers_under_a_limit(rt: HostRuntime) -> Result<(), Fail> {
+    for _ in 0..50u32 {
+        answers_passed_on(&rt, rt.alloc(), Some(1))?;
+    }
+    Ok(())
+}
+
+/// One caller adds, and the other kills the counter.
+fn killed<R: Threads + Wait + Sync>(rt: &R, alloc: Global) -> Result<(), RecordFault> {
+    let Ids { a1, a2, .. } = few_ids();
+    let one = [
+        Row::Add(a1, 1),
+        Row::Add(a1, 2),
+        Row::AddAnswer(a2, 0),
+        Row::Add(a1, 3),
+    ];
+    let two = [Row::Get(a1), Row::Kill(a1), Row::Get(a1)];
+    recorded(rt, alloc, None, &one, &two)?;
+    Ok(())
+}
+
+#[test]
+fn a_kill_in_every_schedule(rt: HostRuntime) -> Result<(), Fail> {
+    for _ in 0..50u32 {
+        killed(&rt, rt.alloc())?;
+    }
+    Ok(())
+}
+
+/// One caller adds, and the other terminates the counter.
+fn terminated<R: Threads + Wait + Sync>(
+    rt: &R,
+    alloc: Global,
+    pending: Option<u32>,
+) -> Result<(), RecordFault> {
+    let Ids { a1, a2, .. } = few_ids();
+    let one = [Row::Add(a1, 1), Row::AddAnswer(a2, 0), Row::Add(a1, 2)];
+    let two = [Row::Add(a1, 4), Row::Terminate(a1), Row::Get(a1)];
+    recorded(rt, alloc, pending, &one, &two)?;
+    Ok(())
+}
+
+#[test]
+fn a_terminate_in_every_schedule(rt: HostRuntime) -> Result<(), Fail> {
+    for _ in 0..50u32 {
+        terminated(&rt, rt.alloc(), None)?;
+    }
+    Ok(())
+}
+
+#[test]
+fn a_terminate_under_a_limit(rt: HostRuntime) -> Result<(), Fail> {
+    for _ in 0..50u32 {
+        terminated(&rt, rt.alloc(), Some(2))?;
+    }
+    Ok(())
+}
