@@ -15,8 +15,6 @@ pub struct First {
 }
 
 impl Code for First {
-    ghost use Rattle.std.specs.Prelude.{Unit};
-
     ghost tells = { λ _ _ _. Unit {0} };
 
     fn run<S: Session>(&mut self, session: &mut S) -> Result<(), GaveUp> {
