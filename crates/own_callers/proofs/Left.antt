@@ -57,8 +57,8 @@ ended_on t last later calls on (inr (inr moved)) =
     let second = kept_same last later 1 on (number_there (kept_at last.kept 1) moved.granted) in
     inr (inr (record { calls = calls ∙ moved.calls; enough = ap (is_enough t.amount) first ∙ moved.enough; granted = ap is_number second ∙ moved.granted }))
 
-pub transferred : (casts : List Casting) (owners : List OwnerValue) (given : ℕ × Transfer) → HasTold transfer_tells casts owners given → HasTransferred owners given
-transferred casts owners given told = record {
+pub transferred : (casts : List Casting) (steps : List (ℕ × List Step)) (owners : List OwnerValue) (given : ℕ × Transfer) → HasTold transfer_tells casts steps owners given → HasTransferred owners given
+transferred casts steps owners given told = record {
   owner = told.owner;
   left = told.left;
   ended = ended_on given.1 told.told.last (seen_of told.owner) told.told.calls told.told.on (told.told.told refl);

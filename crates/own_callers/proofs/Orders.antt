@@ -2,6 +2,7 @@
 use Rattle.std.proofs.Common.{◌≡◌, ℕ, List, Contains, refl, subst}
 use Rattle.std.specs.Prelude.{Ok}
 use Rattle.act_types.specs.declared.value.Value.TheVariants.{Int}
+use Rattle.act_rules.specs.declared.script.Step.{Step}
 use Rattle.act_rules.specs.declared.history.Submission.{Submission}
 use Rattle.act_rules.specs.History.{Casting}
 use Rattle.act_owner.specs.Owner.{OwnerValue}
@@ -17,8 +18,8 @@ still_paid buyer old new same later has =
       let paid = has.paid args (subst (λ (calls : List Submission). Contains calls (order buyer args)) same ordered) in
       (paid.0, later.kept 0 (Ok (Int paid.0)) paid.1) }
 
-pub has_left : (casts : List Casting) (owners : List OwnerValue) (given : ℕ × Buyer) → HasTold buyer_tells casts owners given → HasLeft owners given
-has_left casts owners given told =
+pub has_left : (casts : List Casting) (steps : List (ℕ × List Step)) (owners : List OwnerValue) (given : ℕ × Buyer) → HasTold buyer_tells casts steps owners given → HasLeft owners given
+has_left casts steps owners given told =
     record {
       owner = told.owner;
       left = told.left;

@@ -6,4 +6,5 @@ use Rattle.own_callers.proofs.buyers.run_buyers.Goals as goal
 
 pub returns-clause-paid : goal.returns-clause-paid
 returns-clause-paid g c = λ k (d : _ × Buyer) less.
-    has_left (map (casting g.K.Actor.state) c.args.casts.items) c.in_ok-joined.joined.owners.items _ (c.in_ok-joined.ensures.joined.told k d less)
+    let by = c.in_ok-joined.ensures.joined in
+    has_left (map (casting g.K.Actor.state) c.args.casts.items) by.steps c.in_ok-joined.joined.owners.items _ (by.told k d less)

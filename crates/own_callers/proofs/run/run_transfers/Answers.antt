@@ -9,7 +9,8 @@ pub returns-clause-guarded : goal.returns-clause-guarded
 returns-clause-guarded g c =
     let casts = map (casting g.K.Actor.state) c.args.casts.items in
     let left = c.in_ok-joined.joined in
-    λ k d below. transferred casts left.owners.items _ (c.in_ok-joined.ensures.joined.told k d below)
+    let by = c.in_ok-joined.ensures.joined in
+    λ k d below. transferred casts by.steps left.owners.items _ (by.told k d below)
 
 pub returns-clause-kept : goal.returns-clause-kept
 returns-clause-kept g c =
