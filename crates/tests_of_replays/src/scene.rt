@@ -133,6 +133,17 @@ pub(super) fn twins(alloc: Global, pending: Option<u32>) -> Result<Vec<Cast>, No
     pair(alloc, one, two, pending)
 }
 
+/// Whether a play was found. A run that left nothing keeps its fault.
+pub(super) fn is_found(found: Result<Vec<Event>, RecordFault>) -> Result<bool, RunFault> {
+    let Err(fault) = found else {
+        return Ok(true);
+    };
+    match fault {
+        RecordFault::Run(fault) => Err(fault),
+        RecordFault::Unplayed => Ok(false),
+    }
+}
+
 /// Runs the plans of the two callers at two counters of this limit, and finds a play of what is left.
 pub(super) fn recorded<R: Threads + Wait + Sync>(
     rt: &R,
