@@ -1,6 +1,6 @@
 //! Callers of different code in one run, at a queue, a counter and an account.
 
-use crate::scene::{actor, caller, cast_of, plan_of, report_of};
+use crate::scene::{actor, caller, cast_of, ends_as, plan_of, report_of};
 use act_actor::{Cast, cast_fits};
 use act_executor::{codes_fit, plans_fit};
 use act_kinds::{Account, Boxed, Counter};
@@ -50,21 +50,24 @@ const ENDS: [(&str, &str); 3] = [
 fn different_code_in_one_run(rt: HostRuntime) -> Result<(), Fail> {
     let alloc = rt.alloc();
     let casts = three_actors(alloc)?;
-    let plans = plan_of(alloc, 3, Method::Own(Name::new("enqueue").unwrap()), &[7, 8])?;
+    let plans = plan_of(
+        alloc,
+        3,
+        Method::Own(Name::new("enqueue").unwrap()),
+        &[7, 8],
+    )?;
     let clerks = two_clerks(alloc)?;
     assert!(rt; cast_fits(&casts));
     assert!(rt; plans_fit(&casts, &plans));
     assert!(rt; codes_fit(&casts, &plans, &clerks));
     let joined = run_clerks(&rt, alloc, casts, plans, clerks)?;
     let report = report_of(alloc, &joined)?;
-    let mut found = 0;
-    for (queue, counter) in ENDS {
-        if report.as_str().contains(queue) && report.as_str().contains(counter) {
-            found += 1;
-        }
-    }
-    assert_eq!(rt; found, 1);
-    assert!(rt; report.as_str().contains("c2.0 a3 = Insufficient\nc2.1 a3 = Insufficient\n"));
+    assert!(rt; ends_as(report.as_str(), &ENDS));
+    assert!(rt;
+        report
+            .as_str()
+            .contains("c2.0 a3 = Insufficient\nc2.1 a3 = Insufficient\n")
+    );
     assert!(rt; report.as_str().contains("a3 retired account 0\n"));
     Ok(())
 }

@@ -1,11 +1,10 @@
 //! Withdrawals that are tried again.
 
-use crate::first::First;
-use crate::scene::{actor, alone, two_casts};
+use crate::first::{First, Put, Then};
+use crate::scene::{alone, two_casts};
 use act_actor::Cast;
 use act_kinds::{Account, Boxed, Counter};
-use act_types::{Method, NoMemory};
-use own_callers::{Clerk, Retry};
+use act_types::NoMemory;
 use std::alloc::Global;
 use std::test::Fail;
 
@@ -18,15 +17,10 @@ fn account_and_counter(alloc: Global) -> Result<Vec<Cast<Boxed>>, NoMemory> {
 /// At most three tries to withdraw this, after a deposit of 5.
 fn tries(amount: i64) -> First {
     First {
-        actor: actor(1),
-        method: Method::Deposit,
+        put: Put::Deposit,
         number: 5,
         times: 1,
-        then: Clerk::Retry(Retry {
-            account: actor(1),
-            amount,
-            most: 3,
-        }),
+        then: Then::Withdraw(amount),
     }
 }
 
@@ -34,7 +28,8 @@ fn tries(amount: i64) -> First {
 fn tries_three_times(rt: HostRuntime) -> Result<(), Fail> {
     let alloc = rt.alloc();
     let report = alone(&rt, alloc, account_and_counter(alloc)?, tries(6))?;
-    let wanted = "c1.0 a1 = 5\nc1.1 a1 = Insufficient\nc1.2 a1 = Insufficient\nc1.3 a1 = Insufficient\n\
+    let wanted =
+        "c1.0 a1 = 5\nc1.1 a1 = Insufficient\nc1.2 a1 = Insufficient\nc1.3 a1 = Insufficient\n\
         a1 retired account 5\na1.0 c1.0 deposit 5\na1.1 c1.1 withdraw 6\na1.2 c1.2 withdraw 6\n\
         a1.3 c1.3 withdraw 6\na2 retired counter 0\n";
     assert_eq!(rt; report.as_str(), wanted);

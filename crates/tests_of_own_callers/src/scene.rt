@@ -98,3 +98,13 @@ pub fn alone<R: Abort + Threads + Wait + Sync, C: Code + Send>(
     let joined = run_callers(rt, alloc, casts, plans, codes, &NoGate)?;
     Ok(report_of(alloc, &joined)?)
 }
+
+/// Whether a report has both lines of one of these ends.
+pub fn ends_as(report: &str, ends: &[(&str, &str)]) -> bool {
+    for end in ends {
+        if report.contains(end.0) && report.contains(end.1) {
+            return true;
+        }
+    }
+    false
+}

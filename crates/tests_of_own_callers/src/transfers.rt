@@ -1,12 +1,12 @@
 //! Transfers between two accounts.
 
-use crate::first::First;
-use crate::scene::{actor, alone, caller, plan_of, report_of, two_casts};
+use crate::first::{First, Put, Then};
+use crate::scene::{actor, alone, caller, ends_as, plan_of, report_of, two_casts};
 use act_actor::{Cast, cast_fits};
 use act_executor::{codes_fit, plans_fit};
 use act_kinds::{Account, Boxed};
 use act_types::{Method, NoMemory};
-use own_callers::{Clerk, Transfer, run_transfers};
+use own_callers::{Transfer, run_transfers};
 use std::alloc::Global;
 use std::test::Fail;
 
@@ -28,11 +28,10 @@ fn moving(amount: i64) -> Transfer {
 /// A transfer after a deposit of as much as this.
 fn after(deposit: i64, amount: i64) -> First {
     First {
-        actor: actor(1),
-        method: Method::Deposit,
+        put: Put::Deposit,
         number: deposit,
         times: 1,
-        then: Clerk::Transfer(moving(amount)),
+        then: Then::Move(amount),
     }
 }
 
@@ -94,12 +93,6 @@ fn the_sum_is_kept(rt: HostRuntime) -> Result<(), Fail> {
     assert!(rt; codes_fit(&casts, &plans, &transfers));
     let joined = run_transfers(&rt, alloc, casts, plans, transfers)?;
     let report = report_of(alloc, &joined)?;
-    let mut found = 0;
-    for (one, two) in ENDS {
-        if report.as_str().contains(one) && report.as_str().contains(two) {
-            found += 1;
-        }
-    }
-    assert_eq!(rt; found, 1);
+    assert!(rt; ends_as(report.as_str(), &ENDS));
     Ok(())
 }

@@ -1,11 +1,10 @@
 //! A worker at a queue.
 
-use crate::first::First;
-use crate::scene::{actor, alone, two_casts};
+use crate::first::{First, Put, Then};
+use crate::scene::{alone, two_casts};
 use act_actor::Cast;
 use act_kinds::{Boxed, Counter};
-use act_types::{Method, Name, NoMemory};
-use own_callers::{Clerk, Worker};
+use act_types::NoMemory;
 use own_kinds::WorkQueue;
 use std::alloc::Global;
 use std::test::Fail;
@@ -19,14 +18,10 @@ fn queue_and_counter(alloc: Global) -> Result<Vec<Cast<Boxed>>, NoMemory> {
 /// Works after so many jobs were put into the queue.
 fn after(jobs: u32) -> First {
     First {
-        actor: actor(1),
-        method: Method::Own(Name::new("enqueue").unwrap()),
+        put: Put::Enqueue,
         number: 7,
         times: jobs,
-        then: Clerk::Worker(Worker {
-            queue: actor(1),
-            counter: actor(2),
-        }),
+        then: Then::Work,
     }
 }
 
@@ -34,7 +29,8 @@ fn after(jobs: u32) -> First {
 fn empties_the_queue(rt: HostRuntime) -> Result<(), Fail> {
     let alloc = rt.alloc();
     let report = alone(&rt, alloc, queue_and_counter(alloc)?, after(2))?;
-    let wanted = "c1.0 a1 = 1\nc1.1 a1 = 2\nc1.2 a1 = 7\nc1.3 a1 = 7\nc1.4 a1 = QueueEmpty\nc1.5 a2 = 2\n\
+    let wanted =
+        "c1.0 a1 = 1\nc1.1 a1 = 2\nc1.2 a1 = 7\nc1.3 a1 = 7\nc1.4 a1 = QueueEmpty\nc1.5 a2 = 2\n\
         a1 retired queue\na1.0 c1.0 enqueue 7\na1.1 c1.1 enqueue 7\na1.2 c1.2 dequeue\na1.3 c1.3 dequeue\n\
         a1.4 c1.4 dequeue\na2 retired counter 2\na2.0 c1.5 add 2\n";
     assert_eq!(rt; report.as_str(), wanted);
