@@ -14,9 +14,11 @@ use Rattle.own_callers.specs.Buyers.{HasLeft}
 
 still_paid : (buyer : Buyer) (old new : Seen) → new.calls ≡ old.calls → IsLater old new → HasPaid buyer old → HasPaid buyer new
 still_paid buyer old new same later has =
-    record { paid = λ args ordered.
-      let paid = has.paid args (subst (λ (calls : List Submission). Contains calls (order buyer args)) same ordered) in
-      (paid.0, later.kept 0 (Ok (Int paid.0)) paid.1) }
+    record {
+      paid = λ args ordered.
+          let paid = has.paid args (subst (λ (calls : List Submission). Contains calls (order buyer args)) same ordered) in
+          (paid.0, later.kept 0 (Ok (Int paid.0)) paid.1);
+    }
 
 pub has_left : (casts : List Casting) (steps : List (ℕ × List Step)) (owners : List OwnerValue) (given : ℕ × Buyer) → HasTold buyer_tells casts steps owners given → HasLeft owners given
 has_left casts steps owners given told =
