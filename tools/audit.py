@@ -26,6 +26,7 @@ import collections
 import pathlib
 import re
 import sys
+import textwrap
 from dataclasses import dataclass, field
 
 TOP = pathlib.Path(__file__).resolve().parent.parent
@@ -872,7 +873,8 @@ def page_of(audit):
     yield from rows_of(audit, audit.by_views, names)
     yield "\n## Words of std and of the kit\n"
     for module, words in sorted(audit.kit_words().items()):
-        yield f"- {module}: " + ", ".join(f"`{word}`" for word in sorted(words))
+        listed = f"- {module}: " + ", ".join(f"`{word}`" for word in sorted(words))
+        yield textwrap.fill(listed, 120, subsequent_indent="  ", break_long_words=False, break_on_hyphens=False)
 
 
 def title_of(function):

@@ -60,9 +60,11 @@ impl Desk {
         ensures stays { Stays self.old self.new }
         ensures given_up { result ≡ false → has_given_up ≡ false }
         ensures calls { result ≡ false → self.new.owner.calls ≡ self.old.owner.calls }
-        ensures done { result ≡ false → (actors : List ℕ) (steps : List AStep) → Follows lines.now actors steps self.old →
+        ensures done { result ≡ false → (actors : List ℕ) (steps : List AStep) →
+            Follows lines.now actors steps self.old →
             HasDone lines.now actors steps self.new.owner self.new.passes }
-        ensures ended { result ≡ true → All (HasEnded lines.now.controls.now self.new.owner self.new.passes) self.new.passes.kills.items }
+        ensures ended { result ≡ true →
+            All (HasEnded lines.now.controls.now self.new.owner self.new.passes) self.new.passes.kills.items }
     {
         if !has_given_up && self.wind_up(rt, alloc, lines).is_ok() {
             return false;

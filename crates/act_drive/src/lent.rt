@@ -59,7 +59,8 @@ impl<'a, R: Wait, O: Opening> Lent<'a, R, O> {
     ) -> Result<FutureId, SubmitRefusal>
         ensures future { IfOk result (λ k. k ≡ length self.old.calls) }
         ensures accepted { OnOk result (call_refusal self.old actor args ≡ None) }
-        ensures submits { OnOk result (Submits (record { actor = actor; method = method; args = args }) self.old self.new) }
+        ensures submits { OnOk result (
+            Submits (record { actor = actor; method = method; args = args }) self.old self.new) }
         ensures refusal { IfErr result (λ refusal. refusal ≡ unwrap_or (call_refusal self.old actor args) NoRoom) }
         ensures refused { IfErr result (λ refusal. refusal ≢ NoRoom → self.new ≡ self.old) }
         ensures hears { OnErr result (Hears self.old self.new) }

@@ -35,8 +35,10 @@ pub trait Session {
     ) -> Result<FutureId, SubmitRefusal>
         ensures future { IfOk result (λ k. k ≡ length (seen self.old).calls) }
         ensures accepted { OnOk result (call_refusal (seen self.old) actor args ≡ None) }
-        ensures submits { OnOk result (Submits (record { actor = actor; method = method; args = args }) (seen self.old) (seen self.new)) }
-        ensures refusal { IfErr result (λ refusal. refusal ≡ unwrap_or (call_refusal (seen self.old) actor args) NoRoom) }
+        ensures submits { OnOk result (Submits (record { actor = actor; method = method; args = args })
+            (seen self.old) (seen self.new)) }
+        ensures refusal { IfErr result (λ refusal.
+            refusal ≡ unwrap_or (call_refusal (seen self.old) actor args) NoRoom) }
         ensures refused { IfErr result (λ refusal. refusal ≢ NoRoom → seen self.new ≡ seen self.old) }
         ensures hears { OnErr result (Hears (seen self.old) (seen self.new)) }
         ensures on { IsLater (seen self.old) (seen self.new) };
@@ -46,7 +48,8 @@ pub trait Session {
     fn wait(&mut self, k: FutureId) -> Result<(), WaitRefusal>
         ensures answered { OnOk result (is_some (kept_at (seen self.new).kept k) ≡ true) }
         ensures known { OnOk result (k < length (seen self.old).calls) }
-        ensures refusal { IfErr result (λ refusal. refusal ≡ (if nat_lt k (length (seen self.old).calls) then NoRoomToWait else NoFuture)) }
+        ensures refusal { IfErr result (λ refusal.
+            refusal ≡ (if nat_lt k (length (seen self.old).calls) then NoRoomToWait else NoFuture)) }
         ensures refused { IfErr result (λ refusal. refusal ≢ NoRoomToWait → seen self.new ≡ seen self.old) }
         ensures kept { is_some (kept_at (seen self.old).kept k) ≡ true → result ≡ Ok tt }
         ensures hears { Hears (seen self.old) (seen self.new) }
@@ -62,9 +65,11 @@ pub trait Session {
     ) -> Result<FutureId, SubmitRefusal>
         ensures future { IfOk result (λ k. k ≡ length (seen self.old).calls) }
         ensures accepted { OnOk result (call_refusal (seen self.old) actor args ≡ None) }
-        ensures submits { OnOk result (Submits (record { actor = actor; method = method; args = args }) (seen self.old) (seen self.new)) }
+        ensures submits { OnOk result (Submits (record { actor = actor; method = method; args = args })
+            (seen self.old) (seen self.new)) }
         ensures answered { IfOk result (λ k. is_some (kept_at (seen self.new).kept k) ≡ true) }
-        ensures refusal { IfErr result (λ refusal. refusal ≡ unwrap_or (call_refusal (seen self.old) actor args) NoRoom) }
+        ensures refusal { IfErr result (λ refusal.
+            refusal ≡ unwrap_or (call_refusal (seen self.old) actor args) NoRoom) }
         ensures refused { IfErr result (λ refusal. refusal ≢ NoRoom → seen self.new ≡ seen self.old) }
         ensures either { OnErr result (Hears (seen self.old) (seen self.new)
             ⊎ Submits (record { actor = actor; method = method; args = args }) (seen self.old) (seen self.new)) }
@@ -84,7 +89,8 @@ pub trait Session {
     /// Adds a copy of the actor's handle and gives their number. An `Err` changes nothing.
     fn copy(&mut self, actor: ActorId) -> Result<u32, HandleRefusal>
         ensures value { result ≡ copied actor (seen self.old).handles }
-        ensures ok { OnOk result (seen self.new ≡ record (seen self.old) { handles = with_copy actor (seen self.old).handles }) }
+        ensures ok { OnOk result (seen self.new ≡
+            record (seen self.old) { handles = with_copy actor (seen self.old).handles }) }
         ensures err { OnErr result (seen self.new ≡ seen self.old) }
         ensures on { IsLater (seen self.old) (seen self.new) };
 

@@ -31,7 +31,8 @@ impl Desk {
         ensures future { IfOk result (λ k. k ≡ length self.old.owner.calls) }
         ensures accepted { OnOk result (submission_refusal self.old.owner a args ≡ None) }
         ensures ok { OnOk result (self.new.owner ≡ with_call self.old.owner a method args) }
-        ensures refusal { IfErr result (λ refusal. refusal ≡ unwrap_or (submission_refusal self.old.owner a args) NoRoom) }
+        ensures refusal { IfErr result (λ refusal.
+            refusal ≡ unwrap_or (submission_refusal self.old.owner a args) NoRoom) }
         ensures err { OnErr result (self.new ≡ self.old) }
     {
         let k = self.owner.submit(a, method, args)?;
@@ -78,8 +79,10 @@ impl Desk {
         ensures waits { OnErr result (Waits self.old self.new) }
         ensures future { IfOk result (λ k. k ≡ length self.old.owner.calls) }
         ensures accepted { OnOk result (call_refusal (seen_of self.old.owner) a args ≡ None) }
-        ensures submits { OnOk result (Submits (record { actor = a; method = method; args = args }) (seen_of self.old.owner) (seen_of self.new.owner)) }
-        ensures refusal { IfErr result (λ refusal. refusal ≡ unwrap_or (call_refusal (seen_of self.old.owner) a args) NoRoom) }
+        ensures submits { OnOk result (Submits (record { actor = a; method = method; args = args })
+            (seen_of self.old.owner) (seen_of self.new.owner)) }
+        ensures refusal { IfErr result (λ refusal.
+            refusal ≡ unwrap_or (call_refusal (seen_of self.old.owner) a args) NoRoom) }
         ensures refused { IfErr result (λ refusal. refusal ≢ NoRoom → self.new ≡ self.old) }
     {
         self.wait_if_full(rt, alloc, lines, a, &args)?;
