@@ -39,9 +39,10 @@ pub fn run_callers<R: Threads + Wait + Sync, K: Actor + Send, C: Code + Send, G:
     requires plans { PlansFit casts.items plans.items }
     requires codes { CodesFit casts.items plans.items codes.items }
     ensures joined { IfOk result (λ joined.
-        IsJoinedBy C.tells (map (casting K.state) casts.items) (map plan_seen plans.items) codes.items joined.owners.items
-        (map (λ actor. end_seen K.state actor.ended) joined.actors.items)) }
-    ensures good { IfOk result (λ _. first_bad_plan (map (casting K.state) casts.items) (map plan_seen plans.items) ≡ None) }
+        IsJoinedBy C.tells (map (casting K.state) casts.items) (map plan_seen plans.items) codes.items
+        joined.owners.items (map (λ actor. end_seen K.state actor.ended) joined.actors.items)) }
+    ensures good { IfOk result (λ _.
+        first_bad_plan (map (casting K.state) casts.items) (map plan_seen plans.items) ≡ None) }
     ensures fault { IfErr result (IsFault (map (casting K.state) casts.items) (map plan_seen plans.items)) }
 {
     let prepared = prepare_good(alloc, casts, plans)?;

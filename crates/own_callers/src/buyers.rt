@@ -32,8 +32,8 @@ pub fn run_buyers<R: Threads + Wait + Sync, K: Actor + Send>(
     requires plans { PlansFit casts.items plans.items }
     requires codes { CodesFit casts.items plans.items buyers.items }
     ensures joined { IfOk result (λ joined.
-        IsJoinedBy buyer_tells (map (casting K.state) casts.items) (map plan_seen plans.items) buyers.items joined.owners.items
-        (map (λ actor. end_seen K.state actor.ended) joined.actors.items)) }
+        IsJoinedBy buyer_tells (map (casting K.state) casts.items) (map plan_seen plans.items) buyers.items
+        joined.owners.items (map (λ actor. end_seen K.state actor.ended) joined.actors.items)) }
     ensures paid { IfOk result (λ joined. All (HasLeft joined.owners.items) buyers.items) }
     ensures fault { IfErr result (IsFault (map (casting K.state) casts.items) (map plan_seen plans.items)) }
 {
