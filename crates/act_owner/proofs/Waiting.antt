@@ -1,6 +1,6 @@
 -- What the resolver knows of a caller's calls: what each waits for, what was told, and which is ready.
-use Rattle.std.proofs.Common.{◌≡◌, ℕ, zero, suc, ◌<◌, ◌&&◌, Bool, true, false, not, cond, List, [], ◌∷◌, ◌++◌, length, map, Option, Some, None, is_some, inl, inr, refl, sym, ◌∙◌, ap, arith}
-use Rattle.std.specs.Prelude.{slice_get, slice_set, find, unwrap_or, option_map, nat_lt, All}
+use Rattle.std.proofs.Common.{◌≡◌, ℕ, zero, suc, ◌<◌, ◌&&◌, Bool, true, false, not, cond, List, [], ◌∷◌, ◌++◌, length, map, Option, Some, None, is_some, inl, inr, refl, sym, ◌∙◌, ap, arith, subst}
+use Rattle.std.specs.Prelude.{if◌then◌else◌, slice_get, slice_set, find, unwrap_or, option_map, nat_lt, All}
 use Rattle.std.specs.List.{list_all, range_with_len}
 use Rattle.std.specs.Option.{option_map_or, option_and_then}
 use Rattle.std.proofs.lemmas.List.{length-map}
@@ -16,7 +16,10 @@ use Rattle.act_handles.specs.declared.handles.Handle.{Handle}
 use Rattle.act_replies.specs.declared.table.Row.{Row}
 use Rattle.act_resolver.specs.Resolver.{Entered, changed_at, new_call, with_answered, is_answered, is_sent, is_known, is_ready, first_ready}
 use Rattle.act_owner.specs.declared.owner.Call.{Call}
-use Rattle.act_owner.specs.Owner.{OwnerValue, submission_of, answers_of, futures_of, entered_call, KnowsAnswers, IsOwner, is_known_call, is_sent as owner_is_sent, is_ready as owner_is_ready, first_ready as owner_first_ready}
+use Rattle.act_types.specs.declared.message.Packet.{Packet}
+use Rattle.act_rules.specs.declared.history.Submission.{Submission}
+use Rattle.act_rules.specs.Submissions.{settled}
+use Rattle.act_owner.specs.Owner.{call_at, numbered_call, packet_at, packet_of, OwnerValue, submission_of, answers_of, futures_of, entered_call, KnowsAnswers, IsOwner, is_known_call, is_sent as owner_is_sent, is_ready as owner_is_ready, first_ready as owner_first_ready}
 use Rattle.act_owner.proofs.Calls.{set_last}
 
 -- one caller, seen through its parts
@@ -141,3 +144,40 @@ told_last k args is_dead futures entered entered1 entered2 last same dead one tw
     ∙ set_last entered first new
     ∙ ap (λ (fs : List ℕ). entered ++ record { futures = fs; answered = true; sent = false } ∷ []) same
     ∙ ap (λ b. entered ++ entered_call args b ∷ []) (sym dead)
+
+-- ---- the least call that is ready
+
+pub find_true : (p : ℕ → Bool) (xs : List ℕ) (k : ℕ) → find p xs ≡ Some k → p k ≡ true
+find_true p [] k is = absurd (cc is)
+find_true p (x ∷ xs) k is = go (p x) refl is (find_true p xs k)
+  where
+    go : (b : Bool) → p x ≡ b → (if b then Some x else find p xs) ≡ Some k → (find p xs ≡ Some k → p k ≡ true) → p k ≡ true
+    go true e found rest = let same : x ≡ k = cc found in subst (λ (n : ℕ). p n ≡ true) same e
+    go false e found rest = rest found
+
+first_of_three : (a b c : Bool) → (a && not b && not c) ≡ true → a ≡ true
+first_of_three true b c is = refl
+first_of_three false b c is = absurd (cc is)
+
+ready_is_known : (owner : OwnerValue) (k : ℕ) → owner_first_ready owner ≡ Some k → is_known_call owner (slice_get owner.calls k) ≡ true
+ready_is_known owner k ready =
+    first_of_three (is_known_call owner (slice_get owner.calls k)) (owner_is_sent owner k) (is_some (kept_at owner.kept k))
+    (find_true (owner_is_ready owner) (range_with_len 0 (length owner.calls)) k ready)
+
+-- a call that is ready was submitted
+pub ready_is_there : (owner : OwnerValue) (k : ℕ) → owner_first_ready owner ≡ Some k → call_at owner.calls k ≡ None → ⊥
+ready_is_there owner k ready none = go (slice_get owner.calls k) refl (ready_is_known owner k ready)
+  where
+    go : (found : Option Submission) → slice_get owner.calls k ≡ found → is_known_call owner found ≡ true → ⊥
+    go None is known = cc known
+    go (Some call) is known = cc (sym none ∙ ap (option_map (numbered_call owner.calls k)) is)
+
+-- the packet of a call that was submitted
+pub packet_is : (owner : OwnerValue) (k : ℕ) (call : Call) → Some call ≡ call_at owner.calls k →
+    packet_at owner k ≡ Some (record { caller = owner.id; actor = call.actor; number = call.number; future = k; method = call.method; args = map (settled owner.kept) call.args })
+packet_is owner k call is = go (slice_get owner.calls k) is
+  where
+    go : (found : Option Submission) → Some call ≡ option_map (numbered_call owner.calls k) found →
+        option_map (packet_of owner k) found ≡ Some (record { caller = owner.id; actor = call.actor; number = call.number; future = k; method = call.method; args = map (settled owner.kept) call.args })
+    go None is = absurd (cc is)
+    go (Some found) is = let same : call ≡ numbered_call owner.calls k found = cc is in rw same refl

@@ -34,7 +34,7 @@ pub(crate) fn enter_call(resolver: &mut Resolver, k: FutureId, args: &ListOf<Arg
     ensures { resolver.new.calls ≡ resolver.old.calls ++ entered_call args.now is_dead ∷ [] }
 {
     let futures = futures_of(args);
-    resolver.enter(k, futures.as_slice()).unwrap();
+    resolver.enter_reserved(k, futures.as_slice());
     if is_dead {
         resolver.told(k);
     }
@@ -47,7 +47,7 @@ pub(crate) fn enter(table: &mut ReplyTable, a: ActorId, is_dead: bool) -> Future
     ensures value { result ≡ length table.old.rows }
     ensures rows { table.new.rows ≡ table.old.rows ++ answered_row a is_dead ∷ [] }
 {
-    let k = table.enter(a).unwrap();
+    let k = table.enter_reserved(a);
     if is_dead {
         table.keep(k, Err(Fault::ActorDied));
     }

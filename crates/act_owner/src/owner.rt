@@ -1,12 +1,12 @@
 //! One caller and its calls.
 
-ghost use Rattle.std.specs.Prelude.{◌≡◌, ◌≢◌, ◌==◌, ℕ, ◌≤◌, map, length, count_by, All, AllPairs, Option, None, Some, Err, IfOk, OnOk, IfErr, OnErr, option_and_then, option_copied, find, position, unwrap_or, is_some, slice_get, zip};
+ghost use Rattle.std.specs.Prelude.{◌≡◌, ◌≢◌, ◌==◌, ℕ, ◌≤◌, map, length, count_by, All, AllPairs, Option, None, Some, Err, IfOk, OnOk, IfErr, OnErr, IfSome, IfNone, IsSome, option_and_then, option_copied, find, position, unwrap_or, is_some, slice_get, zip};
 ghost use Rattle.std.specs.List.{list_all, list_any};
 ghost use Rattle.act_rules.specs.declared.outcome.SubmitRefusal.TheVariants.{NoMemory as NoRoom};
 ghost use Rattle.act_rules.specs.declared.outcome.SendRefusal.TheVariants.{NoMemory as NoRoomToSend};
-ghost use Rattle.act_rules.specs.Submissions.{calls_to, copies_held, handle_refusal, limit_refusal, kept_at};
+ghost use Rattle.act_rules.specs.Submissions.{calls_to, copies_held, handle_refusal, limit_refusal, kept_at, settled};
 ghost use Rattle.act_handles.specs.Handles.{copies_in, given_in, copied, with_copy, without_copy};
-ghost use Rattle.act_owner.specs.Owner.{OwnerValue, opened, opened_under, opened_with, limit_of, pending, with_handles, release_told, kill_told, submission_refusal, with_call, call_at, is_sent, is_dead, sending_refusal, packet_at, address_at, with_sent, is_known_call, first_ready, is_to, is_death, is_of_call, collected_reply, after_reply, collected_death, after_death, collected, after_collect, waits_for, KnowsDeath};
+ghost use Rattle.act_owner.specs.Owner.{OwnerValue, answers_of, opened, opened_under, opened_with, limit_of, pending, with_handles, release_told, kill_told, submission_refusal, with_call, call_at, is_sent, is_dead, sending_refusal, packet_at, address_at, with_sent, is_known_call, first_ready, is_to, is_death, is_of_call, collected_reply, after_reply, collected_death, after_death, collected, after_collect, waits_for, KnowsDeath};
 ghost use Rattle.act_types.specs.declared.message.Notice.TheVariants.{Death};
 
 use crate::args::{all_settled, are_earlier};
@@ -123,6 +123,34 @@ fn limit_in(limits: &[(ActorId, Option<u32>)], a: ActorId) -> Option<u32>
         None => None,
         Some(place) => limits[place].1,
     }
+}
+
+/// What is sent for a call, its arguments settled by the answers kept.
+fn packet_with(
+    alloc: Global,
+    caller: CallerId,
+    k: FutureId,
+    call: &Call,
+    table: &ReplyTable,
+) -> Result<Packet, NoMemory>
+    ensures { IfOk result (λ packet. packet ≡ record {
+      caller = caller;
+      actor = call.now.actor;
+      number = call.now.number;
+      future = k;
+      method = call.now.method;
+      args = map (settled (answers_of table.now.rows)) call.now.args;
+    }) }
+{
+    let args = all_settled(alloc, &call.args, table)?;
+    Ok(Packet {
+        caller,
+        actor: call.actor,
+        number: call.number,
+        future: k,
+        method: call.method,
+        args,
+    })
 }
 
 impl Owner {
@@ -424,17 +452,23 @@ impl Owner {
         if let Some(refusal) = self.sending_refusal(k) {
             return Err(refusal);
         }
-        let Ok(args) = all_settled(alloc, &call.args, &self.table) else {
+        let Ok(packet) = packet_with(alloc, self.id, k, call, &self.table) else {
             return Err(SendRefusal::NoMemory);
         };
-        Ok(Packet {
-            caller: self.id,
-            actor: call.actor,
-            number: call.number,
-            future: k,
-            method: call.method,
-            args,
-        })
+        Ok(packet)
+    }
+
+    /// The packet of a call that may be sent.
+    fn packet_now(&self, alloc: Global, k: FutureId) -> Result<Packet, NoMemory>
+        requires { first_ready self.now ≡ Some k }
+        ensures value { IfOk result (λ packet. packet_at self.now k ≡ Some packet) }
+        ensures future { IfOk result (λ packet. packet.future ≡ k) }
+    {
+        let Some(call) = self.call(k) else {
+            unreachable!()
+        };
+        let packet = packet_with(alloc, self.id, k, call, &self.table)?;
+        Ok(packet)
     }
 
     /// The actor that a call goes to, and the call's number there, or why it is not sent.
@@ -464,6 +498,25 @@ impl Owner {
         let packet = self.packet_of(alloc, k)?;
         self.resolver.mark_sent(k);
         Ok(packet)
+    }
+
+    /// The packet of the least call that may be sent, if there is one, which is marked sent. An `Err`
+    /// changes nothing, and comes only where there is such a call.
+    pub fn next_packet(&mut self, alloc: Global) -> Result<Option<Packet>, NoMemory>
+        ensures ready { IfOk result (λ sent. IfSome sent (λ packet. first_ready self.old ≡ Some packet.future)) }
+        ensures value { IfOk result (λ sent. IfSome sent (λ packet. packet_at self.old packet.future ≡ Some packet)) }
+        ensures ok { IfOk result (λ sent. IfSome sent (λ packet. self.new ≡ with_sent self.old packet.future)) }
+        ensures none { IfOk result (λ sent. IfNone sent (first_ready self.old ≡ None)) }
+        ensures same { IfOk result (λ sent. IfNone sent (self.new ≡ self.old)) }
+        ensures memory { OnErr result (IsSome (first_ready self.old)) }
+        ensures err { OnErr result (self.new ≡ self.old) }
+    {
+        let Some(k) = self.ready() else {
+            return Ok(None);
+        };
+        let packet = self.packet_now(alloc, k)?;
+        self.resolver.mark_sent(k);
+        Ok(Some(packet))
     }
 
     /// Marks a call sent without its packet, and gives the actor that it goes to and its number

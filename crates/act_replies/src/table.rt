@@ -94,6 +94,17 @@ impl ReplyTable {
         ensures spare { self.old.spare ≤ self.new.spare + 1 }
     {
         self.reserve_one()?;
+        Ok(self.enter_reserved(actor))
+    }
+
+    /// The same, where room was made before.
+    pub fn enter_reserved(&mut self, actor: ActorId) -> FutureId
+        requires few { length self.old.rows < MOST_CALLS }
+        requires room { 1 ≤ self.old.spare }
+        ensures future { result ≡ length self.old.rows }
+        ensures rows { self.new.rows ≡ self.old.rows ++ unanswered_row actor ∷ [] }
+        ensures spare { self.old.spare ≤ self.new.spare + 1 }
+    {
         let number = self.rows.len();
         self.rows.push_reserved(Row {
             actor,
@@ -101,7 +112,7 @@ impl ReplyTable {
         });
         self.waiting.push(actor);
         self.unanswered += 1;
-        Ok(FutureId::new(number as u32))
+        FutureId::new(number as u32)
     }
 
     /// Keeps the answer where its future has none yet.

@@ -1,6 +1,6 @@
 //! The calls of one caller, and which of them may be sent next.
 
-ghost use Rattle.std.specs.Prelude.{◌≡◌, ℕ, ◌+◌, ◌-◌, ◌<◌, ◌≤◌, ◌==◌, ◌&&◌, not, false, [], ◌∷◌, ◌++◌, if◌then◌else◌, length, All, IsOk, OnOk, OnErr, slice_get, slice_set, slice_index};
+ghost use Rattle.std.specs.Prelude.{◌≡◌, ℕ, ◌+◌, ◌-◌, ◌<◌, ◌≤◌, ◌==◌, ◌&&◌, not, false, [], ◌∷◌, ◌++◌, if◌then◌else◌, length, All, IsOk, OnOk, OnErr, slice_get, slice_set, slice_index, slice_index_or};
 ghost use Rattle.std.specs.Option.{option_copied, option_map_or};
 ghost use Rattle.act_resolver.specs.Resolver.{new_call, is_answered, is_sent, is_known, first_ready, with_answered, with_sent};
 ghost use Rattle.act_resolver.specs.Counts.{is_free, times, missing_of};
@@ -113,8 +113,22 @@ impl Resolver {
         ensures room { 1 ≤ self.old.spare → IsOk result }
         ensures spare { self.old.spare ≤ self.new.spare + 1 }
     {
-        prove_eq!(k.number() as usize, self.calls.len());
         self.reserve_one()?;
+        self.enter_reserved(k, futures);
+        Ok(())
+    }
+
+    /// The same, where room was made before.
+    pub fn enter_reserved(&mut self, k: FutureId, futures: &[FutureId])
+        requires room { 1 ≤ self.old.spare }
+        requires next { k ≡ length self.old.calls }
+        requires at_most_four { length futures.now ≤ MOST_ARGS }
+        requires earlier { All (λ future. future < k) futures.now }
+
+        ensures calls { self.new.calls ≡ self.old.calls ++ new_call futures.now ∷ [] }
+        ensures spare { self.old.spare ≤ self.new.spare + 1 }
+    {
+        prove_eq!(k.number() as usize, self.calls.len());
         self.waiters.add_future();
         let missing = add_places(&self.calls, &mut self.waiters, k, futures);
         self.calls.push_reserved(Call {
@@ -124,7 +138,6 @@ impl Resolver {
         });
         self.missing.push_reserved(missing);
         self.ready.set(k.number() as usize, missing == 0);
-        Ok(())
     }
 
     /// Call `k` is answered, so it is never ready again, and no call waits for it. It costs a few steps
@@ -136,8 +149,9 @@ impl Resolver {
     {
         let place = k.number() as usize;
         let call = &mut self.calls[place];
+        let may_be_ready = !call.sent && !call.answered;
         call.answered = true;
-        self.ready.set(place, false);
+        take_out(&mut self.ready, place, may_be_ready);
         while let Some(waiter) = self.waiters.pop(k) {
             tell_place(&self.calls, &mut self.missing, &mut self.ready, waiter);
         }
@@ -181,6 +195,17 @@ impl Resolver {
         ensures { option_copied result ≡ slice_get self.now.calls k }
     {
         self.calls.get(k.number() as usize)
+    }
+}
+
+/// Takes a number out of the set. Where it can't be in the set there is nothing to write.
+fn take_out(set: &mut LeastSet, k: usize, may_be_in: bool)
+    requires below { k < length set.old }
+    requires out { may_be_in ≡ false → slice_index_or set.old k false ≡ false }
+    ensures { set.new ≡ slice_set set.old k false }
+{
+    if may_be_in {
+        set.set(k, false);
     }
 }
 

@@ -8,10 +8,10 @@ use Rattle.act_owner.proofs.futures.enter.Goals as goal
 pub returns-then-is_dead-clause-rows : goal.returns-then-is_dead-clause-rows
 returns-then-is_dead-clause-rows c =
     let rows = c.args.table.now.rows in
-    let entered : c.enter.new.self.rows ≡ rows ++ unanswered_row c.args.a ∷ [] = rw c.unwrap-k.ensures at c.enter.ensures.ok in
-    let place : c.unwrap-k.result ≡ length rows = rw c.unwrap-k.ensures at c.enter.ensures.future in
+    let entered : c.enter_reserved-k.new.self.rows ≡ rows ++ unanswered_row c.args.a ∷ [] = c.enter_reserved-k.ensures.rows in
+    let place : c.enter_reserved-k.result ≡ length rows = c.enter_reserved-k.ensures.future in
     c.keep.ensures.rows
-    ∙ ap (λ k. after_keep k (Err ActorDied) c.enter.new.self.rows) place
+    ∙ ap (λ k. after_keep k (Err ActorDied) c.enter_reserved-k.new.self.rows) place
     ∙ ap (after_keep (length rows) (Err ActorDied)) entered
     ∙ keep_last rows c.args.a
     ∙ ap (λ dead. rows ++ answered_row c.args.a dead ∷ []) (sym c.if-is_dead.true)

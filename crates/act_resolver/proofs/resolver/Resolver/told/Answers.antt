@@ -15,7 +15,7 @@ loop-waiter-init c =
     let read : slice_get calls i ≡ Some found = found_at calls c.args.self.now.calls c.self.inside.calls.len i c.args.k found c.index_mut-call.result.now lists c.self.inside.calls.ok.0 c.number-place.ensures c.requires c.index_mut-call.ensures.value c.call.view_is in
     let start = told_start calls c.self.inside.missing.items c.self.inside.waiters.lists c.self.inside.ready i found c.self.invariant read in
     record {
-      telling = rw c.set.ensures (subst (λ k. IsTelling k (slice_set calls i (record found { answered = true })) c.self.inside.missing.items c.self.inside.waiters.lists (slice_set c.self.inside.ready i false)) c.number-place.ensures start);
+      telling = rw c.take_out.ensures (subst (λ k. IsTelling k (slice_set calls i (record found { answered = true })) c.self.inside.missing.items c.self.inside.waiters.lists (slice_set c.self.inside.ready i false)) c.number-place.ensures start);
       calls = refl;
       missing_len = refl;
       missing_room = refl;

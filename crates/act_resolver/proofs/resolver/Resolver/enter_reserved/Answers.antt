@@ -3,16 +3,16 @@ use Rattle.act_resolver.specs.Resolver.{is_answered}
 use Rattle.act_resolver.specs.Waiters.{waiting}
 use Rattle.act_resolver.specs.Counts.{times, missing_of}
 use Rattle.act_resolver.proofs.Counting.{entered_fine}
-use Rattle.act_resolver.proofs.resolver.Resolver.enter.Goals as goal
+use Rattle.act_resolver.proofs.resolver.Resolver.enter_reserved.Goals as goal
 
 pub invariant_of-self : goal.invariant_of-self
 invariant_of-self c =
-    let calls = c.self-2.inside.calls.items in
-    let lists = c.self-2.inside.waiters.lists in
+    let calls = c.self.inside.calls.items in
+    let lists = c.self.inside.waiters.lists in
     let after = c.add_places-missing.new.waiters.lists in
     let k = c.number-2.result in
     let futures = c.new.result in
-    let same : calls ≡ c.args.self.now.calls = ap (λ v. v.calls) c.self-2.view_is ∙ c.reserve_one.ensures.calls in
+    let same : calls ≡ c.args.self.now.calls = ap (λ v. v.calls) c.self.view_is in
     let next : k ≡ length calls = omega (arith, c.number-2.ensures, c.requires.next, ap length same) in
     let is : c.add_places-missing.result ≡ missing_of calls futures = c.add_places-missing.ensures.count ∙ ap (λ cs. missing_of cs c.args.futures.now) c.deref.ensures.value ∙ ap (missing_of calls) (sym c.new.ensures) in
     let waits : (future call : ℕ) → times call (waiting after future) ≡ times call (waiting (lists ++ [] ∷ []) future) + cond ((call == k) && not (is_answered calls future)) (times future futures) 0 =
@@ -22,6 +22,6 @@ invariant_of-self c =
     ∙ ap (λ n. times call (waiting (lists ++ [] ∷ []) future) + cond ((call == n) && not (is_answered calls future)) (times future c.args.futures.now) 0) (sym c.number-2.ensures)
     ∙ ap (λ fs. times call (waiting (lists ++ [] ∷ []) future) + cond ((call == k) && not (is_answered calls future)) (times future fs) 0) (sym c.new.ensures) in
     let size : length after ≡ length (lists ++ [] ∷ []) = c.add_places-missing.ensures.length ∙ ap length c.add_future.ensures.lists in
-    let room : k < length c.self-2.inside.ready = omega (arith, next, ap (λ v. v.spare) c.self-2.view_is, c.in_ok-reserve_one.ensures.ok, c.self-2.inside.calls.ok.0) in
-    let fine = entered_fine calls c.self-2.inside.missing.items lists after c.self-2.inside.ready k c.add_places-missing.result futures c.self-2.invariant next room is size waits in
+    let room : k < length c.self.inside.ready = omega (arith, next, ap (λ v. v.spare) c.self.view_is, c.requires.room, c.self.inside.calls.ok.0) in
+    let fine = entered_fine calls c.self.inside.missing.items lists after c.self.inside.ready k c.add_places-missing.result futures c.self.invariant next room is size waits in
     rw (c.push_reserved.ensures.items, c.push_reserved-2.ensures.items, c.set.ensures) fine

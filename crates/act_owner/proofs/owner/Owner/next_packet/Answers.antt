@@ -1,0 +1,15 @@
+use Rattle.std.proofs.Common.{◌∙◌, ap, sym}
+use Rattle.act_owner.specs.Owner.{with_sent}
+use Rattle.act_owner.proofs.Answers.{sent_fine, sent_marked}
+use Rattle.act_owner.proofs.owner.Owner.next_packet.Goals as goal
+
+pub invariant_of-self : goal.invariant_of-self
+invariant_of-self c =
+    let inside = c.self.inside in
+    sent_fine c.in-Some.k inside.handles inside.calls.items inside.table.rows inside.resolver.calls c.mark_sent.new.self.calls c.self.invariant c.mark_sent.ensures.calls
+
+pub returns-clause-ok : goal.returns-clause-ok
+returns-clause-ok c =
+    let inside = c.self.inside in
+    sent_marked inside.id inside.handles inside.calls.items inside.table.rows inside.resolver.calls c.mark_sent.new.self.calls inside.dead inside.limits.items c.args.self.now c.in-Some.k c.self.view_is c.mark_sent.ensures.calls
+    ∙ ap (with_sent c.args.self.now) (sym c.in_ok-packet.ensures.future)
