@@ -2,12 +2,14 @@
 #![tactic(auto)]
 
 mod command;
+mod prepared;
 mod served;
 mod stop;
 mod told;
 mod work;
 
 pub use command::{Order, order_given};
+pub use prepared::Prepared;
 pub use served::are_served;
 pub use stop::{Stop, exit_code};
 pub use told::print_turn;

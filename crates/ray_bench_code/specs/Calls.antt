@@ -17,8 +17,8 @@ calls_of work caller count = map (call_at work caller) (places count)
 
 -- all calls of the work are submitted, in their order
 abbrev pub adder_tells : Adder → Seen → Seen → Type 0
-adder_tells adder old new = new.calls ≡ old.calls ++ calls_of adder.work adder.me adder.work.calls
+adder_tells adder old new = let task = adder.task in new.calls ≡ old.calls ++ calls_of task.work task.me task.work.calls
 
--- a caller, and its code
+-- a caller, and its code, which has the arguments of all its calls
 abbrev pub adder_of : Work → ℕ → ℕ × Adder
-adder_of work caller = (caller, record { work = work; me = caller })
+adder_of work caller = (caller, record { task = record { work = work; me = caller }; prepared = work.calls })

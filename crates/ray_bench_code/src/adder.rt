@@ -6,17 +6,17 @@ ghost use Rattle.ray_bench_code.specs.Calls.{adder_of, calls_of};
 
 use act_drive::{Code, GaveUp, Session};
 use act_types::{CallerId, FutureId, Method, NoMemory};
-use bench_work::{Style, Work, one_more};
+use bench_work::{Prepared, Style, Work};
 use std::alloc::Global;
 
-/// A caller of the work. It gives up where a call has no number as its answer.
+/// What a caller does.
 #[derive(Clone, Copy, Debug, PartialEq, Eq)]
-pub(crate) struct Adder {
+pub(crate) struct Task {
     pub(crate) work: Work,
     pub(crate) me: CallerId,
 }
 
-impl Adder {
+impl Task {
     /// Waits for an answer, and goes on where it is a value.
     fn take<S: Session>(&self, session: &mut S, k: FutureId) -> Result<(), GaveUp>
         ensures { OnOk result ((S.seen session.new).calls ≡ (S.seen session.old).calls) }
@@ -29,13 +29,13 @@ impl Adder {
     }
 
     /// Submits all calls and, where each is awaited, takes its answer before the next one.
-    fn submit_all<S: Session>(&self, session: &mut S) -> Result<(), GaveUp>
+    fn submit_all<S: Session>(&self, session: &mut S, prepared: &mut Prepared) -> Result<(), GaveUp>
         ensures { OnOk result ((S.seen session.new).calls ≡
             (S.seen session.old).calls ++ calls_of self.now.work self.now.me self.now.work.calls) }
     {
         for place in 0..self.work.calls {
             let actor = self.work.actor_at(self.me, place);
-            let args = one_more(session.alloc())?;
+            let args = prepared.take(session.alloc())?;
             let k = session.submit(actor, Method::Add, args)?;
             if self.work.style == Style::Wait {
                 self.take(session, k)?;
@@ -55,19 +55,27 @@ impl Adder {
     }
 }
 
+/// A caller of the work, with its calls' arguments. It gives up where a call has no number as its answer.
+#[derive(Drop)]
+pub(crate) struct Adder {
+    pub(crate) task: Task,
+    pub(crate) prepared: Prepared,
+}
+
 impl Code for Adder {
     ghost use Rattle.ray_bench_code.specs.Calls.{adder_tells};
 
     ghost tells = { adder_tells };
 
     fn calls(&self) -> usize {
-        self.work.calls as usize
+        self.task.work.calls as usize
     }
 
     fn run<S: Session>(&mut self, session: &mut S) -> Result<(), GaveUp> {
-        self.submit_all(session)?;
-        if self.work.style == Style::Future {
-            self.take_all(session)?;
+        let task = self.task;
+        task.submit_all(session, &mut self.prepared)?;
+        if task.work.style == Style::Future {
+            task.take_all(session)?;
         }
         Ok(())
     }
@@ -80,7 +88,9 @@ pub(crate) fn adders_of(alloc: Global, work: &Work) -> Result<Vec<(CallerId, Add
     let mut adders = Vec::new(alloc);
     for before in 0..work.callers.number() {
         let me = CallerId::new(before + 1).unwrap();
-        adders.push((me, Adder { work: *work, me }))?;
+        let task = Task { work: *work, me };
+        let prepared = Prepared::make(alloc, work.calls)?;
+        adders.push((me, Adder { task, prepared }))?;
     }
     Ok(adders)
 }

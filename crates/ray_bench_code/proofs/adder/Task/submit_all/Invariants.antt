@@ -1,6 +1,6 @@
 use Rattle.std.proofs.Common.{◌≡◌, ◌++◌}
 use Rattle.ray_bench_code.specs.Calls.{calls_of}
-use Rattle.ray_bench_code.proofs.adder.Adder.submit_all.Given as goal
+use Rattle.ray_bench_code.proofs.adder.Task.submit_all.Given as goal
 
 -- the calls so far
 abbrev pub invariant-loop-place : goal.invariant-loop-place

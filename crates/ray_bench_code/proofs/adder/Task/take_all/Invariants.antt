@@ -1,5 +1,5 @@
 use Rattle.std.proofs.Common.{◌≡◌}
-use Rattle.ray_bench_code.proofs.adder.Adder.take_all.Given as goal
+use Rattle.ray_bench_code.proofs.adder.Task.take_all.Given as goal
 
 -- no call is submitted
 abbrev pub invariant-loop-place : goal.invariant-loop-place
