@@ -3,7 +3,7 @@
 
     tools/audit.py [--check | --text]
 
-The list begins with the clauses of four public functions, and has every definition of ours that these
+The list begins with the clauses of five public functions, and has every definition of ours that these
 reach by their words, and none that they don't reach. `--check` writes nothing, and fails where the page
 isn't that of the sources. `--text` prints the definitions themselves, in reading order.
 
@@ -39,6 +39,7 @@ ROOTS = [
     ("act_console", "console", "play_script"),
     ("act_executor", "run", "run_plans"),
     ("act_console", "threads", "threads_script"),
+    ("act_histories", "check", "check_history"),
 ]
 
 WORDS_OF_THE_LANGUAGE = set("record data where let in do λ → × : = ← . ; , ( ) { } ⟦ ⟧ Type Unit ⊥ _".split())
@@ -771,8 +772,8 @@ HEAD = """# What to read to believe it
 This page is for somebody who trusts the checker and nobody else. `python3 tools/audit.py` makes it, and `./test` fails
 where it is out of date.
 
-1. Four public functions carry what the service promises: `World::play`, `play_script`, `run_plans` and
-   `threads_script`. Their clauses (postconditions) are the promises.
+1. Five public functions carry what the service promises: `World::play`, `play_script`, `run_plans`,
+   `threads_script` and `check_history`. Their clauses (postconditions) are the promises.
 2. Each clause is proved of its function's body. What it means hangs on the definitions that it reaches by its words,
    and on nothing else of ours.
 3. The first list has every definition that these clauses reach, and none that they don't reach. **What a definition
@@ -860,7 +861,7 @@ def page_of(audit):
     yield HEAD
     specs, lines = tally([each for each in audit.by_words if is_spec(each)])
     types, lines_of_types = tally([each for each in audit.by_words if not is_spec(each) and each not in clauses])
-    yield f"The four functions have {tally(clauses)[1]} lines of clauses, their heads included. They reach"
+    yield f"The five functions have {tally(clauses)[1]} lines of clauses, their heads included. They reach"
     yield f"**{specs} definitions of {lines} lines**, of the {audit.sources.count_of_definitions()} in all specs,"
     yield f"and {types} declarations in Rust of {lines_of_types} lines. By crate, with what the views add:\n"
     yield from totals_of(audit)

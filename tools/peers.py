@@ -5,15 +5,15 @@
 
 Callers add 1 to counters, in four styles: each waits for each answer before its next call, or sends all its
 calls and then takes their answers; and each calls one counter, or all in turns. Two proved programs are ours: the
-callers of ray_bench have plans, and those of ray_bench_code have code, which makes its calls as it goes, looks at
-each answer, and gives up at a fault. Both and the peers, whose sources stand in tools/peers, are measured side by side
-with each number of callers and actors. All programs run by turns in each round, and a figure is the median of all
-turns. Large crews make fewer calls a caller.
+callers of ray_bench have plans, and those of ray_bench_code have code, which submits its calls as it goes, looks at
+each answer, and gives up at a fault. Both and the peers, whose sources stand in tools/peers, are measured side by
+side with each number of callers and actors. All programs run by turns in each round, and a figure is the median of
+all turns. Large crews make fewer calls a caller.
 
 A peer's clock begins when its counters stand and ends when its callers have ended. Ours takes in the whole of
 run_plans, or of run_callers: it opens the lines, starts a thread for each actor and each caller, retires the actors
-and compares what all of them left. Plans are made before. Each program looks at the counts after a turn, and
-fails where a call is missing.
+and compares what all of them left. Plans are made before, and so are the arguments of the code's calls. Each program
+looks at the counts after a turn, and fails where a call is missing.
 
 The peers are built into a temporary folder, offline, with what Debian has (erlang-base, libcaf-dev,
 librust-crossbeam-channel-dev). What can't be built is named, and the others are measured. Where none can be built, it

@@ -1,5 +1,5 @@
 #!/usr/bin/env python3
-"""Draws each example of events into docs/pictures, by tools/draw.py.
+"""Draws each example of events, and each record of one for threads, into docs/pictures, by tools/draw.py.
 
     tools/pictures.py [--check] [--reading]
 
@@ -54,18 +54,19 @@ SVG = "{http://www.w3.org/2000/svg}"
 
 
 def is_played(path):
-    """Whether it is a script of events: one for threads has no line that only an event has."""
+    """Whether it is a script of events: a record is one, and one for threads has no line that only an event has."""
     words = {line.split(" ")[0] for line in path.read_text().splitlines()}
     return bool(words & (set(reading.PLAY_FORMS) - set(reading.THREAD_FORMS)))
 
 
 def examples():
-    return [path for path in sorted(EXAMPLES.glob("*.actors")) if is_played(path)]
+    """The scripts of events, and the records that `./record` wrote of those for threads."""
+    return [path for path in [*sorted(EXAMPLES.glob("*.actors")), *sorted(EXAMPLES.glob("*.play"))] if is_played(path)]
 
 
 def wrong_heads():
     """How many examples there are, and those whose first line doesn't end with the command that runs them."""
-    failures, paths = [], list(EXAMPLES.glob("*.actors"))
+    failures, paths = [], [*EXAMPLES.glob("*.actors"), *EXAMPLES.glob("*.play")]
     for path in paths:
         command = f"./run {'play' if is_played(path) else 'threads'} examples/{path.name}"
         first = path.read_text().partition("\n")[0]

@@ -1,6 +1,6 @@
-"""The program as every tool finds it, and what else the tools share.
+"""The programs as every tool finds them, and what else the tools share.
 
-The proved program is the one that the gate leaves. Where none stands, or a source is newer, an unproved one is
+A proved program is the one that the gate leaves. Where none stands, or a source is newer, an unproved one is
 built once and kept in .built/. Stale is judged by the crates that the program stands on, as crates.txt lists them.
 """
 import contextlib
@@ -11,15 +11,27 @@ import sys
 
 TOP = pathlib.Path(__file__).resolve().parent.parent
 CRATES = TOP / "crates"
-NAME = "ray_actors"
-PROVED = CRATES / NAME / "out" / NAME
-UNPROVED = TOP / ".built" / (NAME + ".unproved")
 # What a program is made of, and what its proof rests on besides.
 CODE = ["src"]
 PROVED_CODE = ["src", "specs", "proofs"]
 LONGEST_SCRIPT = 1_048_576
 WRONG_WORDS = 2
 WRITE_FAILED = 4
+
+
+class Program:
+    """A program of this repository, by its crate's name; `tried` are the words with which a build runs an empty script."""
+
+    def __init__(self, name, tried):
+        self.name, self.tried = name, tried
+        self.proved = CRATES / name / "out" / name
+        self.unproved = TOP / ".built" / (name + ".unproved")
+
+
+RUNS = Program("ray_actors", ["play"])
+RECORDS = Program("ray_record", [])
+CHECKS = Program("ray_check", [])
+PROVED = RUNS.proved
 
 
 class Stop(Exception):
@@ -52,7 +64,7 @@ def ended(tool, main):
         sys.exit(130)
 
 
-# The crates that the program stands on.
+# The crates that a program stands on.
 
 
 def listed():
@@ -68,36 +80,36 @@ def crates_of(name, crates):
     return list(dict.fromkeys([*below, name]))
 
 
-def files_of(parts):
-    """Every source in these folders of the crates that the program stands on."""
-    folders = [CRATES / crate / part for crate in crates_of(NAME, listed()) for part in parts]
+def files_of(name, parts):
+    """Every source in these folders of the crates that the program of this name stands on."""
+    folders = [CRATES / crate / part for crate in crates_of(name, listed()) for part in parts]
     for folder, _, names in itertools.chain.from_iterable(map(os.walk, folders)):
         yield from (os.path.join(folder, name) for name in names if name.endswith((".rt", ".antt")))
 
 
-def is_fresh(program, parts):
-    """Whether the program stands, and none of these files is newer."""
+def is_fresh(path, name, parts):
+    """Whether the program of this name stands there, and none of these files is newer."""
     try:
-        made = os.stat(program).st_mtime_ns
+        made = os.stat(path).st_mtime_ns
     except OSError:
         return False
-    return os.access(program, os.X_OK) and all(os.stat(file).st_mtime_ns <= made for file in files_of(parts))
+    return os.access(path, os.X_OK) and all(os.stat(file).st_mtime_ns <= made for file in files_of(name, parts))
 
 
-# The program.
+# The programs.
 
 
-def kept(tool):
+def kept(tool, program=RUNS):
     """The program that a run takes: the proved one, else an unproved one, which is built where none is kept."""
-    if is_fresh(PROVED, PROVED_CODE):
-        say(tool, f"the proved program, {PROVED.relative_to(TOP)}")
-        return PROVED
-    if not is_fresh(UNPROVED, CODE):
+    if is_fresh(program.proved, program.name, PROVED_CODE):
+        say(tool, f"the proved program, {program.proved.relative_to(TOP)}")
+        return program.proved
+    if not is_fresh(program.unproved, program.name, CODE):
         import unproved  # its imports are dear, and a build is rare
 
-        unproved.build(tool)
-    say(tool, f"an unproved program of these sources, {UNPROVED.relative_to(TOP)} (./test makes a proved one)")
-    return UNPROVED
+        unproved.build(tool, program)
+    say(tool, f"an unproved program of these sources, {program.unproved.relative_to(TOP)} (./test makes a proved one)")
+    return program.unproved
 
 
 def proved(tool, path=PROVED):
@@ -107,9 +119,9 @@ def proved(tool, path=PROVED):
     return path.resolve()
 
 
-def program_of(tool, path):
+def program_of(tool, path, program=RUNS):
     """The program that the words of a tool name, else the one that a run takes."""
-    return proved(tool, path) if path else kept(tool)
+    return proved(tool, path) if path else kept(tool, program)
 
 
 # What comes in and goes out.

@@ -38,7 +38,11 @@ def explanation(script, mode):
 
 def run(tool, mode, script, output=None):
     """Runs the program, and tells what a reader of the report may miss. Its status, and what it wrote to a pipe."""
-    command = [program.kept(tool), mode]
+    return run_by(tool, [program.kept(tool), mode], mode, script, output)
+
+
+def run_by(tool, command, mode, script, output=None):
+    """The same by a command that reads scripts of this mode."""
     # Where nobody reads on, the program is to say so, and not to be ended by the signal.
     done = subprocess.run(command, input=script, stdout=output, restore_signals=False)
     if done.returncode < 0:

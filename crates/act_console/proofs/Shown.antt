@@ -73,11 +73,12 @@ one_stage world seen a n is found =
 
 -- ---- all of them
 
-uncast : (h : History) (a : ℕ) → cast_of a h ≡ None → stage_of a h ≡ None
+-- how an actor without a cast stands, and how one with a cast does
+pub uncast : (h : History) (a : ℕ) → cast_of a h ≡ None → stage_of a h ≡ None
 uncast h a none = ap (λ (cast : Option Casting). option_map (λ state. stage_text (is_dead a h) (is_retired a h) (state_after state (runs_of a h))) (option_map (λ cast. cast.opening) cast)) none
 
-cast_at : (h : History) (a : ℕ) (cast : Casting) (dead retired : Bool) (state : KindState) → cast_of a h ≡ Some cast → is_dead a h ≡ dead → is_retired a h ≡ retired → state ≡ state_after cast.opening (runs_of a h) → stage_of a h ≡ Some (stage_text dead retired state)
-cast_at h a cast dead retired state is died ended same =
+pub stage_at : (h : History) (a : ℕ) (cast : Casting) (dead retired : Bool) (state : KindState) → cast_of a h ≡ Some cast → is_dead a h ≡ dead → is_retired a h ≡ retired → state ≡ state_after cast.opening (runs_of a h) → stage_of a h ≡ Some (stage_text dead retired state)
+stage_at h a cast dead retired state is died ended same =
     ap (λ (cast : Option Casting). option_map (λ state. stage_text (is_dead a h) (is_retired a h) (state_after state (runs_of a h))) (option_map (λ cast. cast.opening) cast)) is
     ∙ ap (λ (b : Bool). Some (stage_text b (is_retired a h) (state_after cast.opening (runs_of a h)))) died
     ∙ ap (λ (b : Bool). Some (stage_text dead b (state_after cast.opening (runs_of a h)))) ended
@@ -86,9 +87,9 @@ cast_at h a cast dead retired state is died ended same =
 stages_are : (h : History) (a : ℕ) (slot : Option SlotSeen) → IsStage h a slot → stage_of a h ≡ option_map standing_text (stage_of_slot slot)
 stages_are h a None is = uncast h a is
 stages_are h a (Some Vacant) is = uncast h a is
-stages_are h a (Some (Runs live)) is = let runs = or_parts (is_dead a h) (is_retired a h) is.runs in cast_at h a is.cast false false live.state is.cast_is runs.0 runs.1 is.state
-stages_are h a (Some (Died dead)) is = cast_at h a is.cast true (is_retired a h) (state_after is.cast.opening (runs_of a h)) is.cast_is is.died refl refl
-stages_are h a (Some (Ended retired)) is = cast_at h a is.cast false true retired.state is.cast_is is.lived is.ended is.state
+stages_are h a (Some (Runs live)) is = let runs = or_parts (is_dead a h) (is_retired a h) is.runs in stage_at h a is.cast false false live.state is.cast_is runs.0 runs.1 is.state
+stages_are h a (Some (Died dead)) is = stage_at h a is.cast true (is_retired a h) (state_after is.cast.opening (runs_of a h)) is.cast_is is.died refl refl
+stages_are h a (Some (Ended retired)) is = stage_at h a is.cast false true retired.state is.cast_is is.lived is.ended is.state
 
 -- the lines of one number more
 pub next_lines : (lines : ℕ → List ℕ) (n : ℕ) (old new text : List ℕ) → new ≡ text ++ lines (n + 1) → text ≡ old ++ flat_map lines (one_to n) → new ≡ old ++ flat_map lines (one_to (n + 1))

@@ -14,7 +14,7 @@ pub(crate) enum Output {
 }
 
 /// The line of a script's fault.
-pub(crate) fn refusal_of(alloc: Global, line: u32, wrong: Wrong) -> Result<String, AllocError>
+pub fn refusal_of(alloc: Global, line: u32, wrong: Wrong) -> Result<String, AllocError>
     ensures { IfOk result (λ text. string_bytes text ≡ fault_line (line, wrong)) }
 {
     format!(in alloc; "line {line}: {wrong}\n")

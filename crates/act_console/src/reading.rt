@@ -28,7 +28,7 @@ fn read_some<R: Read>(reader: &mut R, chunk: &mut [u8]) -> Result<usize, Console
 }
 
 /// All that the reader has or, where it has more, its first bytes up to the limit.
-pub(crate) fn read_whole<R: Read>(alloc: Global, reader: &mut R) -> Result<Vec<u8>, ConsoleFault>
+pub fn read_whole<R: Read>(alloc: Global, reader: &mut R) -> Result<Vec<u8>, ConsoleFault>
     ensures ok { IfOk result (λ bytes. IsWholeInput MOST_READ (R.remaining reader.old) (R.remaining reader.new) bytes.items) }
     ensures err { IfErr result IsBeforeWriting }
 {

@@ -83,7 +83,7 @@ fn cast_for<K: Actor>(stock: &mut Stock<K>, role: Role) -> Option<Cast<K>>
 }
 
 /// A cast for each role, with kinds of the stock.
-pub(crate) fn casts_of<K: Actor>(
+pub fn casts_of<K: Actor>(
     alloc: Global,
     stock: Stock<K>,
     roles: ListOf<Role>,

@@ -22,6 +22,7 @@ use Rattle.act_owner.specs.declared.owner.Collected.TheVariants.{First, Late, St
 use Rattle.act_owner.specs.Owner.{OwnerValue, packet_at, packet_of, is_sent, is_of_call, after_reply_that, with_death, after_collect, with_sent, is_ready, first_ready, is_known_call}
 use Rattle.act_owner.specs.Life.{Change, Sent, Noticed, after, is_known_at, Hears}
 use Rattle.act_owner.proofs.Life.{step, packet_stays}
+use Rattle.act_owner.proofs.Waiting.{find_true}
 use Rattle.act_owner.proofs.Told.{sent_stays, hears_step, reply_sent, death_sent}
 use Rattle.act_mailbox.specs.Mails.{MailValue}
 use Rattle.act_mailbox.specs.Passes.{PutterValue}
@@ -203,14 +204,6 @@ posted_waits old new at seat pass here same is letters kills collects = record {
 }
 
 -- ---- a call taken in hand
-
-find_true : (p : ℕ → Bool) (xs : List ℕ) (k : ℕ) → find p xs ≡ Some k → p k ≡ true
-find_true p [] k is = absurd (cc is)
-find_true p (x ∷ xs) k is = go (p x) refl is (find_true p xs k)
-  where
-    go : (b : Bool) → p x ≡ b → (if b then Some x else find p xs) ≡ Some k → (find p xs ≡ Some k → p k ≡ true) → p k ≡ true
-    go true e found rest = let same : x ≡ k = cc found in subst (λ (n : ℕ). p n ≡ true) same e
-    go false e found rest = rest found
 
 three : (a b c : Bool) → (a && not b && not c) ≡ true → (a ≡ true) × (b ≡ false)
 three true false false is = (refl, refl)

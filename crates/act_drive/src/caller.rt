@@ -9,6 +9,7 @@ ghost use Rattle.act_drive.specs.Driven.{IsCalling, Follows, Stays, Waits, Winds
 use crate::desk::{CallerLines, CallerPasses, Desk, NUMBERS};
 use act_owner::Owner;
 use act_rules::Step;
+use act_seats::{NoNotes, Notes};
 use act_types::{ActorId, NoMemory};
 use std::alloc::Global;
 use std::sync::Wait;
@@ -43,12 +44,13 @@ impl Desk {
     }
 
     /// A turn after each so many steps, where `since` counts them from one turn to the next.
-    pub(crate) fn turn_after<R: Wait>(
+    pub(crate) fn turn_after<R: Wait, N: Notes>(
         &mut self,
         rt: &R,
         alloc: Global,
         lines: &CallerLines,
         since: &mut u32,
+        notes: &mut N,
     ) -> Result<(), NoMemory>
         requires calling { IsCalling lines.now self.old }
         ensures calling { IsCalling lines.now self.new }
@@ -59,17 +61,18 @@ impl Desk {
             return Ok(());
         }
         *since = 0;
-        self.turn(rt, alloc, lines)?;
+        self.turn(rt, alloc, lines, notes)?;
         Ok(())
     }
 
     /// Does the steps in order, with a turn after each so many.
-    fn steps<R: Wait>(
+    fn steps<R: Wait, N: Notes>(
         &mut self,
         rt: &R,
         alloc: Global,
         lines: &CallerLines,
         plan: Plan,
+        notes: &mut N,
     ) -> Result<(), NoMemory>
         requires calling { IsCalling lines.now self.old }
         ensures calling { IsCalling lines.now self.new }
@@ -79,45 +82,57 @@ impl Desk {
     {
         let mut since = 0;
         for step in plan {
-            self.step(rt, alloc, lines, step)?;
-            self.turn_after(rt, alloc, lines, &mut since)?;
+            self.step(rt, alloc, lines, step, notes)?;
+            self.turn_after(rt, alloc, lines, &mut since, notes)?;
         }
         Ok(())
     }
 
     /// Lets all copies of an actor's handle go.
-    fn let_go<R: Wait>(&mut self, rt: &R, lines: &CallerLines, a: ActorId) -> Result<(), NoMemory>
+    fn let_go<R: Wait, N: Notes>(
+        &mut self,
+        rt: &R,
+        lines: &CallerLines,
+        a: ActorId,
+        notes: &mut N,
+    ) -> Result<(), NoMemory>
         requires calling { IsCalling lines.now self.old }
         ensures calling { IsCalling lines.now self.new }
         ensures winds { Winds self.old self.new }
         ensures none { OnOk result (copies_held (copies_in a self.new.owner.handles) ≡ 0) }
     {
         for _gone in 0..self.owner.holds(a) {
-            self.release(rt, lines, a)?;
+            self.release(rt, lines, a, notes)?;
         }
         Ok(())
     }
 
     /// Lets all handles go.
-    pub(crate) fn close<R: Wait>(&mut self, rt: &R, lines: &CallerLines) -> Result<(), NoMemory>
+    pub(crate) fn close<R: Wait, N: Notes>(
+        &mut self,
+        rt: &R,
+        lines: &CallerLines,
+        notes: &mut N,
+    ) -> Result<(), NoMemory>
         requires calling { IsCalling lines.now self.old }
         ensures calling { IsCalling lines.now self.new }
         ensures winds { Winds self.old self.new }
         ensures none { OnOk result (All (λ mail. copies_held (copies_in mail.actor self.new.owner.handles) ≡ 0) lines.now.mails.now) }
     {
         for mail in lines.mails {
-            self.let_go(rt, lines, mail.actor())?;
+            self.let_go(rt, lines, mail.actor(), notes)?;
         }
         Ok(())
     }
 
     /// The whole of a plan.
-    fn whole<R: Wait>(
+    fn whole<R: Wait, N: Notes>(
         &mut self,
         rt: &R,
         alloc: Global,
         lines: &CallerLines,
         plan: Plan,
+        notes: &mut N,
     ) -> Result<(), NoMemory>
         requires calling { IsCalling lines.now self.old }
         ensures calling { IsCalling lines.now self.new }
@@ -126,16 +141,23 @@ impl Desk {
             Follows lines.now actors [] self.old → HasDone lines.now actors plan.items self.new.owner self.new.passes) }
     {
         self.reserve(plan.as_slice())?;
-        self.steps(rt, alloc, lines, plan)?;
+        self.steps(rt, alloc, lines, plan, notes)?;
         // What is ready is posted before the notes of the last handles.
-        self.turn(rt, alloc, lines)?;
-        self.close(rt, lines)?;
-        self.finish(rt, alloc, lines)?;
+        self.turn(rt, alloc, lines, notes)?;
+        self.close(rt, lines, notes)?;
+        self.finish(rt, alloc, lines, notes)?;
         Ok(())
     }
 
     /// The whole of a plan, and else what is left to do without memory. Whether memory was refused.
-    fn run<R: Wait>(&mut self, rt: &R, alloc: Global, lines: &CallerLines, plan: Plan) -> bool
+    fn run<R: Wait, N: Notes>(
+        &mut self,
+        rt: &R,
+        alloc: Global,
+        lines: &CallerLines,
+        plan: Plan,
+        notes: &mut N,
+    ) -> bool
         requires calling { IsCalling lines.now self.old }
         ensures calling { IsCalling lines.now self.new }
         ensures stays { Stays self.old self.new }
@@ -143,10 +165,10 @@ impl Desk {
             Follows lines.now actors [] self.old → HasDone lines.now actors plan.items self.new.owner self.new.passes }
         ensures ended { result ≡ true → All (HasEnded lines.now.controls.now self.new.owner self.new.passes) self.new.passes.kills.items }
     {
-        match self.whole(rt, alloc, lines, plan) {
+        match self.whole(rt, alloc, lines, plan, notes) {
             Ok(()) => false,
             Err(_) => {
-                self.starve(rt, lines);
+                self.starve(rt, lines, notes);
                 true
             }
         }
@@ -156,7 +178,36 @@ impl Desk {
 /// Does the steps of the plan in order, lets all handles go, and ends when all is answered. A call
 /// that its actor's limit would refuse is submitted once enough calls before it are answered. A
 /// caller that is refused memory asks the kill of each of its actors, and ends when each has told its
-/// death or needs nothing more of it.
+/// death or needs nothing more of it. What it does is noted.
+pub fn drive_noting<R: Wait, N: Notes>(
+    rt: &R,
+    alloc: Global,
+    owner: Owner,
+    plan: Plan,
+    lines: &CallerLines,
+    passes: CallerPasses,
+    notes: &mut N,
+) -> Driven
+    requires fresh { IsFresh lines.now owner passes }
+    requires fits { first_bad (actors_in owner.handles) plan.items ≡ None }
+    ensures { HasDriven lines.now owner passes plan.items result }
+{
+    let mut desk = Desk {
+        owner,
+        passes,
+        hand: None,
+        noted: [false; NUMBERS],
+    };
+    let starved = desk.run(rt, alloc, lines, plan, notes);
+    let Desk { owner, passes, .. } = desk;
+    Driven {
+        owner,
+        starved,
+        passes,
+    }
+}
+
+/// The same, where nothing is noted.
 pub fn drive<R: Wait>(
     rt: &R,
     alloc: Global,
@@ -169,17 +220,5 @@ pub fn drive<R: Wait>(
     requires fits { first_bad (actors_in owner.handles) plan.items ≡ None }
     ensures { HasDriven lines.now owner passes plan.items result }
 {
-    let mut desk = Desk {
-        owner,
-        passes,
-        hand: None,
-        noted: [false; NUMBERS],
-    };
-    let starved = desk.run(rt, alloc, lines, plan);
-    let Desk { owner, passes, .. } = desk;
-    Driven {
-        owner,
-        starved,
-        passes,
-    }
+    drive_noting(rt, alloc, owner, plan, lines, passes, &mut NoNotes)
 }

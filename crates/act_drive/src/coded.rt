@@ -13,6 +13,7 @@ use crate::code::Code;
 use crate::desk::{CallerLines, CallerPasses, Desk, NUMBERS};
 use crate::lent::{Lent, Opening};
 use act_owner::Owner;
+use act_seats::NoNotes;
 use act_types::{MOST_CALLS, NoMemory};
 use std::alloc::Global;
 use std::marker::{Brand, PhantomData};
@@ -40,9 +41,9 @@ impl Desk {
             HasDone lines.now actors steps self.new.owner self.new.passes) }
     {
         // What is ready is posted before the notes of the last handles.
-        self.turn(rt, alloc, lines)?;
-        self.close(rt, lines)?;
-        self.finish(rt, alloc, lines)?;
+        self.turn(rt, alloc, lines, &mut NoNotes)?;
+        self.close(rt, lines, &mut NoNotes)?;
+        self.finish(rt, alloc, lines, &mut NoNotes)?;
         Ok(())
     }
 
@@ -69,7 +70,7 @@ impl Desk {
         if !has_given_up && self.wind_up(rt, alloc, lines).is_ok() {
             return false;
         }
-        self.starve(rt, lines);
+        self.starve(rt, lines, &mut NoNotes);
         true
     }
 }

@@ -8,8 +8,8 @@ ghost use Rattle.act_drive.specs.Parts.{IsHeard};
 
 use act_mailbox::{Control, ControlCaller, Letter, Mail, MailCaller, Replies, ReplyCaller};
 use act_owner::Owner;
-use act_seats::{Patience, Seat};
-use act_types::{ActorId, FutureId, MOST_ACTORS, NoMemory};
+use act_seats::{Mark, Notes, Patience, Seat};
+use act_types::{ActorId, FutureId, MOST_ACTORS, NoMemory, Notice};
 use std::alloc::Global;
 use std::sync::Wait;
 
@@ -65,6 +65,14 @@ fn is_note(letter: &Letter) -> bool
     }
 }
 
+/// What is noted of a notice that is collected.
+fn mark_of(notice: &Notice) -> Mark {
+    match notice {
+        Notice::Answered(reply) => Mark::CollectReply(reply.actor, reply.place),
+        Notice::Death(actor) => Mark::CollectDeath(*actor),
+    }
+}
+
 /// Marks the actor whose note was posted.
 fn mark(noted: &mut [bool; NUMBERS], actor: ActorId, is_note: bool)
     ensures { noted.new ≡ (if is_note then slice_set noted.old actor true else noted.old) }
@@ -99,7 +107,7 @@ pub(crate) fn rest(patience: &mut Patience, has_moved: bool) {
 
 impl Desk {
     /// Collects a notice, if there is one.
-    pub(crate) fn collect(&mut self, lines: &CallerLines) -> bool
+    pub(crate) fn collect<N: Notes>(&mut self, lines: &CallerLines, notes: &mut N) -> bool
         requires calling { IsCalling lines.now self.old }
         ensures calling { IsCalling lines.now self.new }
         ensures waits { Waits self.old self.new }
@@ -108,6 +116,7 @@ impl Desk {
         match lines.replies.try_collect(&mut self.passes.collects) {
             None => false,
             Some(notice) => {
+                notes.note(mark_of(&notice));
                 self.owner.collect(notice);
                 true
             }
@@ -115,17 +124,15 @@ impl Desk {
     }
 
     /// Takes the letter of the next ready call in hand, if the hand is empty and memory serves.
-    pub(crate) fn take_up(&mut self, alloc: Global) -> Result<(), NoMemory>
+    pub(crate) fn take_up<N: Notes>(&mut self, alloc: Global, notes: &mut N) -> Result<(), NoMemory>
         ensures waits { Waits self.old self.new }
         ensures calling { (lines : CallerLines) → IsCalling lines self.old → IsCalling lines self.new }
     {
         if self.hand.is_some() {
             return Ok(());
         }
-        if let Some(k) = self.owner.ready() {
-            let Ok(packet) = self.owner.packet(alloc, k) else {
-                return Err(NoMemory);
-            };
+        if let Some(packet) = self.owner.next_packet(alloc)? {
+            notes.note(Mark::Send(packet.future));
             self.hand = Some(Letter::Call(packet));
         }
         Ok(())
@@ -159,33 +166,35 @@ impl Desk {
 
     /// Takes the letter of the next ready call in hand, if the hand is empty, and posts what is in
     /// hand. Whether a letter went.
-    fn send_next<R: Wait>(
+    fn send_next<R: Wait, N: Notes>(
         &mut self,
         rt: &R,
         alloc: Global,
         lines: &CallerLines,
+        notes: &mut N,
     ) -> Result<bool, NoMemory>
         requires calling { IsCalling lines.now self.old }
         ensures calling { IsCalling lines.now self.new }
         ensures waits { Waits self.old self.new }
     {
-        self.take_up(alloc)?;
+        self.take_up(alloc, notes)?;
         Ok(self.send(rt, lines))
     }
 
     /// Sends letters while there are some and their line has room. Whether any went.
-    fn send_some<R: Wait>(
+    fn send_some<R: Wait, N: Notes>(
         &mut self,
         rt: &R,
         alloc: Global,
         lines: &CallerLines,
+        notes: &mut N,
     ) -> Result<bool, NoMemory>
         requires calling { IsCalling lines.now self.old }
         ensures calling { IsCalling lines.now self.new }
         ensures waits { Waits self.old self.new }
     {
         for sent in 0..MOST_IN_A_TURN {
-            if !self.send_next(rt, alloc, lines)? {
+            if !self.send_next(rt, alloc, lines, notes)? {
                 return Ok(sent > 0);
             }
         }
@@ -193,13 +202,13 @@ impl Desk {
     }
 
     /// Collects notices while there are some. Whether any came.
-    fn collect_some(&mut self, lines: &CallerLines) -> bool
+    fn collect_some<N: Notes>(&mut self, lines: &CallerLines, notes: &mut N) -> bool
         requires calling { IsCalling lines.now self.old }
         ensures calling { IsCalling lines.now self.new }
         ensures waits { Waits self.old self.new }
     {
         for heard in 0..MOST_IN_A_TURN {
-            if !self.collect(lines) {
+            if !self.collect(lines, notes) {
                 return heard > 0;
             }
         }
@@ -207,40 +216,42 @@ impl Desk {
     }
 
     /// Sends letters and collects notices, where there are some, and says whether there were.
-    pub(crate) fn turn<R: Wait>(
+    pub(crate) fn turn<R: Wait, N: Notes>(
         &mut self,
         rt: &R,
         alloc: Global,
         lines: &CallerLines,
+        notes: &mut N,
     ) -> Result<bool, NoMemory>
         requires calling { IsCalling lines.now self.old }
         ensures calling { IsCalling lines.now self.new }
         ensures waits { Waits self.old self.new }
     {
-        let has_sent = self.send_some(rt, alloc, lines)?;
-        let has_heard = self.collect_some(lines);
+        let has_sent = self.send_some(rt, alloc, lines, notes)?;
+        let has_heard = self.collect_some(lines, notes);
         Ok(has_sent || has_heard)
     }
 
     /// A turn of a loop that waits.
-    pub(crate) fn wait_turn<R: Wait>(
+    pub(crate) fn wait_turn<R: Wait, N: Notes>(
         &mut self,
         rt: &R,
         alloc: Global,
         lines: &CallerLines,
         patience: &mut Patience,
+        notes: &mut N,
     ) -> Result<(), NoMemory>
         requires calling { IsCalling lines.now self.old }
         ensures calling { IsCalling lines.now self.new }
         ensures waits { Waits self.old self.new }
     {
-        let has_moved = self.turn(rt, alloc, lines)?;
+        let has_moved = self.turn(rt, alloc, lines, notes)?;
         rest(patience, has_moved);
         Ok(())
     }
 
     /// Goes on when nothing is in hand.
-    pub(crate) fn clear<R: Wait>(&mut self, rt: &R, lines: &CallerLines)
+    pub(crate) fn clear<R: Wait, N: Notes>(&mut self, rt: &R, lines: &CallerLines, notes: &mut N)
         requires calling { IsCalling lines.now self.old }
         ensures calling { IsCalling lines.now self.new }
         ensures waits { Waits self.old self.new }
@@ -252,19 +263,20 @@ impl Desk {
                 return;
             }
             let has_sent = self.send(rt, lines);
-            let has_heard = self.collect(lines);
+            let has_heard = self.collect(lines, notes);
             rest(&mut patience, has_sent || has_heard);
         }
         unreachable!()
     }
 
     /// Goes on when the future is answered.
-    pub(crate) fn wait_for<R: Wait>(
+    pub(crate) fn wait_for<R: Wait, N: Notes>(
         &mut self,
         rt: &R,
         alloc: Global,
         lines: &CallerLines,
         k: FutureId,
+        notes: &mut N,
     ) -> Result<(), NoMemory>
         requires calling { IsCalling lines.now self.old }
         ensures calling { IsCalling lines.now self.new }
@@ -277,17 +289,18 @@ impl Desk {
             if self.owner.answer(k).is_some() {
                 return Ok(());
             }
-            self.wait_turn(rt, alloc, lines, &mut patience)?;
+            self.wait_turn(rt, alloc, lines, &mut patience, notes)?;
         }
         unreachable!()
     }
 
     /// Goes on when all is answered and posted.
-    pub(crate) fn finish<R: Wait>(
+    pub(crate) fn finish<R: Wait, N: Notes>(
         &mut self,
         rt: &R,
         alloc: Global,
         lines: &CallerLines,
+        notes: &mut N,
     ) -> Result<(), NoMemory>
         requires calling { IsCalling lines.now self.old }
         ensures calling { IsCalling lines.now self.new }
@@ -300,7 +313,7 @@ impl Desk {
             if self.owner.all_answered() && self.hand.is_none() {
                 return Ok(());
             }
-            self.wait_turn(rt, alloc, lines, &mut patience)?;
+            self.wait_turn(rt, alloc, lines, &mut patience, notes)?;
         }
         unreachable!()
     }

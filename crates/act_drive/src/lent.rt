@@ -9,6 +9,7 @@ use crate::refusals::{KillRefusal, WaitRefusal};
 use crate::session::{MOST_KILLS, Session};
 use act_handles::HandleRefusal;
 use act_rules::SubmitRefusal;
+use act_seats::NoNotes;
 use act_types::{ActorId, Answer, Arg, FutureId, ListOf, Method};
 use std::alloc::Global;
 use std::marker::{Model, PhantomData};
@@ -77,9 +78,13 @@ impl<'a, R: Wait, O: Opening> Lent<'a, R, O> {
         ensures hears { Hears self.old self.new }
         ensures on { IsLater self.old self.new }
     {
-        let _ = self
-            .desk
-            .turn_after(self.rt, self.alloc, self.lines, &mut self.since);
+        let _ = self.desk.turn_after(
+            self.rt,
+            self.alloc,
+            self.lines,
+            &mut self.since,
+            &mut NoNotes,
+        );
     }
 }
 
@@ -101,7 +106,10 @@ impl<'a, R: Wait, O: Opening> Session for Lent<'a, R, O> {
         if k.number() >= self.desk.owner.count() {
             return Err(WaitRefusal::NoFuture);
         }
-        match self.desk.wait_for(self.rt, self.alloc, self.lines, k) {
+        match self
+            .desk
+            .wait_for(self.rt, self.alloc, self.lines, k, &mut NoNotes)
+        {
             Ok(()) => Ok(()),
             Err(_) => Err(WaitRefusal::NoMemory),
         }
@@ -120,7 +128,7 @@ impl<'a, R: Wait, O: Opening> Session for Lent<'a, R, O> {
         if let Some(refusal) = self.desk.use_refusal(actor) {
             return Err(refusal);
         }
-        let Ok(()) = self.desk.release(self.rt, self.lines, actor) else {
+        let Ok(()) = self.desk.release(self.rt, self.lines, actor, &mut NoNotes) else {
             unreachable!()
         };
         Ok(())
@@ -134,7 +142,10 @@ impl<'a, R: Wait, O: Opening> Session for Lent<'a, R, O> {
         if self.kills[number] >= MOST_KILLS {
             return Err(KillRefusal::TooManyKills);
         }
-        match self.desk.kill(self.rt, self.alloc, self.lines, actor) {
+        match self
+            .desk
+            .kill(self.rt, self.alloc, self.lines, actor, &mut NoNotes)
+        {
             Ok(()) => {
                 self.kills[number] += 1;
                 Ok(())

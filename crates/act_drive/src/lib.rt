@@ -15,7 +15,7 @@ mod starve;
 mod steps;
 mod told;
 
-pub use caller::{Driven, Plan, drive};
+pub use caller::{Driven, Plan, drive, drive_noting};
 pub use code::{Code, GaveUp};
 pub use coded::drive_code;
 pub use desk::{CallerLines, CallerPasses};

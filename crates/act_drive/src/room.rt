@@ -7,7 +7,7 @@ ghost use Rattle.act_drive.specs.Driven.{IsCalling, Waits};
 
 use crate::desk::{CallerLines, Desk};
 use act_rules::SubmitRefusal;
-use act_seats::Patience;
+use act_seats::{Notes, Patience};
 use act_types::{ActorId, Arg, ListOf, NoMemory};
 use std::alloc::Global;
 use std::sync::Wait;
@@ -29,13 +29,14 @@ impl Desk {
     }
 
     /// Goes on when the actor's limit doesn't refuse the call.
-    pub(crate) fn wait_for_room<R: Wait>(
+    pub(crate) fn wait_for_room<R: Wait, N: Notes>(
         &mut self,
         rt: &R,
         alloc: Global,
         lines: &CallerLines,
         a: ActorId,
         args: &ListOf<Arg>,
+        notes: &mut N,
     ) -> Result<(), NoMemory>
         requires calling { IsCalling lines.now self.old }
         ensures calling { IsCalling lines.now self.new }
@@ -47,7 +48,7 @@ impl Desk {
             if self.has_room(a, args) {
                 return Ok(());
             }
-            self.wait_turn(rt, alloc, lines, &mut patience)?;
+            self.wait_turn(rt, alloc, lines, &mut patience, notes)?;
         }
         unreachable!()
     }

@@ -8,7 +8,7 @@ ghost use Rattle.act_drive.specs.declared.desk.CallerLines.{CallerLines};
 ghost use Rattle.act_drive.specs.Driven.{IsCalling, IsAtKillSeat, Stays, IsThrough, HasEnded};
 
 use crate::desk::{CallerLines, Desk, NUMBERS, rest};
-use act_seats::Patience;
+use act_seats::{Notes, Patience};
 use act_types::ActorId;
 use std::sync::Wait;
 
@@ -86,7 +86,7 @@ impl Desk {
     }
 
     /// Asks the kill of each actor, and collects until the caller is through with all.
-    pub(crate) fn starve<R: Wait>(&mut self, rt: &R, lines: &CallerLines)
+    pub(crate) fn starve<R: Wait, N: Notes>(&mut self, rt: &R, lines: &CallerLines, notes: &mut N)
         requires calling { IsCalling lines.now self.old }
         ensures calling { IsCalling lines.now self.new }
         ensures stays { Stays self.old self.new }
@@ -98,7 +98,7 @@ impl Desk {
             if self.end_all(rt, lines, &mut asked) {
                 return;
             }
-            let has_heard = self.collect(lines);
+            let has_heard = self.collect(lines, notes);
             rest(&mut patience, has_heard);
         }
         unreachable!()

@@ -15,7 +15,7 @@ ghost use Rattle.act_drive.specs.Sessions.{seen_of, use_refusal, Hears};
 use crate::desk::{CallerLines as Lines, Desk};
 use act_mailbox::{Control, ControlCaller, Letter};
 use act_rules::Step;
-use act_seats::{Patience, Seat};
+use act_seats::{Mark, Notes, Patience, Seat};
 use act_types::{ActorId, Arg, FutureId, KillNote, ListOf, Method, NoMemory};
 use std::alloc::Global;
 use std::sync::Wait;
@@ -36,11 +36,12 @@ fn kill_seat(controls: &[Control], seats: &[Seat<ControlCaller>], actor: ActorId
 
 impl Desk {
     /// Submits a call that no limit refuses. A refusal is a want of memory, where the plan fits.
-    fn submit_in_room(
+    fn submit_in_room<N: Notes>(
         &mut self,
         a: ActorId,
         method: Method,
         args: ListOf<Arg>,
+        notes: &mut N,
     ) -> Result<(), NoMemory>
         requires room { submission_refusal self.old.owner a args ≢ Some PendingLimit }
         ensures calling { (lines : CallerLines) → IsCalling lines self.old → IsCalling lines self.new }
@@ -48,13 +49,16 @@ impl Desk {
         ensures follows { OnOk result ((lines : CallerLines) → FollowsBy lines (Submit a method args) self.old self.new) }
     {
         match self.owner.submit(a, method, args) {
-            Ok(_) => Ok(()),
+            Ok(_) => {
+                notes.note(Mark::Submit(a));
+                Ok(())
+            }
             Err(_) => Err(NoMemory),
         }
     }
 
     /// Submits a call, once its actor's limit leaves room for it.
-    fn submit<R: Wait>(
+    fn submit<R: Wait, N: Notes>(
         &mut self,
         rt: &R,
         alloc: Global,
@@ -62,34 +66,39 @@ impl Desk {
         a: ActorId,
         method: Method,
         args: ListOf<Arg>,
+        notes: &mut N,
     ) -> Result<(), NoMemory>
         requires calling { IsCalling lines.now self.old }
         ensures calling { IsCalling lines.now self.new }
         ensures stays { Stays self.old self.new }
         ensures follows { OnOk result (FollowsBy lines.now (Submit a method args) self.old self.new) }
     {
-        self.wait_for_room(rt, alloc, lines, a, &args)?;
-        self.submit_in_room(a, method, args)
+        self.wait_for_room(rt, alloc, lines, a, &args, notes)?;
+        self.submit_in_room(a, method, args, notes)
     }
 
     /// Copies a handle, which nothing refuses where the plan fits.
-    fn copy(&mut self, a: ActorId) -> Result<(), NoMemory>
+    fn copy<N: Notes>(&mut self, a: ActorId, notes: &mut N) -> Result<(), NoMemory>
         ensures calling { (lines : CallerLines) → IsCalling lines self.old → IsCalling lines self.new }
         ensures stays { Stays self.old self.new }
         ensures follows { OnOk result ((lines : CallerLines) → FollowsBy lines (Copy a) self.old self.new) }
     {
         match self.owner.copy(a) {
-            Ok(_) => Ok(()),
+            Ok(_) => {
+                notes.note(Mark::Copy(a));
+                Ok(())
+            }
             Err(_) => Err(NoMemory),
         }
     }
 
     /// Lets a copy of a handle go, and takes the note in hand after the last one.
-    pub(crate) fn release<R: Wait>(
+    pub(crate) fn release<R: Wait, N: Notes>(
         &mut self,
         rt: &R,
         lines: &Lines,
         a: ActorId,
+        notes: &mut N,
     ) -> Result<(), NoMemory>
         requires calling { IsCalling lines.now self.old }
         ensures calling { IsCalling lines.now self.new }
@@ -100,24 +109,29 @@ impl Desk {
         ensures handles { OnOk result (self.new.owner.handles ≡ without_copy a self.old.owner.handles) }
         ensures accepted { use_refusal (seen_of self.old.owner) a ≡ None → result ≡ Ok tt }
     {
-        self.clear(rt, lines);
+        self.clear(rt, lines, notes);
         match self.owner.release(a) {
             Ok(Some(note)) => {
+                notes.note(Mark::LastRelease(a));
                 self.hand = Some(Letter::Note(note));
                 Ok(())
             }
-            Ok(None) => Ok(()),
+            Ok(None) => {
+                notes.note(Mark::Release(a));
+                Ok(())
+            }
             Err(_) => Err(NoMemory),
         }
     }
 
     /// Goes on when the future is answered.
-    fn wait_step<R: Wait>(
+    fn wait_step<R: Wait, N: Notes>(
         &mut self,
         rt: &R,
         alloc: Global,
         lines: &Lines,
         k: FutureId,
+        notes: &mut N,
     ) -> Result<(), NoMemory>
         requires calling { IsCalling lines.now self.old }
         ensures calling { IsCalling lines.now self.new }
@@ -125,7 +139,7 @@ impl Desk {
         ensures answered { OnOk result (is_some (kept_at self.new.owner.kept k) ≡ true) }
         ensures follows { OnOk result (FollowsBy lines.now (Await k) self.old self.new) }
     {
-        self.wait_for(rt, alloc, lines, k)?;
+        self.wait_for(rt, alloc, lines, k, notes)?;
         Ok(())
     }
 
@@ -151,13 +165,14 @@ impl Desk {
     }
 
     /// Goes on when the kill was asked at this seat, or its actor is known dead.
-    fn ask_until<R: Wait>(
+    fn ask_until<R: Wait, N: Notes>(
         &mut self,
         rt: &R,
         alloc: Global,
         lines: &Lines,
         at: usize,
         a: ActorId,
+        notes: &mut N,
     ) -> Result<(), NoMemory>
         requires calling { IsCalling lines.now self.old }
         requires below { at < length self.old.passes.kills.items }
@@ -176,18 +191,19 @@ impl Desk {
             if self.ask(rt, lines, at, a) {
                 return Ok(());
             }
-            self.wait_turn(rt, alloc, lines, &mut patience)?;
+            self.wait_turn(rt, alloc, lines, &mut patience, notes)?;
         }
         unreachable!()
     }
 
     /// Goes on when the kill was asked, or its actor is known dead.
-    pub(crate) fn kill<R: Wait>(
+    pub(crate) fn kill<R: Wait, N: Notes>(
         &mut self,
         rt: &R,
         alloc: Global,
         lines: &Lines,
         a: ActorId,
+        notes: &mut N,
     ) -> Result<(), NoMemory>
         requires calling { IsCalling lines.now self.old }
         ensures calling { IsCalling lines.now self.new }
@@ -200,18 +216,22 @@ impl Desk {
             Err(_) => Err(NoMemory),
             Ok(_) => match kill_seat(lines.controls, self.passes.kills.as_slice(), a) {
                 None => Ok(()),
-                Some(at) => self.ask_until(rt, alloc, lines, at, a),
+                Some(at) => {
+                    notes.note(Mark::AskKill(a));
+                    self.ask_until(rt, alloc, lines, at, a, notes)
+                }
             },
         }
     }
 
     /// Does a step.
-    pub(crate) fn step<R: Wait>(
+    pub(crate) fn step<R: Wait, N: Notes>(
         &mut self,
         rt: &R,
         alloc: Global,
         lines: &Lines,
         step: Step,
+        notes: &mut N,
     ) -> Result<(), NoMemory>
         requires calling { IsCalling lines.now self.old }
         ensures calling { IsCalling lines.now self.new }
@@ -220,11 +240,11 @@ impl Desk {
         ensures follows { OnOk result (FollowsBy lines.now step self.old self.new) }
     {
         match step {
-            Step::Submit(a, method, args) => self.submit(rt, alloc, lines, a, method, args),
-            Step::Copy(a) => self.copy(a),
-            Step::Release(a) => self.release(rt, lines, a),
-            Step::Kill(a) => self.kill(rt, alloc, lines, a),
-            Step::Await(k) => self.wait_step(rt, alloc, lines, k),
+            Step::Submit(a, method, args) => self.submit(rt, alloc, lines, a, method, args, notes),
+            Step::Copy(a) => self.copy(a, notes),
+            Step::Release(a) => self.release(rt, lines, a, notes),
+            Step::Kill(a) => self.kill(rt, alloc, lines, a, notes),
+            Step::Await(k) => self.wait_step(rt, alloc, lines, k, notes),
         }
     }
 }

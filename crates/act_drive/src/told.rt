@@ -13,6 +13,7 @@ ghost use Rattle.act_drive.specs.Lent.{Does};
 use crate::desk::{CallerLines as Lines, Desk};
 use act_handles::HandleRefusal;
 use act_rules::SubmitRefusal;
+use act_seats::NoNotes;
 use act_types::{ActorId, Arg, FutureId, ListOf, Method, NoMemory};
 use std::alloc::Global;
 use std::sync::Wait;
@@ -58,7 +59,7 @@ impl Desk {
         if self.has_room(a, args) {
             return Ok(());
         }
-        self.wait_for_room(rt, alloc, lines, a, args)?;
+        self.wait_for_room(rt, alloc, lines, a, args, &mut NoNotes)?;
         Ok(())
     }
 

@@ -41,7 +41,7 @@ each_at D ts xs i t x each at_t at_x = subst (λ y. D t y) (get_or_from_slice_ge
 tasks_long : {X A B Z : Type 0} (f : X → Z) (g : A × B → Z) (xs : List X) (ls : List A) (ms : List B) → map f xs ≡ map g (zip ls ms) → length ms ≡ length ls → length xs ≡ length ls
 tasks_long f g xs ls ms same long = sym (length-map xs f) ∙ ap length same ∙ length-map (zip ls ms) g ∙ length-zip_same ls ms long
 
-pub all_served : {K G : Type 0} (state : K → KindState) (lines : Lines) (casts : List (Cast K)) (execs : List (Seat ExecPasses)) (servings : List (Serving K G)) (actors : List (Finished K)) →
+pub all_served : {K G N : Type 0} (state : K → KindState) (lines : Lines) (casts : List (Cast K)) (execs : List (Seat ExecPasses)) (servings : List (Serving K G N)) (actors : List (Finished K)) →
     length execs ≡ length casts → map (serving_start state) servings ≡ map (cast_start state lines.replies.items) (zip casts execs) → Each (IsServedBy state) servings actors → AreServed state lines casts execs actors
 all_served state lines casts execs servings actors long starts each = record {
   long = each.0 ∙ tasks_long (serving_start state) (cast_start state lines.replies.items) servings casts execs starts long;
@@ -53,7 +53,7 @@ all_served state lines casts execs servings actors long starts each = record {
       subst P start (each_at (IsServedBy state) servings actors j serving.0 actor each serving.1 at_actor);
 }
 
-pub all_driven : {D : Type 0} (does : D → Doing) (lines : Lines) (conduct_of : ℕ → D) (parts : List Part) (callers : List (Seat CallerPasses)) (drivings : List (Driving D)) (driven : List Driven) →
+pub all_driven : {D N : Type 0} (does : D → Doing) (lines : Lines) (conduct_of : ℕ → D) (parts : List Part) (callers : List (Seat CallerPasses)) (drivings : List (Driving D N)) (driven : List Driven) →
     length callers ≡ length parts → map driving_start drivings ≡ map (part_start lines conduct_of) (zip parts callers) → Each (IsDrivenBy does) drivings driven → AreDriven lines (λ c. does (conduct_of c)) parts callers driven
 all_driven {D = D} does lines conduct_of parts callers drivings driven long starts each = record {
   long = each.0 ∙ tasks_long driving_start (part_start lines conduct_of) drivings parts callers starts long;
@@ -69,3 +69,22 @@ all_driven {D = D} does lines conduct_of parts callers drivings driven long star
         driven_is = subst P start (each_at (IsDrivenBy does) drivings driven i driving.0 d each driving.1 at_d);
       };
 }
+
+-- the first of a pair at a place stands there in the list of firsts
+first_at : {X N : Type 0} (ys : List (X × N)) (i : ℕ) (y : X × N) → slice_get ys i ≡ Some y → slice_get (map (λ (p : X × N). p.0) ys) i ≡ Some y.0
+first_at [] i y at = cc
+first_at (z ∷ ys) zero y at =
+    let is_y : z ≡ y = cc in
+    ap (λ (p : _). Some p.0) is_y
+first_at (z ∷ ys) (suc i) y at = first_at ys i y at
+
+-- what holds of each first of the pairs holds of each of the firsts
+pub each_first : {T X N : Type 0} (D : T → X → Type 0) (ts : List T) (ys : List (X × N)) → Each (λ t (y : X × N). D t y.0) ts ys → Each D ts (map (λ (p : X × N). p.0) ys)
+each_first {T = T} {X = X} {N = N} D ts ys each = (
+  length-map ys (λ (p : X × N). p.0) ∙ each.0,
+  λ i t x below.
+      let y = element ys i (omega (arith, below, each.0)) in
+      let here = each.1 i t y.0 below in
+      let value : get_or ys i y.0 ≡ y.0 = get_or_from_slice_get ys i y.0 y.0 y.1 in
+      subst (λ (v : X). D (get_or ts i t) v) (sym (get_or_from_slice_get (map (λ (p : X × N). p.0) ys) i y.0.0 x (first_at ys i y.0 y.1))) (subst (λ (p : X × N). D (get_or ts i t) p.0) value here),
+)

@@ -32,19 +32,19 @@ use Rattle.act_executor.specs.declared.work.Serving.{Serving}
 use Rattle.act_executor.specs.declared.work.Driving.{Driving}
 
 -- an actor's thread may run
-abbrev pub IsReady : {K G : Type 0} → (K → KindState) → Serving K G → Type 0
+abbrev pub IsReady : {K G N : Type 0} → (K → KindState) → Serving K G N → Type 0
 IsReady state serving = let now = live_seen state serving.live in PassesOf serving.lines now.id now.log serving.passes × IsFresh serving.lines.replies.now now serving.passes
 
 -- what it leaves
-abbrev pub IsServedBy : {K G : Type 0} → (K → KindState) → Serving K G → Finished K → Type 0
+abbrev pub IsServedBy : {K G N : Type 0} → (K → KindState) → Serving K G N → Finished K → Type 0
 IsServedBy state serving finished = let now = live_seen state serving.live in HasServed now.state now.id serving.lines.replies.now serving.passes (end_seen state finished.ended) finished.passes
 
 -- a caller's thread may run
-abbrev pub CanDrive : {D : Type 0} → Driving D → Type 0
+abbrev pub CanDrive : {D N : Type 0} → Driving D N → Type 0
 CanDrive driving = IsFreshCaller driving.lines driving.owner driving.passes × (first_bad (actors_in driving.owner.handles) driving.plan.items ≡ None)
 
 -- what it leaves
-abbrev pub IsDrivenBy : {D : Type 0} → (D → Doing) → Driving D → Driven → Type 0
+abbrev pub IsDrivenBy : {D N : Type 0} → (D → Doing) → Driving D N → Driven → Type 0
 IsDrivenBy does driving driven = HasConducted driving.lines driving.owner driving.passes (does driving.conduct driving.plan.items) driven
 
 -- how an actor begins
@@ -54,7 +54,7 @@ pub record ActorStart : Type 0 where
   pub passes : ExecPasses
   pub replies : List RepliesValue
 
-abbrev pub serving_start : {K G : Type 0} → (K → KindState) → Serving K G → ActorStart
+abbrev pub serving_start : {K G N : Type 0} → (K → KindState) → Serving K G N → ActorStart
 serving_start state serving = let now = live_seen state serving.live in record { id = now.id; state = now.state; passes = serving.passes; replies = serving.lines.replies.now }
 
 abbrev pub cast_start : {K : Type 0} → (K → KindState) → List RepliesValue → Cast K × Seat ExecPasses → ActorStart
@@ -69,7 +69,7 @@ pub record CallerStart (D : Type 0) : Type 0 where
   pub mails : List MailValue
   pub controls : List ControlValue
 
-abbrev pub driving_start : {D : Type 0} → Driving D → CallerStart D
+abbrev pub driving_start : {D N : Type 0} → Driving D N → CallerStart D
 driving_start driving = record { owner = driving.owner; plan = driving.plan.items; conduct = driving.conduct; passes = driving.passes; mails = driving.lines.mails.now; controls = driving.lines.controls.now }
 
 abbrev pub part_start : {D : Type 0} → Lines → (ℕ → D) → Part × Seat CallerPasses → CallerStart D

@@ -17,6 +17,7 @@ use act_actor::Cast;
 use act_drive::Code;
 use act_kinds::Actor;
 use act_plans::Plan;
+use act_seats::NoNotes;
 use act_serve::Gate;
 use act_types::CallerId;
 use std::alloc::Global;
@@ -46,6 +47,8 @@ pub fn run_callers<R: Threads + Wait + Sync, K: Actor + Send, C: Code + Send, G:
     ensures fault { IfErr result (IsFault (map (casting K.state) casts.items) (map plan_seen plans.items)) }
 {
     let prepared = prepare_good(alloc, casts, plans)?;
-    let joined = run_prepared(rt, alloc, prepared, ByCode { codes }, gate)?;
+    let codes = ByCode { codes };
+    let ran = run_prepared::<R, K, ByCode<C>, G, NoNotes>(rt, alloc, prepared, codes, gate)?;
+    let (joined, _pages) = ran;
     Ok(joined)
 }

@@ -7,17 +7,18 @@ ghost use Rattle.act_drive.specs.Driven.{IsFresh};
 ghost use Rattle.act_joint.specs.ByCode.{code_of};
 ghost use Rattle.act_executor.specs.Conducts.{Doing, does_plan, does_code, HasConducted};
 
-use act_drive::{CallerLines, CallerPasses, Code, Driven, Plan, drive, drive_code};
+use act_drive::{CallerLines, CallerPasses, Code, Driven, Plan, drive_code, drive_noting};
 use act_owner::Owner;
+use act_seats::Notes;
 use act_types::CallerId;
 use std::alloc::Global;
 use std::sync::Wait;
 
-/// What one caller's thread goes by, beside its plan.
+/// What one caller's thread goes by, beside its plan. What its own code does is not noted.
 pub(crate) trait Conduct: Drop {
     ghost does: { Self → Doing };
 
-    fn drive<R: Wait>(
+    fn drive<R: Wait, N: Notes>(
         self,
         rt: &R,
         alloc: Global,
@@ -25,6 +26,7 @@ pub(crate) trait Conduct: Drop {
         plan: Plan,
         lines: &CallerLines,
         passes: CallerPasses,
+        notes: &mut N,
     ) -> Driven
         requires fresh { IsFresh lines.now owner passes }
         requires fits { first_bad (actors_in owner.handles) plan.items ≡ None }
@@ -50,7 +52,7 @@ pub(crate) struct ByPlan;
 impl Conduct for ByPlan {
     ghost does = { λ _. does_plan };
 
-    fn drive<R: Wait>(
+    fn drive<R: Wait, N: Notes>(
         self,
         rt: &R,
         alloc: Global,
@@ -58,8 +60,9 @@ impl Conduct for ByPlan {
         plan: Plan,
         lines: &CallerLines,
         passes: CallerPasses,
+        notes: &mut N,
     ) -> Driven {
-        drive(rt, alloc, owner, plan, lines, passes)
+        drive_noting(rt, alloc, owner, plan, lines, passes, notes)
     }
 }
 
@@ -82,7 +85,7 @@ pub(crate) struct Given<C> {
 impl<C: Code> Conduct for Given<C> {
     ghost does = { λ given. does_code C.tells given.code };
 
-    fn drive<R: Wait>(
+    fn drive<R: Wait, N: Notes>(
         self,
         rt: &R,
         alloc: Global,
@@ -90,9 +93,10 @@ impl<C: Code> Conduct for Given<C> {
         plan: Plan,
         lines: &CallerLines,
         passes: CallerPasses,
+        notes: &mut N,
     ) -> Driven {
         match self.code {
-            None => drive(rt, alloc, owner, plan, lines, passes),
+            None => drive_noting(rt, alloc, owner, plan, lines, passes, notes),
             Some(code) => drive_code(rt, alloc, owner, code, lines, passes),
         }
     }

@@ -15,8 +15,9 @@ pub use act_drive::{
     drive, drive_code,
 };
 pub use act_plans::{Plan, plans_fit};
+pub use act_seats::{Mark, NoNotes, Notes, Page};
 pub use act_serve::{Ended, ExecLines, ExecPasses, Finished, Gate, NoGate, serve};
 pub use by_code::run_callers;
 pub use fitting::codes_fit;
 pub use joined::Joined;
-pub use run::{RunFault, run_plans};
+pub use run::{Pages, RunFault, run_plans, run_plans_noting};

@@ -26,7 +26,7 @@ use act_kinds::Actor;
 use act_lines::{Lines, Opened, open_lines};
 use act_mailbox::ControlCaller;
 use act_plans::{Part, Plan, Prepared, first_bad_part, prepare};
-use act_seats::Seat;
+use act_seats::{NoNotes, Notes, Seat};
 use act_serve::{ExecPasses, Finished, Gate};
 use act_tasks::{Refusal, run_both};
 use act_types::{CallerId, NoMemory};
@@ -111,6 +111,13 @@ impl<S: Drop, X: Drop> From<Refusal<S, X>> for RunFault {
     }
 }
 
+/// What the threads noted, each by rising number.
+#[derive(Drop)]
+pub struct Pages<N> {
+    pub of_callers: Vec<N>,
+    pub of_actors: Vec<N>,
+}
+
 /// The passes of the executors, of the callers and of the starter.
 #[derive(Drop)]
 struct Passes {
@@ -119,33 +126,66 @@ struct Passes {
     starters: Vec<ControlCaller>,
 }
 
+/// The firsts and the seconds of pairs.
+fn parted<X: Drop, Y: Drop>(alloc: Global, pairs: Vec<(X, Y)>) -> Result<(Vec<X>, Vec<Y>), NoMemory>
+    ensures { IfOk result (λ parts. parts.0.items ≡ map (λ pair. pair.0) pairs.items) }
+{
+    let mut firsts = Vec::new(alloc);
+    let mut seconds = Vec::new(alloc);
+    for pair in pairs {
+        let (first, second) = pair;
+        firsts.push(first)?;
+        seconds.push(second)?;
+    }
+    Ok((firsts, seconds))
+}
+
 /// Runs the tasks in threads of their own.
-fn run_tasks<R: Threads + Wait + Sync, K: Actor + Send, D: Conduct + Send, G: Gate>(
+fn run_tasks<
+    R: Threads + Wait + Sync,
+    K: Actor + Send,
+    D: Conduct + Send,
+    G: Gate,
+    N: Notes + Send + Drop,
+>(
     rt: &R,
     alloc: Global,
-    servings: Vec<Serving<K, G>>,
-    drivings: Vec<Driving<D>>,
+    servings: Vec<Serving<K, G, N>>,
+    drivings: Vec<Driving<D, N>>,
     starter: Starter,
-) -> Result<Ends<K>, RunFault>
+) -> Result<(Ends<K>, Pages<N>), RunFault>
     requires servings { All (IsReady K.state) servings.items }
     requires drivings { All CanDrive drivings.items }
     requires starter { CanStop starter }
-    ensures actors { IfOk result (λ ends. Each (IsServedBy K.state) servings.entry.items ends.actors.items) }
-    ensures callers { IfOk result (λ ends. Each (IsDrivenBy D.does) drivings.entry.items ends.callers.items) }
-    ensures starters { IfOk result (λ ends. ends.starters.items ≡ starter.entry.seats.items) }
+    ensures actors { IfOk result (λ ran. Each (IsServedBy K.state) servings.entry.items ran.0.actors.items) }
+    ensures callers { IfOk result (λ ran. Each (IsDrivenBy D.does) drivings.entry.items ran.0.callers.items) }
+    ensures starters { IfOk result (λ ran. ran.0.starters.items ≡ starter.entry.seats.items) }
     ensures fault { IfErr result IsThreadFault }
 {
-    let (actors, callers, starter) = run_both(rt, alloc, servings, drivings, starter)?;
+    let (served, driven, starter) = run_both(rt, alloc, servings, drivings, starter)?;
     let Starter { seats, .. } = starter;
-    Ok(Ends {
+    let (actors, of_actors) = parted(alloc, served)?;
+    let (callers, of_callers) = parted(alloc, driven)?;
+    let ends = Ends {
         actors,
         callers,
         starters: seats,
-    })
+    };
+    let pages = Pages {
+        of_callers,
+        of_actors,
+    };
+    Ok((ends, pages))
 }
 
 /// Runs each actor and each caller in a thread of its own, at these lines.
-fn run_threads<R: Threads + Wait + Sync, K: Actor + Send, D: Conducts, G: Gate>(
+fn run_threads<
+    R: Threads + Wait + Sync,
+    K: Actor + Send,
+    D: Conducts,
+    G: Gate,
+    N: Notes + Send + Drop,
+>(
     rt: &R,
     alloc: Global,
     prepared: Prepared<K>,
@@ -153,7 +193,7 @@ fn run_threads<R: Threads + Wait + Sync, K: Actor + Send, D: Conducts, G: Gate>(
     lines: &Lines,
     passes: Passes,
     gate: &G,
-) -> Result<Ends<K>, RunFault>
+) -> Result<(Ends<K>, Pages<N>), RunFault>
     requires matched { AreMatched prepared.casts.items prepared.parts.items }
     requires limits { All HasLimits prepared.parts.items }
     requires fits { All (λ part. first_bad part.actors.items part.plan.items ≡ None) prepared.parts.items }
@@ -163,9 +203,9 @@ fn run_threads<R: Threads + Wait + Sync, K: Actor + Send, D: Conducts, G: Gate>(
     requires caller_places { All (λ caller. caller.place < length lines.now.replies.items) passes.callers.items }
     requires callers { Each (IsCaller lines.now) prepared.parts.items passes.callers.items }
     requires starters { passes.starters.items ≡ map (λ control. new_putter control.line starter) lines.now.controls.items }
-    ensures actors { IfOk result (λ ends. AreServed K.state lines.now prepared.casts.items passes.execs.items ends.actors.items) }
-    ensures callers { IfOk result (λ ends. AreDriven lines.now (λ c. D.One.does (D.of conducts c)) prepared.parts.items passes.callers.items ends.callers.items) }
-    ensures starters { IfOk result (λ ends. AreStarters lines.now.controls.items ends.starters.items) }
+    ensures actors { IfOk result (λ ran. AreServed K.state lines.now prepared.casts.items passes.execs.items ran.0.actors.items) }
+    ensures callers { IfOk result (λ ran. AreDriven lines.now (λ c. D.One.does (D.of conducts c)) prepared.parts.items passes.callers.items ran.0.callers.items) }
+    ensures starters { IfOk result (λ ran. AreStarters lines.now.controls.items ran.0.starters.items) }
     ensures fault { IfErr result IsThreadFault }
 {
     let Prepared { casts, parts } = prepared;
@@ -177,22 +217,28 @@ fn run_threads<R: Threads + Wait + Sync, K: Actor + Send, D: Conducts, G: Gate>(
     let servings = servings(alloc, casts, lines, execs, gate)?;
     let drivings = drivings(alloc, parts, conducts, lines, callers)?;
     let starter = starter_at(alloc, lines.controls.as_slice(), starters)?;
-    let ends = run_tasks(rt, alloc, servings, drivings, starter)?;
-    Ok(ends)
+    let ran = run_tasks(rt, alloc, servings, drivings, starter)?;
+    Ok(ran)
 }
 
 /// Opens all lines, runs all threads, and compares what they left.
-pub(crate) fn run_prepared<R: Threads + Wait + Sync, K: Actor + Send, D: Conducts, G: Gate>(
+pub(crate) fn run_prepared<
+    R: Threads + Wait + Sync,
+    K: Actor + Send,
+    D: Conducts,
+    G: Gate,
+    N: Notes + Send + Drop,
+>(
     rt: &R,
     alloc: Global,
     prepared: Prepared<K>,
     conducts: D,
     gate: &G,
-) -> Result<Joined<K>, RunFault>
+) -> Result<(Joined<K>, Pages<N>), RunFault>
     requires matched { AreMatched prepared.casts.items prepared.parts.items }
     requires limits { All HasLimits prepared.parts.items }
     requires fits { All (λ part. first_bad part.actors.items part.plan.items ≡ None) prepared.parts.items }
-    ensures joined { IfOk result (HasRun K.state (λ c. D.One.does (D.of conducts c)) prepared) }
+    ensures joined { IfOk result (λ ran. HasRun K.state (λ c. D.One.does (D.of conducts c)) prepared ran.0) }
     ensures fault { IfErr result IsThreadFault }
 {
     let opened = open_lines(alloc, prepared.casts.as_slice(), prepared.parts.as_slice())?;
@@ -207,9 +253,10 @@ pub(crate) fn run_prepared<R: Threads + Wait + Sync, K: Actor + Send, D: Conduct
         callers,
         starters,
     };
-    let ends = run_threads(rt, alloc, prepared, conducts, &lines, passes, gate)?;
+    let ran = run_threads(rt, alloc, prepared, conducts, &lines, passes, gate)?;
+    let (ends, pages) = ran;
     let joined = settle(rt, alloc, &lines, ends)?;
-    Ok(joined)
+    Ok((joined, pages))
 }
 
 /// What is prepared of the casts and the plans, where no step of a plan would be refused.
@@ -232,7 +279,28 @@ pub(crate) fn prepare_good<K: Actor>(
 
 /// Runs each actor and each caller in a thread of its own, each caller by its plan, and ends when
 /// all have ended. A caller without a plan has an empty one. The gate is passed before each run of a
-/// call. That a run ends is not promised.
+/// call. What the threads noted is given beside. That a run ends is not promised.
+pub fn run_plans_noting<R: Threads + Wait + Sync, K: Actor + Send, G: Gate, N: Notes + Send + Drop>(
+    rt: &R,
+    alloc: Global,
+    casts: Vec<Cast<K>>,
+    plans: Vec<(CallerId, Plan)>,
+    gate: &G,
+) -> Result<(Joined<K>, Pages<N>), RunFault>
+    requires fit { IsFitting casts.items }
+    requires plans { PlansFit casts.items plans.items }
+    ensures joined { IfOk result (λ ran.
+        IsJoined (map (casting K.state) casts.items) (map plan_seen plans.items) ran.0.owners.items
+        (map (λ actor. end_seen K.state actor.ended) ran.0.actors.items)) }
+    ensures good { IfOk result (λ _. first_bad_plan (map (casting K.state) casts.items) (map plan_seen plans.items) ≡ None) }
+    ensures fault { IfErr result (IsFault (map (casting K.state) casts.items) (map plan_seen plans.items)) }
+{
+    let prepared = prepare_good(alloc, casts, plans)?;
+    let ran = run_prepared(rt, alloc, prepared, ByPlan, gate)?;
+    Ok(ran)
+}
+
+/// The same, where nothing is noted.
 pub fn run_plans<R: Threads + Wait + Sync, K: Actor + Send, G: Gate>(
     rt: &R,
     alloc: Global,
@@ -248,7 +316,7 @@ pub fn run_plans<R: Threads + Wait + Sync, K: Actor + Send, G: Gate>(
     ensures good { IfOk result (λ _. first_bad_plan (map (casting K.state) casts.items) (map plan_seen plans.items) ≡ None) }
     ensures fault { IfErr result (IsFault (map (casting K.state) casts.items) (map plan_seen plans.items)) }
 {
-    let prepared = prepare_good(alloc, casts, plans)?;
-    let joined = run_prepared(rt, alloc, prepared, ByPlan, gate)?;
+    let ran = run_plans_noting::<R, K, G, NoNotes>(rt, alloc, casts, plans, gate)?;
+    let (joined, _pages) = ran;
     Ok(joined)
 }

@@ -15,7 +15,7 @@ use act_kinds::Actor;
 use act_lines::Lines;
 use act_owner::Owner;
 use act_plans::Part;
-use act_seats::Seat;
+use act_seats::{Notes, Seat};
 use act_serve::{ExecLines, ExecPasses, Finished, Gate, serve_by};
 use act_tasks::Task;
 use act_types::NoMemory;
@@ -24,56 +24,61 @@ use std::sync::Wait;
 
 /// What an actor's thread is given.
 #[derive(Drop)]
-pub(crate) struct Serving<'a, K, G> {
+pub(crate) struct Serving<'a, K, G, N> {
     live: Live<K>,
     lines: ExecLines<'a>,
     passes: ExecPasses,
     gate: &'a G,
+    notes: N,
 }
 
-impl<'a, K: Actor + Send, G: Gate> Task for Serving<'a, K, G> {
-    type Output = Finished<K>;
+impl<'a, K: Actor + Send, G: Gate, N: Notes + Send + Drop> Task for Serving<'a, K, G, N> {
+    type Output = (Finished<K>, N);
 
     ghost ready = { IsReady K.state };
 
-    ghost done = { IsServedBy K.state };
+    ghost done = { λ serving served. IsServedBy K.state serving served.0 };
 
-    fn run<R: Wait>(self, rt: &R) -> Finished<K> {
+    fn run<R: Wait>(self, rt: &R) -> (Finished<K>, N) {
         let Serving {
             live,
             lines,
             passes,
             gate,
+            mut notes,
         } = self;
-        serve_by(
+        let finished = serve_by(
             rt,
             live,
             &lines,
             passes,
             &|actor, place| { gate.pass(actor, place) },
-        )
+            &mut notes,
+        );
+        (finished, notes)
     }
 }
 
 /// What a caller's thread is given.
 #[derive(Drop)]
-pub(crate) struct Driving<'a, D> {
+pub(crate) struct Driving<'a, D, N> {
     alloc: Global,
     owner: Owner,
     plan: Plan,
     conduct: D,
     lines: CallerLines<'a>,
     passes: CallerPasses,
+    notes: N,
 }
 
-impl<'a, D: Conduct + Send> Task for Driving<'a, D> {
-    type Output = Driven;
+impl<'a, D: Conduct + Send, N: Notes + Send + Drop> Task for Driving<'a, D, N> {
+    type Output = (Driven, N);
 
     ghost ready = { CanDrive };
 
-    ghost done = { IsDrivenBy D.does };
+    ghost done = { λ driving driven. IsDrivenBy D.does driving driven.0 };
 
-    fn run<R: Wait>(self, rt: &R) -> Driven {
+    fn run<R: Wait>(self, rt: &R) -> (Driven, N) {
         let Driving {
             alloc,
             owner,
@@ -81,19 +86,22 @@ impl<'a, D: Conduct + Send> Task for Driving<'a, D> {
             conduct,
             lines,
             passes,
+            mut notes,
         } = self;
-        conduct.drive(rt, alloc, owner, plan, &lines, passes)
+        let driven = conduct.drive(rt, alloc, owner, plan, &lines, passes, &mut notes);
+        (driven, notes)
     }
 }
 
 /// What one actor's thread is given.
-fn one_serving<'a, K: Actor, G>(
+fn one_serving<'a, K: Actor, G, N: Notes + Drop>(
     alloc: Global,
     cast: Cast<K>,
     lines: &'a Lines,
     exec: Seat<ExecPasses>,
     gate: &'a G,
-) -> Result<Serving<'a, K, G>, NoMemory>
+    notes: N,
+) -> Result<Serving<'a, K, G, N>, NoMemory>
     requires callers { CallersDiffer cast.callers }
     requires place { (exec.place < length lines.now.mails.items) × (exec.place < length lines.now.controls.items) }
     requires exec { IsExec lines.now cast exec }
@@ -118,17 +126,18 @@ fn one_serving<'a, K: Actor, G>(
         lines,
         passes: pass,
         gate,
+        notes,
     })
 }
 
 /// What the actors' threads are given.
-pub(crate) fn servings<'a, K: Actor, G>(
+pub(crate) fn servings<'a, K: Actor, G, N: Notes + Drop>(
     alloc: Global,
     casts: Vec<Cast<K>>,
     lines: &'a Lines,
     execs: Vec<Seat<ExecPasses>>,
     gate: &'a G,
-) -> Result<Vec<Serving<'a, K, G>>, NoMemory>
+) -> Result<Vec<Serving<'a, K, G, N>>, NoMemory>
     requires callers { All (λ cast. CallersDiffer cast.callers) casts.items }
     requires places { All (λ exec. (exec.place < length lines.now.mails.items) ×
         (exec.place < length lines.now.controls.items)) execs.items }
@@ -140,19 +149,21 @@ pub(crate) fn servings<'a, K: Actor, G>(
 {
     let mut servings = Vec::new(alloc);
     for (cast, exec) in casts.into_iter().zip(execs) {
-        servings.push(one_serving(alloc, cast, lines, exec, gate)?)?;
+        let notes = N::open(alloc);
+        servings.push(one_serving(alloc, cast, lines, exec, gate, notes)?)?;
     }
     Ok(servings)
 }
 
 /// What one caller's thread is given.
-fn one_driving<'a, D: Conduct>(
+fn one_driving<'a, D: Conduct, N: Notes + Drop>(
     alloc: Global,
     part: Part,
     conduct: D,
     lines: &'a Lines,
     caller: Seat<CallerPasses>,
-) -> Result<Driving<'a, D>, NoMemory>
+    notes: N,
+) -> Result<Driving<'a, D, N>, NoMemory>
     requires actors { CallersDiffer part.actors.items }
     requires limits { HasLimits part }
     requires place { caller.place < length lines.now.replies.items }
@@ -181,17 +192,18 @@ fn one_driving<'a, D: Conduct>(
         conduct,
         lines,
         passes: pass,
+        notes,
     })
 }
 
 /// What the callers' threads are given.
-pub(crate) fn drivings<'a, D: Conducts>(
+pub(crate) fn drivings<'a, D: Conducts, N: Notes + Drop>(
     alloc: Global,
     parts: Vec<Part>,
     conducts: D,
     lines: &'a Lines,
     callers: Vec<Seat<CallerPasses>>,
-) -> Result<Vec<Driving<'a, D::One>>, NoMemory>
+) -> Result<Vec<Driving<'a, D::One, N>>, NoMemory>
     requires actors { All (λ part. CallersDiffer part.actors.items) parts.items }
     requires limits { All HasLimits parts.items }
     requires differ { AllPairs (λ one other. one.caller ≢ other.caller) parts.items }
@@ -206,7 +218,8 @@ pub(crate) fn drivings<'a, D: Conducts>(
     let mut drivings = Vec::new(alloc);
     for (part, caller) in parts.into_iter().zip(callers) {
         let conduct = conducts.take(part.caller);
-        drivings.push(one_driving(alloc, part, conduct, lines, caller)?)?;
+        let notes = N::open(alloc);
+        drivings.push(one_driving(alloc, part, conduct, lines, caller, notes)?)?;
     }
     Ok(drivings)
 }

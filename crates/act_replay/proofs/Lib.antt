@@ -1,3 +1,5 @@
 pub mod Calls
 pub mod Each
+pub mod Faults
 pub mod Playing
+pub mod Twins

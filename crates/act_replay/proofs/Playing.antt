@@ -1,20 +1,19 @@
 -- What a world that stands after events says of their history.
-use Rattle.std.proofs.Common.{◌≡◌, ◌↔◌, ℕ, ◌<◌, Bool, true, false, List, [], ◌++◌, length, Option, Some, None, refl, ap, sym, ◌∙◌, subst, true≢false}
-use Rattle.std.specs.Prelude.{◌||◌, ◌&&◌, All, IsOk, IsTrue, is_some}
+use Rattle.std.proofs.Common.{◌≡◌, ◌↔◌, ℕ, Bool, true, false, List, [], ◌++◌, Option, Some, None, ap, sym, ◌∙◌, subst, true≢false}
+use Rattle.std.specs.Prelude.{All, IsOk, IsTrue, is_some}
 use Rattle.std.proofs.lemmas.Bool.{or_parts}
 use Rattle.act_rules.specs.declared.event.Event.{Event}
-use Rattle.act_rules.specs.History.{Casting, History, opening, cast_of, is_caller, calls_of, kept_of, runs_of, is_dead, is_retired}
+use Rattle.act_rules.specs.History.{Casting, History, opening, cast_of, is_caller, calls_of, kept_of, is_dead, is_retired}
 use Rattle.act_rules.specs.Laws.{history}
 use Rattle.act_rules.specs.Rules.{Outcome, outcomes}
 use Rattle.act_rules.specs.Submissions.{kept_at}
 use Rattle.act_rules.specs.RunList.{Answer}
-use Rattle.act_rules.specs.declared.history.Submission.{Submission}
 use Rattle.act_owner.specs.Owner.{OwnerValue}
-use Rattle.act_serve.specs.Served.{EndSeen, Killed, Retired, Starved, id_of, log_of}
+use Rattle.act_serve.specs.Served.{EndSeen, Killed, Retired, Starved, id_of}
 use Rattle.act_world.specs.Value.{SlotSeen, Runs, Died, Ended, Vacant, WorldSeen}
-use Rattle.act_world.specs.Ties.{IsOwnerOf, IsOwnerAt, IsStage}
+use Rattle.act_world.specs.Ties.{IsOwnerAt, IsStage}
 use Rattle.act_world.specs.Stands.{Stands, Played}
-use Rattle.act_replay.specs.Play.{IsOwnerIn, HasEndedIn, IsEndIn, IsPlayOf, AreSame, IsSameEnd}
+use Rattle.act_replay.specs.Play.{IsOwnerIn, IsEndIn, IsPlayOf, AreSame, IsSameEnd}
 
 -- ---- one caller
 

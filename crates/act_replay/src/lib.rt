@@ -2,11 +2,15 @@
 //! in what the threads left.
 #![tactic(auto)]
 
+mod causes;
 mod compared;
+mod merged;
 mod progress;
 mod rebuilt;
+mod recorded;
 mod run;
 mod same;
 
 pub use compared::is_play_of;
+pub use recorded::{Recorded, Source, run_recorded};
 pub use run::{RecordFault, play_of};

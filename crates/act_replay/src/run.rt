@@ -62,6 +62,28 @@ impl Error for RecordFault {}
 /// More events than a world takes.
 const MOST_EVENTS: usize = 4_294_967_296;
 
+/// The events, where they are a play of what is joined.
+pub(crate) fn played<K: Actor>(
+    alloc: Global,
+    casts: Vec<Cast>,
+    events: Vec<Event>,
+    joined: &Joined<K>,
+) -> Result<Vec<Event>, RecordFault>
+    requires fit { IsFitting casts.items }
+    ensures played { IfOk result (λ events.
+        IsPlayOf (map (casting ⟦<Boxed as Actor>⟧.state) casts.items) events.items joined.now.owners.items
+        (map (λ actor. end_seen K.state actor.ended) joined.now.actors.items)) }
+    ensures fault { IfErr result IsPlayFault }
+{
+    if events.len() >= MOST_EVENTS {
+        return Err(RecordFault::Unplayed);
+    }
+    if !is_play_of(alloc, casts, &events, &joined.owners, &joined.actors)? {
+        return Err(RecordFault::Unplayed);
+    }
+    Ok(events)
+}
+
 /// A play that ends in what a run in threads left, where one is found: it is made of what is joined
 /// alone, and nothing was noted while the threads ran. It is one way in which the run can have gone,
 /// and need not be the one in which it went.
@@ -80,11 +102,6 @@ pub fn play_of<K: Actor>(
     ensures fault { IfErr result IsPlayFault }
 {
     let events = rebuild(alloc, &joined.owners, &joined.actors)?;
-    if events.len() >= MOST_EVENTS {
-        return Err(RecordFault::Unplayed);
-    }
-    if !is_play_of(alloc, casts, &events, &joined.owners, &joined.actors)? {
-        return Err(RecordFault::Unplayed);
-    }
-    Ok(events)
+    let play = played(alloc, casts, events, joined)?;
+    Ok(play)
 }

@@ -12,13 +12,13 @@ use std::fmt;
 
 /// Why a line was not read.
 #[derive(Clone, Copy, Debug, PartialEq, Eq)]
-pub(crate) enum LineFault {
+pub enum LineFault {
     Wrong(Wrong),
     Memory,
 }
 
 /// The line has none of the forms.
-pub(crate) const BAD_LINE: LineFault = LineFault::Wrong(Wrong::BadLine);
+pub const BAD_LINE: LineFault = LineFault::Wrong(Wrong::BadLine);
 
 impl From<NoMemory> for LineFault {
     ghost from_gives = { λ _ fault. fault ≡ Memory };

@@ -16,7 +16,7 @@ use act_types::{
 use std::alloc::Global;
 
 /// The kind that a word names.
-pub(crate) fn kind_of(word: &str) -> Result<KindName, LineFault>
+pub fn kind_of(word: &str) -> Result<KindName, LineFault>
     ensures { Gives (λ x. x) result (named_by kind_text all_kinds word.now) }
 {
     match word {
@@ -30,7 +30,7 @@ pub(crate) fn kind_of(word: &str) -> Result<KindName, LineFault>
 
 /// The method that a word names.
 #[tactic(auto, unfolding(act_rules::specs::Words::method_at))]
-pub(crate) fn method_of(word: &str) -> Result<Method, LineFault>
+pub fn method_of(word: &str) -> Result<Method, LineFault>
     ensures { Gives (λ x. x) result (method_at word.now) }
 {
     match word {
@@ -84,7 +84,7 @@ fn number_of_digit(digit: u8) -> Result<u32, LineFault>
 
 /// The number that a word spells, in its one spelling.
 #[tactic(auto, using(crate::proofs::Numbers::number_from_parse), unfolding(act_rules::specs::Words::number_at))]
-pub(crate) fn number_of(word: &str) -> Result<u32, LineFault>
+pub fn number_of(word: &str) -> Result<u32, LineFault>
     ensures { Gives (λ x. x) result (number_at word.now) }
 {
     // Names and many futures have one digit, which wants no parser.
@@ -162,7 +162,7 @@ fn closed(word: &str, mark: char) -> Result<&str, LineFault>
 
 /// The caller that a word names.
 #[tactic(auto, unfolding(act_rules::specs::Words::caller_at))]
-pub(crate) fn caller_of(word: &str) -> Result<CallerId, LineFault>
+pub fn caller_of(word: &str) -> Result<CallerId, LineFault>
     ensures { Gives (λ x. x) result (caller_at word.now) }
 {
     let number = number_of(marked(word, 'c')?)?;
@@ -177,7 +177,7 @@ pub(crate) fn caller_of(word: &str) -> Result<CallerId, LineFault>
 
 /// The actor that a word names.
 #[tactic(auto, unfolding(act_rules::specs::Words::actor_at))]
-pub(crate) fn actor_of(word: &str) -> Result<ActorId, LineFault>
+pub fn actor_of(word: &str) -> Result<ActorId, LineFault>
     ensures { Gives (λ x. x) result (actor_at word.now) }
 {
     let number = number_of(marked(word, 'a')?)?;
@@ -205,7 +205,7 @@ fn text_of(alloc: Global, word: &str) -> Result<Text, LineFault>
 
 /// The value that a word spells.
 #[tactic(auto, unfolding(act_rules::specs::Words::value_at))]
-pub(crate) fn value_of(alloc: Global, word: &str) -> Result<Value, LineFault>
+pub fn value_of(alloc: Global, word: &str) -> Result<Value, LineFault>
     ensures { Gives (λ x. x) result (value_at word.now) }
 {
     if word == "unit" {

@@ -16,7 +16,7 @@ use crate::turn::give_reply;
 use act_actor::Live;
 use act_kinds::Actor;
 use act_mailbox::{Letter, MailExec, Replies, ReplyExec};
-use act_seats::Seat;
+use act_seats::{Mark, Notes, Seat};
 use act_types::{ActorId, CallerId, NoMemory, Packet, Reply};
 use std::sync::Wait;
 
@@ -87,13 +87,14 @@ fn run_now<K: Actor>(live: &mut Live<K>, packet: Packet, passed: Passed) -> Resu
 }
 
 /// Runs a call at once and gives its reply, where that can be, and has it arrive else.
-fn take_call<R: Wait, K: Actor, F: Fn(ActorId, u32)>(
+fn take_call<R: Wait, K: Actor, F: Fn(ActorId, u32), N: Notes>(
     rt: &R,
     live: &mut Live<K>,
     replies: &[Replies],
     notices: &mut Vec<Seat<ReplyExec>>,
     packet: Packet,
     pass: &F,
+    notes: &mut N,
 ) -> Result<Came, NoMemory>
     requires callable { F.IsAlwaysCallable pass.now }
     requires seats { All (IsSeated replies.now (live_seen K.state live.old).id (live_seen K.state live.old).log) notices.old.items }
@@ -117,18 +118,20 @@ fn take_call<R: Wait, K: Actor, F: Fn(ActorId, u32)>(
     };
     let passed = pass_gate(live, pass);
     let reply = run_now(live, packet, passed)?;
+    notes.note(Mark::Run(reply.caller));
     give_reply(rt, live, replies, notices, at, reply);
     Ok(Came::Ran)
 }
 
 /// Takes the next letter, if it is there. The attempt may miss one that is being put.
-pub(crate) fn take_letter<R: Wait, K: Actor, F: Fn(ActorId, u32)>(
+pub(crate) fn take_letter<R: Wait, K: Actor, F: Fn(ActorId, u32), N: Notes>(
     rt: &R,
     live: &mut Live<K>,
     lines: &ExecLines,
     letters: &mut MailExec,
     notices: &mut Vec<Seat<ReplyExec>>,
     pass: &F,
+    notes: &mut N,
 ) -> Result<Came, NoMemory>
     requires callable { F.IsAlwaysCallable pass.now }
     requires mail { letters.old.line ≡ lines.now.mail.now.line }
@@ -152,8 +155,12 @@ pub(crate) fn take_letter<R: Wait, K: Actor, F: Fn(ActorId, u32)>(
 {
     match lines.mail.try_take(letters) {
         None => Ok(Came::Nothing),
-        Some(Letter::Call(packet)) => take_call(rt, live, lines.replies, notices, packet, pass),
+        Some(Letter::Call(packet)) => {
+            notes.note(Mark::DeliverCall(packet.caller, packet.future));
+            take_call(rt, live, lines.replies, notices, packet, pass, notes)
+        }
         Some(Letter::Note(note)) => {
+            notes.note(Mark::DeliverNote(note.caller));
             live.released(note);
             Ok(Came::Held)
         }

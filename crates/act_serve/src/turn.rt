@@ -19,7 +19,7 @@ use crate::seat::{Ended, ExecLines, ExecPasses, Finished};
 use act_actor::{Dead, Live, RunItem};
 use act_kinds::Actor;
 use act_mailbox::{Control, ControlExec, MailExec, Replies, ReplyExec};
-use act_seats::{Patience, Seat};
+use act_seats::{Mark, NoNotes, Notes, Patience, Seat};
 use act_types::{ActorId, CallerId, NoMemory, Notice, Reply};
 use std::sync::Wait;
 
@@ -110,12 +110,13 @@ fn run_next<K: Actor>(
 }
 
 /// Runs the next call of the first caller that has one, and gives its reply. Whether there was one.
-fn run_one<R: Wait, K: Actor, F: Fn(ActorId, u32)>(
+fn run_one<R: Wait, K: Actor, F: Fn(ActorId, u32), N: Notes>(
     rt: &R,
     live: &mut Live<K>,
     replies: &[Replies],
     notices: &mut Vec<Seat<ReplyExec>>,
     pass: &F,
+    notes: &mut N,
 ) -> Result<bool, NoMemory>
     requires callable { F.IsAlwaysCallable pass.now }
     requires seats { All (IsSeated replies.now (live_seen K.state live.old).id (live_seen K.state live.old).log) notices.old.items }
@@ -139,6 +140,7 @@ fn run_one<R: Wait, K: Actor, F: Fn(ActorId, u32)>(
     let place = notices[at].place;
     match run_next(live, replies[place].caller(), passed) {
         Ok(Some(reply)) => {
+            notes.note(Mark::Run(reply.caller));
             give_reply(rt, live, replies, notices, at, reply);
             Ok(true)
         }
@@ -156,13 +158,14 @@ enum Turn {
 }
 
 /// A turn after the look for a kill: a letter is taken, and a call is run.
-fn take_turn<R: Wait, K: Actor, F: Fn(ActorId, u32)>(
+fn take_turn<R: Wait, K: Actor, F: Fn(ActorId, u32), N: Notes>(
     rt: &R,
     live: &mut Live<K>,
     lines: &ExecLines,
     letters: &mut MailExec,
     notices: &mut Vec<Seat<ReplyExec>>,
     pass: &F,
+    notes: &mut N,
 ) -> Turn
     requires callable { F.IsAlwaysCallable pass.now }
     requires mail { letters.old.line ≡ lines.now.mail.now.line }
@@ -186,14 +189,14 @@ fn take_turn<R: Wait, K: Actor, F: Fn(ActorId, u32)>(
         IsServing opening callers lines.now.replies.now letters.new.taken
         (live_seen K.state live.new) notices.new.items }
 {
-    match take_letter(rt, live, lines, letters, notices, pass) {
+    match take_letter(rt, live, lines, letters, notices, pass, notes) {
         Err(_) => Turn::Starved,
         Ok(Came::Ran) => Turn::Moved,
-        Ok(Came::Held) => match run_one(rt, live, lines.replies, notices, pass) {
+        Ok(Came::Held) => match run_one(rt, live, lines.replies, notices, pass, notes) {
             Err(_) => Turn::Starved,
             Ok(_) => Turn::Moved,
         },
-        Ok(Came::Nothing) => match run_one(rt, live, lines.replies, notices, pass) {
+        Ok(Came::Nothing) => match run_one(rt, live, lines.replies, notices, pass, notes) {
             Err(_) => Turn::Starved,
             Ok(ran) => { if ran { Turn::Moved } else { Turn::Idle } }
         },
@@ -218,17 +221,26 @@ fn is_over<R: Wait, K: Actor>(
     live.terminated() || control.take(rt, kills, live).is_some()
 }
 
+/// Notes the kill that was taken. An actor that terminated looked for none.
+fn note_kill<K: Actor, N: Notes>(live: &Live<K>, notes: &mut N) {
+    if !live.terminated() {
+        notes.note(Mark::TakeKill);
+    }
+}
+
 /// Gives the actor's death to each caller.
-fn tell_deaths<R: Wait>(
+fn tell_deaths<R: Wait, N: Notes>(
     rt: &R,
     replies: &[Replies],
     notices: &mut Vec<Seat<ReplyExec>>,
     dead: &Dead,
+    notes: &mut N,
 )
     requires seats { All (IsSeated replies.now dead.now.id dead.now.log) notices.old.items }
     ensures { notices.new.items ≡ map (told dead.now.id dead.now.log) notices.old.items }
 {
     for seat in notices.iter_mut() {
+        notes.note(Mark::Tell(replies[seat.place].caller()));
         give(
             rt,
             &replies[seat.place],
@@ -239,13 +251,15 @@ fn tell_deaths<R: Wait>(
     }
 }
 
-/// Serves until the actor terminated, a kill is taken, all is drained, or memory is refused.
-pub fn serve_by<R: Wait, K: Actor, F: Fn(ActorId, u32)>(
+/// Serves until the actor terminated, a kill is taken, all is drained, or memory is refused, and notes
+/// what is done.
+pub fn serve_by<R: Wait, K: Actor, F: Fn(ActorId, u32), N: Notes>(
     rt: &R,
     mut live: Live<K>,
     lines: &ExecLines,
     mut passes: ExecPasses,
     pass: &F,
+    notes: &mut N,
 ) -> Finished<K>
     requires callable { F.IsAlwaysCallable pass.now }
     requires passes { let now = live_seen K.state live in PassesOf lines.now now.id now.log passes }
@@ -256,8 +270,9 @@ pub fn serve_by<R: Wait, K: Actor, F: Fn(ActorId, u32)>(
     let mut patience = Patience::new();
     for _ in rt.forever() {
         if is_over(rt, &live, lines.control, &mut passes.kills) {
+            note_kill(&live, notes);
             let dead = live.kill();
-            tell_deaths(rt, lines.replies, &mut passes.notices, &dead);
+            tell_deaths(rt, lines.replies, &mut passes.notices, &dead, notes);
             return Finished {
                 ended: Ended::Killed(dead),
                 passes,
@@ -270,11 +285,12 @@ pub fn serve_by<R: Wait, K: Actor, F: Fn(ActorId, u32)>(
             &mut passes.letters,
             &mut passes.notices,
             pass,
+            notes,
         ) {
             Turn::Moved => patience.reset(),
             Turn::Starved => {
                 let dead = live.kill();
-                tell_deaths(rt, lines.replies, &mut passes.notices, &dead);
+                tell_deaths(rt, lines.replies, &mut passes.notices, &dead, notes);
                 return Finished {
                     ended: Ended::Starved(dead),
                     passes,
@@ -282,6 +298,7 @@ pub fn serve_by<R: Wait, K: Actor, F: Fn(ActorId, u32)>(
             }
             Turn::Idle => match live.retire() {
                 Ok(retired) => {
+                    notes.note(Mark::Retire);
                     return Finished {
                         ended: Ended::Retired(retired),
                         passes,
@@ -297,7 +314,7 @@ pub fn serve_by<R: Wait, K: Actor, F: Fn(ActorId, u32)>(
     unreachable!()
 }
 
-/// The same, where a gate is passed before each run.
+/// The same, where a gate is passed before each run, and nothing is noted.
 pub fn serve<R: Wait, K: Actor, G: Gate>(
     rt: &R,
     live: Live<K>,
@@ -316,5 +333,6 @@ pub fn serve<R: Wait, K: Actor, G: Gate>(
         lines,
         passes,
         &|actor, place| gate.pass(actor, place),
+        &mut NoNotes,
     )
 }

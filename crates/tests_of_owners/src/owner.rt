@@ -22,6 +22,8 @@ enum Ask {
     Packet(FutureId),
     /// A call is sent without its packet.
     Send(FutureId),
+    /// The packet of the least call that may be sent.
+    Next,
     Reply(ActorId, FutureId, Result<i64, Fault>),
     Death(ActorId),
     Ready,
@@ -39,6 +41,8 @@ enum Told {
     /// The actor that the call goes to, and its number there.
     Sent(ActorId, u32),
     NotSent(SendRefusal),
+    /// The future of the next packet, the packet's number and its first argument, if there is a packet.
+    Next(Option<(FutureId, u32, Option<i64>)>),
     Collected(Collected),
     Ready(Option<FutureId>),
     /// Whether there is the room that was asked for.
@@ -60,14 +64,26 @@ fn submitted(owner: &mut Owner, a: ActorId, method: Method, args: ListOf<Arg>) -
     }
 }
 
+fn first_argument(packet: &Packet) -> Option<i64> {
+    match packet.args.as_slice().first() {
+        Some(Settled::Good(Value::Int(value))) => Some(*value),
+        _ => None,
+    }
+}
+
 fn packet_told(alloc: Global, owner: &mut Owner, k: FutureId) -> Told {
     match owner.packet(alloc, k) {
-        Ok(packet) => match packet.args.as_slice().first() {
-            Some(Settled::Good(Value::Int(value))) => Told::Packet(packet.number, Some(*value)),
-            _ => Told::Packet(packet.number, None),
-        },
+        Ok(packet) => Told::Packet(packet.number, first_argument(&packet)),
         Err(refusal) => Told::NotSent(refusal),
     }
+}
+
+fn next_told(alloc: Global, owner: &mut Owner) -> Result<Told, NoMemory> {
+    let Some(packet) = owner.next_packet(alloc)? else {
+        return Ok(Told::Next(None));
+    };
+    let first = first_argument(&packet);
+    Ok(Told::Next(Some((packet.future, packet.number, first))))
 }
 
 fn sending_told(owner: &mut Owner, k: FutureId) -> Told {
@@ -110,6 +126,7 @@ fn asked(alloc: Global, owner: &mut Owner, ask: Ask) -> Result<Told, NoMemory> {
         }
         Ask::Packet(k) => Ok(packet_told(alloc, owner, k)),
         Ask::Send(k) => Ok(sending_told(owner, k)),
+        Ask::Next => next_told(alloc, owner),
         Ask::Reply(a, k, answer) => {
             let notice = notice_of(a, owner.id(), k, answer);
             Ok(Told::Collected(owner.collect(notice)))
@@ -407,21 +424,24 @@ fn waiting_calls() -> [(Ask, Told); 7] {
     ]
 }
 
-fn calls_that_waited() -> [(Ask, Told); 6] {
+fn calls_that_waited() -> [(Ask, Told); 9] {
     let a2 = ActorId::new(2).unwrap();
     let k0 = FutureId::new(0);
     let k1 = FutureId::new(1);
     let k2 = FutureId::new(2);
     [
         (Ask::Ready, Told::Ready(Some(k2))),
+        (Ask::Next, Told::Next(Some((k2, 1, Some(1))))),
         (Ask::Packet(k2), Told::Packet(1, Some(1))),
         (Ask::Ready, Told::Ready(None)),
+        (Ask::Next, Told::Next(None)),
         (
             Ask::Reply(a2, k0, Ok(7)),
             Told::Collected(Collected::First(k0)),
         ),
         (Ask::Ready, Told::Ready(Some(k1))),
-        (Ask::Packet(k1), Told::Packet(0, Some(7))),
+        (Ask::Next, Told::Next(Some((k1, 0, Some(7))))),
+        (Ask::Ready, Told::Ready(None)),
     ]
 }
 

@@ -7,3 +7,5 @@ mod played;
 mod scene;
 #[cfg(test)]
 mod spoiled;
+#[cfg(test)]
+mod written;

@@ -1,5 +1,10 @@
 //! Two counters, two callers, and what they do.
 
+ghost use Rattle.std.specs.Prelude.{◌≡◌, [], ◌∷◌, map, IfOk};
+ghost use Rattle.act_types.specs.KindState.{KindState};
+ghost use Rattle.act_actor.specs.Casts.{casting};
+ghost use Rattle.tests_of_replays.specs.Scene.{two_castings};
+
 use act_actor::{Cast, cast_fits};
 use act_executor::{NoGate, Plan, RunFault, plans_fit, run_plans};
 use act_kinds::{Boxed, Counter};
@@ -20,7 +25,9 @@ pub(super) struct Ids {
     pub(super) a2: ActorId,
 }
 
-pub(super) fn few_ids() -> Ids {
+pub(super) fn few_ids() -> Ids
+    ensures { result ≡ record { c1 = 1; c2 = 2; a1 = 1; a2 = 2 } }
+{
     Ids {
         c1: CallerId::new(1).unwrap(),
         c2: CallerId::new(2).unwrap(),
@@ -91,7 +98,9 @@ fn cast_of<K: Drop>(
     actor: ActorId,
     kind: K,
     pending: Option<u32>,
-) -> Result<Cast<K>, NoMemory> {
+) -> Result<Cast<K>, NoMemory>
+    ensures { IfOk result (λ cast. cast ≡ record { actor = actor; callers = 1 ∷ 2 ∷ []; kind = kind; pending = pending }) }
+{
     let Ids { c1, c2, .. } = few_ids();
     let mut callers = ListOf::new(alloc);
     callers.push(c1)?;
@@ -105,12 +114,15 @@ fn cast_of<K: Drop>(
 }
 
 /// Two actors that both callers may call.
-fn pair<K: Drop>(
+pub(super) fn pair<K: Drop>(
     alloc: Global,
     one: K,
     two: K,
     pending: Option<u32>,
-) -> Result<Vec<Cast<K>>, NoMemory> {
+) -> Result<Vec<Cast<K>>, NoMemory>
+    ensures { IfOk result (λ casts. (state : K → KindState) →
+        map (casting state) casts.items ≡ two_castings pending (state one) (state two)) }
+{
     let Ids { a1, a2, .. } = few_ids();
     let mut casts = Vec::new(alloc);
     casts.push(cast_of(alloc, a1, one, pending)?)?;
@@ -126,11 +138,8 @@ pub(super) fn counters(
     pair(alloc, Counter::open(), Counter::open(), pending)
 }
 
-/// The same in boxes.
-pub(super) fn twins(alloc: Global, pending: Option<u32>) -> Result<Vec<Cast>, NoMemory> {
-    let one: Boxed = Box::new(alloc, Counter::open())?;
-    let two: Boxed = Box::new(alloc, Counter::open())?;
-    pair(alloc, one, two, pending)
+fn in_a_box(alloc: Global) -> Result<Box<Counter>, NoMemory> {
+    Ok(Box::new(alloc, Counter::open())?)
 }
 
 /// Whether a play was found. A run that left nothing keeps its fault.
@@ -153,7 +162,9 @@ pub(super) fn recorded<R: Threads + Wait + Sync>(
     two: &[Row],
 ) -> Result<Vec<Event>, RecordFault> {
     let casts = counters(alloc, pending)?;
-    let twins = twins(alloc, pending)?;
+    let first: Boxed = in_a_box(alloc)?;
+    let second: Boxed = in_a_box(alloc)?;
+    let twins = pair(alloc, first, second, pending)?;
     let plans = plans_of(alloc, one, two)?;
     if cast_fits(casts.as_slice())
         && cast_fits(twins.as_slice())

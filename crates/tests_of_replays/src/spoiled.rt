@@ -1,9 +1,9 @@
 //! Events written by hand, beside what a run left.
 
-use super::scene::{Ids, Row, counters, few_ids, plans_of, twins};
+use super::scene::{Ids, Row, counters, few_ids, pair, plans_of};
 use act_actor::cast_fits;
 use act_executor::{Joined, NoGate, RunFault, plans_fit, run_plans};
-use act_kinds::Counter;
+use act_kinds::{Boxed, Counter};
 use act_replay::is_play_of;
 use act_types::{CallerId, FutureId, ListOf, Method, NoMemory};
 use act_world::Event;
@@ -70,7 +70,9 @@ fn play(alloc: Global, order: [CallerId; 2], answers: u32) -> Result<Vec<Event>,
 
 /// Whether the events are a play of what was joined.
 fn fits(alloc: Global, events: &[Event], joined: &Joined<Counter>) -> Result<bool, NoMemory> {
-    let twins = twins(alloc, None)?;
+    let first: Boxed = Box::new(alloc, Counter::open())?;
+    let second: Boxed = Box::new(alloc, Counter::open())?;
+    let twins = pair(alloc, first, second, None)?;
     if cast_fits(twins.as_slice()) && events.len() < 100 {
         is_play_of(alloc, twins, events, &joined.owners, &joined.actors)
     } else {

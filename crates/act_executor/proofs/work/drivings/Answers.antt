@@ -89,3 +89,11 @@ returns-clause-starts g c =
     let callers = into_iter_items c.loop-part.part-iterator.b in
     let ends : (length parts ≡ 0) ⊎ (length callers ≡ 0) = elim c.in-None.ensures.steps [ inl s ↦ inl (sym inv.first_long ∙ s.1.0) | inr s ↦ inr (sym inv.second_long ∙ s.1.0) ] in
     sym (append-nil (map driving_start c.loop-part.drivings.items)) ∙ ap (λ l. map driving_start c.loop-part.drivings.items ++ map (part_start lines (g.D.Conducts.of c.args.conducts)) l) (sym (nothing_zips parts callers ends)) ∙ inv.starts
+
+pub one_driving-requires-clause-fits : goal.one_driving-requires-clause-fits
+one_driving-requires-clause-fits g c = all_head (λ (part : Part). first_bad part.actors.items part.plan.items ≡ None) _ _ (subst (λ (l : List Part). All (λ (part : Part). first_bad part.actors.items part.plan.items ≡ None) l) c.in-Some.ensures.steps.0.0 c.loop-part.invariant.fits)
+
+pub one_driving-requires-clause-place : goal.one_driving-requires-clause-place
+one_driving-requires-clause-place g c =
+    let P : Seat CallerPasses → Type 0 = λ caller. caller.place < length c.args.lines.now.replies.items in
+    all_head P _ _ (subst (λ (l : List (Seat CallerPasses)). All P l) c.in-Some.ensures.steps.1.0 c.loop-part.invariant.places)

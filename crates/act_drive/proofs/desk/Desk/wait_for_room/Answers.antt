@@ -6,3 +6,6 @@ loop-preserved g c = record {
   calling = c.in_ok-wait_turn.ensures.calling;
   waits = waits_trans _ _ _ c.loop.invariant.waits c.in_ok-wait_turn.ensures.waits;
 }
+
+pub returns-in_err-wait_turn-clause-waits : goal.returns-in_err-wait_turn-clause-waits
+returns-in_err-wait_turn-clause-waits g c = waits_trans _ _ _ c.loop.invariant.waits c.in_err-wait_turn.ensures.waits

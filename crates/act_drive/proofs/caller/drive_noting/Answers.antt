@@ -1,0 +1,12 @@
+use Rattle.act_handles.specs.Handles.{actors_in}
+use Rattle.act_drive.proofs.Done.{fresh_calling, fresh_follows, driven_of, unset_flags}
+use Rattle.act_drive.proofs.caller.drive_noting.Goals as goal
+
+pub run-starved-requires : goal.run-starved-requires
+run-starved-requires g c = record { calling = fresh_calling c.args.lines.now c.args.owner c.args.passes _ (unset_flags 9) c.requires.fresh }
+
+pub returns : goal.returns
+returns g c =
+    let run = c.run-starved in
+    driven_of c.args.lines.now c.args.plan.items _ _ run.new.self c.requires.fresh.unused.distinct run.ensures.calling run.ensures.stays
+    (λ fed. run.ensures.done fed (actors_in c.args.owner.handles) c.requires.fits (fresh_follows c.args.lines.now c.args.owner c.args.passes _ c.requires.fresh)) run.ensures.ended

@@ -1,0 +1,20 @@
+use Rattle.std.proofs.Common.{map, arith}
+use Rattle.act_rules.specs.Scripts.{role_casting}
+use Rattle.act_actor.specs.Casts.{casting}
+use Rattle.act_console.proofs.Roles.{casts_fit}
+use Rattle.act_histories.specs.Lines.{told_lines}
+use Rattle.act_histories.proofs.Verdicts.{ends_same}
+use Rattle.act_histories.proofs.check.why_not_events.Goals as goal
+
+pub open-requires : goal.open-requires
+open-requires g c = (
+  omega arith,
+  casts_fit (λ b. (goal.Actor-dyn g (b.vtable, b.value)).state b.value) c.in_ok-casts.casts.items c.args.roles c.in_ok-casts.ensures c.requires.roles,
+)
+
+pub returns-then-branch : goal.returns-then-branch
+returns-then-branch g c = λ _.
+    let casts = map (casting (λ b. (goal.Actor-dyn g (b.vtable, b.value)).state b.value)) c.in_ok-casts.casts.items in
+    ends_same casts (map role_casting c.args.roles) c.args.lines.steps.now c.args.events.now c.deref.result.now c.in_ok-shown.shown.items (told_lines c.args.lines.rest.now)
+    c.in_ok-casts.ensures c.deref.ensures.value c.in_ok-shown.ensures
+    (c.in_ok-ends_so.ensures c.if-branch.true casts c.in_ok-world.ensures.stands)

@@ -1,0 +1,290 @@
+//! Where a play that is being made is stuck, and why.
+//!
+//! Each run list that isn't through has a first call that didn't run, and each call that isn't
+//! submitted waits for one that is. What such a call waits for leads to the first call of another
+//! run list, and so on, until one comes again, or a call that never has an answer.
+
+use crate::history::{Call, History, Ran, future_at, slot_of};
+use crate::progress::{Asked, Progress};
+use crate::reason::{Blame, CallName, Reason};
+use crate::rules::has_died;
+use act_types::{ActorId, Arg, CallerId, MOST_ACTORS, MOST_CALLERS, NoMemory};
+use std::alloc::Global;
+
+/// A play that is stuck.
+#[derive(Clone, Copy)]
+struct Stuck<'a> {
+    history: &'a History,
+    progress: &'a Progress,
+}
+
+/// What a step of the way from one waiting call to the next found.
+#[derive(Clone, Copy)]
+enum Next {
+    /// The call is the first that didn't run of this actor.
+    At(ActorId),
+    End,
+}
+
+impl<'a> Stuck<'a> {
+    fn asked(&self, c: CallerId) -> Option<&'a Asked> {
+        self.progress.callers.get(c.number() as usize)
+    }
+
+    /// The first call of the actor that didn't run.
+    fn front(&self, a: ActorId) -> Option<&'a Ran> {
+        self.history.actor(a)?.log.get(self.progress.done(a).ran)
+    }
+
+    /// The line of the call.
+    fn line_of(&self, name: &CallName) -> u32 {
+        match self.history.call(name.caller, name.future) {
+            Some(call) => call.line,
+            None => 0,
+        }
+    }
+
+    fn is_answered(&self, name: &CallName) -> bool {
+        match self.asked(name.caller) {
+            Some(asked) => asked.is_answered(name.future),
+            None => false,
+        }
+    }
+
+    /// The first argument of a call that isn't known.
+    fn unknown_arg(&self, c: CallerId, call: &Call) -> Option<CallName> {
+        for arg in call.args.as_slice() {
+            if let Arg::Fut(future) = arg {
+                let name = CallName {
+                    caller: c,
+                    future: *future,
+                };
+                if !self.is_answered(&name) {
+                    return Some(name);
+                }
+            }
+        }
+        None
+    }
+
+    /// The first call of a caller to the actor that was submitted and has no answer.
+    fn first_open(&self, c: CallerId, a: ActorId) -> Option<CallName> {
+        let caller = self.history.caller(c)?;
+        let asked = self.asked(c)?;
+        for place in 0..asked.submitted() {
+            let future = future_at(place);
+            if caller.call(future)?.actor == a && !asked.is_answered(future) {
+                return Some(CallName { caller: c, future });
+            }
+        }
+        None
+    }
+
+    /// The first call that a caller didn't submit.
+    fn first_unsubmitted(&self, c: CallerId) -> Option<CallName> {
+        let submitted = self.asked(c)?.submitted();
+        if submitted >= self.history.caller(c)?.calls.len() {
+            return None;
+        }
+        Some(CallName {
+            caller: c,
+            future: future_at(submitted),
+        })
+    }
+
+    /// The next call that the caller of this one submits, where that is this one or comes before it.
+    fn held_before(&self, name: &CallName) -> Option<CallName> {
+        let next = self.first_unsubmitted(name.caller)?;
+        if next.future.number() > name.future.number() {
+            return None;
+        }
+        Some(next)
+    }
+}
+
+/// The way from one waiting call to the next.
+#[derive(Drop)]
+struct Way {
+    blames: Vec<Blame>,
+}
+
+impl Way {
+    fn add(&mut self, line: u32, reason: Reason) -> Result<(), NoMemory> {
+        self.blames.push(Blame { line, reason })?;
+        Ok(())
+    }
+
+    /// What an answer of a call that was submitted waits for.
+    fn through_answer(&mut self, stuck: &Stuck<'_>, name: &CallName) -> Result<Next, NoMemory> {
+        let Some(call) = stuck.history.call(name.caller, name.future) else {
+            return Ok(Next::End);
+        };
+        let line = call.line;
+        if call.answer.is_none() {
+            self.add(line, Reason::Open(name.again()))?;
+            return Ok(Next::End);
+        }
+        let Some(front) = stuck.front(call.actor) else {
+            return Ok(Next::End);
+        };
+        let first = CallName {
+            caller: front.item.caller,
+            future: front.item.future,
+        };
+        if has_died(call) {
+            self.add(line, Reason::WaitsForDeath(name.again(), first, call.actor))?;
+        } else if first != *name {
+            self.add(line, Reason::WaitsForTurn(name.again(), first, call.actor))?;
+        }
+        Ok(Next::At(call.actor))
+    }
+
+    /// What a call waits for that is the next to be submitted.
+    fn through_room(&mut self, stuck: &Stuck<'_>, name: &CallName) -> Result<Next, NoMemory> {
+        let Some(call) = stuck.history.call(name.caller, name.future) else {
+            return Ok(Next::End);
+        };
+        let Some(open) = stuck.first_open(name.caller, call.actor) else {
+            return Ok(Next::End);
+        };
+        let reason = Reason::WaitsForRoom(name.again(), open.again(), call.actor);
+        self.add(call.line, reason)?;
+        self.through_answer(stuck, &open)
+    }
+
+    /// What the first call of a run list waits for that didn't run.
+    fn through_front(&mut self, stuck: &Stuck<'_>, front: &Ran) -> Result<Next, NoMemory> {
+        let c = front.item.caller;
+        let name = CallName {
+            caller: c,
+            future: front.item.future,
+        };
+        match stuck.held_before(&name) {
+            Some(next) => self.through_submission(stuck, &name, &next),
+            None => self.through_arg(stuck, &name, front.line),
+        }
+    }
+
+    /// What a call waits for that isn't submitted, where this is the next of its caller that is.
+    fn through_submission(
+        &mut self,
+        stuck: &Stuck<'_>,
+        name: &CallName,
+        next: &CallName,
+    ) -> Result<Next, NoMemory> {
+        if *next != *name {
+            let reason = Reason::WaitsForSubmission(name.again(), next.again());
+            self.add(stuck.line_of(name), reason)?;
+        }
+        self.through_room(stuck, next)
+    }
+
+    /// What a call waits for that was submitted, and that is told at this line.
+    fn through_arg(
+        &mut self,
+        stuck: &Stuck<'_>,
+        name: &CallName,
+        line: u32,
+    ) -> Result<Next, NoMemory> {
+        let Some(call) = stuck.history.call(name.caller, name.future) else {
+            return Ok(Next::End);
+        };
+        let Some(of) = stuck.unknown_arg(name.caller, call) else {
+            return Ok(Next::End);
+        };
+        self.add(line, Reason::WaitsForAnswer(name.again(), of.again()))?;
+        self.through_answer(stuck, &of)
+    }
+}
+
+/// The first actor whose run list isn't through.
+fn first_waiting(stuck: &Stuck<'_>) -> Option<ActorId> {
+    for before in 0..MOST_ACTORS {
+        let a = ActorId::new(before + 1)?;
+        if stuck.front(a).is_some() {
+            return Some(a);
+        }
+    }
+    None
+}
+
+/// The first call that isn't submitted, of the first caller that has one.
+fn first_held(stuck: &Stuck<'_>) -> Option<CallName> {
+    for before in 0..MOST_CALLERS {
+        let c = CallerId::new(before + 1)?;
+        if let Some(name) = stuck.first_unsubmitted(c) {
+            return Some(name);
+        }
+    }
+    None
+}
+
+/// The way from the first call of an actor on, until an actor comes again or it ends. What leads
+/// into a circle and isn't in it is left out.
+fn way_from(alloc: Global, stuck: &Stuck<'_>, first: ActorId) -> Result<Vec<Blame>, NoMemory> {
+    let mut way = Way {
+        blames: Vec::new(alloc),
+    };
+    let mut begins = [None; 9];
+    let mut at = first;
+    for _step in 0..=MOST_ACTORS {
+        let slot = slot_of(at);
+        if let Some(begin) = begins[slot] {
+            return circle_of(alloc, &way.blames, begin);
+        }
+        begins[slot] = Some(way.blames.len());
+        let Some(front) = stuck.front(at) else {
+            break;
+        };
+        match way.through_front(stuck, front)? {
+            Next::At(next) => at = next,
+            Next::End => break,
+        }
+    }
+    let Way { blames } = way;
+    Ok(blames)
+}
+
+/// The part of a way that is a circle, from the place where it begins.
+fn circle_of(alloc: Global, blames: &[Blame], begin: usize) -> Result<Vec<Blame>, NoMemory> {
+    let mut circle = Vec::new(alloc);
+    for blame in blames.iter().skip(begin) {
+        circle.push(*blame)?;
+    }
+    Ok(circle)
+}
+
+/// Why the calls that are held back are not submitted, where all run lists are through.
+fn way_of_held(alloc: Global, stuck: &Stuck<'_>) -> Result<Vec<Blame>, NoMemory> {
+    let mut way = Way {
+        blames: Vec::new(alloc),
+    };
+    if let Some(name) = first_held(stuck) {
+        way.through_room(stuck, &name)?;
+        if way.blames.is_empty() {
+            way.add(stuck.line_of(&name), Reason::Stuck)?;
+        }
+    }
+    let Way { blames } = way;
+    Ok(blames)
+}
+
+/// Why the play can't go on, or nothing where all that is told happened.
+pub(crate) fn blocked(
+    alloc: Global,
+    history: &History,
+    progress: &Progress,
+) -> Result<Vec<Blame>, NoMemory> {
+    let stuck = Stuck { history, progress };
+    let Some(first) = first_waiting(&stuck) else {
+        return way_of_held(alloc, &stuck);
+    };
+    let mut blames = way_from(alloc, &stuck, first)?;
+    if blames.is_empty() {
+        blames.push(Blame {
+            line: 0,
+            reason: Reason::Stuck,
+        })?;
+    }
+    Ok(blames)
+}

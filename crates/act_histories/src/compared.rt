@@ -1,0 +1,206 @@
+//! A play that was found, played in a world, and compared with what is told.
+
+ghost use Rattle.std.specs.Prelude.{◌≡◌, ◌≢◌, ◌↔◌, ◌≤◌, ◌<◌, ◌++◌, ℕ, List, [], length, map, take, IfOk, IfSome, IsOk, IsTrue, All, Option, Some};
+ghost use Rattle.act_rules.specs.declared.event.Event.{Event as Happening};
+ghost use Rattle.act_rules.specs.History.{Casting, opening};
+ghost use Rattle.act_rules.specs.Laws.{history};
+ghost use Rattle.act_rules.specs.Report.{summary};
+ghost use Rattle.act_rules.specs.Rules.{outcomes};
+ghost use Rattle.act_world.specs.Stands.{Stands, HasRoom};
+ghost use Rattle.act_world.specs.Value.{world_seen};
+ghost use Rattle.act_histories.specs.Play.{EndsSo, HasCalls, IsFront, IsNext, call_of, submitted};
+
+use crate::same::{same_args, same_method};
+use act_console::play_report;
+use act_kinds::Actor;
+use act_owner::Owner;
+use act_rules::{Event, Outcome, Step};
+use act_types::{ActorId, Arg, CallerId, FutureId, MOST_CALLERS, MOST_CALLS, Method, NoMemory};
+use act_world::World;
+use std::alloc::Global;
+
+/// Whether an event was accepted.
+fn is_accepted(told: &Outcome) -> bool
+    ensures { IsTrue result → IsOk told.now }
+{
+    told.is_ok()
+}
+
+/// Whether all events were accepted.
+fn are_accepted(told: &[Outcome]) -> bool
+    ensures { IsTrue result → All IsOk told.now }
+{
+    for outcome in told {
+        if !is_accepted(outcome) {
+            return false;
+        }
+    }
+    true
+}
+
+/// Whether the caller's call of this future goes to the actor, with this method and these arguments.
+fn has_call(owner: &Owner, k: u32, actor: ActorId, method: &Method, args: &[Arg]) -> bool
+    ensures next { IsTrue result → IsNext k actor method.now args.now owner.now.calls }
+    ensures few { IsTrue result → k < MOST_CALLS }
+{
+    if k >= owner.count() {
+        return false;
+    }
+    let Some(call) = owner.call(FutureId::new(k)) else {
+        return false;
+    };
+    if call.actor != actor {
+        return false;
+    }
+    same_method(&call.method, method) && same_args(call.args.as_slice(), args)
+}
+
+/// How many of the caller's calls the steps told so far after this one, where it submits the next.
+fn told_after(owner: &Owner, c: CallerId, told: u32, caller: CallerId, step: &Step) -> Option<u32>
+    requires { told ≤ length owner.now.calls }
+    ensures { (line : ℕ) → IfSome result (λ next. IsFront next (take told owner.now.calls ++ call_of c (caller, step.now, line)) owner.now.calls) }
+{
+    if caller != c {
+        return Some(told);
+    }
+    match step {
+        Step::Submit(actor, method, args) => {
+            if has_call(owner, told, *actor, method, args.as_slice()) {
+                Some(told + 1)
+            } else {
+                None
+            }
+        }
+        _ => Some(told),
+    }
+}
+
+/// Whether the caller's calls are those that its steps submit, if any do.
+fn has_calls(owner: &Owner, c: CallerId, steps: &[(CallerId, Step, u32)]) -> bool
+    ensures { IsTrue result → submitted c steps.now ≢ [] → owner.now.calls ≡ submitted c steps.now }
+{
+    let mut told = 0;
+    for step in steps {
+        match told_after(owner, c, told, step.0, &step.1) {
+            Some(next) => told = next,
+            None => return false,
+        }
+    }
+    told == 0 || told == owner.count()
+}
+
+/// Whether the step submits nothing of this caller's.
+fn is_silent(c: CallerId, caller: CallerId, step: &Step) -> bool
+    ensures { (line : ℕ) → IsTrue result → call_of c (caller, step.now, line) ≡ [] }
+{
+    caller != c || !matches!(step, Step::Submit(..))
+}
+
+/// Whether no step submits a call of this caller.
+fn has_none(c: CallerId, steps: &[(CallerId, Step, u32)]) -> bool
+    ensures { IsTrue result → submitted c steps.now ≡ [] }
+{
+    for step in steps {
+        if !is_silent(c, step.0, &step.1) {
+            return false;
+        }
+    }
+    true
+}
+
+/// Whether the calls of the caller are those that its steps submit, if any do.
+fn has_calls_of<K: Actor>(world: &World<K>, c: CallerId, steps: &[(CallerId, Step, u32)]) -> bool
+    ensures { IsTrue result → (casts : List Casting) (events : List Happening) →
+        Stands casts events (world_seen K.state world.now) → HasCalls c steps.now (history casts events) }
+{
+    match world.owner(c) {
+        None => has_none(c, steps),
+        Some(owner) => has_calls(owner, c, steps),
+    }
+}
+
+/// Whether the calls of the caller of this number are those that its steps submit, if any do.
+fn has_calls_at<K: Actor>(world: &World<K>, number: u8, steps: &[(CallerId, Step, u32)]) -> bool
+    requires { (1 ≤ number) × (number ≤ MOST_CALLERS) }
+    ensures { IsTrue result → (casts : List Casting) (events : List Happening) →
+        Stands casts events (world_seen K.state world.now) → HasCalls number steps.now (history casts events) }
+{
+    let c = CallerId::new(number).unwrap();
+    has_calls_of(world, c, steps)
+}
+
+/// Whether the calls of each caller are those that its steps submit, if any do.
+fn has_all_calls<K: Actor>(world: &World<K>, steps: &[(CallerId, Step, u32)]) -> bool
+    ensures { IsTrue result → (casts : List Casting) (events : List Happening) →
+        Stands casts events (world_seen K.state world.now) →
+        (c : ℕ) → 1 ≤ c → c ≤ MOST_CALLERS → HasCalls c steps.now (history casts events) }
+{
+    for before in 0..MOST_CALLERS {
+        if !has_calls_at(world, before + 1, steps) {
+            return false;
+        }
+    }
+    true
+}
+
+/// Plays events in a world, and adds what is told of each. Whether all of them were accepted.
+fn play_in<K: Actor>(
+    world: &mut World<K>,
+    events: &[Event],
+    told: &mut Vec<Outcome>,
+) -> Result<bool, NoMemory>
+    requires room { HasRoom (length events.now) (world_seen K.state world.old).exchange }
+    requires none { told.old.items ≡ [] }
+    ensures accepted { IfOk result (λ is. IsTrue is → (casts : List Casting) →
+        Stands casts [] (world_seen K.state world.old) → All IsOk (outcomes (opening casts) events.now)) }
+    ensures stands { IfOk result (λ _. (casts : List Casting) →
+        Stands casts [] (world_seen K.state world.old) → Stands casts events.now (world_seen K.state world.new)) }
+{
+    let Ok(()) = world.play(events, told) else {
+        return Err(NoMemory);
+    };
+    Ok(are_accepted(told))
+}
+
+/// Whether the bytes are the same.
+fn same_bytes(one: &[u8], other: &[u8]) -> bool
+    ensures { IsTrue result → one.now ≡ other.now }
+{
+    one == other
+}
+
+/// Whether the world shows these lines.
+fn shows<K: Actor>(alloc: Global, world: &World<K>, told: &[u8]) -> Result<bool, NoMemory>
+    ensures { IfOk result (λ is. IsTrue is → (casts : List Casting) (events : List Happening) →
+        Stands casts events (world_seen K.state world.now) → summary (history casts events) ≡ told.now) }
+{
+    let mut text = String::new(alloc);
+    play_report(alloc, world, &[], &mut text)?;
+    Ok(same_bytes(text.as_bytes(), told))
+}
+
+/// Whether all events are accepted in a world that was just opened, and it ends as steps and lines
+/// tell. What is told of each event is added.
+pub(crate) fn ends_so<K: Actor>(
+    alloc: Global,
+    world: &mut World<K>,
+    events: &[Event],
+    steps: &[(CallerId, Step, u32)],
+    lines: &[u8],
+    told: &mut Vec<Outcome>,
+) -> Result<bool, NoMemory>
+    requires room { HasRoom (length events.now) (world_seen K.state world.old).exchange }
+    requires none { told.old.items ≡ [] }
+    ensures { IfOk result (λ is. IsTrue is → (casts : List Casting) →
+        Stands casts [] (world_seen K.state world.old) → EndsSo casts steps.now events.now lines.now) }
+{
+    let accepted = play_in(world, events, told)?;
+    if !accepted {
+        return Ok(false);
+    }
+    if !has_all_calls(world, steps) {
+        return Ok(false);
+    }
+    let is = shows(alloc, world, lines)?;
+    Ok(is)
+}

@@ -1,0 +1,161 @@
+//! What a history tells of callers and actors.
+
+ghost use Rattle.std.specs.Prelude.{◌<◌};
+
+use act_rules::{KindName, RunItem, Step};
+use act_types::{ActorId, Answer, Arg, CallerId, FutureId, ListOf, Method};
+use std::alloc::Global;
+
+/// A call of a caller.
+#[derive(Debug, Drop)]
+pub(crate) struct Call {
+    pub(crate) actor: ActorId,
+    pub(crate) method: Method,
+    pub(crate) args: ListOf<Arg>,
+    /// How many of the caller's calls to the actor came before it.
+    pub(crate) number: u32,
+    /// What the caller keeps of it, if anything.
+    pub(crate) answer: Option<Answer>,
+    /// The line that tells its answer, or else the one that submits it.
+    pub(crate) line: u32,
+    /// Its place in the actor's run list, where it ran.
+    pub(crate) place: Option<u32>,
+}
+
+/// A caller with its calls.
+#[derive(Debug, Drop)]
+pub(crate) struct Caller {
+    /// Whether some role names it.
+    pub(crate) is_named: bool,
+    pub(crate) calls: Vec<Call>,
+    /// Whether lines of the script tell its calls.
+    pub(crate) has_plan: bool,
+    /// How many of its calls have a line that tells their answer.
+    pub(crate) told: usize,
+    /// How many calls of each actor it has.
+    pub(crate) counts: [u32; 9],
+}
+
+/// How an actor is left.
+#[derive(Clone, Copy, Debug, PartialEq, Eq)]
+pub(crate) enum Ending {
+    Live,
+    Dead,
+    Retired,
+}
+
+/// A call that an actor ran, and the line that tells it.
+#[derive(Debug, Drop)]
+pub(crate) struct Ran {
+    pub(crate) item: RunItem,
+    pub(crate) line: u32,
+}
+
+/// An actor with its run list.
+#[derive(Debug, Drop)]
+pub(crate) struct Served {
+    /// Its role, where it has one.
+    pub(crate) kind: Option<KindName>,
+    /// How many calls of each caller may have no answer.
+    pub(crate) limit: Option<u32>,
+    /// The callers that may call it.
+    pub(crate) callers: Vec<CallerId>,
+    pub(crate) ending: Ending,
+    /// The line that tells how it ended. 0 until it was read.
+    pub(crate) line: u32,
+    pub(crate) log: Vec<Ran>,
+}
+
+/// What is told of all callers and actors. Each stands at its number.
+#[derive(Debug, Drop)]
+pub(crate) struct History {
+    pub(crate) callers: Vec<Caller>,
+    pub(crate) actors: Vec<Served>,
+}
+
+/// What a history tells beside its roles, as it was read.
+#[derive(Clone, Copy)]
+pub(crate) struct Lines<'a> {
+    /// The steps of its script.
+    pub(crate) steps: &'a [(CallerId, Step, u32)],
+    /// The lines of what was left, and how many come before them.
+    pub(crate) rest: &'a [u8],
+    pub(crate) before: u32,
+}
+
+/// The place of what is kept of an actor, by its number.
+pub(crate) fn slot_of(a: ActorId) -> usize
+    ensures { result < 9 }
+{
+    a.number() as usize
+}
+
+/// A place as a line tells it. No history has so many that one doesn't fit.
+pub(crate) fn told_place(place: usize) -> u32 {
+    u32::try_from(place).unwrap_or(u32::MAX)
+}
+
+/// The future of the call at this place among a caller's.
+pub(crate) fn future_at(place: usize) -> FutureId {
+    FutureId::new(told_place(place))
+}
+
+impl Caller {
+    pub(crate) fn new(alloc: Global) -> Caller {
+        Caller {
+            is_named: false,
+            calls: Vec::new(alloc),
+            has_plan: false,
+            told: 0,
+            counts: [0; 9],
+        }
+    }
+
+    pub(crate) fn call(&self, k: FutureId) -> Option<&Call> {
+        self.calls.get(k.number() as usize)
+    }
+
+    /// The number that the caller's next call to the actor has.
+    pub(crate) fn next_number(&mut self, a: ActorId) -> u32 {
+        let slot = slot_of(a);
+        let number = self.counts[slot];
+        self.counts[slot] = number.wrapping_add(1);
+        number
+    }
+}
+
+impl Served {
+    pub(crate) fn new(alloc: Global) -> Served {
+        Served {
+            kind: None,
+            limit: None,
+            callers: Vec::new(alloc),
+            ending: Ending::Live,
+            line: 0,
+            log: Vec::new(alloc),
+        }
+    }
+
+    pub(crate) fn may_be_called_by(&self, c: CallerId) -> bool {
+        self.callers.iter().any(|caller| *caller == c)
+    }
+}
+
+impl History {
+    pub(crate) fn caller(&self, c: CallerId) -> Option<&Caller> {
+        self.callers.get(c.number() as usize)
+    }
+
+    pub(crate) fn actor(&self, a: ActorId) -> Option<&Served> {
+        self.actors.get(a.number() as usize)
+    }
+
+    pub(crate) fn call(&self, c: CallerId, k: FutureId) -> Option<&Call> {
+        self.caller(c)?.call(k)
+    }
+
+    pub(crate) fn call_mut(&mut self, c: CallerId, k: FutureId) -> Option<&mut Call> {
+        let caller = self.callers.get_mut(c.number() as usize)?;
+        caller.calls.get_mut(k.number() as usize)
+    }
+}

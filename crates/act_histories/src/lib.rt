@@ -1,0 +1,24 @@
+//! Histories: what callers and actors left, read from lines and decided: a play that ends so, or the
+//! place where none can go on.
+#![tactic(auto)]
+
+mod blocked;
+mod check;
+mod compared;
+mod fault;
+mod history;
+mod line;
+mod mistake;
+mod parts;
+mod printed;
+mod progress;
+mod reading;
+mod reason;
+mod rebuilt;
+mod rules;
+mod same;
+mod values;
+
+pub use act_console::Stock;
+pub use check::check_history;
+pub use fault::CheckFault;

@@ -1,0 +1,83 @@
+//! A play as the lines of a script.
+
+use act_rules::{Event, KindName, Role};
+use act_types::{Arg, CallerId};
+use std::alloc::{AllocError, Global};
+
+/// The word of a kind.
+fn kind_word(kind: KindName) -> &'static str {
+    match kind {
+        KindName::Counter => "counter",
+        KindName::Table => "table",
+        KindName::Account => "account",
+        KindName::ListKind => "list",
+    }
+}
+
+/// Adds callers, a space before each.
+fn push_callers(text: &mut String, callers: &[CallerId]) -> Result<(), AllocError> {
+    for caller in callers {
+        write!(text, " {caller}")?;
+    }
+    Ok(())
+}
+
+/// Adds the line of a role.
+fn push_role(text: &mut String, role: &Role) -> Result<(), AllocError> {
+    let actor = role.actor;
+    let kind = kind_word(role.kind);
+    write!(text, "actor {actor} {kind}")?;
+    if let Some(limit) = role.pending {
+        write!(text, " max {limit}")?;
+    }
+    push_callers(text, role.callers.as_slice())?;
+    text.push('\n')
+}
+
+/// Adds arguments as they are submitted, a space before each.
+fn push_args(text: &mut String, args: &[Arg]) -> Result<(), AllocError> {
+    for arg in args {
+        match arg {
+            Arg::Plain(value) => write!(text, " {value}")?,
+            Arg::Fut(future) => write!(text, " @{future}")?,
+        }
+    }
+    Ok(())
+}
+
+/// Adds an event, without the end of its line.
+pub(crate) fn push_event(text: &mut String, event: &Event) -> Result<(), AllocError> {
+    match event {
+        Event::Submit(c, a, method, args) => {
+            write!(text, "submit {c} {a} {method}")?;
+            push_args(text, args.as_slice())
+        }
+        Event::Copy(c, a) => write!(text, "copy {c} {a}"),
+        Event::Release(c, a) => write!(text, "release {c} {a}"),
+        Event::AskKill(c, a) => write!(text, "kill {c} {a}"),
+        Event::Send(c, k) => write!(text, "send {c} {k}"),
+        Event::Deliver(i) => write!(text, "deliver {i}"),
+        Event::Run(a, c) => write!(text, "run {a} {c}"),
+        Event::Collect(j) => write!(text, "collect {j}"),
+        Event::TakeKill(a) => write!(text, "take {a}"),
+        Event::Tell(a, c) => write!(text, "tell {a} {c}"),
+        Event::Retire(a) => write!(text, "retire {a}"),
+    }
+}
+
+/// The lines of roles and events.
+pub(crate) fn play_text(
+    alloc: Global,
+    roles: &[Role],
+    events: &[Event],
+) -> Result<String, AllocError> {
+    let mut text = String::new(alloc);
+    for role in roles {
+        push_role(&mut text, role)?;
+    }
+    for event in events {
+        push_event(&mut text, event)?;
+        text.push('\n')?;
+    }
+    Ok(text)
+}

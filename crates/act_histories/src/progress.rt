@@ -1,0 +1,162 @@
+//! How far callers and actors are in a play that is being made.
+
+use crate::history::{Call, Caller, History, future_at, slot_of};
+use crate::rules::has_died;
+use act_types::{ActorId, Arg, FutureId, NoMemory};
+use std::alloc::Global;
+
+/// What a caller did so far.
+#[derive(Drop)]
+pub(crate) struct Asked {
+    /// Which of the calls that it submitted have an answer.
+    answered: Vec<bool>,
+    /// How many calls of each actor have none.
+    pending: [u32; 9],
+    /// Whether it heard that an actor died.
+    bereaved: [bool; 9],
+}
+
+impl Asked {
+    /// A caller that did nothing yet.
+    pub(crate) fn new(alloc: Global) -> Asked {
+        Asked {
+            answered: Vec::new(alloc),
+            pending: [0; 9],
+            bereaved: [false; 9],
+        }
+    }
+
+    /// How many of its calls it submitted.
+    pub(crate) fn submitted(&self) -> usize {
+        self.answered.len()
+    }
+
+    /// Whether the limit lets it submit one call more to the actor.
+    pub(crate) fn may_submit(&self, limit: Option<u32>, a: ActorId) -> bool {
+        match limit {
+            None => true,
+            Some(limit) => self.pending[slot_of(a)] < limit,
+        }
+    }
+
+    /// One call more was submitted. It has its answer at once where its actor is known to be dead.
+    pub(crate) fn submit(&mut self, a: ActorId) -> Result<(), NoMemory> {
+        let slot = slot_of(a);
+        self.answered.push(self.bereaved[slot])?;
+        if !self.bereaved[slot] {
+            self.pending[slot] = self.pending[slot].wrapping_add(1);
+        }
+        Ok(())
+    }
+
+    /// Whether the call has an answer.
+    pub(crate) fn is_answered(&self, k: FutureId) -> bool {
+        match self.answered.get(k.number() as usize) {
+            Some(is_answered) => *is_answered,
+            None => false,
+        }
+    }
+
+    /// Whether the argument is known.
+    fn knows(&self, arg: &Arg) -> bool {
+        match arg {
+            Arg::Plain(_) => true,
+            Arg::Fut(k) => self.is_answered(*k),
+        }
+    }
+
+    /// Whether the call was submitted, and can be sent.
+    pub(crate) fn may_send(&self, call: &Call, k: FutureId) -> bool {
+        (k.number() as usize) < self.submitted()
+            && call.args.as_slice().iter().all(|arg| self.knows(arg))
+    }
+
+    /// The call of the actor has an answer now.
+    fn answer(&mut self, k: FutureId) {
+        if let Some(is_answered) = self.answered.get_mut(k.number() as usize) {
+            *is_answered = true;
+        }
+    }
+
+    /// A reply of the actor was collected.
+    pub(crate) fn collect(&mut self, a: ActorId, k: FutureId) {
+        let slot = slot_of(a);
+        self.pending[slot] = self.pending[slot].wrapping_sub(1);
+        self.answer(k);
+    }
+
+    /// The actor's death was collected.
+    pub(crate) fn lose(&mut self, caller: &Caller, a: ActorId) {
+        let slot = slot_of(a);
+        self.pending[slot] = 0;
+        self.bereaved[slot] = true;
+        for number in 0..self.submitted() {
+            if let Some(call) = caller.calls.get(number)
+                && call.actor == a
+            {
+                self.answer(future_at(number));
+            }
+        }
+    }
+}
+
+/// What an actor did so far.
+#[derive(Clone, Copy)]
+pub(crate) struct Done {
+    /// How many calls it ran.
+    pub(crate) ran: usize,
+    pub(crate) is_dead: bool,
+}
+
+/// How far all of them are.
+#[derive(Drop)]
+pub(crate) struct Progress {
+    pub(crate) callers: Vec<Asked>,
+    pub(crate) actors: Vec<Done>,
+}
+
+impl Progress {
+    /// So many callers and actors that did nothing yet.
+    pub(crate) fn open(alloc: Global, history: &History) -> Result<Progress, NoMemory> {
+        let mut progress = Progress {
+            callers: Vec::new(alloc),
+            actors: Vec::new(alloc),
+        };
+        for _caller in &history.callers {
+            progress.callers.push(Asked::new(alloc))?;
+        }
+        for _actor in &history.actors {
+            progress.actors.push(Done {
+                ran: 0,
+                is_dead: false,
+            })?;
+        }
+        Ok(progress)
+    }
+
+    /// What the actor did so far.
+    pub(crate) fn done(&self, a: ActorId) -> Done {
+        match self.actors.get(a.number() as usize) {
+            Some(done) => *done,
+            None => Done {
+                ran: 0,
+                is_dead: false,
+            },
+        }
+    }
+
+    /// Notes what the actor did so far.
+    pub(crate) fn note(&mut self, a: ActorId, done: Done) {
+        if let Some(place) = self.actors.get_mut(a.number() as usize) {
+            *place = done;
+        }
+    }
+}
+
+/// Whether a death answered some call of the caller to the actor.
+pub(crate) fn is_bereaved(caller: &Caller, a: ActorId) -> bool {
+    caller
+        .calls
+        .iter()
+        .any(|call| call.actor == a && has_died(call))
+}

@@ -1,0 +1,373 @@
+//! A history, from the script and the lines of what was left.
+
+use crate::history::{Call, Caller, Ending, History, Lines, Ran, Served};
+use crate::line::{Told, told_in};
+use crate::mistake::{Mistake, Wrongly};
+use act_rules::{KindName, Role, RunItem, Step, Wrong};
+use act_scripts::LineFault;
+use act_types::{
+    ActorId, Answer, Arg, CallerId, CopyOf, FutureId, ListOf, MOST_ACTORS, MOST_CALLERS, Method,
+    NoMemory, Settled,
+};
+use std::alloc::Global;
+use std::str;
+
+/// What the lines tell so far, and which comes next.
+#[derive(Drop)]
+struct Reading {
+    alloc: Global,
+    history: History,
+    /// The last caller that had a line, and the last actor. 0 before the first.
+    caller: u8,
+    actor: u8,
+}
+
+/// A history of nobody.
+fn empty(alloc: Global) -> Result<History, NoMemory> {
+    let mut history = History {
+        callers: Vec::new(alloc),
+        actors: Vec::new(alloc),
+    };
+    for _ in 0..=MOST_CALLERS {
+        history.callers.push(Caller::new(alloc))?;
+    }
+    for _ in 0..=MOST_ACTORS {
+        history.actors.push(Served::new(alloc))?;
+    }
+    Ok(history)
+}
+
+/// A mistake of this line.
+fn mistake<T>(line: u32, wrong: Wrongly) -> Result<T, Mistake> {
+    Err(Mistake::Line(line, wrong))
+}
+
+/// A call of a caller that has no line of a script: until it runs, it is taken as one that could
+/// be sent at once.
+fn unknown_call(alloc: Global, caller: &mut Caller, actor: ActorId, line: u32) -> Call {
+    Call {
+        actor,
+        method: Method::Get,
+        args: ListOf::new(alloc),
+        number: caller.next_number(actor),
+        answer: None,
+        line,
+        place: None,
+    }
+}
+
+/// The argument as it was submitted, where only what it was settled to is known.
+fn arg_of(alloc: Global, settled: &Settled) -> Result<Arg, NoMemory> {
+    match settled {
+        Settled::Good(value) => Ok(Arg::Plain(value.copy_of(alloc)?)),
+        Settled::Bad(future) => Ok(Arg::Fut(*future)),
+    }
+}
+
+/// The arguments as they were submitted, where only what they were settled to is known.
+fn args_of(alloc: Global, item: &RunItem) -> Result<ListOf<Arg>, NoMemory> {
+    let mut args = ListOf::new(alloc);
+    for settled in item.args.as_slice() {
+        args.push(arg_of(alloc, settled)?)?;
+    }
+    Ok(args)
+}
+
+impl Reading {
+    fn caller_mut(&mut self, c: CallerId) -> Option<&mut Caller> {
+        self.history.callers.get_mut(c.number() as usize)
+    }
+
+    fn actor_mut(&mut self, a: ActorId) -> Option<&mut Served> {
+        self.history.actors.get_mut(a.number() as usize)
+    }
+
+    /// The callers that a role names.
+    fn add_callers(&mut self, a: ActorId, callers: &[CallerId]) -> Result<(), NoMemory> {
+        for c in callers {
+            if let Some(caller) = self.caller_mut(*c) {
+                caller.is_named = true;
+            }
+            if let Some(actor) = self.actor_mut(a) {
+                actor.callers.push(*c)?;
+            }
+        }
+        Ok(())
+    }
+
+    fn add_role(&mut self, role: &Role) -> Result<(), NoMemory> {
+        if let Some(actor) = self.actor_mut(role.actor) {
+            actor.kind = Some(role.kind);
+            actor.limit = role.pending;
+        }
+        self.add_callers(role.actor, role.callers.as_slice())
+    }
+
+    fn add_roles(&mut self, roles: &[Role]) -> Result<(), NoMemory> {
+        for role in roles {
+            self.add_role(role)?;
+        }
+        Ok(())
+    }
+
+    /// A call that the script submits.
+    fn submit(
+        &mut self,
+        c: CallerId,
+        actor: ActorId,
+        method: Method,
+        args: &ListOf<Arg>,
+        line: u32,
+    ) -> Result<(), Mistake> {
+        let args = args.copy_of(self.alloc)?;
+        let Some(caller) = self.caller_mut(c) else {
+            return Ok(());
+        };
+        if !caller.is_named {
+            return mistake(line, Wrongly::NoRole);
+        }
+        caller.has_plan = true;
+        let number = caller.next_number(actor);
+        caller.calls.push(Call {
+            actor,
+            method,
+            args,
+            number,
+            answer: None,
+            line,
+            place: None,
+        })?;
+        Ok(())
+    }
+
+    /// The calls that the script submits. Its other steps leave nothing that a history tells.
+    fn add_steps(&mut self, steps: &[(CallerId, Step, u32)]) -> Result<(), Mistake> {
+        for (caller, step, line) in steps {
+            if let Step::Submit(actor, method, args) = step {
+                self.submit(*caller, *actor, *method, args, *line)?;
+            }
+        }
+        Ok(())
+    }
+
+    /// Looks whether the line of a future comes in its turn.
+    fn check_future(&mut self, c: CallerId, k: FutureId, line: u32) -> Result<(), Mistake> {
+        if self.actor > 0 || c.number() < self.caller {
+            return mistake(line, Wrongly::OutOfOrder);
+        }
+        self.caller = c.number();
+        match self.history.caller(c) {
+            Some(caller) if caller.is_named => {
+                if caller.told != k.number() as usize {
+                    return mistake(line, Wrongly::OutOfOrder);
+                }
+                Ok(())
+            }
+            _ => mistake(line, Wrongly::NoRole),
+        }
+    }
+
+    /// Adds the call of a caller whose calls no line of the script tells.
+    fn add_unknown(&mut self, c: CallerId, a: ActorId, line: u32) -> Result<(), NoMemory> {
+        let alloc = self.alloc;
+        if let Some(caller) = self.caller_mut(c)
+            && !caller.has_plan
+        {
+            let call = unknown_call(alloc, caller, a, line);
+            caller.calls.push(call)?;
+        }
+        Ok(())
+    }
+
+    /// What a caller keeps of a call.
+    fn add_future(
+        &mut self,
+        c: CallerId,
+        k: FutureId,
+        a: ActorId,
+        answer: Option<Answer>,
+        line: u32,
+    ) -> Result<(), Mistake> {
+        self.check_future(c, k, line)?;
+        self.add_unknown(c, a, line)?;
+        let Some(call) = self.history.call_mut(c, k) else {
+            return mistake(line, Wrongly::NotSubmitted);
+        };
+        if call.actor != a {
+            return mistake(line, Wrongly::OtherActor);
+        }
+        call.answer = answer;
+        call.line = line;
+        if let Some(caller) = self.caller_mut(c) {
+            caller.told = caller.told.saturating_add(1);
+        }
+        Ok(())
+    }
+
+    /// How an actor is left.
+    fn add_end(
+        &mut self,
+        a: ActorId,
+        ending: Ending,
+        kind: Option<KindName>,
+        line: u32,
+    ) -> Result<(), Mistake> {
+        if a.number() <= self.actor {
+            return mistake(line, Wrongly::OutOfOrder);
+        }
+        self.actor = a.number();
+        let Some(actor) = self.actor_mut(a) else {
+            return mistake(line, Wrongly::NoRole);
+        };
+        let Some(own) = actor.kind else {
+            return mistake(line, Wrongly::NoRole);
+        };
+        if let Some(kind) = kind
+            && kind != own
+        {
+            return mistake(line, Wrongly::OtherKind);
+        }
+        actor.ending = ending;
+        actor.line = line;
+        Ok(())
+    }
+
+    /// What a call was that only its run tells.
+    fn learn(&mut self, item: &RunItem) -> Result<(), NoMemory> {
+        let args = args_of(self.alloc, item)?;
+        let Some(caller) = self.caller_mut(item.caller) else {
+            return Ok(());
+        };
+        if caller.has_plan {
+            return Ok(());
+        }
+        if let Some(call) = caller.calls.get_mut(item.future.number() as usize) {
+            call.method = item.method;
+            call.args = args;
+        }
+        Ok(())
+    }
+
+    /// Notes where a call ran: at its own actor, the first time.
+    fn note_run(&mut self, a: ActorId, place: u32, item: &RunItem) {
+        if let Some(call) = self.history.call_mut(item.caller, item.future)
+            && call.actor == a
+            && call.place.is_none()
+        {
+            call.place = Some(place);
+        }
+    }
+
+    /// A call that an actor ran.
+    fn add_run(&mut self, a: ActorId, place: u32, item: RunItem, line: u32) -> Result<(), Mistake> {
+        self.learn(&item)?;
+        self.note_run(a, place, &item);
+        if a.number() != self.actor {
+            return mistake(line, Wrongly::OutOfOrder);
+        }
+        let Some(actor) = self.actor_mut(a) else {
+            return mistake(line, Wrongly::NoRole);
+        };
+        if actor.log.len() != place as usize {
+            return mistake(line, Wrongly::OutOfOrder);
+        }
+        actor.log.push(Ran { item, line })?;
+        Ok(())
+    }
+
+    fn add(&mut self, told: Told, line: u32) -> Result<(), Mistake> {
+        match told {
+            Told::Future(caller, future, actor, answer) => {
+                self.add_future(caller, future, actor, answer, line)
+            }
+            Told::End(actor, ending, kind) => self.add_end(actor, ending, kind, line),
+            Told::Run(actor, place, item) => self.add_run(actor, place, item, line),
+        }
+    }
+
+    /// Looks whether each call of the script has the line of its future.
+    fn check_calls(&self) -> Result<(), Mistake> {
+        for caller in &self.history.callers {
+            if let Some(call) = caller.calls.get(caller.told) {
+                return mistake(call.line, Wrongly::NoFuture);
+            }
+        }
+        Ok(())
+    }
+
+    /// Looks whether each actor that has a role has a line.
+    fn check_actors(&self) -> Result<(), Mistake> {
+        for actor in &self.history.actors {
+            if actor.kind.is_some() && actor.line == 0 {
+                return mistake(0, Wrongly::NoEnd);
+            }
+        }
+        Ok(())
+    }
+}
+
+/// A fault of words, as a mistake of their line.
+fn mistake_of(line: u32, fault: LineFault) -> Mistake {
+    match fault {
+        LineFault::Wrong(Wrong::BadLine) => Mistake::Line(line, Wrongly::BadLine),
+        LineFault::Wrong(wrong) => Mistake::Line(line, Wrongly::Script(wrong)),
+        LineFault::Memory => Mistake::NoMemory,
+    }
+}
+
+/// What a line tells that isn't skipped.
+fn told_at(alloc: Global, line: &[u8], number: u32) -> Result<Told, Mistake> {
+    let Ok(text) = str::from_utf8(line) else {
+        return mistake(number, Wrongly::BadLine);
+    };
+    let mut words = Vec::new(alloc);
+    for word in text.split(' ') {
+        words.push(word)?;
+    }
+    match told_in(alloc, &words) {
+        Ok(told) => Ok(told),
+        Err(fault) => Err(mistake_of(number, fault)),
+    }
+}
+
+/// Adds what a line tells, unless it is skipped.
+fn add_line(reading: &mut Reading, line: &[u8], number: u32) -> Result<(), Mistake> {
+    match line {
+        [] | [b'#', ..] => Ok(()),
+        _ => {
+            let told = told_at(reading.alloc, line, number)?;
+            reading.add(told, number)
+        }
+    }
+}
+
+/// Adds what the lines tell, of which the first has the number after this one.
+fn add_lines(reading: &mut Reading, rest: &[u8], before: u32) -> Result<(), Mistake> {
+    let mut number = before;
+    for line in rest.split(|byte| *byte == b'\n') {
+        number = number.wrapping_add(1);
+        add_line(reading, line, number)?;
+    }
+    Ok(())
+}
+
+/// The history that roles, steps and the lines of what was left tell, or their first mistake.
+pub(crate) fn read_history(
+    alloc: Global,
+    roles: &[Role],
+    lines: Lines<'_>,
+) -> Result<History, Mistake> {
+    let mut reading = Reading {
+        alloc,
+        history: empty(alloc)?,
+        caller: 0,
+        actor: 0,
+    };
+    reading.add_roles(roles)?;
+    reading.add_steps(lines.steps)?;
+    add_lines(&mut reading, lines.rest, lines.before)?;
+    reading.check_calls()?;
+    reading.check_actors()?;
+    let Reading { history, .. } = reading;
+    Ok(history)
+}

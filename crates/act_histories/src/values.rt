@@ -1,0 +1,243 @@
+//! What a world shows after a play that was found, beside what a history tells.
+
+use crate::history::{History, Lines};
+use crate::printed::push_event;
+use crate::reason::{CallName, PlaceName};
+use act_console::play_report;
+use act_kinds::Actor;
+use act_rules::{Did, Event, Outcome, RunItem};
+use act_types::{ActorId, Answer, CallerId, FutureId, NoMemory, Settled};
+use act_world::{Stage, World};
+use std::alloc::{AllocError, Global};
+use std::str;
+
+/// What is seen of an actor's run list.
+fn log_of<'a, K: Actor>(stage: &Stage<'a, K>) -> &'a [RunItem] {
+    match *stage {
+        Stage::Live(live) => live.log(),
+        Stage::Dead(dead) => dead.log(),
+        Stage::Retired(retired) => retired.log(),
+    }
+}
+
+/// Whether two answers are the same, as they are written.
+fn same_answer(one: &Answer, other: &Answer) -> bool {
+    match (one, other) {
+        (Ok(value), Ok(other)) => value == other,
+        (Err(fault), Err(other)) => fault == other,
+        _ => false,
+    }
+}
+
+/// Whether the arguments of two calls that ran are the same.
+fn same_args(one: &[Settled], other: &[Settled]) -> bool {
+    if one.len() != other.len() {
+        return false;
+    }
+    for (place, arg) in one.iter().enumerate() {
+        if *arg != other[place] {
+            return false;
+        }
+    }
+    true
+}
+
+fn push_args(text: &mut String, args: &[Settled]) -> Result<(), AllocError> {
+    if args.is_empty() {
+        return text.push_str(" none");
+    }
+    for arg in args {
+        write!(text, " {arg}")?;
+    }
+    Ok(())
+}
+
+fn push_answer(text: &mut String, answer: &Answer) -> Result<(), AllocError> {
+    match answer {
+        Ok(value) => write!(text, "{value}"),
+        Err(fault) => write!(text, "{fault}"),
+    }
+}
+
+/// Tells that the call at a place had other arguments.
+fn push_other_args(
+    text: &mut String,
+    line: u32,
+    at: PlaceName,
+    ran: &RunItem,
+    told: &RunItem,
+) -> Result<(), AllocError> {
+    write!(text, "line {line}: the arguments at {at} are")?;
+    push_args(text, ran.args.as_slice())?;
+    text.push_str(", not")?;
+    push_args(text, told.args.as_slice())?;
+    text.push('\n')
+}
+
+/// Compares the call at a place with what is told of it.
+fn compare_run<K: Actor>(
+    text: &mut String,
+    world: &World<K>,
+    history: &History,
+    a: ActorId,
+    place: u32,
+) -> Result<(), AllocError> {
+    let Some(stage) = world.stage(a) else {
+        return Ok(());
+    };
+    let Some(actor) = history.actor(a) else {
+        return Ok(());
+    };
+    let at = PlaceName { actor: a, place };
+    match (
+        log_of(&stage).get(place as usize),
+        actor.log.get(place as usize),
+    ) {
+        (Some(ran), Some(told)) => {
+            if same_args(ran.args.as_slice(), told.item.args.as_slice()) {
+                return Ok(());
+            }
+            push_other_args(text, told.line, at, ran, &told.item)
+        }
+        _ => Ok(()),
+    }
+}
+
+/// Compares a kept answer with what is told of it.
+fn compare_answer<K: Actor>(
+    text: &mut String,
+    world: &World<K>,
+    history: &History,
+    c: CallerId,
+    k: FutureId,
+) -> Result<(), AllocError> {
+    let Some(owner) = world.owner(c) else {
+        return Ok(());
+    };
+    let Some(kept) = owner.answer(k) else {
+        return Ok(());
+    };
+    let Some(call) = history.call(c, k) else {
+        return Ok(());
+    };
+    let Some(told) = &call.answer else {
+        return Ok(());
+    };
+    if same_answer(kept, told) {
+        return Ok(());
+    }
+    let line = call.line;
+    match call.place {
+        Some(place) => {
+            let at = PlaceName {
+                actor: call.actor,
+                place,
+            };
+            write!(text, "line {line}: the answer at {at} is ")?;
+        }
+        None => {
+            let name = CallName {
+                caller: c,
+                future: k,
+            };
+            write!(text, "line {line}: the answer of {name} is ")?;
+        }
+    }
+    push_answer(text, kept)?;
+    text.push_str(", not ")?;
+    push_answer(text, told)?;
+    text.push('\n')
+}
+
+/// Adds what differs after an event, if anything does.
+fn compare_event<K: Actor>(
+    text: &mut String,
+    world: &World<K>,
+    history: &History,
+    event: &Event,
+    told: &Outcome,
+) -> Result<(), AllocError> {
+    match told {
+        Err(refusal) => {
+            text.push_str("line 0: ")?;
+            push_event(text, event)?;
+            writeln!(text, " is refused: {refusal}")
+        }
+        Ok(Did::Ran(place, _)) => match event {
+            Event::Run(a, _) => compare_run(text, world, history, *a, *place),
+            _ => Ok(()),
+        },
+        Ok(Did::Kept(c, k)) => compare_answer(text, world, history, *c, *k),
+        Ok(_) => Ok(()),
+    }
+}
+
+/// Adds the first difference in the order of the events.
+fn compare_events<K: Actor>(
+    text: &mut String,
+    world: &World<K>,
+    history: &History,
+    events: &[Event],
+    told: &[Outcome],
+) -> Result<(), AllocError> {
+    for (place, outcome) in told.iter().enumerate() {
+        if let Some(event) = events.get(place) {
+            compare_event(text, world, history, event, outcome)?;
+        }
+        if !text.is_empty() {
+            return Ok(());
+        }
+    }
+    Ok(())
+}
+
+/// Adds a line that is told and the one that is shown.
+fn push_lines(text: &mut String, number: u32, told: &[u8], shown: &[u8]) -> Result<(), AllocError> {
+    let told = str::from_utf8(told).unwrap_or("?");
+    let shown = str::from_utf8(shown).unwrap_or("?");
+    writeln!(text, "line {number}: {told}, and by the rules: {shown}")
+}
+
+/// Adds the first line that isn't as the world shows it.
+fn compare_lines(
+    text: &mut String,
+    rest: &[u8],
+    before: u32,
+    shown: &str,
+) -> Result<(), AllocError> {
+    let mut number = before;
+    let mut lines = shown.as_bytes().split(|byte| *byte == b'\n');
+    for line in rest.split(|byte| *byte == b'\n') {
+        number = number.wrapping_add(1);
+        if line.is_empty() || line[0] == b'#' {
+            continue;
+        }
+        let shown = lines.next().unwrap_or(b"");
+        if line != shown {
+            return push_lines(text, number, line, shown);
+        }
+    }
+    Ok(())
+}
+
+/// What differs first between what is told and what the world shows that played the events.
+pub(crate) fn difference<K: Actor>(
+    alloc: Global,
+    world: &World<K>,
+    history: &History,
+    events: &[Event],
+    told: &[Outcome],
+    lines: Lines<'_>,
+) -> Result<String, NoMemory> {
+    let mut text = String::new(alloc);
+    compare_events(&mut text, world, history, events, told)?;
+    if text.is_empty() {
+        let mut shown = String::new(alloc);
+        play_report(alloc, world, &[], &mut shown)?;
+        compare_lines(&mut text, lines.rest, lines.before, &shown)?;
+    }
+    if text.is_empty() {
+        text.push_str("line 0: the play that was found ends otherwise\n")?;
+    }
+    Ok(text)
+}

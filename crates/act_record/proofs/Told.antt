@@ -1,0 +1,80 @@
+-- What was written of a script whose run is recorded, by what there was to be written.
+use Rattle.std.proofs.Common.{◌≡◌, ℕ, ◌+◌, List, Option, Some, None, Result, Ok, Err, refl, sym, subst, ◌∙◌}
+use Rattle.std.specs.Prelude.{string_bytes}
+use Rattle.std.specs.Io.KnownBytes.{Keeps, Appends}
+use Rattle.act_types.specs.declared.limits.TheConstants.{MOST_SCRIPT_BYTES}
+use Rattle.act_rules.specs.declared.event.Event.{Event}
+use Rattle.act_rules.specs.declared.script.Role.{Role}
+use Rattle.act_rules.specs.declared.script.Wrong.{Wrong}
+use Rattle.act_rules.specs.Grammar.{Script}
+use Rattle.act_console.specs.declared.fault.ConsoleFault.TheVariants as faults
+use Rattle.act_console.specs.Input.{IsWholeInput}
+use Rattle.act_console.specs.Output.{AppendsFront}
+use Rattle.act_console.specs.Threads.{spelled_threads}
+use Rattle.act_record.specs.declared.answer.Answer.{Answer}
+use Rattle.act_record.specs.declared.answer.Answer.TheVariants as answers
+use Rattle.act_record.specs.declared.answer.Written.{Written}
+use Rattle.act_record.specs.declared.answer.Written.TheVariants.{Play, LongPlay}
+use Rattle.act_record.specs.declared.fault.RecordingFault.{RecordingFault}
+use Rattle.act_record.specs.declared.fault.RecordingFault.TheVariants.{Console, Unplayed}
+use Rattle.act_record.specs.Record.{IsPlay, IsWritten, IsRecordOf, IsRecorded}
+use Rattle.act_record.specs.Answer.{IsShown, IsMissing, IsAnswer, Wrote}
+
+-- ---- before anything is written
+
+-- the text of a play is to be written
+pub written_is : (script : Script) (roles : List Role) (events : List Event) (written : Written) (text : List ℕ)
+    → script.roles ≡ roles → IsPlay script events → IsShown written roles events text → IsWritten written script text
+written_is script roles events (Play source) text same is shown = record {
+  play = shown.play;
+  spells = shown.spells;
+  roles = shown.roles_are ∙ sym same;
+  is_play = subst (IsPlay script) (sym shown.events_are) is;
+}
+written_is script roles events (LongPlay source) text same is long = record { long = long; events = events; is_play = is }
+
+-- the text of a play is missed
+pub missed : (script : Script) (fault : RecordingFault) → IsMissing fault → IsAnswer (Err fault) (Ok script)
+missed script (Console faults.Memory) is = tt
+missed script (Console faults.Thread) is = absurd (cc)
+missed script (Console faults.Script) is = absurd (cc)
+missed script (Console faults.Reading) is = absurd (cc)
+missed script (Console faults.Writing) is = absurd (cc)
+missed script Unplayed is = (script, refl)
+
+-- ---- what was written
+
+module _ (had left old new : Option (List ℕ)) (bytes : List ℕ) (whole : IsWholeInput (MOST_SCRIPT_BYTES + 1) had left bytes) where
+  -- an answer was written
+  pub told : (answer : Answer) (result : Result Written RecordingFault) → IsAnswer (Ok answer) (spelled_threads bytes) → Wrote old new answer result → IsRecorded had left old new result
+  told (answers.Play play) (Ok written) is wrote =
+      (bytes, whole, is.0, is.1, string_bytes play.text, subst (λ (written : Written). IsWritten written is.0 (string_bytes play.text)) (sym wrote.0) is.2, wrote.1)
+  told (answers.Play play) (Err (Console faults.Writing)) is wrote =
+      (bytes, whole, string_bytes play.text, subst (λ (read : Result Script (ℕ × Wrong)). IsRecordOf read (string_bytes play.text)) (sym is.1) (play.written, is.2), wrote)
+  told (answers.Play play) (Err (Console faults.Script)) is wrote = absurd wrote
+  told (answers.Play play) (Err (Console faults.Memory)) is wrote = absurd wrote
+  told (answers.Play play) (Err (Console faults.Thread)) is wrote = absurd wrote
+  told (answers.Play play) (Err (Console faults.Reading)) is wrote = absurd wrote
+  told (answers.Play play) (Err Unplayed) is wrote = absurd wrote
+  told (answers.Refusal text) (Ok written) is wrote = absurd wrote
+  told (answers.Refusal text) (Err (Console faults.Script)) is wrote = (bytes, whole, is.0, is.1, subst (Appends old new) is.2 wrote)
+  told (answers.Refusal text) (Err (Console faults.Writing)) is wrote =
+      (bytes, whole, string_bytes text, subst (λ (read : Result Script (ℕ × Wrong)). IsRecordOf read (string_bytes text)) (sym is.1) is.2, wrote)
+  told (answers.Refusal text) (Err (Console faults.Memory)) is wrote = absurd wrote
+  told (answers.Refusal text) (Err (Console faults.Thread)) is wrote = absurd wrote
+  told (answers.Refusal text) (Err (Console faults.Reading)) is wrote = absurd wrote
+  told (answers.Refusal text) (Err Unplayed) is wrote = absurd wrote
+
+keeps_itself : (contents : Option (List ℕ)) → Keeps contents contents
+keeps_itself None = tt
+keeps_itself (Some bytes) = refl
+
+module _ (had left old : Option (List ℕ)) (bytes : List ℕ) (whole : IsWholeInput (MOST_SCRIPT_BYTES + 1) had left bytes) where
+  -- nothing was to be written
+  pub untold : (fault : RecordingFault) → IsAnswer (Err fault) (spelled_threads bytes) → IsRecorded had left old old (Err fault)
+  untold (Console faults.Memory) is = keeps_itself old
+  untold (Console faults.Thread) is = (bytes, whole, is.0, is.1, keeps_itself old)
+  untold (Console faults.Script) is = absurd is
+  untold (Console faults.Reading) is = absurd is
+  untold (Console faults.Writing) is = absurd is
+  untold Unplayed is = (bytes, whole, is.0, is.1, keeps_itself old)

@@ -1,0 +1,44 @@
+-- Casts with the same roles as others that fit.
+use Rattle.std.proofs.Common.{◌≡◌, ◌≢◌, ◌<◌, List, [], ◌∷◌, length, map, get_or, sym, subst, arith}
+use Rattle.std.specs.Prelude.{All, AllPairs}
+use Rattle.std.proofs.lemmas.List.{get_or-map, length-map}
+use Rattle.std.proofs.lemmas.List.Elements.{All-map}
+use Rattle.act_types.specs.KindState.{KindState}
+use Rattle.act_rules.specs.History.{Casting}
+use Rattle.act_rules.specs.Submissions.{IsLimit}
+use Rattle.act_actor.specs.declared.cast.Cast.{Cast}
+use Rattle.act_actor.specs.Cast.{CallersDiffer, IsFitting}
+use Rattle.act_actor.specs.Casts.{casting}
+
+-- ---- what holds of all items, or of each two, and of what is seen of them
+
+module _ {X Y : Type 0} (f : X → Y) where
+  pairs_seen : (R : Y → Y → Type 0) (xs : List X) → AllPairs (λ one other. R (f one) (f other)) xs → AllPairs R (map f xs)
+  pairs_seen R [] all = λ i j d before within. absurd (omega (arith, within))
+  pairs_seen R (x ∷ xs) all = λ i j d before within.
+      let inside : j < length (x ∷ xs) = subst (λ n. j < n) (length-map (x ∷ xs) f) within in
+      subst (λ (it : Y). R it (get_or (map f (x ∷ xs)) j d)) (sym (get_or-map f (x ∷ xs) i x d (omega arith)))
+      (subst (λ (it : Y). R (f (get_or (x ∷ xs) i x)) it) (sym (get_or-map f (x ∷ xs) j x d inside)) (all i j x before inside))
+
+  pairs_there : (R : Y → Y → Type 0) (xs : List X) → AllPairs R (map f xs) → AllPairs (λ one other. R (f one) (f other)) xs
+  pairs_there R xs all = λ i j d before within.
+      let inside : j < length (map f xs) = subst (λ n. j < n) (sym (length-map xs f)) within in
+      subst (λ (it : Y). R it (f (get_or xs j d))) (get_or-map f xs i d (f d) (omega arith))
+      (subst (λ (it : Y). R (get_or (map f xs) i (f d)) it) (get_or-map f xs j d (f d) within) (all i j (f d) before inside))
+
+  all_there : (P : Y → Type 0) (xs : List X) → All P (map f xs) → All (λ x. P (f x)) xs
+  all_there P xs all = λ k d within. subst P (get_or-map f xs k d (f d) within) (all k (f d) (subst (λ n. k < n) (sym (length-map xs f)) within))
+
+-- ---- casts
+
+-- casts fit where others with the same roles do
+pub twins_fit : {K J : Type 0} (state : K → KindState) (other : J → KindState) (casts : List (Cast K)) (twins : List (Cast J))
+    → map (casting other) twins ≡ map (casting state) casts → IsFitting casts → IsFitting twins
+twins_fit state other casts twins same fit = record {
+  actors = pairs_there (casting other) (λ (one two : Casting). one.actor ≢ two.actor) twins
+      (subst (AllPairs (λ (one two : Casting). one.actor ≢ two.actor)) (sym same) (pairs_seen (casting state) (λ (one two : Casting). one.actor ≢ two.actor) casts fit.actors));
+  callers = all_there (casting other) (λ (it : Casting). CallersDiffer it.callers) twins
+      (subst (All (λ (it : Casting). CallersDiffer it.callers)) (sym same) (All-map (λ (it : Casting). CallersDiffer it.callers) (casting state) casts fit.callers));
+  limits = all_there (casting other) (λ (it : Casting). IsLimit it.pending) twins
+      (subst (All (λ (it : Casting). IsLimit it.pending)) (sym same) (All-map (λ (it : Casting). IsLimit it.pending) (casting state) casts fit.limits));
+}

@@ -1,0 +1,28 @@
+use Rattle.std.proofs.Common.{◌≡◌, List, map, sym, subst}
+use Rattle.act_rules.specs.History.{Casting}
+use Rattle.act_actor.specs.Casts.{casting}
+use Rattle.act_serve.specs.declared.seat.Finished.{Finished}
+use Rattle.act_serve.specs.Served.{end_seen}
+use Rattle.act_executor.specs.Runs.{plan_seen}
+use Rattle.act_executor.proofs.Faults.{err_only}
+use Rattle.act_replay.specs.declared.run.RecordFault.{RecordFault}
+use Rattle.act_replay.specs.Play.{IsPlayOf}
+use Rattle.act_replay.specs.Faults.{IsRecordFault}
+use Rattle.act_replay.proofs.Faults.{play_fault}
+use Rattle.act_replay.proofs.Twins.{twins_fit}
+use Rattle.act_replay.proofs.recorded.run_recorded.Goals as goal
+
+pub played-requires : goal.played-requires
+played-requires g c = record { fit = twins_fit g.K.Actor.state _ c.args.casts.items c.args.twins.items c.requires.twins c.requires.fit }
+
+pub returns-in_err-events-clause-fault : goal.returns-in_err-events-clause-fault
+returns-in_err-events-clause-fault g c =
+    let casts = map (casting g.K.Actor.state) c.args.casts.items in
+    let plans = map plan_seen c.args.plans.items in
+    err_only c.from_residual-in_err-events.result (λ (f : RecordFault). f ≡ c.in_err-events.field-0.0) (IsRecordFault casts plans) c.from_residual-in_err-events.ensures.1
+    (λ f is. subst (IsRecordFault casts plans) (sym is) (play_fault casts plans c.in_ok-ran.ensures.good c.in_err-events.field-0.0 c.in_err-events.ensures.fault))
+
+pub returns-clause-played : goal.returns-clause-played
+returns-clause-played g c =
+    subst (λ (casts : List Casting). IsPlayOf casts c.in_ok-events.events.items c.in_ok-ran.ran.0.owners.items (map (λ (actor : Finished _). end_seen g.K.Actor.state actor.ended) c.in_ok-ran.ran.0.actors.items))
+    c.requires.twins c.in_ok-events.ensures.played

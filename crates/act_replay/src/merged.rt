@@ -1,0 +1,248 @@
+//! A play made of what the threads noted.
+//!
+//! What an event is refused for depends on what its own thread did before, and on one cause in another
+//! thread: a letter that was sent, a notice that was given, a kill that was asked. So the threads take
+//! turns, and each puts its next event where the cause of it stands.
+//!
+//! No contract says that what is made is a play: a world plays it, and the two ends are compared.
+
+use crate::causes::Causes;
+use act_executor::{Ended, Finished, Mark, Page, Pages};
+use act_kinds::Actor;
+use act_owner::Owner;
+use act_rules::Event;
+use act_types::{ActorId, CopyOf, NoMemory};
+use std::alloc::Global;
+
+/// A play that is being made. Of each thread it has how many of its marks are events by now.
+#[derive(Drop)]
+struct Merged {
+    alloc: Global,
+    events: Vec<Event>,
+    causes: Causes,
+    of_callers: Vec<usize>,
+    of_actors: Vec<usize>,
+}
+
+/// The next mark of a thread.
+fn next_mark(pages: &[Page], done: &[usize], at: usize) -> Option<Mark> {
+    let page = pages.get(at)?;
+    let place = done.get(at)?;
+    match page.marks.get(*place) {
+        Some(mark) => Some(*mark),
+        None => None,
+    }
+}
+
+/// A mark more of a thread is an event.
+fn go_on(done: &mut Vec<usize>, at: usize) {
+    if let Some(place) = done.get_mut(at) {
+        *place = place.wrapping_add(1);
+    }
+}
+
+/// The letter is brought, where it stands.
+fn delivered(letter: Option<u32>) -> Option<Event> {
+    match letter {
+        Some(place) => Some(Event::Deliver(place)),
+        None => None,
+    }
+}
+
+/// The notice is collected, where it stands.
+fn collected(notice: Option<u32>) -> Option<Event> {
+    match notice {
+        Some(place) => Some(Event::Collect(place)),
+        None => None,
+    }
+}
+
+/// The actor that ended.
+fn id_of<K: Actor>(ended: &Ended<K>) -> ActorId {
+    match ended {
+        Ended::Killed(dead) | Ended::Starved(dead) => dead.id(),
+        Ended::Retired(retired) => retired.id(),
+    }
+}
+
+/// How many marks the pages have, or none where one isn't whole.
+fn whole(pages: &[Page]) -> Option<usize> {
+    let mut marks: usize = 0;
+    for page in pages {
+        if !page.is_whole {
+            return None;
+        }
+        marks = marks.wrapping_add(page.marks.len());
+    }
+    Some(marks)
+}
+
+impl Merged {
+    /// No event, for so many callers and actors.
+    fn open(alloc: Global, callers: usize, actors: usize) -> Result<Merged, NoMemory> {
+        let mut of_callers = Vec::new(alloc);
+        for _caller in 0..callers {
+            of_callers.push(0)?;
+        }
+        let mut of_actors = Vec::new(alloc);
+        for _actor in 0..actors {
+            of_actors.push(0)?;
+        }
+        Ok(Merged {
+            alloc,
+            events: Vec::new(alloc),
+            causes: Causes::open(alloc)?,
+            of_callers,
+            of_actors,
+        })
+    }
+
+    /// The submission of the caller's next call.
+    fn submission(&mut self, owner: &Owner) -> Result<Option<Event>, NoMemory> {
+        let Some(k) = self.causes.submit(owner.id())? else {
+            return Ok(None);
+        };
+        let Some(call) = owner.call(k) else {
+            return Ok(None);
+        };
+        let args = call.args.copy_of(self.alloc)?;
+        Ok(Some(Event::Submit(owner.id(), call.actor, call.method, args)))
+    }
+
+    /// The event of a caller's mark, where its cause stands.
+    fn event_of_caller(&mut self, owner: &Owner, mark: Mark) -> Result<Option<Event>, NoMemory> {
+        let c = owner.id();
+        let event = match mark {
+            Mark::Submit(_) => self.submission(owner)?,
+            Mark::Copy(a) => Some(Event::Copy(c, a)),
+            Mark::Release(a) => Some(Event::Release(c, a)),
+            Mark::LastRelease(a) => {
+                self.causes.let_go(c, a);
+                Some(Event::Release(c, a))
+            }
+            Mark::Send(k) => {
+                self.causes.send(c, k);
+                Some(Event::Send(c, k))
+            }
+            Mark::AskKill(a) => {
+                self.causes.ask_kill(a);
+                Some(Event::AskKill(c, a))
+            }
+            Mark::CollectReply(a, place) => collected(self.causes.reply(a, place)),
+            Mark::CollectDeath(a) => collected(self.causes.death(a, c)),
+            _ => None,
+        };
+        Ok(event)
+    }
+
+    /// The event of an actor's mark, where its cause stands.
+    fn event_of_actor(&mut self, a: ActorId, mark: Mark) -> Result<Option<Event>, NoMemory> {
+        let event = match mark {
+            Mark::DeliverCall(c, k) => delivered(self.causes.call(c, k)),
+            Mark::DeliverNote(c) => delivered(self.causes.note(c, a)),
+            Mark::Run(c) => {
+                self.causes.run(a)?;
+                Some(Event::Run(a, c))
+            }
+            Mark::TakeKill => {
+                if self.causes.is_asked(a) {
+                    Some(Event::TakeKill(a))
+                } else {
+                    None
+                }
+            }
+            Mark::Tell(c) => {
+                self.causes.tell(a, c);
+                Some(Event::Tell(a, c))
+            }
+            Mark::Retire => Some(Event::Retire(a)),
+            _ => None,
+        };
+        Ok(event)
+    }
+
+    /// Puts the caller's next event, where there is one and its cause stands.
+    fn put_of_caller(
+        &mut self,
+        owner: &Owner,
+        at: usize,
+        pages: &[Page],
+    ) -> Result<bool, NoMemory> {
+        let Some(mark) = next_mark(pages, self.of_callers.as_slice(), at) else {
+            return Ok(false);
+        };
+        let Some(event) = self.event_of_caller(owner, mark)? else {
+            return Ok(false);
+        };
+        self.events.push(event)?;
+        go_on(&mut self.of_callers, at);
+        Ok(true)
+    }
+
+    /// Puts the actor's next event, where there is one and its cause stands.
+    fn put_of_actor(&mut self, a: ActorId, at: usize, pages: &[Page]) -> Result<bool, NoMemory> {
+        let Some(mark) = next_mark(pages, self.of_actors.as_slice(), at) else {
+            return Ok(false);
+        };
+        let Some(event) = self.event_of_actor(a, mark)? else {
+            return Ok(false);
+        };
+        self.events.push(event)?;
+        go_on(&mut self.of_actors, at);
+        Ok(true)
+    }
+
+    /// Each caller's turn.
+    fn call_round(&mut self, owners: &[Owner], pages: &[Page]) -> Result<bool, NoMemory> {
+        let mut has_moved = false;
+        for (at, owner) in owners.iter().enumerate() {
+            has_moved = self.put_of_caller(owner, at, pages)? || has_moved;
+        }
+        Ok(has_moved)
+    }
+
+    /// Each actor's turn.
+    fn serve_round<K: Actor>(
+        &mut self,
+        actors: &[Finished<K>],
+        pages: &[Page],
+    ) -> Result<bool, NoMemory> {
+        let mut has_moved = false;
+        for (at, actor) in actors.iter().enumerate() {
+            has_moved = self.put_of_actor(id_of(&actor.ended), at, pages)? || has_moved;
+        }
+        Ok(has_moved)
+    }
+}
+
+/// More rounds than there are events in any play.
+const MOST_ROUNDS: u32 = 4_294_967_295;
+
+/// The events that the threads of these callers and actors noted, in an order in which each stands
+/// after its cause. None where a page isn't whole, or a cause stands nowhere.
+pub(crate) fn merge<K: Actor>(
+    alloc: Global,
+    owners: &[Owner],
+    actors: &[Finished<K>],
+    pages: &Pages<Page>,
+) -> Result<Option<Vec<Event>>, NoMemory> {
+    let of_callers = pages.of_callers.as_slice();
+    let of_actors = pages.of_actors.as_slice();
+    let (Some(called), Some(served)) = (whole(of_callers), whole(of_actors)) else {
+        return Ok(None);
+    };
+    let mut merged = Merged::open(alloc, owners.len(), actors.len())?;
+    for _round in 0..MOST_ROUNDS {
+        let has_called = merged.call_round(owners, of_callers)?;
+        let has_served = merged.serve_round(actors, of_actors)?;
+        if !has_called && !has_served {
+            break;
+        }
+    }
+    let Merged { events, .. } = merged;
+    if events.len() == called.wrapping_add(served) {
+        Ok(Some(events))
+    } else {
+        Ok(None)
+    }
+}

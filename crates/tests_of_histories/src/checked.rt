@@ -1,0 +1,116 @@
+//! Histories that some play ends in, and others, worked by hand.
+
+use act_histories::{CheckFault, Stock, check_history};
+use act_kinds::{Account, Boxed, Counter, ListKind, Table};
+use act_types::MOST_ACTORS;
+use std::process::Abort;
+use std::test::Fail;
+
+/// A history, what is written of it, and the answer.
+struct Row {
+    history: &'static str,
+    output: &'static str,
+    answer: Result<(), CheckFault>,
+}
+
+const TWO_CALLS: Row = Row {
+    history: "actor a1 counter c1\nsubmit c1 a1 add 5\nsubmit c1 a1 add @0\nc1.0 a1 = 5\nc1.1 a1 = 10\n\
+        a1 retired counter 10\na1.0 c1.0 add 5\na1.1 c1.1 add 5\n",
+    output: "actor a1 counter c1\nsubmit c1 a1 add 5\nsubmit c1 a1 add @0\nsend c1 0\ndeliver 0\nrun a1 c1\n\
+        collect 0\nsend c1 1\ndeliver 1\nrun a1 c1\ncollect 1\nrelease c1 a1\ndeliver 2\nretire a1\n",
+    answer: Ok(()),
+};
+
+/// No line submits the calls, and the second one never ran.
+const A_DEATH: Row = Row {
+    history: "actor a1 counter c1\n# what was left\nc1.0 a1 = 5\nc1.1 a1 = ActorDied\n\na1 dead\na1.0 c1.0 add 5",
+    output: "actor a1 counter c1\nsubmit c1 a1 add 5\nsubmit c1 a1 get\nsend c1 0\ndeliver 0\nrun a1 c1\ncollect 0\n\
+        kill c1 a1\ntake a1\ntell a1 c1\ncollect 1\n",
+    answer: Ok(()),
+};
+
+/// Each first answer needs the other caller's second call, which needs that caller's first answer.
+const A_CIRCLE: Row = Row {
+    history: "actor a1 list c1 c2\nactor a2 list c1 c2\nsubmit c1 a1 push 5\nsubmit c1 a2 push @0\n\
+        submit c2 a2 push 5\nsubmit c2 a1 push @0\nc1.0 a1 = 2\nc1.1 a2 = 1\nc2.0 a2 = 2\nc2.1 a1 = 1\n\
+        a1 retired list 2 5\na1.0 c2.1 push 2\na1.1 c1.0 push 5\n\
+        a2 retired list 2 5\na2.0 c1.1 push 2\na2.1 c2.0 push 5\n",
+    output: "line 12: c2.1 waits for the answer of c2.0\nline 9: c2.0 waits for c1.1 at a2, which ran before it\n\
+        line 15: c1.1 waits for the answer of c1.0\nline 7: c1.0 waits for c2.1 at a1, which ran before it\n",
+    answer: Err(CheckFault::Refused),
+};
+
+const A_CALL_SKIPPED: Row = Row {
+    history: "actor a1 counter c1\nc1.0 a1 = 3\nc1.1 a1 = 2\na1 live counter 3\na1.0 c1.1 add 2\na1.1 c1.0 add 1\n",
+    output: "line 5: a1.0 skips c1.0\n",
+    answer: Err(CheckFault::Refused),
+};
+
+const ANOTHER_ANSWER: Row = Row {
+    history: "actor a1 counter c1\nc1.0 a1 = 1\nc1.1 a1 = 9\na1 live counter 3\na1.0 c1.0 add 1\na1.1 c1.1 add 2\n",
+    output: "line 3: the answer at a1.1 is 3, not 9\n",
+    answer: Err(CheckFault::Refused),
+};
+
+const A_SECOND_SPELLING: Row = Row {
+    history: "actor a1 counter c1\n# a comment counts\nc1.0 a1 = 05\n",
+    output: "line 3: BadLine: no line of a history has this form\n",
+    answer: Err(CheckFault::Mistake),
+};
+
+/// Checks a history, with kinds that are made here.
+fn checked<Rt: AllocGlobal>(
+    rt: &Rt,
+    history: &[u8],
+    written: &mut Vec<u8>,
+) -> Result<(), CheckFault> {
+    let alloc = rt.alloc();
+    let mut stock = Stock {
+        counters: Vec::new(alloc),
+        tables: Vec::new(alloc),
+        accounts: Vec::new(alloc),
+        lists: Vec::new(alloc),
+    };
+    for _ in 0..MOST_ACTORS {
+        let counter: Boxed = Box::new(alloc, Counter::open())?;
+        let table: Boxed = Box::new(alloc, Table::open(alloc))?;
+        let account: Boxed = Box::new(alloc, Account::open())?;
+        let list: Boxed = Box::new(alloc, ListKind::open(alloc))?;
+        stock.add(counter, table, account, list)?;
+    }
+    let mut reader = history;
+    check_history(alloc, stock, &mut reader, written)
+}
+
+fn assert_told<Rt: AllocGlobal + Abort>(rt: &Rt, row: &Row) {
+    let mut written = Vec::new(rt.alloc());
+    let answer = checked(rt, row.history.as_bytes(), &mut written);
+    assert_eq!(rt; answer, row.answer, "{}", row.history);
+    assert_eq!(rt;
+        written.as_slice(),
+        row.output.as_bytes(),
+        "{}",
+        row.history
+    );
+}
+
+#[test]
+fn plays_are_found(rt: HostRuntime) -> Result<(), Fail> {
+    assert_told(&rt, &TWO_CALLS);
+    assert_told(&rt, &A_DEATH);
+    Ok(())
+}
+
+#[test]
+fn what_no_play_leaves_is_refused(rt: HostRuntime) -> Result<(), Fail> {
+    assert_told(&rt, &A_CIRCLE);
+    assert_told(&rt, &A_CALL_SKIPPED);
+    assert_told(&rt, &ANOTHER_ANSWER);
+    Ok(())
+}
+
+#[test]
+fn mistakes_are_told(rt: HostRuntime) -> Result<(), Fail> {
+    assert_told(&rt, &A_SECOND_SPELLING);
+    Ok(())
+}

@@ -1,0 +1,5 @@
+//! Tests of histories, from bytes to bytes.
+#![tactic(auto)]
+
+#[cfg(test)]
+mod checked;

@@ -1,0 +1,303 @@
+#!/usr/bin/env python3
+"""Checks what `ray_check` says of histories beside the second reading of the rules.
+
+- Random plans are run in threads. What each run left has a play, with the script's submit lines or without them.
+- The same reports are damaged, at one place each. Where no play is found, the second reading doesn't allow the report.
+- Small histories with run lists in any order, which may lead into a circle: a play is found where the second reading
+  finds no circle, and only there.
+- What must be told of a few histories, to the letter: circles, a call skipped, an answer that is another.
+
+Wherever a play is found, the second reading plays it: no event is refused, it has the roles and the submit lines of the
+history, and ends in its lines.
+"""
+import argparse
+import collections
+import concurrent.futures
+import pathlib
+import random
+import subprocess
+import sys
+
+import reading_of_rules as reading
+import seeds
+import threads
+from program import CRATES, proved, program_of
+
+CHECK = CRATES / "ray_check" / "out" / "ray_check"
+PLAY, MISTAKE, REFUSED = 0, 1, 5
+AT_ONCE = 4
+MOST_SECONDS = 60
+MOST_SHOWN = 5
+DAMAGES = 6  # of each report
+
+
+# Histories and plays.
+
+
+def roles_of(script):
+    return [line for line in script.split(b"\n") if line.startswith(b"actor ")]
+
+
+def submits_of(script):
+    """The submit lines of each caller, in order."""
+    found = collections.defaultdict(list)
+    for line in script.split(b"\n"):
+        if line.startswith(b"submit "):
+            found[line.split(b" ")[1]].append(line)
+    return found
+
+
+def lines_told(report):
+    """The lines that a history tells of what was left: empty ones and comments are skipped."""
+    return [line for line in report.split(b"\n") if line and not line.startswith(b"#")]
+
+
+def with_end(script):
+    return script if script.endswith(b"\n") or not script else script + b"\n"
+
+
+def without_plans(script):
+    return b"".join(line + b"\n" for line in roles_of(script))
+
+
+def wrong_play(front, report, play):
+    """What is wrong with a play that was found, if anything is."""
+    if roles_of(play) != roles_of(front):
+        return "the play has other roles"
+    told = submits_of(front)
+    if any(lines != submits_of(play)[caller] for caller, lines in told.items()):
+        return "the play submits other calls"
+    got, status = reading.play(play)
+    if status:
+        return f"the play is none: {got!r}"
+    outcomes = [line for line in got.split(b"\n") if line[:1].isdigit()]
+    if any(b": refused " in line or line.endswith(b": gap") for line in outcomes):
+        return "an event of the play is refused"
+    if got.split(b"\n")[len(outcomes) : -1] != lines_told(report):
+        return "the play ends otherwise"
+    return None
+
+
+# Runs of the program.
+
+
+def check(program, history):
+    """What the program says of a history, and its status."""
+    done = subprocess.run([program], input=history, capture_output=True, timeout=MOST_SECONDS)
+    return done.stdout, done.returncode if not done.stderr else (done.returncode, done.stderr)
+
+
+def checks(program, histories):
+    with concurrent.futures.ThreadPoolExecutor(max_workers=AT_ONCE) as pool:
+        yield from pool.map(lambda history: check(program, history), histories)
+
+
+def unplayed(front, report, got):
+    """Why what was said of a history that has a play is wrong."""
+    text, status = got
+    return wrong_play(front, report, text) if status == PLAY else f"no play was found, with status {status}: {text!r:.300}"
+
+
+def misjudged(script, report, got):
+    """Why what was said of a history is wrong that may have a play or not."""
+    text, status = got
+    if status == PLAY:
+        return wrong_play(script, report, text)
+    if status not in (MISTAKE, REFUSED) or not text.startswith(b"line "):
+        return f"status {status}, and {text!r:.300}"
+    if threads.complaint(script, report, 0) is None:
+        return f"the second reading allows it, and it was refused: {text!r:.300}"
+    return None
+
+
+# Small histories, of lists and pushes. An answer is a length, so the run lists alone tell all answers.
+
+
+class Lists:
+    def __init__(self, chance):
+        self.chance = chance
+        self.callers = range(1, chance.randint(2, 3) + 1)
+        self.actors = range(1, chance.randint(2, 3) + 1)
+        self.limits = {actor: chance.choice(["", "", "", " max 1", " max 2"]) for actor in self.actors}
+        self.calls = {caller: [self.call(place) for place in range(chance.randint(2, 4))] for caller in self.callers}
+        self.runs = {actor: self.run_list(actor) for actor in self.actors}
+        places = ((item, place) for items in self.runs.values() for place, item in enumerate(items))
+        self.answers = {item: place + 1 for item, place in places}
+
+    def call(self, place):
+        """The actor of a call, and the future that is its argument, or none."""
+        is_plain = place == 0 or self.chance.random() < 0.4
+        return self.chance.choice(self.actors), None if is_plain else self.chance.randrange(place)
+
+    def run_list(self, actor):
+        """The calls to an actor, those of each caller in order."""
+        left = [[(caller, k) for k, call in enumerate(calls) if call[0] == actor] for caller, calls in self.calls.items()]
+        items = []
+        while left := [calls for calls in left if calls]:
+            items.append(self.chance.choice(left).pop(0))
+        return items
+
+    def value(self, item):
+        caller, k = item
+        argument = self.calls[caller][k][1]
+        return 5 if argument is None else self.answers[caller, argument]
+
+    def script(self):
+        names = "".join(f" c{caller}" for caller in self.callers)
+        yield from (f"actor a{actor} list{limit}{names}" for actor, limit in self.limits.items())
+        for caller, calls in self.calls.items():
+            for actor, argument in calls:
+                yield f"submit c{caller} a{actor} push {5 if argument is None else f'@{argument}'}"
+
+    def report(self):
+        for caller, calls in self.calls.items():
+            yield from (f"c{caller}.{k} a{call[0]} = {self.answers[caller, k]}" for k, call in enumerate(calls))
+        for actor, items in self.runs.items():
+            yield f"a{actor} retired list" + "".join(f" {self.value(item)}" for item in items)
+            yield from (f"a{actor}.{place} c{c}.{k} push {self.value((c, k))}" for place, (c, k) in enumerate(items))
+
+
+def lines_of(lines):
+    return "".join(f"{line}\n" for line in lines).encode()
+
+
+def small_histories(seed, count):
+    for place in range(count):
+        lists = Lists(random.Random(f"lists {seed}.{place}"))
+        yield lines_of(lists.script()), lines_of(lists.report())
+
+
+# Worked histories, and what must be told of them.
+
+LISTS = "actor a1 list c1 c2\nactor a2 list c1 c2\n"
+CROSSED = LISTS + "submit c1 a1 push 5\nsubmit c1 a2 push @0\nsubmit c2 a2 push 5\nsubmit c2 a1 push @0\n"
+CYCLIC = """c1.0 a1 = 2
+c1.1 a2 = 1
+c2.0 a2 = 2
+c2.1 a1 = 1
+a1 retired list 2 5
+a1.0 c2.1 push 2
+a1.1 c1.0 push 5
+a2 retired list 2 5
+a2.0 c1.1 push 2
+a2.1 c2.0 push 5
+"""
+CIRCLE = """line 12: c2.1 waits for the answer of c2.0
+line 9: c2.0 waits for c1.1 at a2, which ran before it
+line 15: c1.1 waits for the answer of c1.0
+line 7: c1.0 waits for c2.1 at a1, which ran before it
+"""
+ONE = "actor a1 counter c1\n"
+TWO_CALLS = "c1.0 a1 = 1\nc1.1 a1 = 3\na1 live counter 3\n"
+WORKED = {
+    "a circle": (CROSSED + CYCLIC, CIRCLE, REFUSED),
+    "a circle that no submit line makes": (LISTS + CYCLIC, None, PLAY),
+    "a call skipped": (ONE + TWO_CALLS + "a1.0 c1.1 add 2\na1.1 c1.0 add 1\n", "line 5: a1.0 skips c1.0\n", REFUSED),
+    "another answer": (
+        ONE + TWO_CALLS.replace("= 3", "= 4") + "a1.0 c1.0 add 1\na1.1 c1.1 add 2\n",
+        "line 3: the answer at a1.1 is 3, not 4\n",
+        REFUSED,
+    ),
+    "another state": (
+        ONE + TWO_CALLS.replace("counter 3", "counter 4") + "a1.0 c1.0 add 1\na1.1 c1.1 add 2\n",
+        "line 4: a1 live counter 4, and by the rules: a1 live counter 3\n",
+        REFUSED,
+    ),
+    "another argument": (
+        ONE + "submit c1 a1 add 1\nsubmit c1 a1 add @0\n" + TWO_CALLS + "a1.0 c1.0 add 1\na1.1 c1.1 add 2\n",
+        "line 8: the arguments at a1.1 are 1, not 2\n",
+        REFUSED,
+    ),
+    "a limit": (
+        ONE.replace("c1", "max 1 c1") + "c1.0 a1 ?\nc1.1 a1 = 3\na1 live counter 3\na1.0 c1.0 add 1\na1.1 c1.1 add 2\n",
+        "line 3: c1.1 waits for the answer of c1.0, by the limit of a1\nline 2: c1.0 has no answer\n",
+        REFUSED,
+    ),
+    "a word that is none": (ONE + "c1.0 a1 = 05\n", "line 2: BadLine: no line of a history has this form\n", MISTAKE),
+    "a line of events": (ONE + "send c1 0\n", "line 2: BadLine\n", MISTAKE),
+    "an actor without a line": (ONE, "line 0: NoEnd: an actor has a role, and no line tells its end\n", MISTAKE),
+}
+
+
+# All checks.
+
+
+def reports_of(runs, scripts):
+    """The reports of the scripts that ran, each with its script."""
+    got = zip(scripts, threads.runs(runs, scripts))
+    return [(script, report) for script, (report, status) in got if status == 0]
+
+
+def tell(name, history, why):
+    print(f"{name}: {why}; the history is {history.decode(errors='replace')!r:.2000}")
+
+
+class Tally:
+    def __init__(self):
+        self.passed, self.failed = 0, 0
+
+    def add(self, name, history, why):
+        self.passed, self.failed = self.passed + (why is None), self.failed + (why is not None)
+        if why is not None and self.failed <= MOST_SHOWN:
+            tell(name, history, why)
+
+
+def try_runs(tally, program, reports):
+    fronts = [(front, report) for script, report in reports for front in (with_end(script), without_plans(script))]
+    for (front, report), got in zip(fronts, checks(program, [front + report for front, report in fronts])):
+        tally.add("a run in threads", front + report, unplayed(front, report, got))
+
+
+def damaged_reports(seed, reports):
+    for place, (script, report) in enumerate(reports):
+        chance = random.Random(f"damaged {seed}.{place}")
+        told = [got for _, (got, status) in threads.tampered_run(chance, script, report) if status == 0]
+        yield from ((with_end(script), got) for got in chance.sample(told, min(DAMAGES, len(told))) if got != report)
+
+
+def try_either(tally, program, name, pairs):
+    """Histories that may have a play or not. How many have one."""
+    found = 0
+    for (script, report), got in zip(pairs, checks(program, [script + report for script, report in pairs])):
+        tally.add(name, script + report, misjudged(script, report, got))
+        found += got[1] == PLAY
+    print(f"check_histories: {found} of {len(pairs)} have a play: {name}")
+    return found
+
+
+def try_worked(tally, program):
+    for name, (history, told, status) in WORKED.items():
+        text, got = check(program, history.encode())
+        is_well = got == status and (told is None or text.decode() == told)
+        tally.add(name, history.encode(), None if is_well else f"status {got}, and {text!r}")
+
+
+def chosen_options():
+    options = argparse.ArgumentParser(description=__doc__.splitlines()[0])
+    options.add_argument("--seed", type=int, help="this seed alone")
+    options.add_argument("--count", type=int, default=60, help="how many random scripts of each seed")
+    options.add_argument("--lists", type=int, default=150, help="how many small histories of each seed")
+    options.add_argument("--program", type=pathlib.Path, default=CHECK, help="check by this one")
+    options.add_argument("--runs", type=pathlib.Path, help="run scripts by this one, and not by the one that ./run takes")
+    return options.parse_args()
+
+
+def main():
+    chosen = chosen_options()
+    program, runs = proved("check_histories", chosen.program), program_of("check_histories", chosen.runs)
+    tally = Tally()
+    try_worked(tally, program)
+    for seed in seeds.chosen(chosen.seed, "check_histories"):
+        scripts = [*threads.random_scripts(seed, chosen.count).values(), *threads.worked_scripts().values()]
+        reports = reports_of(runs, scripts)
+        try_runs(tally, program, reports)
+        try_either(tally, program, "reports that were damaged", list(damaged_reports(seed, reports)))
+        small = list(small_histories(seed, chosen.lists))
+        if not 0 < try_either(tally, program, "small histories", small) < len(small):
+            tally.add("small histories", b"", "all of them have a play, or none has")
+    print(f"check_histories: {tally.passed} passed, {tally.failed} failed")
+    sys.exit(1 if tally.failed else 0)
+
+
+if __name__ == "__main__":
+    main()

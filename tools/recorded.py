@@ -1,0 +1,277 @@
+#!/usr/bin/env python3
+"""Records runs of scripts for threads by `ray_record`, and plays each record by `ray_actors`.
+
+    tools/recorded.py [--noted] [--seed N] [--count N] [--program PATH] [--player PATH]
+
+Recorded are the examples for threads, the worked scripts for threads, and random ones of tools/threads.py; half of
+these on one processor (taskset -c 0). Without `--seed` there are two seeds, as there. A record fails where
+
+  - it has other roles than its script, in another order or with another limit;
+  - `ray_actors play` ends with a fault, or tells of an event that it was `refused`, a `gap`, a `repeat` or a `stranger`;
+  - an actor is `live` at the end;
+  - the summary is not one that the second reading of the rules allows of the script (tools/threads.py tells how), or
+    not the worked one, where there is one;
+  - something stands on the standard error, but for the line that a play was found and not noted; with `--noted` that
+    fails, too.
+
+Of a script with a fault the line of the fault and the status 1 must come. A run of more than 60 seconds fails. A script
+whose play is too long for a script must be recorded all the same, and a line must say so. Then, of one worked script,
+each request for memory and each thread is refused in turn: the run must say `no memory` or `no thread`, end with 3
+and write nothing, or leave a record that is good. The checks are tried themselves: a record of the bank from which a
+line is taken, or in which two lines change places, must fail, but where the rules say that it means the same.
+"""
+import argparse
+import concurrent.futures
+import pathlib
+import re
+import subprocess
+import sys
+import tempfile
+
+import reading_of_rules as reading
+import seeds
+import threads
+from program import RECORDS, TOP, program_of
+from refusing import HANGS, Refusing
+
+EXAMPLES = TOP / "examples"
+ROWS = TOP / "crates/ray_actors/thread_rows"
+BANK = EXAMPLES / "bank.actors"
+SWEPT = ROWS / "kill.actors"
+COUNT = 1_000  # random scripts of each seed
+AT_ONCE = 4
+MOST_SECONDS = 60
+MOST_SHOWN = 5
+ONE_PROCESSOR = ["taskset", "-c", "0"]
+BAD_OUTCOMES = re.compile(rb"^\d+: (refused .*|gap|repeat|stranger)$", re.MULTILINE)
+LIVE = re.compile(rb"^a\d+ live .*$", re.MULTILINE)
+OUTCOMES = re.compile(rb"(?:\d+: .*\n)*")
+LONG_CALLS = 16_000  # of a script whose play is too long for a script
+NO_MEMORY = (3, b"", b"no memory\n")
+NO_THREAD = (3, b"", b"no thread\n")
+FOUND = b"the play is found, not noted: one way in which the run can have gone\n"
+TOO_LONG = b"the play has more than 1048576 bytes, and can't be read again\n"
+
+
+def ran(command, script):
+    """The status of a run, its output, and its notes."""
+    try:
+        done = subprocess.run(list(map(str, command)), input=script, capture_output=True, timeout=MOST_SECONDS)
+    except subprocess.TimeoutExpired:
+        return None, b"", b"no end within %d seconds" % MOST_SECONDS
+    return done.returncode, done.stdout, done.stderr
+
+
+# What is wrong with a record.
+
+
+def roles_of(script):
+    return [line for line in script.split(b"\n") if line.startswith(b"actor ")]
+
+
+def fault_of(script):
+    """The line of the script's fault, or nothing."""
+    try:
+        reading.read_plans(script)
+    except reading.ScriptFault as fault:
+        return str(fault).encode()
+    return None
+
+
+def complaint_of_play(player, script, play, wanted):
+    """What is wrong with the play of a script, by the report that it gives."""
+    if roles_of(play) != roles_of(script):
+        return "the play has other roles"
+    status, report, notes = ran([player, "play"], play)
+    if (status, notes) != (0, b""):
+        return f"the play ends with {status}, {report[:200]!r} and {notes[:200]!r}"
+    bad = BAD_OUTCOMES.search(report) or LIVE.search(report)
+    if bad:
+        return f"the play's report has '{bad[0].decode()}'"
+    summary = report[OUTCOMES.match(report).end() :]
+    if wanted is not None and summary != wanted:
+        return f"the play ends otherwise than the worked run: {summary!r:.600}"
+    return threads.complaint(script, summary, 0)
+
+
+def complaint(player, script, got, wanted=None, notes=(b"", FOUND)):
+    """What is wrong with what was recorded of a script, with one of these notes."""
+    status, output, told = got
+    fault = fault_of(script)
+    if fault is not None:
+        return None if got == (1, fault, b"") else f"the fault is {fault!r}, and it ends with {got!r:.600}"
+    if status != 0 or told not in notes:
+        return f"it ends with {status} and {told!r:.600}"
+    return complaint_of_play(player, script, output, wanted)
+
+
+# The scripts.
+
+
+def worked_scripts():
+    """By name: a script, and its summary where that is fixed. Of a faulty one the reading tells the fault."""
+    for path in sorted(EXAMPLES.glob("*.actors")):
+        if not set(reading.PLAY_FORMS) - set(reading.THREAD_FORMS) & first_words(path):
+            yield path.stem, path.read_bytes(), None
+    for path in sorted(ROWS.glob("*.actors")):
+        report = path.with_suffix(".report")
+        is_fixed = report.exists() and not path.with_suffix(".status").exists()
+        yield path.stem, path.read_bytes(), report.read_bytes() if is_fixed else None
+
+
+def first_words(path):
+    return {line.split(" ")[0] for line in path.read_text().splitlines()}
+
+
+def random_scripts(seed, count):
+    for place in range(count):
+        yield f"{seed}.{place}", threads.random_script(seed, place), None
+
+
+def record_all(program, player, scripts, notes, before=()):
+    """Of each script its name and what is wrong with its record, several at once; `before` stands before the command."""
+
+    def one(each):
+        name, script, wanted = each
+        return name, script, complaint(player, script, ran([*before, program], script), wanted, notes)
+
+    with concurrent.futures.ThreadPoolExecutor(max_workers=AT_ONCE) as pool:
+        yield from pool.map(one, scripts)
+
+
+def failures_of(results):
+    """How many records are good, and the lines that tell of the others; the first few scripts are kept."""
+    good, failures = 0, []
+    for name, script, why in results:
+        good += why is None
+        if why is not None:
+            failures.append(f"{name}: {why}")
+            if len(failures) <= MOST_SHOWN:
+                with tempfile.NamedTemporaryFile(prefix="recorded-", suffix=".actors", delete=False) as file:
+                    file.write(script)
+                failures[-1] += f"; the script is {file.name}"
+    return good, failures
+
+
+# A play that is too long for a script.
+
+
+def long_failures(program):
+    script = b"actor a1 counter c1\n" + b"submit c1 a1 add 9000000000000\n" * LONG_CALLS
+    status, play, notes = ran([program], script)
+    lines = play.count(b"\n")
+    wanted = 1 + 5 * LONG_CALLS + 3  # five events of each call, and the release, its delivery and the end
+    if status == 0 and notes in (TOO_LONG, FOUND + TOO_LONG) and len(play) > 1_048_576 and lines == wanted:
+        return 1, []
+    return 0, [f"a long play: it ends with {status} and {notes!r:.200}, and has {len(play)} bytes in {lines} lines, not {wanted}"]
+
+
+# Refused requests.
+
+
+def swept(program, player):
+    """Of each request and each thread that is refused in turn, what is wrong with what comes."""
+    script = SWEPT.read_bytes()
+    refused = 0
+    with tempfile.TemporaryDirectory() as folder:
+        refusing = Refusing(folder)
+        whole = refusing.run([program], 0, SWEPT)
+        yield "no request refused", script, complaint(player, script, whole)
+        most, count_of_threads, nth = refusing.requests(), refusing.threads(), 0
+        while nth < most:
+            nth += 1
+            got = refusing.run([program], nth, SWEPT)
+            most = max(most, refusing.requests())
+            is_refused = got in (NO_MEMORY, NO_THREAD)
+            refused += is_refused
+            why = None if is_refused else complaint(player, script, got)
+            yield f"request {nth} of {most}", script, why
+            if got == HANGS:
+                return
+        for nth in range(1, count_of_threads + 1):
+            got = refusing.run([program], 0, SWEPT, thread=nth)
+            yield f"thread {nth}", script, None if got == NO_THREAD else f"it ends with {got!r:.600}"
+        yield "some request is refused", script, None if refused else "none was"
+        yield "some thread is refused", script, None if count_of_threads else "none was to start"
+
+
+# The checks are tried.
+
+
+def cause_of(lines, place):
+    """Of a line of the bank's play that follows another one by necessity: the words of that other one, or None.
+
+    Each caller of the bank has one copy of a handle, so each release is the last one, and posts a note."""
+    before = [line.split() for line in lines[:place]]
+    words = lines[place].split()
+    letters = [each for each in before if each[0] in ("send", "release")]
+    notices = [each for each in before if each[0] in ("run", "tell")]
+    if words[0] == "deliver":
+        return letters[int(words[1])]
+    if words[0] == "collect":
+        return notices[int(words[1])]
+    delivered = [letters[int(each[1])] for each in before if each[0] == "deliver"]
+    if words[0] == "run":
+        future = sum(each[:3] == words for each in before)  # so many of the caller's calls to the actor ran
+        calls = [each for each in before if each[0] == "submit" and each[1] == words[2]]
+        sent = [place for place, each in enumerate(calls) if each[2] == words[1]][future]
+        return ["deliver", str(letters.index(["send", words[2], str(sent)]))]
+    if words[0] == "retire":
+        return ["deliver", str(letters.index([each for each in delivered if each[0] == "release" and each[2] == words[1]][-1]))]
+    return ["actor"] if words[0] == "actor" else None
+
+
+def spoilt(lines):
+    """Plays with one line less, or with two neighbours that can't change places."""
+    for place, line in enumerate(lines):
+        yield f"line {place} left out: {line}", lines[:place] + lines[place + 1 :]
+    for place, (one, other) in enumerate(zip(lines, lines[1:])):
+        cause = cause_of(lines, place + 1)
+        if cause and one.split()[: len(cause)] == cause:
+            yield f"lines {place} and {place + 1} swapped", lines[:place] + [other, one] + lines[place + 2 :]
+
+
+def trial(program, player):
+    """Each spoilt record of the bank, and whether it passes."""
+    script = BANK.read_bytes()
+    _, play, _ = ran([program], script)
+    lines = play.decode().splitlines()
+    for name, others in spoilt(lines):
+        text = "".join(f"{line}\n" for line in others).encode()
+        is_told = complaint_of_play(player, script, text, None) is not None
+        yield f"spoilt: {name}", script, None if is_told else "the check finds nothing wrong with it"
+
+
+def chosen_options():
+    options = argparse.ArgumentParser(description=__doc__.splitlines()[0])
+    options.add_argument("--noted", action="store_true", help="a play that was found and not noted fails")
+    options.add_argument("--seed", type=int)
+    options.add_argument("--count", type=int, default=COUNT, help="so many random scripts of each seed")
+    options.add_argument("--program", type=pathlib.Path, help="the one that records, and not the one that ./record takes")
+    options.add_argument("--player", type=pathlib.Path, help="the one that plays, and not the one that ./run takes")
+    chosen = options.parse_args()
+    chosen.program = program_of("recorded", chosen.program, RECORDS)
+    chosen.player = program_of("recorded", chosen.player)
+    return chosen
+
+
+def main():
+    chosen = chosen_options()
+    program, player = chosen.program, chosen.player
+    notes = (b"",) if chosen.noted else (b"", FOUND)
+    good, failures = failures_of(record_all(program, player, worked_scripts(), notes))
+    for seed in seeds.chosen(chosen.seed, "recorded"):
+        scripts = list(random_scripts(seed, chosen.count))
+        half = len(scripts) // 2
+        for before, some in ((), scripts[:half]), (ONE_PROCESSOR, scripts[half:]):
+            more, wrong = failures_of(record_all(program, player, some, notes, before))
+            good, failures = good + more, failures + wrong
+    for more, wrong in long_failures(program), failures_of(swept(program, player)), failures_of(trial(program, player)):
+        good, failures = good + more, failures + wrong
+    print("".join(f"{failure}\n" for failure in failures), end="")
+    print(f"recorded: {good} passed, {len(failures)} failed")
+    sys.exit(1 if failures else 0)
+
+
+if __name__ == "__main__":
+    main()
