@@ -13,7 +13,7 @@ import sys
 TOP = pathlib.Path(__file__).resolve().parent.parent
 ROWS = TOP / "crates/ray_actors/rows"
 THREAD_ROWS = TOP / "crates/ray_actors/thread_rows"
-TESTS = TOP / "crates/tests_of_scripts/src/console"
+TESTS = TOP / "crates/tests_of_programs/src/console"
 HEAD = """//! The worked scripts that lie beside the program, as tools/rows_in_test.py writes them.
 
 use act_console::ConsoleFault;

@@ -1,7 +1,7 @@
 #!/usr/bin/env python3
 """Compares the worked scripts beside the program with the theorems of the rules.
 
-Each theorem of act_rules that says what a script writes, line by line, must have a script of the same
+Each theorem of act_rows that says what a script writes, line by line, must have a script of the same
 bytes in crates/ray_actors/rows, with the same report. So what the gate proves of the definitions is
 what the tests and the tools ask of the program. Theorems whose lines are computed (long lines, and
 bytes that don't print) are left to the other scripts. `--list` names the script of each theorem. Ends
@@ -12,7 +12,7 @@ import re
 import sys
 
 TOP = pathlib.Path(__file__).resolve().parent.parent
-SPECS = TOP / "crates/act_rules/specs"
+SPECS = TOP / "crates/act_rows/specs"
 ROWS = TOP / "crates/ray_actors/rows"
 FILES = ["ScriptRows", "FurtherRows", "EndRows", "PendingRows", "LineRows"]
 # How many uses of these words in a file are definitions of others.

@@ -23,18 +23,17 @@ from itertools import chain
 from program import TOP
 from refusing import HANGS, Refusing
 
-PARTS = [("tests_of_actors", part) for part in ["inbox", "actor"]]
-PARTS += [("tests_of_owners", part) for part in ["handles", "replies", "resolver", "owner"]]
+PARTS = [("tests_of_parts", part) for part in ["inbox", "actor", "handles", "replies", "resolver", "owner"]]
 TESTS = [(crate, f"{part}::refused_memory_changes_nothing") for crate, part in PARTS]
 ROWS = ["another_caller_passes", "one_packet_for_good", "release_and_retire", "ran_and_yet_died", "terminate_in_turn", "pending_limit"]
-TESTS += [("tests_of_worlds", f"world::{row}") for row in ROWS]
-TESTS += [("tests_of_own_kinds", "memory::refused_memory_changes_nothing")]
+TESTS += [("tests_of_plays", f"world::{row}") for row in ROWS]
+TESTS += [("tests_of_examples", "memory::refused_memory_changes_nothing")]
 TESTS += [("tests_of_threads", f"{part}::refused_memory_starves") for part in ["serve", "drive::starved"]]
 ONCE = ["a_table_and_an_account", "kills::a_kill_once", "terminates::a_terminate_once", "limits::waiting_pushes_once"]
 ONCE += ["codes::answers_decide", "codes::bad::gives_up", "codes::bad::lets_all_go"]
-RUNS = [("tests_of_runs", f"executor::{run}") for run in ONCE]
-RUNS += [("tests_of_own_kinds", "queue::in_threads_beside_a_known_kind")]
-RUNS += [("tests_of_own_callers", f"transfers::{run}") for run in ["moves_what_is_there", "the_sum_is_kept"]]
+RUNS = [("tests_of_threads", f"executor::{run}") for run in ONCE]
+RUNS += [("tests_of_examples", "queue::in_threads_beside_a_known_kind")]
+RUNS += [("tests_of_examples", f"transfers::{run}") for run in ["moves_what_is_there", "the_sum_is_kept"]]
 PASSED = 0
 FAILED = 101
 # What a test writes whose result is an error. A failed assertion writes something else, and ends by a signal.

@@ -6,7 +6,7 @@ use Rattle.act_types.specs.declared.message.Packet.{Packet}
 use Rattle.act_types.specs.declared.message.Reply.{Reply}
 use Rattle.act_rules.specs.RunList.{after_item, state_after, answer_at}
 use Rattle.act_rules.proofs.RunLists.{state_after-push, answer_at-push}
-use Rattle.act_actor.specs.Value.{ActorSeen}
+use Rattle.act_actor.specs.View.{ActorSeen}
 use Rattle.act_actor.specs.Actor.{item_of, reply_to, HasRun, HasRunFrom}
 
 -- an actor that ran one more packet

@@ -9,7 +9,7 @@ use Rattle.act_rules.specs.declared.history.RunItem.{RunItem}
 use Rattle.act_rules.specs.declared.outcome.Arrival.{Arrival}
 use Rattle.act_rules.specs.declared.outcome.Arrival.TheVariants.{New, Stranger}
 use Rattle.act_inbox.specs.Inbox.{InboxValue, arrival_of, note_arrival, handed_of, holding, next_of, HoldsNone, IsNextTaken, IsDrained}
-use Rattle.act_actor.specs.Value.{ActorSeen}
+use Rattle.act_actor.specs.View.{ActorSeen}
 
 -- what a packet is to an actor
 abbrev pub arrival_at : ℕ → InboxValue → Packet → Arrival

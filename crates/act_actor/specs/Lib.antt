@@ -1,5 +1,5 @@
-pub mod Value
+pub mod View
 pub mod Actor
-pub mod Seen
+pub mod StateViews
 pub mod Cast
 pub mod Casts

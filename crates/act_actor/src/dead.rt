@@ -14,7 +14,7 @@ pub struct Dead {
 }
 
 impl Model for Dead {
-    ghost use Rattle.act_actor.specs.Value.{DeadValue};
+    ghost use Rattle.act_actor.specs.View.{DeadValue};
 
     ghost Value = { DeadValue };
 

@@ -14,7 +14,7 @@ ghost use Rattle.act_rules.specs.declared.outcome.Arrival.TheVariants.{New};
 ghost use Rattle.act_inbox.specs.Inbox.{IsOpened, note_of, waiting, held_at, note_after, waiting_after, held_after, IsTakenIn, HoldsNone};
 ghost use Rattle.act_actor.specs.Cast.{CallersDiffer};
 ghost use Rattle.act_actor.specs.Actor.{item_of, reply_to, arrival_at, note_arrival_at, next_call, with_call, MayRetire, RunsAtOnce, HasRun, HasRunFrom};
-ghost use Rattle.act_actor.specs.Seen.{live_seen, retired_seen};
+ghost use Rattle.act_actor.specs.StateViews.{live_seen, retired_seen};
 
 use crate::arguments::values_of;
 use crate::terminate::{is_end, terminated};
@@ -42,7 +42,7 @@ impl<K> Model for Live<K> {
     ghost use Rattle.std.specs.Prelude.{◌≡◌, ◌≤◌, ◌*◌, length};
     ghost use Rattle.act_types.specs.declared.limits.TheConstants.{MOST_CALLERS, MOST_CALLS};
     ghost use Rattle.act_inbox.specs.Inbox.{handed_in_all};
-    ghost use Rattle.act_actor.specs.Value.{LiveValue};
+    ghost use Rattle.act_actor.specs.View.{LiveValue};
 
     ghost Value = { LiveValue K };
 

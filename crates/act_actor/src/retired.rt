@@ -3,7 +3,7 @@
 ghost use Rattle.std.specs.Prelude.{◌≡◌, ◌++◌, OnOk, OnErr};
 ghost use Rattle.std.specs.String.{string_bytes};
 ghost use Rattle.act_types.specs.Texts.{state_text};
-ghost use Rattle.act_actor.specs.Seen.{retired_seen};
+ghost use Rattle.act_actor.specs.StateViews.{retired_seen};
 
 use act_kinds::{Actor, Boxed};
 use act_rules::RunItem;

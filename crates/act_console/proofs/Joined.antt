@@ -7,7 +7,7 @@ use Rattle.act_rules.proofs.Lists.{find-map}
 use Rattle.act_rules.proofs.Finding.{find-None}
 use Rattle.act_owner.specs.Owner.{OwnerValue}
 use Rattle.act_serve.specs.Served.{EndSeen, id_of, log_of}
-use Rattle.act_joint.specs.Joined.{owner_of, end_of, calls_of_owner, kept_of_owner, log_of_end}
+use Rattle.act_executor.specs.Joined.{owner_of, end_of, calls_of_owner, kept_of_owner, log_of_end}
 use Rattle.act_plans.proofs.Taking.{find_some}
 use Rattle.act_console.specs.Parts.{owner_lines}
 use Rattle.act_console.specs.Threads.{end_text, owner_lines_in, end_lines_in, joined_summary}

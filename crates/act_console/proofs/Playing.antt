@@ -7,7 +7,7 @@ use Rattle.act_rules.specs.Laws.{history}
 use Rattle.act_rules.specs.Report.{placed, outcome_line, outcome_lines}
 use Rattle.act_rules.specs.Rules.{Outcome, after_all, outcome_of, outcomes}
 use Rattle.act_rules.proofs.Steps.{after_all-append, outcomes-append}
-use Rattle.act_world.specs.Value.{WorldSeen}
+use Rattle.act_world.specs.View.{WorldSeen}
 use Rattle.act_world.specs.Stands.{Stands, HasRoom, IsGrown, Played}
 use Rattle.act_console.specs.Parts.{AreTold}
 

@@ -17,7 +17,7 @@ use Rattle.act_rules.specs.Report.{one_to, outcome_lines, placed, future_line, s
 use Rattle.act_rules.specs.Rules.{Outcome, outcomes}
 use Rattle.act_owner.specs.Owner.{OwnerValue}
 use Rattle.act_world.specs.Exchange.{is_owner}
-use Rattle.act_world.specs.Value.{SlotSeen, Runs, Died, Ended, Vacant, WorldSeen, stage_of_slot, stage_in}
+use Rattle.act_world.specs.View.{SlotSeen, Runs, Died, Ended, Vacant, WorldSeen, stage_of_slot, stage_in}
 use Rattle.act_world.specs.Ties.{IsStage}
 use Rattle.act_world.specs.Stands.{Stands, Played}
 use Rattle.act_world.specs.Headline.{kept_in, log_of, log_in}

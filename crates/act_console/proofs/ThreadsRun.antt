@@ -25,7 +25,7 @@ use Rattle.act_serve.specs.Served.{EndSeen}
 use Rattle.act_plans.specs.Parts.{PlansFit}
 use Rattle.act_plans.proofs.Keys.{pairs_of_map}
 use Rattle.act_plans.specs.Runs.{first_bad_plan}
-use Rattle.act_joint.specs.Joined.{IsJoined}
+use Rattle.act_executor.specs.Joined.{IsJoined}
 use Rattle.act_executor.specs.declared.run.RunFault.{RunFault}
 use Rattle.act_executor.specs.declared.run.RunFault.TheVariants as faults
 use Rattle.act_executor.specs.Runs.{plan_seen, IsFault}

@@ -8,7 +8,7 @@ use Rattle.act_rules.specs.declared.event.Event.{Event}
 use Rattle.act_rules.specs.Rules.{Outcome}
 use Rattle.act_rules.specs.declared.history.RunItem.{RunItem}
 use Rattle.act_owner.specs.Owner.{OwnerValue}
-use Rattle.act_world.specs.Value.{SlotSeen, Runs, Died, Ended, Vacant, WorldSeen, stage_in}
+use Rattle.act_world.specs.View.{SlotSeen, Runs, Died, Ended, Vacant, WorldSeen, stage_in}
 use Rattle.act_world.specs.Stands.{Played}
 use Rattle.act_world.specs.Headline.{calls_in, kept_in, log_in}
 

@@ -10,7 +10,7 @@ use Rattle.act_rules.specs.Grammar.{Script}
 use Rattle.act_rules.specs.Scripts.{role_casting, callers_of, plan_of, spelled_plans}
 use Rattle.act_owner.specs.Owner.{OwnerValue}
 use Rattle.act_serve.specs.Served.{EndSeen, Killed, Retired, Starved}
-use Rattle.act_joint.specs.Joined.{IsJoined, end_of, calls_in, kept_in, log_in}
+use Rattle.act_executor.specs.Joined.{IsJoined, end_of, calls_in, kept_in, log_in}
 use Rattle.act_console.specs.declared.output.Output.{Output}
 use Rattle.act_console.specs.declared.output.Output.TheVariants as outputs
 use Rattle.act_console.specs.declared.fault.ConsoleFault.{ConsoleFault}

@@ -5,7 +5,7 @@ ghost use Rattle.std.specs.Vec.{vec_len};
 ghost use Rattle.act_types.specs.Texts.{space, actor_text, settled_text};
 ghost use Rattle.act_rules.specs.History.{Casting, opening};
 ghost use Rattle.act_rules.specs.Report.{line, placed, one_to, outcome_line, outcome_lines, future_text, kept_text, item_line, report};
-ghost use Rattle.act_world.specs.Value.{world_seen, stage_seen};
+ghost use Rattle.act_world.specs.View.{world_seen, stage_seen};
 ghost use Rattle.act_world.specs.Headline.{log_of, IsConsistent};
 ghost use Rattle.act_world.specs.Stands.{Stands, HasRoom};
 ghost use Rattle.act_console.specs.Parts.{item_head, owner_line, owner_lines, standing_text, caller_lines, stage_lines, world_report, AreTold};

@@ -5,7 +5,7 @@ ghost use Rattle.std.specs.List.{flat_map};
 ghost use Rattle.act_types.specs.Texts.{space, actor_text};
 ghost use Rattle.act_rules.specs.Report.{line, one_to};
 ghost use Rattle.act_serve.specs.Served.{end_seen, log_of, id_of};
-ghost use Rattle.act_joint.specs.Joined.{owner_of, end_of};
+ghost use Rattle.act_executor.specs.Joined.{owner_of, end_of};
 ghost use Rattle.act_console.specs.Threads.{end_text, owner_lines_in, end_lines_in, joined_summary};
 
 use crate::report::{push_futures, push_items};

@@ -251,8 +251,8 @@ calling_taken lines old new k packet ready at empty is passes hand flags calling
     let now : is_sent sent packet.future ≡ true = ap (is_sent sent) parts.0 ∙ set_true owner.sent k below in
     let mine : IsSent owner packet.actor (Call packet) = (ap (packet_at owner) parts.0 ∙ at, ap (is_known_at owner) parts.0 ∙ tells.0, refl) in
     let seats : All (IsSeat lines.mails.now owner []) old.passes.letters.items = subst (λ (h : Option Letter). All (IsSeat lines.mails.now owner (option_to_list h)) old.passes.letters.items) empty calling.letters in
-    let after : Desk = record { owner = sent; passes = old.passes; hand = Some (Call packet); noted = new.noted } in
-    let good : IsCalling lines after = record {
+    let next : Desk = record { owner = sent; passes = old.passes; hand = Some (Call packet); noted = new.noted } in
+    let good : IsCalling lines next = record {
       places = calling.places;
       flags = length-set owner.sent k true ∙ calling.flags;
       hears = subst (Hears sent) (append-nil old.passes.collects.taken) (hears_step owner old.passes.collects.taken (Sent k) calling.places calling.hears);
@@ -305,8 +305,8 @@ seats_less mails owner held seats is = All-weaker (IsSeat mails owner held) (IsS
 -- the letter in hand is let go, which need not be posted
 pub calling_dropped : (lines : CallerLines) (old new : Desk) (letter : Letter) → old.hand ≡ Some letter → IsIdle lines.mails.now old.passes.collects.taken old.passes.letters.items (actor_of letter) → new.owner ≡ old.owner → new.passes ≡ old.passes → new.hand ≡ None → new.noted ≡ old.noted → IsCalling lines old → IsCalling lines new
 calling_dropped lines old new letter held idle is passes hand flags calling =
-    let after : Desk = record { owner = old.owner; passes = old.passes; hand = None; noted = new.noted } in
-    let good : IsCalling lines after = record {
+    let next : Desk = record { owner = old.owner; passes = old.passes; hand = None; noted = new.noted } in
+    let good : IsCalling lines next = record {
       places = calling.places;
       flags = calling.flags;
       hears = calling.hears;

@@ -21,12 +21,12 @@ use Rattle.act_serve.specs.declared.seat.Finished.{Finished}
 use Rattle.act_serve.specs.Served.{end_seen, id_of, log_of, IsLogOf, replies_to, deaths, caller_at, callers_of, KillsTaken, HasDrained, IfRetired, HasServed, bare}
 use Rattle.act_serve.specs.Turns.{IsSeated}
 use Rattle.act_drive.specs.declared.caller.Driven.{Driven}
-use Rattle.act_lines.specs.declared.opened.Lines.{Lines}
-use Rattle.act_lines.specs.Opened.{IsExec}
-use Rattle.act_lines.proofs.Places.{at_other, all_at}
-use Rattle.act_joint.specs.Joined.{is_starved}
-use Rattle.act_joint.specs.Left.{ServedSeen, IsServed, NoticesAudited}
-use Rattle.act_joint.proofs.Elements.{IsIn, in_from_contains, contains_from_in, all_in, all_by_places}
+use Rattle.act_executor.specs.declared.opened.Lines.{Lines}
+use Rattle.act_executor.specs.Opened.{IsExec}
+use Rattle.act_executor.proofs.Places.{at_other, all_at}
+use Rattle.act_executor.specs.Joined.{is_starved}
+use Rattle.act_executor.specs.Left.{ServedSeen, IsServed, NoticesAudited}
+use Rattle.act_executor.proofs.Elements.{IsIn, in_from_contains, contains_from_in, all_in, all_by_places}
 use Rattle.act_executor.specs.Audits.{SitsAtReplies, NoticeTold, Left, left_of}
 use Rattle.act_executor.specs.Joins.{ended_starved}
 

@@ -19,11 +19,11 @@ use Rattle.act_drive.specs.declared.desk.CallerPasses.{CallerPasses}
 use Rattle.act_drive.specs.declared.caller.Driven.{Driven}
 use Rattle.act_drive.specs.Driven.{HasPosted, HasAsked, IsFreshSeat, IsKillSeat, bare_post, bare_ask}
 use Rattle.act_plans.specs.declared.part.Part.{Part}
-use Rattle.act_lines.specs.declared.opened.Lines.{Lines}
-use Rattle.act_lines.specs.Opened.{IsCaller}
-use Rattle.act_lines.proofs.Places.{at_other, all_at}
-use Rattle.act_joint.specs.Left.{IsDriven, LettersAudited, KillsAudited}
-use Rattle.act_joint.proofs.Elements.{IsIn, in_from_contains, contains_from_in, all_in, all_by_places}
+use Rattle.act_executor.specs.declared.opened.Lines.{Lines}
+use Rattle.act_executor.specs.Opened.{IsCaller}
+use Rattle.act_executor.proofs.Places.{at_other, all_at}
+use Rattle.act_executor.specs.Left.{IsDriven, LettersAudited, KillsAudited}
+use Rattle.act_executor.proofs.Elements.{IsIn, in_from_contains, contains_from_in, all_in, all_by_places}
 use Rattle.act_executor.specs.Audits.{SitsAtMail, SitsAtControl, HasSeats, LetterTold, KillTold}
 use Rattle.act_executor.specs.Conducts.{Doing}
 use Rattle.act_executor.specs.Joins.{IsDrivenAt}

@@ -37,13 +37,13 @@ use Rattle.act_plans.specs.Prepared.{by_rising_actor}
 use Rattle.act_plans.specs.Runs.{limits_naming, callers_of, actors_of, cast_at, plan_of}
 use Rattle.act_plans.proofs.Castings.{parts_seen, plans_are, actors_are, limits_are, actors_seen, each_cast_seen}
 use Rattle.act_plans.proofs.Keys.{pairs_of_map}
-use Rattle.act_lines.proofs.Places.{as_long, at_other, all_at}
-use Rattle.act_joint.specs.Joined.{IsJoined, is_starved}
-use Rattle.act_joint.specs.Left.{ServedSeen, IsServed, IsDriven, AreAudited, AreCasts, AreJoined}
-use Rattle.act_joint.specs.ByCode.{code_of, opened_of, IsDrivenBy, AreJoinedBy, IsJoinedBy}
-use Rattle.act_joint.proofs.Elements.{all_by_places, range_at}
-use Rattle.act_joint.proofs.Ends.{joined as joined_is}
-use Rattle.act_joint.proofs.ByCode.{is_joined_by as joined_by_is}
+use Rattle.act_executor.proofs.Places.{as_long, at_other, all_at}
+use Rattle.act_executor.specs.Joined.{IsJoined, is_starved}
+use Rattle.act_executor.specs.Left.{ServedSeen, IsServed, IsDriven, AreAudited, AreCasts, AreJoined}
+use Rattle.act_executor.specs.ByCode.{code_of, opened_of, IsDrivenBy, AreJoinedBy, IsJoinedBy}
+use Rattle.act_executor.proofs.Elements.{all_by_places, range_at}
+use Rattle.act_executor.proofs.Ends.{joined as joined_is}
+use Rattle.act_executor.proofs.ByCode.{is_joined_by as joined_by_is}
 use Rattle.act_executor.specs.declared.joined.Joined.{Joined}
 use Rattle.act_executor.specs.Audits.{KillTold, CallerTold, NoticeTold, Left, left_of}
 use Rattle.act_executor.specs.Work.{IsUnusedStarter}
@@ -67,7 +67,7 @@ module _ {K : Type 0} (state : K → KindState) (does : ℕ → Doing) (casts : 
   abbrev seen : List Casting
   seen = map (casting state) casts
 
-  abbrev lines : Rattle.act_lines.specs.declared.opened.Lines.Lines
+  abbrev lines : Rattle.act_executor.specs.declared.opened.Lines.Lines
   lines = run.opened.lines
 
   abbrev now : List (Cast K)

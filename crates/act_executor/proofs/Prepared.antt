@@ -15,10 +15,10 @@ use Rattle.act_serve.specs.declared.seat.Finished.{Finished}
 use Rattle.act_drive.specs.declared.desk.CallerPasses.{CallerPasses}
 use Rattle.act_drive.specs.declared.caller.Driven.{Driven}
 use Rattle.act_plans.specs.declared.part.Part.{Part}
-use Rattle.act_lines.specs.declared.opened.Opened.{Opened}
-use Rattle.act_lines.specs.Opened.{IsExec, IsCaller, AreOpened}
-use Rattle.act_lines.proofs.Places.{as_long, all_at}
-use Rattle.act_joint.proofs.Elements.{all_by_places, range_at}
+use Rattle.act_executor.specs.declared.opened.Opened.{Opened}
+use Rattle.act_executor.specs.Opened.{IsExec, IsCaller, AreOpened}
+use Rattle.act_executor.proofs.Places.{as_long, all_at}
+use Rattle.act_executor.proofs.Elements.{all_by_places, range_at}
 use Rattle.act_executor.specs.Conducts.{Doing}
 use Rattle.act_executor.specs.Audits.{SitsAtReplies, SitsAtControl, HasSeats}
 use Rattle.act_executor.specs.Work.{IsUnusedStarter}

@@ -12,7 +12,7 @@ use Rattle.act_serve.specs.Served.{HasServed, end_seen}
 use Rattle.act_drive.specs.declared.desk.CallerPasses.{CallerPasses}
 use Rattle.act_drive.specs.declared.caller.Driven.{Driven}
 use Rattle.act_plans.specs.declared.part.Part.{Part}
-use Rattle.act_lines.specs.declared.opened.Lines.{Lines}
+use Rattle.act_executor.specs.declared.opened.Lines.{Lines}
 use Rattle.act_executor.specs.declared.work.Serving.{Serving}
 use Rattle.act_executor.specs.declared.work.Driving.{Driving}
 use Rattle.act_executor.specs.Conducts.{Doing, HasConducted}

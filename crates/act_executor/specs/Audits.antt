@@ -12,7 +12,7 @@ use Rattle.act_seats.specs.declared.seat.Seat.{Seat}
 use Rattle.act_serve.specs.declared.seat.Ended.{Ended}
 use Rattle.act_serve.specs.declared.seat.Finished.{Finished}
 use Rattle.act_drive.specs.declared.caller.Driven.{Driven}
-use Rattle.act_lines.specs.declared.opened.Lines.{Lines}
+use Rattle.act_executor.specs.declared.opened.Lines.{Lines}
 
 -- a pass is of the line at its place
 abbrev pub SitsAtMail : List MailValue → Seat (PutterValue Letter Unit) → Type 0

@@ -1,3 +1,8 @@
+pub mod Opened
+pub mod Groups
+pub mod Joined
+pub mod Left
+pub mod ByCode
 pub mod Audits
 pub mod Conducts
 pub mod Joins

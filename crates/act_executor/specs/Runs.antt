@@ -13,8 +13,8 @@ use Rattle.act_plans.specs.Prepared.{by_rising_actor, callers_named_by, part_see
 use Rattle.act_tasks.specs.declared.Refusal.{Refusal}
 use Rattle.act_tasks.specs.declared.Refusal.TheVariants as refusal
 use Rattle.act_plans.specs.declared.rising.Prepared.{Prepared}
-use Rattle.act_lines.specs.declared.opened.Opened.{Opened}
-use Rattle.act_lines.specs.Opened.{AreOpened}
+use Rattle.act_executor.specs.declared.opened.Opened.{Opened}
+use Rattle.act_executor.specs.Opened.{AreOpened}
 use Rattle.act_executor.specs.declared.joined.Ends.{Ends}
 use Rattle.act_executor.specs.declared.joined.Joined.{Joined}
 use Rattle.act_executor.specs.declared.run.RunFault.{RunFault}

@@ -7,7 +7,7 @@ use Rattle.act_rules.specs.declared.script.Step.{Step}
 use Rattle.act_rules.specs.Plans.{first_bad}
 use Rattle.act_handles.specs.Handles.{actors_in}
 use Rattle.act_owner.specs.Owner.{OwnerValue, opened_under}
-use Rattle.act_actor.specs.Seen.{live_seen}
+use Rattle.act_actor.specs.StateViews.{live_seen}
 use Rattle.act_actor.specs.declared.cast.Cast.{Cast}
 use Rattle.act_mailbox.specs.declared.control.Asked.{Asked}
 use Rattle.act_mailbox.specs.Passes.{PutterValue, new_putter}
@@ -23,7 +23,7 @@ use Rattle.act_drive.specs.declared.desk.CallerPasses.{CallerPasses}
 use Rattle.act_drive.specs.declared.caller.Driven.{Driven}
 use Rattle.act_drive.specs.Driven.{IsFresh as IsFreshCaller}
 use Rattle.act_plans.specs.declared.part.Part.{Part}
-use Rattle.act_lines.specs.declared.opened.Lines.{Lines}
+use Rattle.act_executor.specs.declared.opened.Lines.{Lines}
 use Rattle.act_tasks.specs.Each.{Each}
 use Rattle.act_executor.specs.Audits.{SitsAtControl}
 use Rattle.act_executor.specs.Conducts.{Doing, HasConducted}

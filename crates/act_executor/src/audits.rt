@@ -4,7 +4,7 @@ ghost use Rattle.std.specs.Prelude.{◌≡◌, map, All, IfOk, OnOk};
 ghost use Rattle.act_executor.specs.Audits.{SitsAtMail, SitsAtControl, SitsAtReplies, LetterTold, KillTold, NoticeTold, CallerTold, HasSeats, left_of};
 
 use act_drive::{CallerPasses, Driven};
-use act_lines::Lines;
+use crate::opened::Lines;
 use act_mailbox::{Control, ControlCaller, Mail, MailCaller, Replies, ReplyExec};
 use act_owner::Owner;
 use act_seats::Seat;

@@ -4,7 +4,7 @@ ghost use Rattle.std.specs.Prelude.{◌≡◌, ◌≢◌, ◌==◌, ℕ, None, O
 ghost use Rattle.act_rules.specs.Plans.{first_bad};
 ghost use Rattle.act_handles.specs.Handles.{actors_in};
 ghost use Rattle.act_drive.specs.Driven.{IsFresh};
-ghost use Rattle.act_joint.specs.ByCode.{code_of};
+ghost use Rattle.act_executor.specs.ByCode.{code_of};
 ghost use Rattle.act_executor.specs.Conducts.{Doing, does_plan, does_code, HasConducted};
 
 use act_drive::{CallerLines, CallerPasses, Code, Driven, Plan, drive_code, drive_noting};

@@ -8,7 +8,7 @@ ghost use Rattle.act_executor.specs.Joins.{ended_starved, AreCompared};
 use crate::audits::{audit_actors, audit_callers, audit_kills};
 use act_drive::Driven;
 use act_kinds::Boxed;
-use act_lines::Lines;
+use crate::opened::Lines;
 use act_mailbox::ControlCaller;
 use act_owner::Owner;
 use act_seats::Seat;

@@ -5,14 +5,14 @@ ghost use Rattle.act_rules.specs.Plans.{first_bad};
 ghost use Rattle.act_actor.specs.Cast.{CallersDiffer};
 ghost use Rattle.act_tasks.specs.Each.{Each, EachReady};
 ghost use Rattle.act_plans.specs.Parts.{HasLimits};
-ghost use Rattle.act_lines.specs.Opened.{IsExec, IsCaller};
+ghost use Rattle.act_executor.specs.Opened.{IsExec, IsCaller};
 ghost use Rattle.act_executor.specs.Work.{IsReady, IsServedBy, CanDrive, IsDrivenBy, serving_start, cast_start, driving_start, part_start};
 
 use crate::conduct::{Conduct, Conducts};
 use act_actor::{Cast, Live};
 use act_drive::{CallerLines, CallerPasses, Driven, Plan};
 use act_kinds::Actor;
-use act_lines::Lines;
+use crate::opened::Lines;
 use act_owner::Owner;
 use act_plans::Part;
 use act_seats::{Notes, Seat};

@@ -4,7 +4,7 @@ use Rattle.std.specs.Prelude.{All, IsOk}
 use Rattle.act_rules.specs.declared.event.Event.{Event}
 use Rattle.act_rules.specs.History.{Casting, opening}
 use Rattle.act_rules.specs.Rules.{Outcome, outcomes}
-use Rattle.act_world.specs.Value.{WorldSeen}
+use Rattle.act_world.specs.View.{WorldSeen}
 use Rattle.act_world.specs.Stands.{Stands, Played}
 
 pub told_in : (casts : List Casting) (events : List Event) (old new : WorldSeen) (empty told : List Outcome) → empty ≡ [] → Played events old new empty told → All IsOk told → Stands casts [] old → All IsOk (outcomes (opening casts) events)

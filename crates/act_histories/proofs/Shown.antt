@@ -4,7 +4,7 @@ use Rattle.act_rules.specs.declared.event.Event.{Event}
 use Rattle.act_rules.specs.History.{Casting}
 use Rattle.act_rules.specs.Laws.{history}
 use Rattle.act_rules.specs.Report.{summary}
-use Rattle.act_world.specs.Value.{WorldSeen}
+use Rattle.act_world.specs.View.{WorldSeen}
 use Rattle.act_world.specs.Stands.{Stands}
 use Rattle.act_console.specs.Parts.{world_report}
 use Rattle.act_console.proofs.Shown.{summary_is}

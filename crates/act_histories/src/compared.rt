@@ -7,7 +7,7 @@ ghost use Rattle.act_rules.specs.Laws.{history};
 ghost use Rattle.act_rules.specs.Report.{summary};
 ghost use Rattle.act_rules.specs.Rules.{outcomes};
 ghost use Rattle.act_world.specs.Stands.{Stands, HasRoom};
-ghost use Rattle.act_world.specs.Value.{world_seen};
+ghost use Rattle.act_world.specs.View.{world_seen};
 ghost use Rattle.act_histories.specs.Play.{EndsSo, HasCalls, IsFront, IsNext, call_of, submitted};
 
 use crate::same::{same_args, same_method};

@@ -10,7 +10,7 @@ use Rattle.std.proofs.lemmas.Bool.{cases_eq}
 use Rattle.std.proofs.lemmas.Option.{slice_get-get_or, slice_get_within, get_or_from_slice_get}
 use Rattle.slab.specs.Slab.{Slab, get, values, Updates}
 use Rattle.act_types.specs.declared.message.Packet.{Packet}
-use Rattle.act_inbox.specs.Value.{key_of, IsHeld}
+use Rattle.act_inbox.specs.View.{key_of, IsHeld}
 use Rattle.act_inbox.specs.Inbox.{is_call}
 use Rattle.act_inbox.proofs.Packets.{both_equal, is_call_tells}
 use Rattle.act_inbox.proofs.Slots.{find-slot, find-no_slot, All-filled, slot-All, slice_get-set_same, slice_get-set_other}

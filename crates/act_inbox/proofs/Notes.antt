@@ -7,7 +7,7 @@ use Rattle.std.proofs.lemmas.List.Folds.{find_at}
 use Rattle.std.proofs.lemmas.List.Sums.{position_or_len_is}
 use Rattle.std.proofs.lemmas.Option.{slice_get-get_or}
 use Rattle.act_inbox.specs.declared.inbox.Lane.{Lane}
-use Rattle.act_inbox.specs.Value.{IsInbox}
+use Rattle.act_inbox.specs.View.{IsInbox}
 use Rattle.act_inbox.specs.Inbox.{InboxValue, is_lane_of, lane_at_first, lane_of, is_listed, handed_of, note_of, IsDrained}
 use Rattle.act_rules.proofs.Finding.{find-Some, find-None}
 use Rattle.act_inbox.proofs.Lanes.{caller_at, listed_handed, within}

@@ -15,7 +15,7 @@ use Rattle.std.proofs.lemmas.Map.Steps.{length-le_from_distinct_below}
 use Rattle.act_types.specs.declared.message.Packet.{Packet}
 use Rattle.act_rules.specs.History.{contains}
 use Rattle.act_inbox.specs.declared.inbox.Lane.{Lane}
-use Rattle.act_inbox.specs.Value.{IsInbox}
+use Rattle.act_inbox.specs.View.{IsInbox}
 use Rattle.act_inbox.specs.Inbox.{InboxValue, is_lane_of, lane_at_first, IsOpened}
 
 -- numbers from 1 to 16 with no two equal are at most 16

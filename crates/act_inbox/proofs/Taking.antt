@@ -8,7 +8,7 @@ use Rattle.std.proofs.lemmas.List.{length-set}
 use Rattle.std.proofs.lemmas.List.Elements.{All-set, All-cons}
 use Rattle.act_types.specs.declared.message.Packet.{Packet}
 use Rattle.act_inbox.specs.declared.inbox.Lane.{Lane}
-use Rattle.act_inbox.specs.Value.{IsInbox}
+use Rattle.act_inbox.specs.View.{IsInbox}
 use Rattle.act_inbox.specs.Inbox.{InboxValue, is_lane_of, is_call, lane_of, is_listed, handed_of, was_handed, next_of, holding, IsNextToCome, IsNextTaken}
 use Rattle.act_rules.proofs.Finding.{find-tells}
 use Rattle.act_inbox.proofs.Lanes.{one_more, lane_is, caller_at, same_lane, listed_handed, lane_written, lane_left, in_all_written, in_all_bound}

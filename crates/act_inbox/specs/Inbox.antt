@@ -8,7 +8,7 @@ use Rattle.act_rules.specs.declared.outcome.Arrival.{Arrival}
 use Rattle.act_rules.specs.declared.outcome.Arrival.TheVariants.{New, Repeat, Stranger}
 use Rattle.act_rules.specs.History.{contains}
 use Rattle.act_inbox.specs.declared.inbox.Lane.{Lane}
-pub use Rattle.act_inbox.specs.Value.{InboxValue}
+pub use Rattle.act_inbox.specs.View.{InboxValue}
 
 -- the lane of a caller of whom no call was handed out
 abbrev pub lane_at_first : ℕ → Lane

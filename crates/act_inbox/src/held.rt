@@ -25,7 +25,7 @@ impl Model for HeldCalls {
     ghost use Rattle.std.specs.Prelude.{List};
     ghost use Rattle.slab.specs.Slab.{values};
     ghost use Rattle.act_types.specs.declared.message.Packet.{Packet};
-    ghost use Rattle.act_inbox.specs.Value.{IsHeld};
+    ghost use Rattle.act_inbox.specs.View.{IsHeld};
 
     ghost Value = { List Packet };
 

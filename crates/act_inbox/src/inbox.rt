@@ -27,7 +27,7 @@ pub struct Inbox {
 }
 
 impl Model for Inbox {
-    ghost use Rattle.act_inbox.specs.Value.{InboxValue, IsInbox};
+    ghost use Rattle.act_inbox.specs.View.{InboxValue, IsInbox};
 
     ghost Value = { InboxValue };
 

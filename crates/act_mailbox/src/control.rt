@@ -1,7 +1,7 @@
 //! The control line of an actor: kills, each with its asker.
 
 ghost use Rattle.std.specs.Prelude.{◌≡◌, ◌≢◌, ℕ, [], ◌∷◌, ◌++◌, length, map, AllPairs, Contains, IfOk, OnOk, IfErr, OnErr, IfSome, IfNone};
-ghost use Rattle.act_actor.specs.Seen.{live_seen};
+ghost use Rattle.act_actor.specs.StateViews.{live_seen};
 ghost use Rattle.act_rules.specs.Consistent.{IsFront};
 ghost use Rattle.act_mailbox.specs.Lines.{items_of};
 ghost use Rattle.act_mailbox.specs.Passes.{new_putter};

@@ -1,13 +1,20 @@
 //! Lines between callers and actors, shared by threads. Each line keeps the order of each that puts
-//! into it, and what it did stands in passes.
+//! into it, and what it did stands in passes. Beside them is what the threads of callers and of actors
+//! share: a pass with its place, pauses, and notes of what a thread does.
 #![tactic(auto)]
 
 mod control;
 mod line;
 mod mail;
+mod notes;
+mod patience;
 mod replies;
+mod seat;
 
 pub use control::{Asked, Control, ControlCaller, ControlExec};
 pub use line::{Putter, Taker};
 pub use mail::{Letter, Mail, MailCaller, MailExec};
+pub use notes::{Mark, NoNotes, Notes, Page};
+pub use patience::{Patience, SHORT_PAUSES};
 pub use replies::{Replies, ReplyCaller, ReplyExec};
+pub use seat::Seat;

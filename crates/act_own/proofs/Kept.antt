@@ -17,10 +17,10 @@ use Rattle.act_rules.proofs.Growth.{added_grows}
 use Rattle.act_rules.proofs.Finding.{find-tells}
 use Rattle.act_rules.proofs.OwnRuns.{holds_in_each_run}
 use Rattle.act_owner.specs.Owner.{OwnerValue}
-use Rattle.act_world.specs.Value.{SlotSeen, Runs, Died, Ended, Vacant, WorldSeen}
+use Rattle.act_world.specs.View.{SlotSeen, Runs, Died, Ended, Vacant, WorldSeen}
 use Rattle.act_world.specs.Ties.{IsStage}
 use Rattle.act_serve.specs.Served.{EndSeen, Killed, Retired, Starved, id_of, IfRetired}
-use Rattle.act_joint.specs.Joined.{IsJoined, RanAll, end_of}
+use Rattle.act_executor.specs.Joined.{IsJoined, RanAll, end_of}
 use Rattle.act_own.specs.Kept.{Keeps, SlotKeeps, EndKeeps, OpensAt, KeptInEachWorld, KeptInEachRun}
 
 -- ---- the casts stay

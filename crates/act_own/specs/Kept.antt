@@ -9,10 +9,10 @@ use Rattle.act_rules.specs.RunList.{Answer}
 use Rattle.act_rules.specs.OwnRuns.{told_in, IsKept, Left}
 use Rattle.act_rules.specs.History.{Casting, opening, opening_of}
 use Rattle.act_owner.specs.Owner.{OwnerValue}
-use Rattle.act_world.specs.Value.{SlotSeen, Runs, Died, Ended, Vacant, WorldSeen}
+use Rattle.act_world.specs.View.{SlotSeen, Runs, Died, Ended, Vacant, WorldSeen}
 use Rattle.act_world.specs.Stands.{Stands}
 use Rattle.act_serve.specs.Served.{EndSeen, Killed, Retired, Starved}
-use Rattle.act_joint.specs.Joined.{IsJoined, end_of}
+use Rattle.act_executor.specs.Joined.{IsJoined, end_of}
 
 -- an actor that has its kind still: it is in a state of which, and of what it was told, the property holds
 pub record Keeps {S : Type 0} (step : StepOf S) (written : S → List ℕ) (holds : List (Ask × Answer) → S → Type 0) (opened : KindState) (log : List RunItem) (seen : KindState) : Type 0 where

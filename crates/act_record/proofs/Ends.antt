@@ -22,8 +22,8 @@ use Rattle.act_rules.proofs.Growth.{added_grows}
 use Rattle.act_owner.specs.Owner.{OwnerValue}
 use Rattle.act_serve.specs.Served.{EndSeen, Killed, Retired, Starved, id_of, log_of, IfRetired}
 use Rattle.act_plans.specs.Runs.{callers_of, actors_of, cast_at}
-use Rattle.act_joint.specs.Joined.{owner_of, end_of, calls_of_owner, kept_of_owner, log_of_end, calls_in, kept_in, log_in, RanAll, IsJoined}
-use Rattle.act_joint.proofs.Elements.{all_in, found_is}
+use Rattle.act_executor.specs.Joined.{owner_of, end_of, calls_of_owner, kept_of_owner, log_of_end, calls_in, kept_in, log_in, RanAll, IsJoined}
+use Rattle.act_executor.proofs.Elements.{all_in, found_is}
 use Rattle.act_world.proofs.Lawful.{world_lawful}
 use Rattle.act_world.proofs.Headline.{calls_are}
 use Rattle.act_replay.specs.Play.{IsOwnerIn, IsEndIn, IsPlayOf}

@@ -10,7 +10,7 @@ use Rattle.act_rules.specs.Submissions.{kept_at}
 use Rattle.act_rules.specs.RunList.{Answer}
 use Rattle.act_owner.specs.Owner.{OwnerValue}
 use Rattle.act_serve.specs.Served.{EndSeen, Killed, Retired, Starved, id_of}
-use Rattle.act_world.specs.Value.{SlotSeen, Runs, Died, Ended, Vacant, WorldSeen}
+use Rattle.act_world.specs.View.{SlotSeen, Runs, Died, Ended, Vacant, WorldSeen}
 use Rattle.act_world.specs.Ties.{IsOwnerAt, IsStage}
 use Rattle.act_world.specs.Stands.{Stands, Played}
 use Rattle.act_replay.specs.Play.{IsOwnerIn, IsEndIn, IsPlayOf, AreSame, IsSameEnd}

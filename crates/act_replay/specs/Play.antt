@@ -6,7 +6,7 @@ use Rattle.act_rules.specs.History.{Casting, History, opening, cast_of, is_calle
 use Rattle.act_rules.specs.Rules.{outcomes}
 use Rattle.act_rules.specs.Submissions.{kept_at}
 use Rattle.act_owner.specs.Owner.{OwnerValue}
-use Rattle.act_world.specs.Value.{SlotSeen, Died, Ended}
+use Rattle.act_world.specs.View.{SlotSeen, Died, Ended}
 use Rattle.act_serve.specs.Served.{EndSeen, Killed, Retired, Starved, id_of, log_of}
 
 -- the caller has the calls that the history has of it, and for each the same answer

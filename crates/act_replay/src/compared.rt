@@ -9,7 +9,7 @@ ghost use Rattle.act_actor.specs.Cast.{IsFitting};
 ghost use Rattle.act_actor.specs.Casts.{casting};
 ghost use Rattle.act_serve.specs.Served.{end_seen, id_of};
 ghost use Rattle.act_world.specs.Stands.{Stands, HasRoom};
-ghost use Rattle.act_world.specs.Value.{stage_seen, world_seen};
+ghost use Rattle.act_world.specs.View.{stage_seen, world_seen};
 ghost use Rattle.act_replay.specs.Play.{IsOwnerIn, IsEndIn, IsSameEnd, IsPlayOf};
 
 use crate::same::{same_log, same_owner};

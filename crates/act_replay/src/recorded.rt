@@ -6,7 +6,7 @@ ghost use Rattle.act_actor.specs.Casts.{casting};
 ghost use Rattle.act_serve.specs.Served.{end_seen};
 ghost use Rattle.act_plans.specs.Parts.{PlansFit};
 ghost use Rattle.act_plans.specs.Runs.{first_bad_plan};
-ghost use Rattle.act_joint.specs.Joined.{IsJoined};
+ghost use Rattle.act_executor.specs.Joined.{IsJoined};
 ghost use Rattle.act_executor.specs.Runs.{plan_seen};
 ghost use Rattle.act_replay.specs.Play.{IsPlayOf};
 ghost use Rattle.act_replay.specs.Faults.{IsRecordFault};

@@ -11,10 +11,3 @@ pub mod Words
 pub mod Grammar
 pub mod Scripts
 pub mod Laws
-pub mod Rows
-pub mod ScriptRows
-pub mod KindRows
-pub mod FurtherRows
-pub mod EndRows
-pub mod PendingRows
-pub mod LineRows

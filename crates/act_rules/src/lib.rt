@@ -1,6 +1,6 @@
 //! The rules of the actor service: what each event of a world does, what a report says, and what a
-//! script spells, as definitions (`specs/`), with the laws that follow from them and the worked
-//! examples that they were checked on. Every crate above cites these words.
+//! script spells, as definitions (`specs/`), with the laws that follow from them. Every crate above
+//! cites these words. The worked examples that they were checked on stand in act_rows.
 //!
 //! The plain types that the definitions speak of are declared here, too.
 #![tactic(auto)]
@@ -10,7 +10,6 @@ mod history;
 mod laws;
 mod memory;
 mod outcome;
-mod rows;
 mod script;
 
 pub use event::Event;
@@ -21,7 +20,4 @@ pub use laws::{
     pending_stays_within_the_limit, planned_is_what_a_world_takes, retired_ran_all,
 };
 pub use outcome::{Arrival, Did, HandleRefusal, Outcome, SendRefusal, SubmitRefusal, WorldRefusal};
-pub use rows::{
-    end_rows, further_lines, further_rows, pending_rows, worked_kinds, worked_rows, worked_scripts,
-};
 pub use script::{KindName, Line, Mode, Role, Step, Wrong};

@@ -17,7 +17,7 @@ use Rattle.act_rules.specs.RunList.{has_terminated, NothingFollowsAnEnd}
 use Rattle.act_rules.proofs.Terminated.{nothing_follows-push}
 use Rattle.act_inbox.specs.Inbox.{is_call, is_listed, handed_of, was_handed, next_of, arrival_of, holding, HoldsNone}
 use Rattle.act_inbox.proofs.Packets.{new_listed, waits_holding}
-use Rattle.act_actor.specs.Value.{ActorSeen}
+use Rattle.act_actor.specs.View.{ActorSeen}
 use Rattle.act_actor.specs.Actor.{item_of, reply_to, with_call, RunsAtOnce, HasRun}
 use Rattle.act_mailbox.specs.declared.mail.Letter.{Letter}
 use Rattle.act_mailbox.specs.declared.mail.Letter.TheVariants.{Call}

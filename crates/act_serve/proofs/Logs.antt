@@ -21,7 +21,7 @@ use Rattle.act_rules.specs.History.{contains}
 use Rattle.act_rules.proofs.Lists.{eq_turned, range_push}
 use Rattle.act_rules.proofs.RunLists.{items_of-push}
 use Rattle.act_inbox.specs.Inbox.{InboxValue, is_call, is_listed, handed_of, was_handed, waiting, waiting_after, next_of, note_of, note_after, note_arrival, came as came_before}
-use Rattle.act_actor.specs.Value.{ActorSeen}
+use Rattle.act_actor.specs.View.{ActorSeen}
 use Rattle.act_actor.specs.Actor.{item_of, arrival_at, note_arrival_at, HasRun}
 use Rattle.act_mailbox.specs.declared.mail.Letter.{Letter}
 use Rattle.act_mailbox.specs.declared.mail.Letter.TheVariants.{Call, Note}

@@ -16,7 +16,7 @@ use Rattle.act_rules.specs.declared.history.RunItem.{RunItem}
 use Rattle.act_rules.specs.RunList.{after_item, state_after, items_of, has_terminated, NothingFollowsAnEnd}
 use Rattle.act_rules.proofs.RunLists.{state_after-push}
 use Rattle.act_inbox.specs.Inbox.{next_of}
-use Rattle.act_actor.specs.Value.{ActorSeen, DeadValue, RetiredSeen}
+use Rattle.act_actor.specs.View.{ActorSeen, DeadValue, RetiredSeen}
 use Rattle.act_actor.specs.Actor.{item_of, reply_to, next_call, MayRetire, HasRun, HasRunFrom}
 use Rattle.act_mailbox.specs.declared.mail.Letter.{Letter}
 use Rattle.act_mailbox.specs.Controls.{ControlExecValue, looked_after}

@@ -10,8 +10,8 @@ use Rattle.act_types.specs.declared.message.Notice.TheVariants.{Answered, Death}
 use Rattle.act_rules.specs.declared.history.RunItem.{RunItem}
 use Rattle.act_rules.specs.RunList.{Answer, state_after, answer_at, answers_from, items_of, has_terminated, NothingFollowsAnEnd}
 use Rattle.act_rules.specs.History.{contains}
-use Rattle.act_actor.specs.Value.{DeadValue, RetiredSeen}
-use Rattle.act_actor.specs.Seen.{retired_seen}
+use Rattle.act_actor.specs.View.{DeadValue, RetiredSeen}
+use Rattle.act_actor.specs.StateViews.{retired_seen}
 use Rattle.act_mailbox.specs.declared.control.Asked.{Asked}
 use Rattle.act_mailbox.specs.declared.mail.Letter.{Letter}
 use Rattle.act_mailbox.specs.declared.mail.Letter.TheVariants.{Call, Note}

@@ -6,7 +6,7 @@ ghost use Rattle.act_types.specs.KindState.{KindState};
 ghost use Rattle.act_mailbox.specs.declared.mail.Letter.{Letter};
 ghost use Rattle.act_mailbox.specs.declared.mail.Letter.TheVariants.{Call};
 ghost use Rattle.act_actor.specs.Actor.{RunsAtOnce, with_call};
-ghost use Rattle.act_actor.specs.Seen.{live_seen};
+ghost use Rattle.act_actor.specs.StateViews.{live_seen};
 ghost use Rattle.act_serve.specs.Turns.{IsSeated, SeatsDiffer, HasReplied, GoesOn, IsFed, IsIn, IsServing, HasCome, is_seat_of};
 ghost use Rattle.act_serve.specs.Served.{bare};
 

@@ -4,7 +4,7 @@ ghost use Rattle.std.specs.Prelude.{◌≡◌, ℕ, ◌+◌, ◌<◌, ◌≤◌,
 ghost use Rattle.act_types.specs.KindState.{KindState};
 ghost use Rattle.act_mailbox.specs.declared.mail.Letter.{Letter};
 ghost use Rattle.act_actor.specs.Actor.{next_call};
-ghost use Rattle.act_actor.specs.Seen.{live_seen};
+ghost use Rattle.act_actor.specs.StateViews.{live_seen};
 ghost use Rattle.act_rules.specs.Consistent.{IsFront};
 ghost use Rattle.act_types.specs.declared.message.Notice.TheVariants.{Answered};
 ghost use Rattle.act_mailbox.specs.Notices.{ReplyExecValue, actor_of, IsReply, NamesPlace};

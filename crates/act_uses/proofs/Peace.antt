@@ -20,7 +20,7 @@ use Rattle.act_rules.proofs.Lists.{All_at, All_more}
 use Rattle.act_plans.specs.Runs.{plan_of, steps_of}
 use Rattle.act_owner.specs.Owner.{OwnerValue}
 use Rattle.act_serve.specs.Served.{EndSeen}
-use Rattle.act_joint.specs.Joined.{IsJoined, calls_in, kept_in, log_in, killed_in}
+use Rattle.act_executor.specs.Joined.{IsJoined, calls_in, kept_in, log_in, killed_in}
 use Rattle.act_uses.specs.Peaceful.{is_mild, is_peaceful, AllRan}
 
 -- ---- what a peaceful plan asks for

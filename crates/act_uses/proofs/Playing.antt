@@ -7,7 +7,7 @@ use Rattle.act_rules.specs.History.{History, opening}
 use Rattle.act_rules.specs.Laws.{history}
 use Rattle.act_rules.specs.Rules.{Outcome, after_all, outcomes}
 use Rattle.act_rules.proofs.Steps.{after_all-append, outcomes-append}
-use Rattle.act_world.specs.Value.{WorldSeen}
+use Rattle.act_world.specs.View.{WorldSeen}
 use Rattle.act_world.specs.Stands.{Stands, Played}
 
 -- some events, and then others

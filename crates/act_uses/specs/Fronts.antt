@@ -4,7 +4,7 @@ use Rattle.std.specs.List.{enumerate_from}
 use Rattle.act_rules.specs.RunList.{items_of}
 use Rattle.act_rules.specs.Submissions.{calls_to}
 use Rattle.act_world.specs.Headline.{calls_in, log_in}
-use Rattle.act_world.specs.Value.{WorldSeen}
+use Rattle.act_world.specs.View.{WorldSeen}
 
 -- what an actor ran of a caller's calls, each by its number and its future
 abbrev pub ran_in : WorldSeen → ℕ → ℕ → List (ℕ × ℕ)

@@ -17,7 +17,7 @@ use Rattle.act_actor.specs.Cast.{IsFitting}
 use Rattle.act_actor.specs.Casts.{casting}
 use Rattle.act_plans.specs.Parts.{PlansFit, most_steps}
 use Rattle.act_serve.specs.Served.{EndSeen}
-use Rattle.act_joint.specs.Joined.{calls_in, kept_in, log_in}
+use Rattle.act_executor.specs.Joined.{calls_in, kept_in, log_in}
 use Rattle.act_executor.specs.Runs.{plan_seen, IsFault}
 use Rattle.act_uses.specs.declared.peaceful.Kinds.{Kinds}
 use Rattle.act_uses.specs.declared.peaceful.PeaceFault.{PeaceFault}

@@ -5,7 +5,7 @@ use Rattle.act_rules.specs.Grammar.{Script as Spelled}
 use Rattle.act_rules.specs.Rules.{Outcome}
 use Rattle.act_scripts.specs.Spelled.{FailsAt}
 use Rattle.act_world.specs.Stands.{Played}
-use Rattle.act_world.specs.Value.{WorldSeen}
+use Rattle.act_world.specs.View.{WorldSeen}
 use Rattle.act_uses.specs.declared.played.PartFault.{PartFault}
 use Rattle.act_uses.specs.declared.played.PartFault.TheVariants.{Script, NoRoom, Stopped}
 

@@ -8,7 +8,7 @@ ghost use Rattle.act_actor.specs.Cast.{IsFitting};
 ghost use Rattle.act_actor.specs.Casts.{casting};
 ghost use Rattle.act_world.specs.Headline.{log_of};
 ghost use Rattle.act_world.specs.Stands.{Stands};
-ghost use Rattle.act_world.specs.Value.{stage_seen, world_seen};
+ghost use Rattle.act_world.specs.View.{stage_seen, world_seen};
 ghost use Rattle.act_uses.specs.Fronts.{ran_in, submitted_in};
 
 use act_kinds::Actor;

@@ -5,7 +5,7 @@ ghost use Rattle.act_rules.specs.RunList.{after_item};
 ghost use Rattle.act_rules.specs.Submissions.{kept_at};
 ghost use Rattle.act_owner.specs.Owner.{opened};
 ghost use Rattle.act_actor.specs.Actor.{item_of};
-ghost use Rattle.act_actor.specs.Seen.{live_seen};
+ghost use Rattle.act_actor.specs.StateViews.{live_seen};
 ghost use Rattle.act_uses.specs.OneCall.{asking, question, asked};
 
 use act_actor::Live;

@@ -2,7 +2,7 @@
 
 ghost use Rattle.std.specs.Prelude.{take, OnOk, IfErr};
 ghost use Rattle.act_world.specs.Stands.{Played};
-ghost use Rattle.act_world.specs.Value.{world_seen};
+ghost use Rattle.act_world.specs.View.{world_seen};
 
 use act_kinds::Actor;
 use act_world::{Event, Outcome, World};

@@ -4,7 +4,7 @@ ghost use Rattle.std.specs.Prelude.{◌≡◌, ◌≤◌, ◌∷◌, [], map, If
 ghost use Rattle.std.specs.List.{list_all};
 ghost use Rattle.act_actor.specs.Casts.{casting};
 ghost use Rattle.act_serve.specs.Served.{end_seen};
-ghost use Rattle.act_joint.specs.Joined.{IsJoined};
+ghost use Rattle.act_executor.specs.Joined.{IsJoined};
 ghost use Rattle.act_executor.specs.Runs.{plan_seen};
 ghost use Rattle.act_uses.specs.Peaceful.{AllRan, IsPeaceFault, IsServeFault, are_peaceful, is_peaceful, cast_for, casts_for};
 

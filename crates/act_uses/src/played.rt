@@ -5,7 +5,7 @@ ghost use Rattle.act_rules.specs.Grammar.{spelled, Script as Spelled};
 ghost use Rattle.act_rules.specs.declared.script.Mode.TheVariants.{Play};
 ghost use Rattle.act_scripts.specs.Spelled.{FailsAt};
 ghost use Rattle.act_world.specs.Stands.{Played};
-ghost use Rattle.act_world.specs.Value.{world_seen};
+ghost use Rattle.act_world.specs.View.{world_seen};
 ghost use Rattle.act_uses.specs.Scripts.{IsFaultOf, PlayedBefore};
 
 use act_kinds::Actor;

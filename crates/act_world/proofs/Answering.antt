@@ -28,7 +28,7 @@ use Rattle.act_owner.specs.declared.owner.Collected.TheVariants.{First, Late, St
 use Rattle.act_owner.specs.Owner.{OwnerValue, is_sent, is_to, is_death, is_of_call, collected_reply, after_reply_that}
 use Rattle.act_owner.proofs.Told.{is_death-only}
 use Rattle.act_world.specs.Exchange.{ExchangeValue, told_collected}
-use Rattle.act_world.specs.Value.{SlotSeen}
+use Rattle.act_world.specs.View.{SlotSeen}
 use Rattle.act_world.specs.Ties.{IsOwnerOf, is_death_to, reply_as, Ties}
 use Rattle.act_world.proofs.Lawful.{IsLawful}
 use Rattle.act_world.proofs.Pending.{kept_long}

@@ -19,7 +19,7 @@ use Rattle.act_rules.proofs.Growth.{added_grows}
 use Rattle.act_handles.specs.Handles.{copies_in}
 use Rattle.act_owner.specs.Owner.{OwnerValue, kill_told}
 use Rattle.act_world.specs.Exchange.{ExchangeValue, is_owner}
-use Rattle.act_world.specs.Value.{SlotSeen}
+use Rattle.act_world.specs.View.{SlotSeen}
 use Rattle.act_world.specs.Ties.{Ties}
 use Rattle.act_world.proofs.Changes.{refused_follows, accepted_follows}
 use Rattle.act_world.proofs.Lawful.{IsLawful}

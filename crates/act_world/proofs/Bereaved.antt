@@ -21,7 +21,7 @@ use Rattle.act_rules.proofs.Table.{or_else, kept_of-collected}
 use Rattle.act_handles.specs.Handles.{copies_in}
 use Rattle.act_owner.specs.Owner.{OwnerValue, is_dead as knows_dead, collected, with_death, waits_for, answer_after_death}
 use Rattle.act_world.specs.Exchange.{ExchangeValue, told_collected}
-use Rattle.act_world.specs.Value.{SlotSeen}
+use Rattle.act_world.specs.View.{SlotSeen}
 use Rattle.act_world.specs.Ties.{IsOwnerOf, is_death_to, Ties}
 use Rattle.act_world.proofs.Lawful.{IsLawful, IsNamedPost}
 use Rattle.act_world.proofs.Pending.{kept_long, unanswered_is}

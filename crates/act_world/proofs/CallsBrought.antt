@@ -14,7 +14,7 @@ use Rattle.act_rules.specs.Submissions.{calls_to}
 use Rattle.act_rules.specs.History.{History, cast_of, names, calls_of, ran_count, has_letter}
 use Rattle.act_rules.proofs.Lists.{length-filter_least}
 use Rattle.act_inbox.specs.Inbox.{is_call, handed_of, waiting, came, arrival_of, waiting_after}
-use Rattle.act_actor.specs.Value.{ActorSeen}
+use Rattle.act_actor.specs.View.{ActorSeen}
 use Rattle.act_actor.specs.Actor.{arrival_at}
 use Rattle.act_world.specs.Slots.{HasTaken}
 use Rattle.act_world.specs.Ties.{packet_as, packet_of, held_packet, is_note, IsLive}

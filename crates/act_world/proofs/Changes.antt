@@ -8,7 +8,7 @@ use Rattle.act_rules.specs.declared.outcome.Did.{Did}
 use Rattle.act_rules.specs.declared.outcome.WorldRefusal.{WorldRefusal}
 use Rattle.act_rules.specs.History.{Casting, History, cast_of, names, is_ended}
 use Rattle.act_rules.specs.Rules.{refusal_of, did, added, outcome_of, after}
-use Rattle.act_world.specs.Value.{SlotSeen, Runs, Died, Ended, Vacant, WorldSeen}
+use Rattle.act_world.specs.View.{SlotSeen, Runs, Died, Ended, Vacant, WorldSeen}
 use Rattle.act_world.specs.Slots.{is_live_seen}
 use Rattle.act_world.specs.Ties.{IsStage, Ties}
 use Rattle.act_world.proofs.Lists.{get_set-same, get_set-other}

@@ -25,7 +25,7 @@ use Rattle.act_owner.specs.Owner.{OwnerValue, collected, after_collect, after_re
 use Rattle.act_world.specs.declared.exchange.Posted.{Posted}
 use Rattle.act_world.specs.Exchange.{ExchangeValue, is_owner, IsReply, told_collected}
 use Rattle.act_world.specs.Memory.{takes_memory}
-use Rattle.act_world.specs.Value.{SlotSeen}
+use Rattle.act_world.specs.View.{SlotSeen}
 use Rattle.act_world.specs.Ties.{reply_as, reply_at, posted, Ties}
 use Rattle.act_world.proofs.Lawful.{IsLawful, IsNamedPost, named_caller}
 use Rattle.act_world.proofs.Frames.{owner_absent}

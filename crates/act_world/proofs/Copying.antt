@@ -18,7 +18,7 @@ use Rattle.act_handles.specs.Handles.{copies_in, copied, with_copy}
 use Rattle.act_handles.proofs.Lookups.{copies-with_copy, copies-with_copy-other, given-with_copy}
 use Rattle.act_owner.specs.Owner.{OwnerValue, with_handles}
 use Rattle.act_world.specs.Exchange.{ExchangeValue, is_owner}
-use Rattle.act_world.specs.Value.{SlotSeen}
+use Rattle.act_world.specs.View.{SlotSeen}
 use Rattle.act_world.specs.Ties.{Ties, IsOwnerOf}
 use Rattle.act_world.proofs.Changes.{refused_follows, accepted_follows}
 use Rattle.act_world.proofs.Lawful.{IsLawful}

@@ -17,11 +17,11 @@ use Rattle.act_rules.specs.Rules.{Outcome, actor_of, deliver_refusal, refusal_of
 use Rattle.act_rules.proofs.Letters.{IsSoundLetter}
 use Rattle.act_rules.proofs.Retired.{IsSoundNote}
 use Rattle.act_owner.specs.Owner.{OwnerValue}
-use Rattle.act_actor.specs.Value.{ActorSeen}
+use Rattle.act_actor.specs.View.{ActorSeen}
 use Rattle.act_world.specs.declared.exchange.Mailed.{Mailed}
 use Rattle.act_world.specs.declared.exchange.Mailed.TheVariants.{Call as MailedCall, Note as MailedNote}
 use Rattle.act_world.specs.Exchange.{ExchangeValue, is_owner, mailed_to}
-use Rattle.act_world.specs.Value.{SlotSeen, Runs, WorldSeen}
+use Rattle.act_world.specs.View.{SlotSeen, Runs, WorldSeen}
 use Rattle.act_world.specs.Slots.{is_live_seen, HasTaken, HasTakenCall, HasNoted, HasArrived, IsNewCall, IsBrought}
 use Rattle.act_world.specs.Ties.{IsOwnerAt, packet_as, note_as, mailed, IsLive, IsStage, Ties}
 use Rattle.act_world.specs.Stands.{Follows, IsUnrefused}

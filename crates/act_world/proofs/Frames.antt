@@ -30,11 +30,11 @@ use Rattle.act_rules.proofs.Table.{kept_of-same}
 use Rattle.act_rules.proofs.Finding.{find-Some, find-None, position_or_len-Some}
 use Rattle.act_rules.proofs.Limits.{limit_of-same}
 use Rattle.act_owner.specs.Owner.{OwnerValue}
-use Rattle.act_actor.specs.Value.{ActorSeen}
+use Rattle.act_actor.specs.View.{ActorSeen}
 use Rattle.act_world.specs.declared.exchange.Mailed.{Mailed}
 use Rattle.act_world.specs.declared.exchange.Posted.{Posted}
 use Rattle.act_world.specs.Exchange.{is_owner}
-use Rattle.act_world.specs.Value.{SlotSeen, Runs, Died, Ended, Vacant}
+use Rattle.act_world.specs.View.{SlotSeen, Runs, Died, Ended, Vacant}
 use Rattle.act_world.specs.Ties.{IsOwnerOf, IsOwnerAt, is_death_to, packet_of, mailed, reply_as, reply_at, posted, held_packet, IsLive, IsStage}
 use Rattle.act_world.proofs.Lawful.{IsLawful}
 

@@ -25,7 +25,7 @@ use Rattle.act_rules.proofs.Growth.{added_grows}
 use Rattle.act_rules.proofs.Sound.{consistent}
 use Rattle.act_owner.specs.Owner.{OwnerValue}
 use Rattle.act_world.specs.Exchange.{is_owner}
-use Rattle.act_world.specs.Value.{SlotSeen, Runs, Died, Ended, Vacant, WorldSeen}
+use Rattle.act_world.specs.View.{SlotSeen, Runs, Died, Ended, Vacant, WorldSeen}
 use Rattle.act_world.specs.Ties.{IsOwnerAt, IsStage, Ties}
 use Rattle.act_world.specs.Slots.{is_dead_seen}
 use Rattle.act_world.specs.Headline.{calls_in, kept_in, log_of, log_in, died_in, IsConsistent}

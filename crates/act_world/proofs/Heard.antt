@@ -17,7 +17,7 @@ use Rattle.act_rules.proofs.Table.{or_else, kept_of-collected}
 use Rattle.act_owner.specs.Owner.{OwnerValue, collected, after_collect, KnowsDeath}
 use Rattle.act_world.specs.declared.exchange.Posted.{Posted}
 use Rattle.act_world.specs.Exchange.{ExchangeValue, told_collected}
-use Rattle.act_world.specs.Value.{SlotSeen, WorldSeen}
+use Rattle.act_world.specs.View.{SlotSeen, WorldSeen}
 use Rattle.act_world.specs.Ties.{IsOwnerOf, is_death_to, Ties}
 use Rattle.act_world.proofs.Changes.{accepted_follows}
 use Rattle.act_world.proofs.Lawful.{IsLawful}

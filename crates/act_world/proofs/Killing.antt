@@ -13,9 +13,9 @@ use Rattle.act_rules.specs.RunList.{has_terminated}
 use Rattle.act_rules.specs.History.{History, contains, cast_of, runs_of, is_dead, is_retired, is_ended}
 use Rattle.act_rules.specs.Rules.{Outcome, refusal_of, outcome_of, did, added, after}
 use Rattle.act_rules.proofs.Growth.{added_grows}
-use Rattle.act_actor.specs.Value.{ActorSeen}
+use Rattle.act_actor.specs.View.{ActorSeen}
 use Rattle.act_world.specs.Exchange.{ExchangeValue}
-use Rattle.act_world.specs.Value.{SlotSeen, Runs, Died, Ended, Vacant}
+use Rattle.act_world.specs.View.{SlotSeen, Runs, Died, Ended, Vacant}
 use Rattle.act_world.specs.Slots.{killed}
 use Rattle.act_world.specs.Ties.{IsLive, IsDead, IsStage, Ties}
 use Rattle.act_world.proofs.Changes.{refused_follows, accepted_follows}

@@ -12,7 +12,7 @@ use Rattle.act_rules.proofs.Retired.{IsSoundNote}
 use Rattle.act_world.specs.declared.exchange.Mailed.{Mailed}
 use Rattle.act_world.specs.declared.exchange.Mailed.TheVariants.{Call as MailedCall, Note as MailedNote}
 use Rattle.act_world.specs.Exchange.{mailed_to}
-use Rattle.act_world.specs.Value.{SlotSeen, Runs, Died, Ended, Vacant, WorldSeen}
+use Rattle.act_world.specs.View.{SlotSeen, Runs, Died, Ended, Vacant, WorldSeen}
 use Rattle.act_world.specs.Ties.{packet_of, note_as, mailed, held_packet, IsStage, Ties}
 use Rattle.act_world.proofs.Lawful.{IsLawful, IsNamedLetter, has_letter-last, is_letter-same}
 use Rattle.act_world.proofs.Changes.{named_cast}

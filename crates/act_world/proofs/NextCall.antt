@@ -8,7 +8,7 @@ use Rattle.act_rules.specs.declared.history.Letter.TheVariants.{Call as CallLett
 use Rattle.act_rules.specs.Submissions.{calls_to}
 use Rattle.act_rules.specs.History.{History, cast_of, names, calls_of, ran_count, kept_of, has_letter, run_item, next_item}
 use Rattle.act_inbox.specs.Inbox.{handed_of, waiting, next_of}
-use Rattle.act_actor.specs.Value.{ActorSeen}
+use Rattle.act_actor.specs.View.{ActorSeen}
 use Rattle.act_actor.specs.Actor.{item_of, next_call}
 use Rattle.act_world.specs.Ties.{packet_as, packet_of, IsLive}
 use Rattle.act_world.proofs.Frames.{still_lives}

@@ -10,7 +10,7 @@ use Rattle.act_rules.specs.History.{History, cast_of, names, has_letter}
 use Rattle.act_rules.proofs.Letters.{has_letter-sound}
 use Rattle.act_rules.proofs.Retired.{IsSoundNote}
 use Rattle.act_inbox.specs.Inbox.{note_of, note_arrival, note_after}
-use Rattle.act_actor.specs.Value.{ActorSeen}
+use Rattle.act_actor.specs.View.{ActorSeen}
 use Rattle.act_actor.specs.Actor.{note_arrival_at}
 use Rattle.act_world.specs.Slots.{HasNoted}
 use Rattle.act_world.specs.Ties.{is_note, IsLive}

@@ -18,7 +18,7 @@ use Rattle.act_rules.proofs.Retired.{times-push}
 use Rattle.act_handles.specs.Handles.{copies_in, or_else}
 use Rattle.act_owner.specs.Owner.{OwnerValue}
 use Rattle.act_world.specs.Exchange.{ExchangeValue, is_owner}
-use Rattle.act_world.specs.Value.{SlotSeen}
+use Rattle.act_world.specs.View.{SlotSeen}
 use Rattle.act_world.specs.Ties.{Ties, IsOwnerOf, IsOwnerAt, mailed}
 use Rattle.act_world.proofs.Changes.{refused_follows}
 use Rattle.act_world.proofs.Lawful.{IsLawful}

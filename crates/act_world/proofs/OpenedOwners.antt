@@ -18,7 +18,7 @@ use Rattle.act_actor.specs.declared.cast.Cast.{Cast}
 use Rattle.act_actor.specs.Cast.{ActorsDiffer}
 use Rattle.act_owner.specs.Owner.{OwnerValue, opened_with, limit_of as limit_known}
 use Rattle.act_owner.proofs.Told.{none_dead}
-use Rattle.act_world.specs.Value.{is_owner}
+use Rattle.act_world.specs.View.{is_owner}
 use Rattle.act_world.specs.Ties.{IsOwnerAt, IsOwnerOf}
 use Rattle.act_actor.specs.Casts.{casting, limited, callers_named, actors_naming, limits_naming}
 use Rattle.act_world.specs.Openings.{HasOwners}

@@ -11,8 +11,8 @@ use Rattle.act_rules.specs.History.{Casting, History, opening, cast_of, names}
 use Rattle.act_inbox.specs.Inbox.{IsOpened}
 use Rattle.act_actor.specs.declared.cast.Cast.{Cast}
 use Rattle.act_actor.specs.Cast.{ActorsDiffer, CallersDiffer}
-use Rattle.act_actor.specs.Value.{ActorSeen}
-use Rattle.act_world.specs.Value.{SlotSeen, Runs, Vacant}
+use Rattle.act_actor.specs.View.{ActorSeen}
+use Rattle.act_world.specs.View.{SlotSeen, Runs, Vacant}
 use Rattle.act_world.specs.Ties.{IsLive, IsStage}
 use Rattle.act_actor.specs.Casts.{casting}
 use Rattle.act_world.proofs.OpenedOwners.{differ_head, differ_tail}

@@ -9,7 +9,7 @@ use Rattle.act_rules.specs.Laws.{history}
 use Rattle.act_rules.specs.Rules.{Outcome, after, after_all, outcome_of, outcomes}
 use Rattle.act_rules.proofs.Steps.{after_all-append, outcomes-append}
 use Rattle.act_world.specs.Exchange.{ExchangeValue}
-use Rattle.act_world.specs.Value.{SlotSeen, WorldSeen}
+use Rattle.act_world.specs.View.{SlotSeen, WorldSeen}
 use Rattle.act_world.specs.Ties.{Ties}
 use Rattle.act_world.specs.Stands.{Stands, Follows, FollowsThere, IsUnrefused, IsUnrefusedThere, IsUnrefusedAt, Played}
 use Rattle.act_world.specs.Memory.{TakesMemory, TakesMemoryThere, TakesMemoryAt}

@@ -17,9 +17,9 @@ use Rattle.act_rules.proofs.Ended.{under-push, ended_by}
 use Rattle.act_rules.proofs.Letters.{IsSoundLetter, has_letter-sound}
 use Rattle.act_rules.proofs.RunLists.{state_after-push}
 use Rattle.act_inbox.specs.Inbox.{handed_of, waiting}
-use Rattle.act_actor.specs.Value.{ActorSeen}
+use Rattle.act_actor.specs.View.{ActorSeen}
 use Rattle.act_actor.specs.Actor.{item_of, HasRun}
-use Rattle.act_world.specs.Value.{Runs}
+use Rattle.act_world.specs.View.{Runs}
 use Rattle.act_world.specs.Slots.{died, buried}
 use Rattle.act_world.specs.Ties.{packet_of, held_packet, is_note, IsLive, IsDead, IsStage}
 use Rattle.act_world.proofs.Lawful.{IsLawful}

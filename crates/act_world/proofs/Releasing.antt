@@ -24,7 +24,7 @@ use Rattle.act_owner.specs.Owner.{OwnerValue, with_handles, release_note, releas
 use Rattle.act_world.specs.declared.exchange.Mailed.{Mailed}
 use Rattle.act_world.specs.declared.exchange.Mailed.TheVariants.{Note as MailedNote}
 use Rattle.act_world.specs.Exchange.{ExchangeValue, is_owner}
-use Rattle.act_world.specs.Value.{SlotSeen}
+use Rattle.act_world.specs.View.{SlotSeen}
 use Rattle.act_world.specs.Ties.{Ties, IsOwnerOf, mailed}
 use Rattle.act_world.specs.Memory.{takes_memory}
 use Rattle.act_world.proofs.Changes.{refused_follows, accepted_follows}

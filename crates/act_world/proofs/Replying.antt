@@ -11,7 +11,7 @@ use Rattle.act_rules.specs.RunList.{Answer, after_item, answer_at, state_after}
 use Rattle.act_rules.specs.History.{Casting, History, runs_of, answer_of}
 use Rattle.act_rules.proofs.Lists.{slice_get_last}
 use Rattle.act_rules.proofs.RunLists.{answer_at-push}
-use Rattle.act_actor.specs.Value.{ActorSeen}
+use Rattle.act_actor.specs.View.{ActorSeen}
 use Rattle.act_actor.specs.Actor.{item_of, reply_to}
 use Rattle.act_world.specs.declared.exchange.Posted.{Posted}
 use Rattle.act_world.specs.Ties.{reply_as, reply_at, posted, IsLive}

@@ -17,10 +17,10 @@ use Rattle.act_rules.specs.History.{History, contains, cast_of, callers_in, name
 use Rattle.act_rules.specs.Rules.{Outcome, refusal_of, outcome_of, after}
 use Rattle.act_rules.proofs.Growth.{Grows, added_grows}
 use Rattle.act_inbox.specs.Inbox.{handed_of, note_of, IsDrained}
-use Rattle.act_actor.specs.Value.{ActorSeen, RetiredSeen}
+use Rattle.act_actor.specs.View.{ActorSeen, RetiredSeen}
 use Rattle.act_actor.specs.Actor.{MayRetire}
 use Rattle.act_world.specs.Exchange.{ExchangeValue}
-use Rattle.act_world.specs.Value.{SlotSeen, Runs, Died, Ended, Vacant, WorldSeen}
+use Rattle.act_world.specs.View.{SlotSeen, Runs, Died, Ended, Vacant, WorldSeen}
 use Rattle.act_world.specs.Slots.{IsRetiredIn}
 use Rattle.act_world.specs.Ties.{is_note, IsLive, IsRetired, IsStage, Ties}
 use Rattle.act_world.specs.Stands.{Follows}

@@ -18,11 +18,11 @@ use Rattle.act_rules.specs.Submissions.{needs}
 use Rattle.act_rules.specs.History.{History, cast_of, names, is_caller, runs_of, is_ended, next_item}
 use Rattle.act_rules.specs.Rules.{refusal_of, did, did_run, added, after_run, outcome_of, after}
 use Rattle.act_rules.proofs.Growth.{Grows, after_run_grows}
-use Rattle.act_actor.specs.Value.{ActorSeen}
+use Rattle.act_actor.specs.View.{ActorSeen}
 use Rattle.act_actor.specs.Actor.{item_of, reply_to, next_call, HasRun}
 use Rattle.act_world.specs.declared.exchange.Posted.{Posted}
 use Rattle.act_world.specs.Exchange.{ExchangeValue, is_owner, naming_refusal}
-use Rattle.act_world.specs.Value.{SlotSeen, Runs, Vacant, WorldSeen}
+use Rattle.act_world.specs.View.{SlotSeen, Runs, Vacant, WorldSeen}
 use Rattle.act_world.specs.Slots.{is_live_seen, has_next_seen, buried, HasRunNext, IsRun, IsRunAt}
 use Rattle.act_world.specs.Ties.{posted, IsLive, IsStage, Ties}
 use Rattle.act_world.specs.Stands.{Follows, IsUnrefused}

@@ -25,7 +25,7 @@ use Rattle.act_world.specs.declared.exchange.CallNote.{CallNote}
 use Rattle.act_world.specs.declared.exchange.Mailed.{Mailed}
 use Rattle.act_world.specs.declared.exchange.Mailed.TheVariants.{Call as MailedCall}
 use Rattle.act_world.specs.Exchange.{ExchangeValue, is_owner}
-use Rattle.act_world.specs.Value.{SlotSeen, WorldSeen}
+use Rattle.act_world.specs.View.{SlotSeen, WorldSeen}
 use Rattle.act_world.specs.Ties.{IsOwnerOf, mailed, Ties}
 use Rattle.act_world.proofs.Changes.{refused_follows, accepted_follows}
 use Rattle.act_world.proofs.Lists.{get_set-same, get_set-other}

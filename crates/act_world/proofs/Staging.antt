@@ -2,7 +2,7 @@
 use Rattle.std.proofs.Common.{ℕ, Some, None}
 use Rattle.std.specs.Prelude.{Option}
 use Rattle.act_rules.specs.History.{History}
-use Rattle.act_world.specs.Value.{SlotSeen, Runs, Died, Ended, Vacant, stage_of_slot}
+use Rattle.act_world.specs.View.{SlotSeen, Runs, Died, Ended, Vacant, stage_of_slot}
 use Rattle.act_world.specs.Ties.{IsStage}
 
 -- the state that is shown of a slot is where the history says

@@ -33,7 +33,7 @@ use Rattle.act_handles.proofs.Lookups.{copies-with_number, given-with_number, gi
 use Rattle.act_owner.specs.Owner.{OwnerValue, limit_of as limit_known, pending, submission_refusal, with_call}
 use Rattle.act_owner.proofs.Told.{calls_to-length}
 use Rattle.act_world.specs.Exchange.{ExchangeValue, is_owner}
-use Rattle.act_world.specs.Value.{SlotSeen}
+use Rattle.act_world.specs.View.{SlotSeen}
 use Rattle.act_world.specs.Ties.{Ties, IsOwnerOf, is_death_to}
 use Rattle.act_world.proofs.Changes.{refused_follows, accepted_follows}
 use Rattle.act_world.proofs.Lawful.{IsLawful}

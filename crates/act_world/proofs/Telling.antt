@@ -14,7 +14,7 @@ use Rattle.act_rules.specs.Rules.{did, refusal_of, outcome_of, added, after}
 use Rattle.act_rules.proofs.Growth.{added_grows}
 use Rattle.act_world.specs.declared.exchange.Posted.{Posted}
 use Rattle.act_world.specs.Exchange.{ExchangeValue, is_owner, naming_refusal}
-use Rattle.act_world.specs.Value.{SlotSeen, Runs, Died, Ended, Vacant}
+use Rattle.act_world.specs.View.{SlotSeen, Runs, Died, Ended, Vacant}
 use Rattle.act_world.specs.Slots.{is_dead_seen}
 use Rattle.act_world.specs.Ties.{IsStage, posted, Ties}
 use Rattle.act_world.proofs.Changes.{refused_follows, accepted_follows}

@@ -7,7 +7,7 @@ use Rattle.act_rules.specs.RunList.{Answer}
 use Rattle.act_rules.specs.History.{Casting, opening, opening_of}
 use Rattle.act_rules.specs.Consistent.{Consistent}
 use Rattle.act_world.specs.Exchange.{is_owner}
-use Rattle.act_world.specs.Value.{SlotSeen, Runs, Died, Ended, Vacant, WorldSeen}
+use Rattle.act_world.specs.View.{SlotSeen, Runs, Died, Ended, Vacant, WorldSeen}
 use Rattle.act_world.specs.Slots.{is_dead_seen}
 
 -- what a caller submitted, and the answers that it keeps

@@ -1,5 +1,5 @@
 pub mod Exchange
-pub mod Value
+pub mod View
 pub mod Slots
 pub mod Ties
 pub mod Stands

@@ -12,7 +12,7 @@ use Rattle.act_rules.specs.Submissions.{kept_at}
 use Rattle.act_rules.specs.History.{Casting, History, runs_of, kept_of, has_letter, next_item}
 use Rattle.act_rules.specs.Rules.{is_last}
 use Rattle.act_world.specs.Exchange.{ExchangeValue}
-use Rattle.act_world.specs.Value.{SlotSeen, WorldSeen}
+use Rattle.act_world.specs.View.{SlotSeen, WorldSeen}
 use Rattle.act_world.specs.Stands.{Stands}
 
 -- whether a letter is a call that hasn't arrived

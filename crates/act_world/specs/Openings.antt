@@ -4,7 +4,7 @@ use Rattle.act_rules.specs.History.{contains}
 use Rattle.act_actor.specs.declared.cast.Cast.{Cast}
 use Rattle.act_actor.specs.Casts.{limits_naming}
 use Rattle.act_owner.specs.Owner.{OwnerValue, opened_with}
-use Rattle.act_world.specs.Value.{is_owner}
+use Rattle.act_world.specs.View.{is_owner}
 
 -- of each of these callers there is one, just opened, and there is no other
 abbrev pub HasOwners : {K : Type 0} → List (Cast K) → List ℕ → List OwnerValue → Type 0

@@ -16,10 +16,10 @@ use Rattle.act_rules.specs.declared.outcome.WorldRefusal.TheVariants.{Handle, Ac
 use Rattle.act_rules.specs.RunList.{has_terminated}
 use Rattle.act_rules.specs.Rules.{Outcome}
 use Rattle.act_inbox.specs.Inbox.{IsTakenIn, IsNotedIn}
-use Rattle.act_actor.specs.Value.{ActorSeen}
+use Rattle.act_actor.specs.View.{ActorSeen}
 use Rattle.act_actor.specs.Actor.{arrival_at, note_arrival_at, reply_to, next_call, MayRetire, HasRun}
 use Rattle.act_world.specs.Exchange.{head_of, packet_in, filled}
-use Rattle.act_world.specs.Value.{SlotSeen, Runs, Died, Ended, Vacant}
+use Rattle.act_world.specs.View.{SlotSeen, Runs, Died, Ended, Vacant}
 
 abbrev pub IsLiveSeen : SlotSeen → Type 0
 IsLiveSeen (Runs live) = Unit {0}

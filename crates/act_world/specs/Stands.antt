@@ -6,7 +6,7 @@ use Rattle.act_rules.specs.Laws.{history}
 use Rattle.act_rules.specs.History.{Casting}
 use Rattle.act_rules.specs.Rules.{Outcome, refusal_of, outcome_of, outcomes, after}
 use Rattle.act_world.specs.Exchange.{ExchangeValue}
-use Rattle.act_world.specs.Value.{SlotSeen, WorldSeen}
+use Rattle.act_world.specs.View.{SlotSeen, WorldSeen}
 use Rattle.act_world.specs.Ties.{Ties}
 
 -- the world stands after these events of a world with these casts

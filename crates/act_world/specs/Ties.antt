@@ -18,12 +18,12 @@ use Rattle.act_rules.specs.Rules.{was_sent}
 use Rattle.act_handles.specs.Handles.{copies_in, given_in}
 use Rattle.act_inbox.specs.Inbox.{is_listed, handed_of, waiting, note_of}
 use Rattle.act_owner.specs.Owner.{OwnerValue, limit_of as limit_known, is_sent, is_dead as knows_dead}
-use Rattle.act_actor.specs.Value.{ActorSeen, DeadValue, RetiredSeen}
+use Rattle.act_actor.specs.View.{ActorSeen, DeadValue, RetiredSeen}
 use Rattle.act_world.specs.declared.exchange.CallNote.{CallNote}
 use Rattle.act_world.specs.declared.exchange.Mailed.{Mailed}
 use Rattle.act_world.specs.declared.exchange.Mailed.TheVariants.{Call as MailedCall, Note as MailedNote}
 use Rattle.act_world.specs.declared.exchange.Posted.{Posted}
-use Rattle.act_world.specs.Value.{is_owner, SlotSeen, Runs, Died, Ended, Vacant, WorldSeen}
+use Rattle.act_world.specs.View.{is_owner, SlotSeen, Runs, Died, Ended, Vacant, WorldSeen}
 
 -- ---- a caller
 

@@ -4,9 +4,9 @@ ghost use Rattle.std.specs.Prelude.{◌≡◌, ◌≢◌, ◌+◌, ◌++◌, ◌
 ghost use Rattle.act_rules.specs.History.{opening};
 ghost use Rattle.act_actor.specs.Cast.{IsFitting};
 ghost use Rattle.act_actor.specs.Casts.{casting, callers_named, limits_naming};
-ghost use Rattle.act_actor.specs.Seen.{live_seen};
+ghost use Rattle.act_actor.specs.StateViews.{live_seen};
 ghost use Rattle.act_owner.specs.Owner.{opened_with};
-ghost use Rattle.act_world.specs.Value.{Runs, Vacant, slot_seen, world_seen};
+ghost use Rattle.act_world.specs.View.{Runs, Vacant, slot_seen, world_seen};
 ghost use Rattle.act_world.specs.Ties.{IsStage};
 ghost use Rattle.act_world.specs.Stands.{Stands};
 ghost use Rattle.act_world.specs.Openings.{HasOwners};

@@ -4,8 +4,8 @@ ghost use Rattle.std.specs.Prelude.{◌≡◌, ◌<◌, ℕ, map, Some, slice_ge
 ghost use Rattle.std.specs.Option.{option_map};
 ghost use Rattle.act_rules.specs.declared.outcome.Arrival.TheVariants.{New};
 ghost use Rattle.act_actor.specs.Actor.{arrival_at};
-ghost use Rattle.act_actor.specs.Seen.{live_seen};
-ghost use Rattle.act_world.specs.Value.{Runs, slot_seen, stage_seen, stage_of_slot};
+ghost use Rattle.act_actor.specs.StateViews.{live_seen};
+ghost use Rattle.act_world.specs.View.{Runs, slot_seen, stage_seen, stage_of_slot};
 ghost use Rattle.act_world.specs.Exchange.{head_of};
 ghost use Rattle.act_world.specs.Stands.{is_memory};
 ghost use Rattle.act_world.specs.Slots.{IsLiveSeen, is_live_seen, is_dead_seen, has_next_seen, HasTakenCall, HasArrived, IsNewCall, IsBrought, IsRun, IsRunAt, IsRetiredIn, buried, killed};

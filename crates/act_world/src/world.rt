@@ -10,7 +10,7 @@ ghost use Rattle.act_rules.specs.declared.event.Event.TheVariants as event;
 ghost use Rattle.act_rules.specs.History.{Casting};
 ghost use Rattle.act_rules.specs.Laws.{history};
 ghost use Rattle.act_rules.specs.Rules.{outcome_of, refusal_of};
-ghost use Rattle.act_world.specs.Value.{world_seen, stage_seen, is_owner, stage_in};
+ghost use Rattle.act_world.specs.View.{world_seen, stage_seen, is_owner, stage_in};
 ghost use Rattle.act_world.specs.Ties.{IsOwnerAt, IsStage};
 ghost use Rattle.act_world.specs.Headline.{IsConsistent};
 ghost use Rattle.act_world.specs.Memory.{takes_memory, TakesMemory, TakesMemoryAt};

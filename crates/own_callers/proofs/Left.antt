@@ -15,15 +15,15 @@ use Rattle.act_rules.specs.Submissions.{calls_to, kept_at}
 use Rattle.act_rules.specs.Report.{one_to}
 use Rattle.act_rules.specs.History.{Casting, contains, opening, opening_of}
 use Rattle.act_owner.specs.Owner.{OwnerValue}
-use Rattle.act_actor.specs.Value.{RetiredSeen}
+use Rattle.act_actor.specs.View.{RetiredSeen}
 use Rattle.act_serve.specs.Served.{EndSeen, Retired, IfRetired, id_of}
 use Rattle.act_drive.specs.Sessions.{Seen, seen_of, IsLater}
 use Rattle.act_plans.proofs.Keys.{pairs_of_map}
 use Rattle.act_plans.proofs.Matching.{numbers_differ}
-use Rattle.act_joint.specs.ByCode.{HasTold}
-use Rattle.act_joint.specs.Joined.{IsJoined, RanAll, owner_of, end_of, calls_in, kept_in, calls_of_owner, kept_of_owner, log_in, log_of_end, killed_in, is_killed_end}
-use Rattle.act_joint.proofs.Elements.{all_in, found_is, finds, is_contained}
-use Rattle.act_joint.proofs.Found.{one_of}
+use Rattle.act_executor.specs.ByCode.{HasTold}
+use Rattle.act_executor.specs.Joined.{IsJoined, RanAll, owner_of, end_of, calls_in, kept_in, calls_of_owner, kept_of_owner, log_in, log_of_end, killed_in, is_killed_end}
+use Rattle.act_executor.proofs.Elements.{all_in, found_is, finds, is_contained}
+use Rattle.act_executor.proofs.Found.{one_of}
 use Rattle.own_callers.specs.declared.transfer.Transfer.{Transfer}
 use Rattle.own_callers.specs.Transfer.{is_number, is_enough, HasEnded, transfer_tells}
 use Rattle.own_callers.specs.Accounts.{put_by, taken_by, put_in, taken_in, HoldsWhatWasPutIn}

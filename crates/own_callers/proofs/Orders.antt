@@ -7,7 +7,7 @@ use Rattle.act_rules.specs.declared.history.Submission.{Submission}
 use Rattle.act_rules.specs.History.{Casting}
 use Rattle.act_owner.specs.Owner.{OwnerValue}
 use Rattle.act_drive.specs.Sessions.{Seen, seen_of, IsLater}
-use Rattle.act_joint.specs.ByCode.{HasTold}
+use Rattle.act_executor.specs.ByCode.{HasTold}
 use Rattle.own_callers.specs.declared.buyer.Buyer.{Buyer}
 use Rattle.own_callers.specs.Buyer.{HasPaid, buyer_tells, order}
 use Rattle.own_callers.specs.Buyers.{HasLeft}

@@ -18,9 +18,9 @@ use Rattle.act_owner.specs.Owner.{OwnerValue}
 use Rattle.act_serve.specs.Served.{EndSeen, Retired, id_of}
 use Rattle.act_plans.proofs.Keys.{pairs_of_map}
 use Rattle.act_plans.proofs.Matching.{numbers_differ}
-use Rattle.act_joint.specs.Joined.{IsJoined, end_of, calls_in, kept_in, calls_of_owner, log_in, log_of_end, killed_in, is_killed_end}
-use Rattle.act_joint.proofs.Elements.{all_in, found_is, finds, is_contained}
-use Rattle.act_joint.proofs.Found.{one_of}
+use Rattle.act_executor.specs.Joined.{IsJoined, end_of, calls_in, kept_in, calls_of_owner, log_in, log_of_end, killed_in, is_killed_end}
+use Rattle.act_executor.proofs.Elements.{all_in, found_is, finds, is_contained}
+use Rattle.act_executor.proofs.Found.{one_of}
 use Rattle.own_callers.specs.Accounts.{put_by, taken_by, held}
 use Rattle.own_callers.specs.Runs.{put_by_all, taken_by_all, IsBalanced, held_last, held_first, IsAccount, KeepsTheSum}
 use Rattle.own_callers.proofs.Books.{by_calls, call_moved, enumerated_at, all_by_places, to_actor}

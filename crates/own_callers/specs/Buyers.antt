@@ -1,7 +1,7 @@
 -- What a run of buyers leaves.
 use Rattle.std.specs.Prelude.{◌≡◌, ℕ, List, Some}
 use Rattle.act_owner.specs.Owner.{OwnerValue}
-use Rattle.act_joint.specs.Joined.{owner_of}
+use Rattle.act_executor.specs.Joined.{owner_of}
 use Rattle.act_drive.specs.Sessions.{seen_of}
 use Rattle.own_callers.specs.declared.buyer.Buyer.{Buyer}
 use Rattle.own_callers.specs.Buyer.{HasPaid}

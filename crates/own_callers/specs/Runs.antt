@@ -4,10 +4,10 @@ use Rattle.std.specs.List.{sum_by}
 use Rattle.act_types.specs.KindState.{KindState, AccountAt}
 use Rattle.act_rules.specs.History.{Casting, opening, opening_of}
 use Rattle.act_owner.specs.Owner.{OwnerValue}
-use Rattle.act_actor.specs.Value.{RetiredSeen}
+use Rattle.act_actor.specs.View.{RetiredSeen}
 use Rattle.act_serve.specs.Served.{EndSeen, Retired, id_of}
 use Rattle.act_drive.specs.Sessions.{seen_of}
-use Rattle.act_joint.specs.Joined.{owner_of, end_of}
+use Rattle.act_executor.specs.Joined.{owner_of, end_of}
 use Rattle.own_callers.specs.declared.transfer.Transfer.{Transfer}
 use Rattle.own_callers.specs.Transfer.{HasEnded}
 use Rattle.own_callers.specs.Accounts.{put_of, taken_of, all_put, all_taken, held}

@@ -5,7 +5,7 @@ ghost use Rattle.act_actor.specs.Cast.{IsFitting};
 ghost use Rattle.act_actor.specs.Casts.{casting};
 ghost use Rattle.act_serve.specs.Served.{end_seen};
 ghost use Rattle.act_plans.specs.Parts.{PlansFit};
-ghost use Rattle.act_joint.specs.ByCode.{IsJoinedBy};
+ghost use Rattle.act_executor.specs.ByCode.{IsJoinedBy};
 ghost use Rattle.act_executor.specs.Conducts.{CodesFit};
 ghost use Rattle.act_executor.specs.Runs.{plan_seen};
 

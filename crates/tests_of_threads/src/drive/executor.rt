@@ -3,7 +3,7 @@
 ghost use Rattle.std.specs.Prelude.{◌≡◌, [], All, IfOk, IfSome};
 ghost use Rattle.act_types.specs.declared.message.Notice.TheVariants.{Answered};
 ghost use Rattle.act_rules.specs.Consistent.{IsFront};
-ghost use Rattle.act_actor.specs.Seen.{live_seen};
+ghost use Rattle.act_actor.specs.StateViews.{live_seen};
 ghost use Rattle.act_mailbox.specs.Notices.{new_exec, IsReply, NamesPlace};
 
 use super::station::ExecPasses;

@@ -4,7 +4,7 @@ ghost use Rattle.std.specs.Prelude.{◌≡◌, [], ◌∷◌, All, None, IfOk};
 ghost use Rattle.std.specs.Thread.{IsSync};
 ghost use Rattle.act_rules.specs.Consistent.{IsFront};
 ghost use Rattle.act_rules.specs.Plans.{first_bad};
-ghost use Rattle.act_actor.specs.Seen.{live_seen};
+ghost use Rattle.act_actor.specs.StateViews.{live_seen};
 ghost use Rattle.act_owner.specs.Owner.{opened as opened_owner};
 ghost use Rattle.act_mailbox.specs.Notices.{new_exec, IsReply};
 ghost use Rattle.act_drive.specs.Driven.{IsUnused};

@@ -1,5 +1,5 @@
 use Rattle.std.proofs.Common.{reverse, string_bytes, vec_len}
-use Rattle.act_world.specs.Value.{world_seen}
+use Rattle.act_world.specs.View.{world_seen}
 use Rattle.act_console.proofs.Playing.{Playing}
 use Rattle.act_console.proofs.report.play_all.Given as goal
 

@@ -1,6 +1,6 @@
 use Rattle.std.proofs.Common.{[], ◌∙◌, refl, sym, subst, string_bytes}
 use Rattle.act_world.specs.Stands.{Stands}
-use Rattle.act_world.specs.Value.{WorldSeen, world_seen}
+use Rattle.act_world.specs.View.{WorldSeen, world_seen}
 use Rattle.act_console.proofs.Shown.{all_parts, report_is}
 use Rattle.act_console.proofs.report.play_and_report.Goals as goal
 

@@ -1,5 +1,5 @@
 use Rattle.std.proofs.Common.{string_bytes}
-use Rattle.act_world.specs.Value.{world_seen}
+use Rattle.act_world.specs.View.{world_seen}
 use Rattle.act_console.specs.Parts.{caller_lines}
 use Rattle.act_console.proofs.Shown.{next_lines}
 use Rattle.act_console.proofs.report.push_callers.Goals as goal

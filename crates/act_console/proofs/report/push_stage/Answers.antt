@@ -3,7 +3,7 @@ use Rattle.std.proofs.lemmas.List.{append-nil}
 use Rattle.act_types.specs.Texts.{space, actor_text}
 use Rattle.act_rules.specs.declared.history.RunItem.{RunItem}
 use Rattle.act_rules.specs.Report.{line, placed, item_line}
-use Rattle.act_world.specs.Value.{world_seen, stage_seen}
+use Rattle.act_world.specs.View.{world_seen, stage_seen}
 use Rattle.act_console.specs.Parts.{standing_text}
 use Rattle.act_console.proofs.Shown.{no_stage, one_stage}
 use Rattle.act_console.proofs.report.push_stage.Goals as goal

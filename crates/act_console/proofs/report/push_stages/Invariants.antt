@@ -1,7 +1,7 @@
 use Rattle.std.proofs.Common.{◌≡◌, ◌++◌, string_bytes}
 use Rattle.std.specs.List.{flat_map}
 use Rattle.act_rules.specs.Report.{one_to}
-use Rattle.act_world.specs.Value.{world_seen}
+use Rattle.act_world.specs.View.{world_seen}
 use Rattle.act_console.specs.Parts.{stage_lines}
 use Rattle.act_console.proofs.report.push_stages.Given as goal
 

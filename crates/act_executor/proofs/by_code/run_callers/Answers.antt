@@ -1,7 +1,7 @@
 use Rattle.std.proofs.Common.{◌≡◌, ℕ, map, sym, subst}
 use Rattle.act_actor.specs.Casts.{casting}
 use Rattle.act_executor.specs.declared.run.RunFault.{RunFault}
-use Rattle.act_joint.specs.ByCode.{code_of}
+use Rattle.act_executor.specs.ByCode.{code_of}
 use Rattle.act_executor.specs.Conducts.{does_code}
 use Rattle.act_executor.specs.Runs.{plan_seen, IsFault, IsThreadFault}
 use Rattle.act_executor.proofs.Faults.{err_only, of_threads}

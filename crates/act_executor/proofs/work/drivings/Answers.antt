@@ -9,7 +9,7 @@ use Rattle.act_actor.specs.Cast.{CallersDiffer}
 use Rattle.act_tasks.specs.Each.{Each}
 use Rattle.act_plans.specs.declared.part.Part.{Part}
 use Rattle.act_plans.specs.Parts.{HasLimits}
-use Rattle.act_lines.specs.Opened.{IsCaller}
+use Rattle.act_executor.specs.Opened.{IsCaller}
 use Rattle.act_executor.specs.Work.{CanDrive, driving_start, part_start}
 use Rattle.act_executor.proofs.Lists.{all_head, all_tail, each_pop, map_over, nothing_zips}
 use Rattle.act_executor.proofs.work.drivings.Goals as goal

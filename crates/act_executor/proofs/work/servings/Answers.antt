@@ -7,7 +7,7 @@ use Rattle.act_serve.specs.declared.seat.ExecPasses.{ExecPasses}
 use Rattle.act_actor.specs.declared.cast.Cast.{Cast}
 use Rattle.act_actor.specs.Cast.{CallersDiffer}
 use Rattle.act_tasks.specs.Each.{Each}
-use Rattle.act_lines.specs.Opened.{IsExec}
+use Rattle.act_executor.specs.Opened.{IsExec}
 use Rattle.act_executor.specs.Work.{IsReady, serving_start, cast_start}
 use Rattle.act_executor.proofs.Lists.{all_head, all_tail, each_pop, map_over, nothing_zips}
 use Rattle.act_executor.proofs.work.servings.Goals as goal

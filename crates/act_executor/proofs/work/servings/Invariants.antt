@@ -2,7 +2,7 @@ use Rattle.std.proofs.Common.{◌≡◌, ◌<◌, ◌++◌, length, map, zip, Al
 use Rattle.std.specs.Vec.Iter.{into_iter_items, into_iter_len}
 use Rattle.act_actor.specs.Cast.{CallersDiffer}
 use Rattle.act_tasks.specs.Each.{Each}
-use Rattle.act_lines.specs.Opened.{IsExec}
+use Rattle.act_executor.specs.Opened.{IsExec}
 use Rattle.act_executor.specs.Work.{IsReady, serving_start, cast_start}
 use Rattle.act_executor.proofs.work.servings.Given as goal
 

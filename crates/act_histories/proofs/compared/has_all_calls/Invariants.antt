@@ -3,7 +3,7 @@ use Rattle.act_rules.specs.declared.event.Event.{Event}
 use Rattle.act_rules.specs.History.{Casting}
 use Rattle.act_rules.specs.Laws.{history}
 use Rattle.act_world.specs.Stands.{Stands}
-use Rattle.act_world.specs.Value.{world_seen}
+use Rattle.act_world.specs.View.{world_seen}
 use Rattle.act_histories.specs.Play.{HasCalls}
 use Rattle.act_histories.proofs.compared.has_all_calls.Given as goal
 

@@ -1,5 +1,5 @@
 use Rattle.std.proofs.Common.{◌∙◌, sym, string_bytes}
-use Rattle.act_world.specs.Value.{world_seen}
+use Rattle.act_world.specs.View.{world_seen}
 use Rattle.act_histories.proofs.Shown.{shown}
 use Rattle.act_histories.proofs.compared.shows.Goals as goal
 

@@ -6,7 +6,7 @@ use Rattle.act_rules.specs.Laws.{history}
 use Rattle.act_serve.specs.declared.seat.Finished.{Finished}
 use Rattle.act_serve.specs.Served.{end_seen}
 use Rattle.act_world.specs.Stands.{Stands}
-use Rattle.act_world.specs.Value.{world_seen}
+use Rattle.act_world.specs.View.{world_seen}
 use Rattle.act_replay.specs.Play.{IsEndIn}
 use Rattle.act_replay.proofs.compared.has_ends.Given as goal
 

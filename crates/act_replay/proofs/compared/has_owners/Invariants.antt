@@ -4,7 +4,7 @@ use Rattle.act_rules.specs.declared.event.Event.{Event}
 use Rattle.act_rules.specs.History.{Casting}
 use Rattle.act_rules.specs.Laws.{history}
 use Rattle.act_world.specs.Stands.{Stands}
-use Rattle.act_world.specs.Value.{world_seen}
+use Rattle.act_world.specs.View.{world_seen}
 use Rattle.act_replay.specs.Play.{IsOwnerIn}
 use Rattle.act_replay.proofs.compared.has_owners.Given as goal
 

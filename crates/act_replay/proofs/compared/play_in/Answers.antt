@@ -1,7 +1,7 @@
 use Rattle.std.proofs.Common.{◌↔◌, List, [], subst}
 use Rattle.std.specs.Prelude.{All, IsOk, IsTrue}
 use Rattle.act_rules.specs.Rules.{Outcome}
-use Rattle.act_world.specs.Value.{world_seen}
+use Rattle.act_world.specs.View.{world_seen}
 use Rattle.act_replay.proofs.Playing.{told_in}
 use Rattle.act_replay.proofs.compared.play_in.Goals as goal
 

@@ -1,6 +1,6 @@
 use Rattle.std.proofs.Common.{◌≡◌, [], ◌∷◌, ◌++◌, ap, sym, subst}
-use Rattle.act_actor.specs.Seen.{live_seen}
-use Rattle.act_actor.specs.Value.{ActorSeen}
+use Rattle.act_actor.specs.StateViews.{live_seen}
+use Rattle.act_actor.specs.View.{ActorSeen}
 use Rattle.act_mailbox.specs.declared.mail.Letter.TheVariants.{Call}
 use Rattle.act_serve.specs.Turns.{IsFed}
 use Rattle.act_serve.proofs.Logs.{fed_arrive}

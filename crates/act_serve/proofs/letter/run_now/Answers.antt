@@ -1,4 +1,4 @@
-use Rattle.act_actor.specs.Seen.{live_seen}
+use Rattle.act_actor.specs.StateViews.{live_seen}
 use Rattle.act_serve.proofs.AtOnce.{replied_now}
 use Rattle.act_serve.proofs.letter.run_now.Goals as goal
 

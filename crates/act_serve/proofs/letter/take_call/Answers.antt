@@ -1,6 +1,6 @@
 use Rattle.std.proofs.Common.{List, [], ◌∷◌, ◌++◌, map, ap, sym, ◌∙◌, subst, refl, All}
 use Rattle.act_actor.specs.Actor.{with_call}
-use Rattle.act_actor.specs.Seen.{live_seen}
+use Rattle.act_actor.specs.StateViews.{live_seen}
 use Rattle.act_mailbox.specs.declared.mail.Letter.TheVariants.{Call}
 use Rattle.act_mailbox.specs.Notices.{ReplyExecValue}
 use Rattle.act_seats.specs.declared.seat.Seat.{Seat}

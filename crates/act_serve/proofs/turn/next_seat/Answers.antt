@@ -1,5 +1,5 @@
 use Rattle.std.proofs.Common.{rules, length, get_or, arith}
-use Rattle.act_actor.specs.Seen.{live_seen}
+use Rattle.act_actor.specs.StateViews.{live_seen}
 use Rattle.act_serve.specs.Turns.{has_next}
 use Rattle.act_serve.proofs.Nexts.{none_more, position_here, position_nowhere, next_is}
 use Rattle.act_serve.proofs.AtOnce.{none_next}

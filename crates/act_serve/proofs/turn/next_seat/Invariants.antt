@@ -1,4 +1,4 @@
-use Rattle.act_actor.specs.Seen.{live_seen}
+use Rattle.act_actor.specs.StateViews.{live_seen}
 use Rattle.act_serve.specs.Turns.{has_next}
 use Rattle.act_serve.proofs.Nexts.{NoneOf}
 use Rattle.act_serve.proofs.turn.next_seat.Given as goal

@@ -1,4 +1,4 @@
-use Rattle.act_actor.specs.Seen.{live_seen}
+use Rattle.act_actor.specs.StateViews.{live_seen}
 use Rattle.act_serve.proofs.Serving.{replied}
 use Rattle.act_serve.proofs.turn.run_next.Goals as goal
 

@@ -2,7 +2,7 @@ use Rattle.std.proofs.Common.{rules, ◌≡◌, ◌<◌, ◌∙◌, List, map, a
 use Rattle.std.specs.Prelude.{position}
 use Rattle.std.proofs.lemmas.List.{get_or_default}
 use Rattle.act_actor.specs.Actor.{next_call}
-use Rattle.act_actor.specs.Seen.{live_seen}
+use Rattle.act_actor.specs.StateViews.{live_seen}
 use Rattle.act_mailbox.specs.Notices.{ReplyExecValue}
 use Rattle.act_seats.specs.declared.seat.Seat.{Seat}
 use Rattle.act_serve.specs.Served.{bare, caller_at}

@@ -1,8 +1,8 @@
 use Rattle.std.proofs.Common.{rules, ◌≡◌, ◌∙◌, false, ap, sym, subst, length, map}
 use Rattle.act_rules.specs.RunList.{has_terminated, NothingFollowsAnEnd}
 use Rattle.act_actor.specs.Actor.{MayRetire}
-use Rattle.act_actor.specs.Value.{ActorSeen}
-use Rattle.act_actor.specs.Seen.{live_seen, retired_seen}
+use Rattle.act_actor.specs.View.{ActorSeen}
+use Rattle.act_actor.specs.StateViews.{live_seen, retired_seen}
 use Rattle.act_serve.specs.declared.seat.ExecPasses.{ExecPasses}
 use Rattle.act_serve.specs.Served.{callers_of, bare}
 use Rattle.act_serve.specs.Turns.{PassesFit, IsServing, HasLooked}

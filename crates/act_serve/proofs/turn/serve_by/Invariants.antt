@@ -1,6 +1,6 @@
 use Rattle.std.proofs.Common.{◌≡◌}
 use Rattle.act_rules.specs.RunList.{NothingFollowsAnEnd}
-use Rattle.act_actor.specs.Seen.{live_seen}
+use Rattle.act_actor.specs.StateViews.{live_seen}
 use Rattle.act_serve.specs.Turns.{PassesOf, IsServing}
 use Rattle.act_serve.specs.Served.{callers_of, IsUntaken, PassesStay}
 use Rattle.act_serve.proofs.turn.serve_by.Given as goal

@@ -1,4 +1,4 @@
-use Rattle.act_actor.specs.Seen.{live_seen}
+use Rattle.act_actor.specs.StateViews.{live_seen}
 use Rattle.act_serve.specs.Turns.{HasCome}
 use Rattle.act_serve.specs.declared.letter.Came.TheVariants.{Nothing}
 use Rattle.act_serve.proofs.Nexts.{idle_turn}

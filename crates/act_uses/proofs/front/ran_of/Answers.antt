@@ -1,6 +1,6 @@
 use Rattle.std.proofs.Common.{ℕ, List, subst, sym}
 use Rattle.act_rules.specs.Consistent.{IsFront}
-use Rattle.act_world.specs.Value.{world_seen}
+use Rattle.act_world.specs.View.{world_seen}
 use Rattle.act_uses.specs.Fronts.{submitted_in}
 use Rattle.act_uses.proofs.front.ran_of.Goals as goal
 

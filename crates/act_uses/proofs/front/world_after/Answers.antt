@@ -2,7 +2,7 @@ use Rattle.std.proofs.Common.{◌∷◌, ◌++◌, [], List, map, take, subst, s
 use Rattle.std.proofs.lemmas.List.{take_more}
 use Rattle.act_rules.specs.declared.event.Event.{Event}
 use Rattle.act_actor.specs.Casts.{casting}
-use Rattle.act_world.specs.Value.{world_seen}
+use Rattle.act_world.specs.View.{world_seen}
 use Rattle.act_world.specs.Stands.{Stands}
 use Rattle.act_uses.proofs.front.world_after.Goals as goal
 

@@ -1,6 +1,6 @@
 use Rattle.std.proofs.Common.{map, take}
 use Rattle.act_actor.specs.Casts.{casting}
-use Rattle.act_world.specs.Value.{world_seen}
+use Rattle.act_world.specs.View.{world_seen}
 use Rattle.act_world.specs.Stands.{Stands}
 use Rattle.act_uses.proofs.front.world_after.Given as goal
 

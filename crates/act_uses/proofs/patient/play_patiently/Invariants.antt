@@ -1,5 +1,5 @@
 use Rattle.std.proofs.Common.{◌≤◌, length, take}
-use Rattle.act_world.specs.Value.{world_seen}
+use Rattle.act_world.specs.View.{world_seen}
 use Rattle.act_world.specs.Stands.{Played}
 use Rattle.act_uses.proofs.patient.play_patiently.Given as goal
 

@@ -1,7 +1,7 @@
 use Rattle.std.proofs.Common.{List, take, ap, ◌∙◌, subst}
 use Rattle.act_rules.specs.declared.event.Event.{Event}
 use Rattle.act_world.specs.Stands.{Played}
-use Rattle.act_world.specs.Value.{world_seen}
+use Rattle.act_world.specs.View.{world_seen}
 use Rattle.act_uses.proofs.played.play_part.Goals as goal
 
 pub returns-clause-err : goal.returns-clause-err

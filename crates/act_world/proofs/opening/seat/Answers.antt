@@ -1,8 +1,8 @@
 use Rattle.std.proofs.Common.{◌≡◌, ◌<◌, length, map, Some, subst, arith}
 use Rattle.std.specs.Prelude.{◌==◌, if◌then◌else◌, slice_get, slice_set}
-use Rattle.act_actor.specs.Seen.{live_seen}
+use Rattle.act_actor.specs.StateViews.{live_seen}
 use Rattle.act_world.specs.declared.slot.Slot.TheVariants as slot
-use Rattle.act_world.specs.Value.{Runs, slot_seen}
+use Rattle.act_world.specs.View.{Runs, slot_seen}
 use Rattle.act_world.proofs.OpenedSlots.{set_map}
 use Rattle.act_world.proofs.opening.seat.Goals as goal
 

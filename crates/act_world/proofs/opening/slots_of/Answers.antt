@@ -4,9 +4,9 @@ use Rattle.std.specs.Vec.Iter.{into_iter_items}
 use Rattle.std.proofs.lemmas.List.{nil_from_length}
 use Rattle.act_rules.specs.History.{opening}
 use Rattle.act_actor.specs.Cast.{CallersDiffer}
-use Rattle.act_actor.specs.Seen.{live_seen}
+use Rattle.act_actor.specs.StateViews.{live_seen}
 use Rattle.act_inbox.specs.Inbox.{IsOpened}
-use Rattle.act_world.specs.Value.{slot_seen}
+use Rattle.act_world.specs.View.{slot_seen}
 use Rattle.act_actor.specs.Casts.{casting}
 use Rattle.act_world.proofs.OpenedSlots.{IsToOpen, AreOpened, to_open, none_opened, one_more}
 use Rattle.act_world.proofs.opening.slots_of.Goals as goal

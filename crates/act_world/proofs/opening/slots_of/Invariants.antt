@@ -2,7 +2,7 @@ use Rattle.std.proofs.Common.{◌≡◌, length, map}
 use Rattle.std.specs.List.{AllByRecursion}
 use Rattle.std.specs.Vec.Iter.{into_iter_items, into_iter_len}
 use Rattle.act_rules.specs.History.{opening}
-use Rattle.act_world.specs.Value.{slot_seen}
+use Rattle.act_world.specs.View.{slot_seen}
 use Rattle.act_actor.specs.Casts.{casting}
 use Rattle.act_world.proofs.OpenedSlots.{IsToOpen, AreOpened}
 use Rattle.act_world.proofs.opening.slots_of.Given as goal

@@ -3,7 +3,7 @@ use Rattle.std.specs.Prelude.{IfOk}
 use Rattle.std.proofs.Math.Seq.{map-set_same}
 use Rattle.std.proofs.lemmas.Result.{IfOk-weaker, on_err_weaker}
 use Rattle.act_world.specs.Slots.{IsRun, IsRunAt}
-use Rattle.act_world.specs.Value.{slot_seen}
+use Rattle.act_world.specs.View.{slot_seen}
 use Rattle.act_world.proofs.Running.{ran_there}
 use Rattle.act_world.proofs.slot.run_at.Goals as goal
 

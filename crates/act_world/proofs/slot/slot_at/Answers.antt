@@ -1,6 +1,6 @@
 use Rattle.std.proofs.Common.{◌≡◌, ◌<◌, length, map, Some, subst, arith}
 use Rattle.std.specs.Prelude.{slice_get}
-use Rattle.act_world.specs.Value.{slot_seen}
+use Rattle.act_world.specs.View.{slot_seen}
 use Rattle.act_world.proofs.Changes.{slot_within}
 use Rattle.act_world.proofs.slot.slot_at.Goals as goal
 

@@ -1,5 +1,5 @@
 use Rattle.std.specs.Prelude.{option_map, replicate}
-use Rattle.act_world.specs.Value.{stage_seen}
+use Rattle.act_world.specs.View.{stage_seen}
 use Rattle.act_own.proofs.Kept.{slot_keeps}
 use Rattle.own_kinds.specs.Bank.{bank_step, bank_text, HoldsItsMoney}
 use Rattle.own_kinds.proofs.Keeps.{keeps, empty}

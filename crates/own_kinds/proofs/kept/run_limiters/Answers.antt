@@ -1,6 +1,6 @@
 use Rattle.std.proofs.Common.{map}
 use Rattle.act_serve.specs.Served.{end_seen}
-use Rattle.act_joint.specs.Joined.{log_in}
+use Rattle.act_executor.specs.Joined.{log_in}
 use Rattle.own_kinds.proofs.Rates.{never_above_its_rate}
 use Rattle.own_kinds.proofs.kept.run_limiters.Goals as goal
 

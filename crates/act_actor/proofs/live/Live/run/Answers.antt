@@ -1,4 +1,4 @@
-use Rattle.act_actor.specs.Seen.{live_seen}
+use Rattle.act_actor.specs.StateViews.{live_seen}
 use Rattle.act_actor.proofs.Running.{follows_when_ok, answers_when_ok}
 use Rattle.act_actor.proofs.live.Live.run.Goals as goal
 

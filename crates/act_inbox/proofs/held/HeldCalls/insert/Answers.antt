@@ -3,7 +3,7 @@ use Rattle.std.specs.Prelude.{slice_set}
 use Rattle.std.proofs.lemmas.List.{length-set}
 use Rattle.slab.specs.Slab.{values}
 use Rattle.act_types.specs.declared.message.Packet.{Packet}
-use Rattle.act_inbox.specs.Value.{key_of, IsHeld}
+use Rattle.act_inbox.specs.View.{key_of, IsHeld}
 use Rattle.act_inbox.specs.Inbox.{is_call}
 use Rattle.act_inbox.proofs.Keys.{key_of-set, key_of-kept, updates_at, held_same, not_keyed, held_came, found_came, all_after}
 use Rattle.act_inbox.proofs.held.HeldCalls.insert.Goals as goal

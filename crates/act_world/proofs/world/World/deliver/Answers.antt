@@ -3,7 +3,7 @@ use Rattle.std.specs.Prelude.{OnErr}
 use Rattle.std.proofs.Math.Seq.{map-set_same}
 use Rattle.std.proofs.lemmas.Result.{IfOk-weaker, on_err_weaker}
 use Rattle.act_world.specs.Slots.{IsNewCall, IsBrought}
-use Rattle.act_world.specs.Value.{slot_seen, world_seen}
+use Rattle.act_world.specs.View.{slot_seen, world_seen}
 use Rattle.act_world.proofs.Delivering.{new_unrefused, new_takes, brought_follows}
 use Rattle.act_world.proofs.world.World.deliver.Goals as goal
 

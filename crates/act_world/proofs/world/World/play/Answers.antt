@@ -1,7 +1,7 @@
 use Rattle.std.proofs.Common.{rules, ◌+◌, ◌-◌, List, length, subst, arith}
 use Rattle.std.proofs.lemmas.List.{take_all}
 use Rattle.act_rules.specs.declared.event.Event.{Event}
-use Rattle.act_world.specs.Value.{world_seen}
+use Rattle.act_world.specs.View.{world_seen}
 use Rattle.act_world.specs.Stands.{Follows, HasRoom, IsGrownBy, Played}
 use Rattle.act_world.proofs.Playing.{Played_next, unrefused_at, memory_at}
 use Rattle.act_world.proofs.world.World.play.Goals as goal

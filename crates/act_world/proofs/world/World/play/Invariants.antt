@@ -1,5 +1,5 @@
 use Rattle.std.proofs.Common.{◌≡◌, ◌+◌, ◌-◌, ◌≤◌, length, take, vec_len, vec_capacity}
-use Rattle.act_world.specs.Value.{world_seen}
+use Rattle.act_world.specs.View.{world_seen}
 use Rattle.act_world.specs.Stands.{HasRoom, IsGrownBy, Played}
 use Rattle.act_world.proofs.world.World.play.Given as goal
 

@@ -4,7 +4,7 @@ use Rattle.std.proofs.lemmas.Result.{on_err_weaker}
 use Rattle.act_rules.specs.declared.event.Event.TheVariants as event
 use Rattle.act_world.specs.Slots.{IsRetiredIn}
 use Rattle.act_world.specs.Stands.{Follows}
-use Rattle.act_world.specs.Value.{slot_seen, world_seen}
+use Rattle.act_world.specs.View.{slot_seen, world_seen}
 use Rattle.act_world.proofs.Retiring.{retire_seen}
 use Rattle.act_world.proofs.world.World.retire.Goals as goal
 

@@ -6,7 +6,7 @@ use Rattle.act_rules.specs.declared.event.Event.TheVariants as event
 use Rattle.act_rules.specs.declared.outcome.Did.TheVariants as did
 use Rattle.act_world.specs.declared.exchange.Posted.{Posted}
 use Rattle.act_world.specs.Exchange.{is_owner, naming_refusal}
-use Rattle.act_world.specs.Value.{slot_seen, world_seen}
+use Rattle.act_world.specs.View.{slot_seen, world_seen}
 use Rattle.act_world.specs.Slots.{IsRunAt}
 use Rattle.act_world.specs.Stands.{Follows}
 use Rattle.act_world.proofs.Changes.{on_err}

@@ -1,6 +1,6 @@
 use Rattle.std.proofs.Common.{◌∙◌, subst, sym, ap}
 use Rattle.act_rules.specs.Laws.{history}
-use Rattle.act_world.specs.Value.{stage_of_slot}
+use Rattle.act_world.specs.View.{stage_of_slot}
 use Rattle.act_world.specs.Ties.{IsStage}
 use Rattle.act_world.proofs.Staging.{stage_shown}
 use Rattle.act_world.proofs.world.World.stage.Goals as goal

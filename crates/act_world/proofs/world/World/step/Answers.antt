@@ -1,7 +1,7 @@
 use Rattle.std.proofs.Common.{map, sym, subst, OnErr}
 use Rattle.act_rules.specs.declared.event.Event.TheVariants as event
 use Rattle.act_rules.specs.declared.event.Event.{Event}
-use Rattle.act_world.specs.Value.{slot_seen, world_seen}
+use Rattle.act_world.specs.View.{slot_seen, world_seen}
 use Rattle.act_world.specs.Memory.{TakesMemory}
 use Rattle.act_world.specs.Stands.{Follows}
 use Rattle.act_world.proofs.Playing.{there, ok_there, last_there, memory_there}

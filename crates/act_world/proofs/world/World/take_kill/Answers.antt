@@ -7,7 +7,7 @@ use Rattle.std.proofs.Math.Seq.{map-set_same}
 use Rattle.act_rules.specs.declared.event.Event.TheVariants as event
 use Rattle.act_rules.specs.Laws.{history}
 use Rattle.act_rules.specs.Rules.{outcome_of, after}
-use Rattle.act_world.specs.Value.{SlotSeen, slot_seen, world_seen}
+use Rattle.act_world.specs.View.{SlotSeen, slot_seen, world_seen}
 use Rattle.act_world.specs.Slots.{killed}
 use Rattle.act_world.specs.Ties.{Ties}
 use Rattle.act_world.proofs.Lawful.{world_lawful}

@@ -8,7 +8,7 @@ use Rattle.act_rules.specs.Laws.{history}
 use Rattle.act_rules.specs.Rules.{outcome_of, after}
 use Rattle.act_world.specs.declared.exchange.Posted.{Posted}
 use Rattle.act_world.specs.Exchange.{is_owner, naming_refusal}
-use Rattle.act_world.specs.Value.{slot_seen, world_seen}
+use Rattle.act_world.specs.View.{slot_seen, world_seen}
 use Rattle.act_world.specs.Ties.{Ties}
 use Rattle.act_world.specs.Stands.{IsUnrefused}
 use Rattle.act_world.proofs.Changes.{on_err}

@@ -1,5 +1,5 @@
 use Rattle.std.proofs.Common.{◌≡◌}
-use Rattle.act_actor.specs.Seen.{live_seen}
+use Rattle.act_actor.specs.StateViews.{live_seen}
 use Rattle.tests_of_threads.proofs.drive.executor.drain.Given as goal
 
 abbrev pub invariant-loop : goal.invariant-loop

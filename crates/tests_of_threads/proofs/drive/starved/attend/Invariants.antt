@@ -1,6 +1,6 @@
 use Rattle.std.proofs.Common.{◌≡◌, All}
 use Rattle.act_rules.specs.Consistent.{IsFront}
-use Rattle.act_actor.specs.Seen.{live_seen}
+use Rattle.act_actor.specs.StateViews.{live_seen}
 use Rattle.act_mailbox.specs.Notices.{IsReply}
 use Rattle.tests_of_threads.proofs.drive.starved.attend.Given as goal
 

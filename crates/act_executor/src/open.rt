@@ -1,0 +1,285 @@
+//! Opens the lines of a run, and gives each thread its passes.
+
+ghost use Rattle.std.specs.Prelude.{◌≡◌, ◌≢◌, ℕ, [], ◌∷◌, length, map, All, AllPairs, IfOk};
+ghost use Rattle.std.specs.List.{range_with_len};
+ghost use Rattle.act_actor.specs.Cast.{CallersDiffer};
+ghost use Rattle.act_mailbox.specs.Controls.{starter};
+ghost use Rattle.act_mailbox.specs.Passes.{new_putter};
+ghost use Rattle.act_mailbox.specs.Notices.{new_exec};
+ghost use Rattle.act_plans.specs.Parts.{AreMatched};
+ghost use Rattle.act_executor.specs.Groups.{items_of, group_of, seats_from};
+ghost use Rattle.act_executor.specs.Opened.{AreOpened};
+
+use crate::group::{group, pair, seat_all};
+use crate::opened::{Lines, Opened};
+use act_actor::Cast;
+use act_drive::CallerPasses;
+use act_mailbox::{
+    Control, ControlCaller, ControlExec, Mail, MailCaller, MailExec, Replies, ReplyCaller,
+    ReplyExec,
+};
+use act_plans::Part;
+use act_seats::Seat;
+use act_serve::ExecPasses;
+use act_types::NoMemory;
+use std::alloc::Global;
+
+/// The mail lines, their executors' passes, and all callers' passes.
+#[derive(Drop)]
+struct Mails {
+    lines: Vec<Mail>,
+    execs: Vec<MailExec>,
+    seats: Vec<Seat<MailCaller>>,
+}
+
+/// The same of control lines, and the starter's passes.
+#[derive(Drop)]
+struct Controls {
+    lines: Vec<Control>,
+    execs: Vec<ControlExec>,
+    seats: Vec<Seat<ControlCaller>>,
+    starters: Vec<ControlCaller>,
+}
+
+/// The reply lines, their callers' passes, and all executors' passes.
+#[derive(Drop)]
+struct AllReplies {
+    lines: Vec<Replies>,
+    callers: Vec<ReplyCaller>,
+    seats: Vec<Seat<ReplyExec>>,
+}
+
+/// Opens a mail line for each cast.
+fn open_mails<K>(alloc: Global, casts: &[Cast<K>]) -> Result<Mails, NoMemory>
+    requires differ { All (λ cast. CallersDiffer cast.callers) casts.now }
+    ensures actors { IfOk result (λ opened. map (λ mail. mail.actor) opened.lines.items ≡ map (λ cast. cast.actor) casts.now) }
+    ensures lines { IfOk result (λ opened. map (λ exec. exec.line) opened.execs.items ≡ map (λ mail. mail.line) opened.lines.items) }
+    ensures unused { IfOk result (λ opened. All (λ exec. exec.taken ≡ []) opened.execs.items) }
+    ensures seats { IfOk result (λ opened.
+        opened.seats.items ≡
+        seats_from new_putter 0 (map (λ mail. mail.line) opened.lines.items) (map (λ cast. cast.callers) casts.now)) }
+{
+    let mut lines = Vec::new(alloc);
+    let mut execs = Vec::new(alloc);
+    let mut seats = Vec::new(alloc);
+    for (place, cast) in casts.iter().enumerate() {
+        let (line, passes, exec) = Mail::open(alloc, cast.actor, cast.callers.as_slice())?;
+        lines.push(line)?;
+        execs.push(exec)?;
+        seats = seat_all(seats, place, passes)?;
+    }
+    Ok(Mails {
+        lines,
+        execs,
+        seats,
+    })
+}
+
+/// Opens a control line for each cast.
+fn open_controls<K>(alloc: Global, casts: &[Cast<K>]) -> Result<Controls, NoMemory>
+    requires differ { All (λ cast. CallersDiffer cast.callers) casts.now }
+    ensures actors { IfOk result (λ opened. map (λ control. control.actor) opened.lines.items ≡ map (λ cast. cast.actor) casts.now) }
+    ensures lines { IfOk result (λ opened. map (λ exec. exec.line) opened.execs.items ≡ map (λ control. control.line) opened.lines.items) }
+    ensures execs { IfOk result (λ opened. map (λ exec. exec.actor) opened.execs.items ≡ map (λ cast. cast.actor) casts.now) }
+    ensures askers { IfOk result (λ opened. map (λ exec. exec.askers) opened.execs.items ≡ map (λ cast. starter ∷ cast.callers) casts.now) }
+    ensures unused { IfOk result (λ opened. All (λ exec. (exec.taken ≡ []) × (exec.lengths ≡ [])) opened.execs.items) }
+    ensures starters { IfOk result (λ opened. opened.starters.items ≡ map (λ control. new_putter control.line starter) opened.lines.items) }
+    ensures seats { IfOk result (λ opened.
+        opened.seats.items ≡
+        seats_from new_putter 0 (map (λ control. control.line) opened.lines.items)
+        (map (λ cast. cast.callers) casts.now)) }
+{
+    let mut lines = Vec::new(alloc);
+    let mut execs = Vec::new(alloc);
+    let mut seats = Vec::new(alloc);
+    let mut starters = Vec::new(alloc);
+    for (place, cast) in casts.iter().enumerate() {
+        let (line, passes, starter, exec) = Control::open(
+            alloc,
+            cast.actor,
+            cast.callers.as_slice(),
+        )?;
+        lines.push(line)?;
+        execs.push(exec)?;
+        starters.push(starter)?;
+        seats = seat_all(seats, place, passes)?;
+    }
+    Ok(Controls {
+        lines,
+        execs,
+        seats,
+        starters,
+    })
+}
+
+/// Opens a reply line for each part.
+fn open_replies(alloc: Global, parts: &[Part]) -> Result<AllReplies, NoMemory>
+    requires differ { All (λ part. CallersDiffer part.actors.items) parts.now }
+    ensures names { IfOk result (λ opened. map (λ line. line.caller) opened.lines.items ≡ map (λ part. part.caller) parts.now) }
+    ensures lines { IfOk result (λ opened. map (λ caller. caller.line) opened.callers.items ≡ map (λ line. line.line) opened.lines.items) }
+    ensures unused { IfOk result (λ opened. All (λ caller. caller.taken ≡ []) opened.callers.items) }
+    ensures seats { IfOk result (λ opened.
+        opened.seats.items ≡
+        seats_from new_exec 0 (map (λ line. line.line) opened.lines.items)
+        (map (λ part. part.actors.items) parts.now)) }
+{
+    let mut lines = Vec::new(alloc);
+    let mut callers = Vec::new(alloc);
+    let mut seats = Vec::new(alloc);
+    for (place, part) in parts.iter().enumerate() {
+        let (line, passes, caller) = Replies::open(alloc, part.caller, part.actors.as_slice())?;
+        lines.push(line)?;
+        callers.push(caller)?;
+        seats = seat_all(seats, place, passes)?;
+    }
+    Ok(AllReplies {
+        lines,
+        callers,
+        seats,
+    })
+}
+
+/// The executors' passes, one by one.
+fn exec_passes(
+    alloc: Global,
+    letters: Vec<MailExec>,
+    kills: Vec<ControlExec>,
+    notices: Vec<Vec<Seat<ReplyExec>>>,
+) -> Result<Vec<Seat<ExecPasses>>, NoMemory>
+    requires long { (length kills.items ≡ length letters.items) × (length notices.items ≡ length letters.items) }
+    ensures places { IfOk result (λ execs. map (λ exec. exec.place) execs.items ≡ range_with_len 0 (length execs.items)) }
+    ensures letters { IfOk result (λ execs. map (λ exec. exec.pass.letters) execs.items ≡ letters.items) }
+    ensures kills { IfOk result (λ execs. map (λ exec. exec.pass.kills) execs.items ≡ kills.items) }
+    ensures notices { IfOk result (λ execs. map (λ exec. exec.pass.notices.items) execs.items ≡ map items_of notices.items) }
+{
+    let passes = pair(alloc, pair(alloc, letters, kills)?, notices)?;
+    let mut execs = Vec::new(alloc);
+    for ((letters, kills), notices) in passes {
+        let place = execs.len();
+        let pass = ExecPasses {
+            letters,
+            kills,
+            notices,
+        };
+        execs.push(Seat { place, pass })?;
+    }
+    Ok(execs)
+}
+
+/// The callers' passes, one by one.
+fn caller_passes(
+    alloc: Global,
+    letters: Vec<Vec<Seat<MailCaller>>>,
+    kills: Vec<Vec<Seat<ControlCaller>>>,
+    collects: Vec<ReplyCaller>,
+) -> Result<Vec<Seat<CallerPasses>>, NoMemory>
+    requires long { (length kills.items ≡ length letters.items) × (length collects.items ≡ length letters.items) }
+    ensures places { IfOk result (λ callers. map (λ caller. caller.place) callers.items ≡ range_with_len 0 (length callers.items)) }
+    ensures letters { IfOk result (λ callers. map (λ caller. caller.pass.letters.items) callers.items ≡ map items_of letters.items) }
+    ensures kills { IfOk result (λ callers. map (λ caller. caller.pass.kills.items) callers.items ≡ map items_of kills.items) }
+    ensures collects { IfOk result (λ callers. map (λ caller. caller.pass.collects) callers.items ≡ collects.items) }
+{
+    let passes = pair(alloc, pair(alloc, letters, kills)?, collects)?;
+    let mut callers = Vec::new(alloc);
+    for ((letters, kills), collects) in passes {
+        let place = callers.len();
+        let pass = CallerPasses {
+            letters,
+            kills,
+            collects,
+        };
+        callers.push(Seat { place, pass })?;
+    }
+    Ok(callers)
+}
+
+/// The actors' numbers.
+fn actor_numbers<K>(alloc: Global, casts: &[Cast<K>]) -> Result<Vec<u8>, NoMemory>
+    ensures { IfOk result (λ numbers. numbers.items ≡ map (λ cast. cast.actor) casts.now) }
+{
+    let numbers = casts.iter().map(|cast| cast.actor.number()).collect(alloc)?;
+    Ok(numbers)
+}
+
+/// The callers' numbers.
+fn caller_numbers(alloc: Global, parts: &[Part]) -> Result<Vec<u8>, NoMemory>
+    ensures { IfOk result (λ numbers. numbers.items ≡ map (λ part. part.caller) parts.now) }
+{
+    let numbers = parts
+        .iter()
+        .map(|part| part.caller.number())
+        .collect(alloc)?;
+    Ok(numbers)
+}
+
+/// The executors' passes, of which those on the callers' lines are each actor's own.
+fn deal_execs<K>(
+    alloc: Global,
+    casts: &[Cast<K>],
+    letters: Vec<MailExec>,
+    kills: Vec<ControlExec>,
+    seats: Vec<Seat<ReplyExec>>,
+) -> Result<Vec<Seat<ExecPasses>>, NoMemory>
+    requires differ { AllPairs (λ one other. one.actor ≢ other.actor) casts.now }
+    requires long { (length letters.items ≡ length casts.now) × (length kills.items ≡ length casts.now) }
+    ensures places { IfOk result (λ execs. map (λ exec. exec.place) execs.items ≡ range_with_len 0 (length execs.items)) }
+    ensures letters { IfOk result (λ execs. map (λ exec. exec.pass.letters) execs.items ≡ letters.items) }
+    ensures kills { IfOk result (λ execs. map (λ exec. exec.pass.kills) execs.items ≡ kills.items) }
+    ensures notices { IfOk result (λ execs.
+        map (λ exec. exec.pass.notices.items) execs.items ≡
+        map (λ cast. group_of (λ pass. pass.actor) cast.actor seats.items) casts.now) }
+{
+    let actors = actor_numbers(alloc, casts)?;
+    let notices = group(alloc, actors.as_slice(), seats)?;
+    let execs = exec_passes(alloc, letters, kills, notices)?;
+    Ok(execs)
+}
+
+/// The callers' passes, of which those on the actors' lines are each caller's own.
+fn deal_callers(
+    alloc: Global,
+    parts: &[Part],
+    letters: Vec<Seat<MailCaller>>,
+    kills: Vec<Seat<ControlCaller>>,
+    collects: Vec<ReplyCaller>,
+) -> Result<Vec<Seat<CallerPasses>>, NoMemory>
+    requires differ { AllPairs (λ one other. one.caller ≢ other.caller) parts.now }
+    requires long { length collects.items ≡ length parts.now }
+    ensures places { IfOk result (λ callers. map (λ caller. caller.place) callers.items ≡ range_with_len 0 (length callers.items)) }
+    ensures letters { IfOk result (λ callers.
+        map (λ caller. caller.pass.letters.items) callers.items ≡
+        map (λ part. group_of (λ pass. pass.number) part.caller letters.items) parts.now) }
+    ensures kills { IfOk result (λ callers.
+        map (λ caller. caller.pass.kills.items) callers.items ≡
+        map (λ part. group_of (λ pass. pass.number) part.caller kills.items) parts.now) }
+    ensures collects { IfOk result (λ callers. map (λ caller. caller.pass.collects) callers.items ≡ collects.items) }
+{
+    let callers = caller_numbers(alloc, parts)?;
+    let letters = group(alloc, callers.as_slice(), letters)?;
+    let kills = group(alloc, callers.as_slice(), kills)?;
+    let callers = caller_passes(alloc, letters, kills, collects)?;
+    Ok(callers)
+}
+
+/// Opens all lines of a run, with the passes of each executor, of each caller and of the starter.
+pub fn open_lines<K>(alloc: Global, casts: &[Cast<K>], parts: &[Part]) -> Result<Opened, NoMemory>
+    requires matched { AreMatched casts.now parts.now }
+    ensures { IfOk result (λ opened. AreOpened casts.now parts.now opened) }
+{
+    let mails = open_mails(alloc, casts)?;
+    let controls = open_controls(alloc, casts)?;
+    let replies = open_replies(alloc, parts)?;
+    let execs = deal_execs(alloc, casts, mails.execs, controls.execs, replies.seats)?;
+    let callers = deal_callers(alloc, parts, mails.seats, controls.seats, replies.callers)?;
+    let lines = Lines {
+        mails: mails.lines,
+        controls: controls.lines,
+        replies: replies.lines,
+    };
+    Ok(Opened {
+        lines,
+        execs,
+        callers,
+        starters: controls.starters,
+    })
+}

@@ -1,5 +1,0 @@
-use Rattle.act_joint.proofs.Ends.{joined}
-use Rattle.act_joint.proofs.laws.joined_runs_are_consistent.Goals as goal
-
-pub returns : goal.returns
-returns _ mails controls replies casts plans driven served j = joined j

@@ -1,0 +1,75 @@
+//! A caller that puts something first, and then goes on as a clerk.
+
+use crate::callers_scene::actor;
+use act_executor::{Code, GaveUp, Session};
+use act_types::{Arg, ListOf, Method, Name, Value};
+use own_callers::{Clerk, Retry, Transfer, Worker};
+
+/// What is put into actor 1.
+#[derive(Clone, Copy)]
+pub enum Put {
+    /// A number into an account.
+    Deposit,
+    /// A job into a queue.
+    Enqueue,
+}
+
+/// What the clerk does then.
+#[derive(Clone, Copy)]
+pub enum Then {
+    /// Moves so much from actor 1 to actor 2.
+    Move(i64),
+    /// Tries at most three times to withdraw so much from actor 1.
+    Withdraw(i64),
+    /// Works at queue 1, and adds its jobs to counter 2.
+    Work,
+}
+
+/// First calls of one number, each awaited, and then the clerk.
+#[derive(Clone, Copy)]
+pub struct First {
+    pub put: Put,
+    pub number: i64,
+    pub times: u32,
+    pub then: Then,
+}
+
+fn method_of(put: Put) -> Method {
+    match put {
+        Put::Deposit => Method::Deposit,
+        Put::Enqueue => Method::Own(Name::new("enqueue").unwrap()),
+    }
+}
+
+fn clerk_of(then: Then) -> Clerk {
+    match then {
+        Then::Move(amount) => Clerk::Transfer(Transfer {
+            from: actor(1),
+            to: actor(2),
+            amount,
+        }),
+        Then::Withdraw(amount) => Clerk::Retry(Retry {
+            account: actor(1),
+            amount,
+            most: 3,
+        }),
+        Then::Work => Clerk::Worker(Worker {
+            queue: actor(1),
+            counter: actor(2),
+        }),
+    }
+}
+
+impl Code for First {
+    ghost tells = { λ _ _ _. Unit {0} };
+
+    fn run<S: Session>(&mut self, session: &mut S) -> Result<(), GaveUp> {
+        for _ in 0..self.times {
+            let mut args = ListOf::new(session.alloc());
+            args.push(Arg::Plain(Value::Int(self.number)))?;
+            session.ask(actor(1), method_of(self.put), args)?;
+        }
+        let mut clerk = clerk_of(self.then);
+        clerk.run(session)
+    }
+}

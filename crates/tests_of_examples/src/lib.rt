@@ -1,0 +1,29 @@
+//! Tests of the kinds of own_kinds and of the callers of own_callers, played and in threads, beside known kinds.
+#![tactic(auto)]
+
+#[cfg(test)]
+mod bank;
+#[cfg(test)]
+mod callers_scene;
+#[cfg(test)]
+mod clerks;
+#[cfg(test)]
+mod first;
+#[cfg(test)]
+mod gauge;
+#[cfg(test)]
+mod limiter;
+#[cfg(test)]
+mod memory;
+#[cfg(test)]
+mod names;
+#[cfg(test)]
+mod queue;
+#[cfg(test)]
+mod retries;
+#[cfg(test)]
+mod scene;
+#[cfg(test)]
+mod transfers;
+#[cfg(test)]
+mod workers;

@@ -1,6 +1,0 @@
-use Rattle.std.proofs.Common.{◌≡◌, length}
-use Rattle.tests_of_owners.proofs.resolver.enter_waiting.Given as goal
-
--- so many calls were entered
-abbrev pub invariant-loop : goal.invariant-loop
-invariant-loop g l = l.entered ≡ length l.resolver.calls

@@ -1,5 +1,0 @@
-//! Tests of whole runs in threads.
-#![tactic(auto)]
-
-#[cfg(test)]
-mod executor;

@@ -1,5 +1,0 @@
-//! Tests of whole scripts, from bytes to bytes.
-#![tactic(auto)]
-
-#[cfg(test)]
-mod console;
