@@ -26,8 +26,8 @@ from program import CRATES, proved, program_of
 CHECK = CRATES / "ray_check" / "out" / "ray_check"
 PLAY, MISTAKE, REFUSED = 0, 1, 5
 AT_ONCE = 4
-MOST_SECONDS = 60
-MOST_SHOWN = 5
+MAX_SECONDS = 60
+MAX_SHOWN = 5
 DAMAGES = 6  # of each report
 
 
@@ -83,7 +83,7 @@ def wrong_play(front, report, play):
 
 def check(program, history):
     """What the program says of a history, and its status."""
-    done = subprocess.run([program], input=history, capture_output=True, timeout=MOST_SECONDS)
+    done = subprocess.run([program], input=history, capture_output=True, timeout=MAX_SECONDS)
     return done.stdout, done.returncode if not done.stderr else (done.returncode, done.stderr)
 
 
@@ -238,7 +238,7 @@ class Tally:
 
     def add(self, name, history, why):
         self.passed, self.failed = self.passed + (why is None), self.failed + (why is not None)
-        if why is not None and self.failed <= MOST_SHOWN:
+        if why is not None and self.failed <= MAX_SHOWN:
             tell(name, history, why)
 
 

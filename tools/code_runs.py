@@ -34,8 +34,8 @@ PROGRAM = CRATES / "random_callers/out/random_callers"
 RUNS = 1_000  # of all seeds
 TAMPERED = 60  # so many runs are tampered with, in each way
 AT_ONCE = 4
-MOST_SECONDS = 60
-MOST_SHOWN = 5
+MAX_SECONDS = 60
+MAX_SHOWN = 5
 NO_MEMORY = "no memory"
 ENDS = ("end", "give_up")
 READINGS = {"counter": "get", "table": "size", "account": "balance", "list": "len"}
@@ -484,9 +484,9 @@ def words_of(seed, place):
 def run(program, words):
     """What a run printed, and its status."""
     try:
-        done = subprocess.run([program, *words], stdin=subprocess.DEVNULL, capture_output=True, text=True, timeout=MOST_SECONDS)
+        done = subprocess.run([program, *words], stdin=subprocess.DEVNULL, capture_output=True, text=True, timeout=MAX_SECONDS)
     except subprocess.TimeoutExpired:
-        return "", f"no end within {MOST_SECONDS} seconds"
+        return "", f"no end within {MAX_SECONDS} seconds"
     return done.stdout, (done.returncode, done.stderr) if done.stderr else done.returncode
 
 
@@ -500,7 +500,7 @@ def judge_runs(program, seed, count):
                 rights.append((output, judged(output, status)))
             except (Wrong, reading.ScriptFault, reading.NotAllowed, reading.BadWord) as why:
                 wrong += 1
-                if wrong <= MOST_SHOWN:
+                if wrong <= MAX_SHOWN:
                     print(f"random_callers {' '.join(words)}: {why!r}, where it printed:")
                     print("".join(f"    {line}\n" for line in output.splitlines()), end="")
     return rights, wrong
@@ -511,7 +511,7 @@ def tell_trial(trials):
     results = collections.Counter()
     for name, is_well in trials:
         results[is_well] += 1
-        if not is_well and results[False] <= MOST_SHOWN:
+        if not is_well and results[False] <= MAX_SHOWN:
             print(f"the judge is wrong, where this should be: {name}")
     return results[True], results[False]
 

@@ -25,9 +25,9 @@ from explain_refusals import counted
 
 UNSENT = "But no call is ever sent, so this looks like a script for threads: ./run threads"
 USAGE = "usage: ./explain play|threads [FILE]    (without FILE, or where it is `-`, the standard input)\n"
-MOST_SHOWN = 100  # of a line this many bytes are shown
-MOST_BEFORE = 60  # and of them so many before a mark
-MOST_QUOTED = 60
+MAX_SHOWN = 100  # of a line this many bytes are shown
+MAX_BEFORE = 60  # and of them so many before a mark
+MAX_QUOTED = 60
 SHOWN_AS = {ord("\t"): "\\t", ord("\r"): "\\r"}
 
 
@@ -40,8 +40,8 @@ def shown(byte):
 
 def marked(line, begin, end):
     """A line as it stands, or the part of it that is marked, and the mark under it."""
-    first = max(0, begin - MOST_BEFORE) if len(line) > MOST_SHOWN else 0
-    last = min(len(line), first + MOST_SHOWN)
+    first = max(0, begin - MAX_BEFORE) if len(line) > MAX_SHOWN else 0
+    last = min(len(line), first + MAX_SHOWN)
     head, tail = ".. " if first else "", " .." if last < len(line) else ""
     columns = [shown(byte) for byte in line[first:last]]
     before = len(head) + len("".join(columns[: begin - first])) + max(0, begin - last)
@@ -52,7 +52,7 @@ def marked(line, begin, end):
 
 def quoted(line):
     text = "".join(map(shown, line))
-    return text if len(text) <= MOST_QUOTED else text[:MOST_QUOTED] + " .."
+    return text if len(text) <= MAX_QUOTED else text[:MAX_QUOTED] + " .."
 
 
 # The faults.

@@ -15,7 +15,7 @@ FORMS = {"play": reading.PLAY_FORMS, "threads": reading.THREAD_FORMS}
 OTHER = {"play": "threads", "threads": "play"}
 ORDER_MARK = b"\xef\xbb\xbf".decode("latin-1")
 LONGEST_TEXT = 64
-MOST_REPAIRS = 20
+MAX_REPAIRS = 20
 # What a word must be like at the least, to be told as the nearest.
 NEAR_ENOUGH = 0.6
 # Characters that look like plain ones, and aren't normalised to them.
@@ -684,7 +684,7 @@ def finding_in(line):
 
 def righted(line):
     """The line as it would be right, or none where that isn't plain; it may need more than one change."""
-    for _ in range(MOST_REPAIRS):
+    for _ in range(MAX_REPAIRS):
         if line.is_good():
             return line.text
         better = finding_in(line).better

@@ -7,7 +7,7 @@ from dataclasses import dataclass, field
 
 import reading_of_rules as reading
 
-MOST_NAMED = 4
+MAX_NAMED = 4
 CALLER, ACTOR, NUMBER = reading.read_caller, reading.read_actor, reading.read_number
 FORMS = reading.PLAY_FORMS | reading.THREAD_FORMS
 
@@ -118,7 +118,7 @@ def no_handle(past, event):
 
 def too_many_args(past, event):
     count = len(event.spelt[3])
-    return 4 + reading.MOST_ARGUMENTS, f"the call has {count} arguments, and {reading.MOST_ARGUMENTS} is the most"
+    return 4 + reading.MAX_ARGUMENTS, f"the call has {count} arguments, and {reading.MAX_ARGUMENTS} is the most"
 
 
 def bad_future(past, event):
@@ -130,14 +130,14 @@ def bad_future(past, event):
 
 
 def too_many_copies(past, event):
-    why = f"c{event.caller} holds {reading.MOST_COPIES} copies of the handle of a{event.actor}, and that is the most"
+    why = f"c{event.caller} holds {reading.MAX_COPIES} copies of the handle of a{event.actor}, and that is the most"
     return 0, why
 
 
 def pending_limit(past, event):
     calls = past.world.callers[event.caller].calls_to(event.actor)
     pending = [call.spelled_future() for call in calls if call.kept is None]
-    shown = " ".join(pending[:MOST_NAMED]) + (" .." if len(pending) > MOST_NAMED else "")
+    shown = " ".join(pending[:MAX_NAMED]) + (" .." if len(pending) > MAX_NAMED else "")
     most = counted(past.world.actors[event.actor].limit, "call")
     have = "has" if len(pending) == 1 else "have"
     why = f"a{event.actor} takes at most {most} of a caller without an answer, and {shown} {have} none"

@@ -30,7 +30,7 @@ from program import TOP
 
 RUNS = {"play": fuzz.run, "threads": threads.run}
 AT_ONCE = 4
-MOST_SHOWN = 5
+MAX_SHOWN = 5
 
 # The table of mistakes.
 
@@ -309,7 +309,7 @@ class Comparison:
             self.passed += 1
             return
         self.failed += 1
-        if self.failed <= MOST_SHOWN:
+        if self.failed <= MAX_SHOWN:
             show(name, mode, script, why)
 
     def count(self, told):

@@ -26,7 +26,7 @@ from program import TOP, program_of
 ROWS = TOP / "crates/ray_actors/rows"
 CUT = ROWS / "one_packet_for_good.actors"
 
-MOST_SHOWN = 5
+MAX_SHOWN = 5
 
 EDGE_INTS = [0, 1, -1, 2**63 - 1, 2**63 - 2, -(2**63), -(2**63) + 1]
 EDGE_NUMBERS = [0, 1, 2, 65_535, 65_536, 2**31, 2**32 - 1]
@@ -519,7 +519,7 @@ def differences(program, scripts):
             wanted = reading.play(script)
             if got != wanted:
                 differing += 1
-                if differing <= MOST_SHOWN:
+                if differing <= MAX_SHOWN:
                     show(name, script, got, wanted)
     return differing
 

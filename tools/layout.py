@@ -8,7 +8,7 @@ import math
 from dataclasses import dataclass, replace
 from itertools import accumulate
 
-MOST_WIDTH = 1000
+MAX_WIDTH = 1000
 CHARACTER = 7.3
 ROW = 20
 EDGE = 12
@@ -22,7 +22,7 @@ GAP, LEAST_GAP = 240, 100
 LEAST_LANE = 18
 LEAST_LINES = 224  # from where lines begin to the first lane
 LEAST_WORDS = 176  # right of the last lane
-MOST_LETTERS = {"line": 44, "caller": 26, "actor": 36}
+MAX_LETTERS = {"line": 44, "caller": 26, "actor": 36}
 LEAST_LETTERS = 12  # of a line
 AT_THE_END = "at the end"
 ROWS_TO_A_HEADING = 40
@@ -123,7 +123,7 @@ class Layout:
     # The lanes, from left to right.
 
     def most_letters(self, lane):
-        return MOST_LETTERS["caller" if self.story.is_caller(lane) else "actor"]
+        return MAX_LETTERS["caller" if self.story.is_caller(lane) else "actor"]
 
     def room_of(self, lane):
         """How wide the words of a lane are, with those over and under it."""
@@ -137,8 +137,8 @@ class Layout:
         room = max(map(self.room_of, first), default=0) + width_of(AT_THE_END)
         for place in self.shown:
             mark = self.marks.get(place)
-            words = width_of(cut(mark.text, MOST_LETTERS["caller"])) + SPACE if mark and [mark.lane] == first else 0
-            room = max(room, width_of(self.line_of(place, MOST_LETTERS["line"])) + words + SPACE)
+            words = width_of(cut(mark.text, MAX_LETTERS["caller"])) + SPACE if mark and [mark.lane] == first else 0
+            room = max(room, width_of(self.line_of(place, MAX_LETTERS["line"])) + words + SPACE)
         return room
 
     def line_of(self, place, most):
@@ -159,7 +159,7 @@ class Layout:
     def place_lanes(self):
         callers, gap, actors = self.parts()
         lanes, sides = callers[1:] + actors[:-1], callers[:1] + actors[-1:]
-        narrow([[gap], lanes, sides], MOST_WIDTH - self.lines_begin - 2 * BESIDE_GAP - EDGE)
+        narrow([[gap], lanes, sides], MAX_WIDTH - self.lines_begin - 2 * BESIDE_GAP - EDGE)
         ends = list(accumulate((part.width for part in callers), initial=self.lines_begin))[1:]
         self.gap_begin = ends[-1] + BESIDE_GAP
         self.gap_end = self.gap_begin + gap.width
@@ -186,7 +186,7 @@ class Layout:
         mark = self.marks.get(place)
         begin = self.words_at(mark)[1] if mark and self.story.is_caller(mark.lane) else self.first_lane
         room = min(begin, self.first_lane) - SPACE - self.lines_begin
-        return self.line_of(place, min(letters_in(room + 1), MOST_LETTERS["line"]))
+        return self.line_of(place, min(letters_in(room + 1), MAX_LETTERS["line"]))
 
     def crosses(self, begin, words):
         """Whether a lane runs behind these words."""

@@ -38,10 +38,10 @@ CREWS = [(1, 1), (2, 2), (4, 4), (16, 8)]  # callers and actors
 CALLS_ON_ONE_CORE = 5_000
 RUNS = 5
 
-MOST_FOR_DOUBLING = 2.3
+MAX_FOR_DOUBLING = 2.3
 NOISE = 0.020  # seconds; less is taken for this much
-MOST_SECONDS = 2.0  # for a script of just under a megabyte
-MOST_MEMORY = 100  # bytes for each byte of a script
+MAX_SECONDS = 2.0  # for a script of just under a megabyte
+MAX_MEMORY = 100  # bytes for each byte of a script
 LEAST_FOR_MEMORY = 100_000  # bytes of script; in a shorter one the program's start weighs too much
 SECONDS_OF_A_RUN = {"play": 60, "threads": 240}  # of the processor's time, and of the clock
 
@@ -330,14 +330,14 @@ def complaints(rows):
     """What is wrong with the last of the rows of a series."""
     row, before = rows[-1], half_as_long(rows)
     in_threads = row.script.series.mode == "threads"
-    if before and growth(before, row) > MOST_FOR_DOUBLING:
+    if before and growth(before, row) > MAX_FOR_DOUBLING:
         times = f"{before.seconds:.3f} s for {before.script.events:,}, {row.seconds:.3f} s for {row.script.events:,}"
         yield f"a doubling costs {growth(before, row):.2f} times ({times})"
     if in_threads:
         return
-    if row.script.is_largest() and row.seconds > MOST_SECONDS:
+    if row.script.is_largest() and row.seconds > MAX_SECONDS:
         yield f"{len(row.script.text):,} bytes of script take {row.seconds:.2f} seconds"
-    if (row.for_each_byte() or 0) > MOST_MEMORY:
+    if (row.for_each_byte() or 0) > MAX_MEMORY:
         yield f"{row.for_each_byte():.0f} bytes of memory for each byte of the script"
 
 

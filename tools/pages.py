@@ -33,9 +33,9 @@ PLAIN = [
 ]
 HEAD_ALONE = {"docs/audit.md"}
 # What a crate's README may have.
-MOST_LINES = 30
-MOST_COLUMNS = 120
-MOST_WORDS = 30
+MAX_LINES = 30
+MAX_COLUMNS = 120
+MAX_WORDS = 30
 # The lines of the glossary that are of no single file.
 WITHOUT_FILE = ("- **clause, premise**", "- **must-fail edit**")
 NOT_TOOLS = {"README.md", "__pycache__"}
@@ -85,8 +85,8 @@ def faults_of_crates():
         page = program.CRATES / crate / "README.md"
         if not page.is_file():
             yield f"crates/{crate} has no README.md"
-        elif (count := page.read_text().count("\n")) > MOST_LINES:
-            yield f"crates/{crate}/README.md has {count} lines, and may have {MOST_LINES}"
+        elif (count := page.read_text().count("\n")) > MAX_LINES:
+            yield f"crates/{crate}/README.md has {count} lines, and may have {MAX_LINES}"
         elif told_below(page) != sorted(program.listed()[crate]):
             yield f"crates/{crate}/README.md tells other crates below it than crates.txt"
 
@@ -142,13 +142,13 @@ def words_of(sentence):
 def faults_of_style(page):
     """The lines of a page that are too long, and its sentences."""
     for number, line, in_block in lines_of(page):
-        if len(line) > MOST_COLUMNS and not in_block:
-            yield f"{page}:{number} has {len(line)} columns, and may have {MOST_COLUMNS}"
+        if len(line) > MAX_COLUMNS and not in_block:
+            yield f"{page}:{number} has {len(line)} columns, and may have {MAX_COLUMNS}"
     for number, text in texts_of(page):
         for sentence in sentences_of(text):
-            if (count := len(words_of(sentence))) > MOST_WORDS:
+            if (count := len(words_of(sentence))) > MAX_WORDS:
                 start = " ".join(sentence.split()[:6])
-                yield f"{page}:{number}: a sentence of {count} words, and it may have {MOST_WORDS}: {start} .."
+                yield f"{page}:{number}: a sentence of {count} words, and it may have {MAX_WORDS}: {start} .."
 
 
 def main():

@@ -57,7 +57,7 @@ CALLERS_WITH_ALL = 4  # a larger crew makes as many calls in all as this one
 TURNS = 3
 ROUNDS = 5
 SMALL_CALLS = 2_000
-MOST_SECONDS = 240
+MAX_SECONDS = 240
 NO_SETUP = 2  # the status where the machine lacks what the peers are built with
 FIGURE = re.compile(r"^(?:.*, )?(\d+) us\b", re.MULTILINE)
 
@@ -69,11 +69,11 @@ class Failed(Exception):
 def run(command, **options):
     """What the command writes to its standard output."""
     try:
-        done = subprocess.run(command, stdin=subprocess.DEVNULL, capture_output=True, text=True, timeout=MOST_SECONDS, **options)
+        done = subprocess.run(command, stdin=subprocess.DEVNULL, capture_output=True, text=True, timeout=MAX_SECONDS, **options)
     except FileNotFoundError:
         raise Failed(f"{command[0]} is not there") from None
     except subprocess.TimeoutExpired:
-        raise Failed(f"{command[0]} does not end in {MOST_SECONDS} seconds") from None
+        raise Failed(f"{command[0]} does not end in {MAX_SECONDS} seconds") from None
     if done.returncode:
         told = [line for line in done.stderr.splitlines() if "error" in line] or done.stderr.splitlines()
         raise Failed(f"{command[0]} ends with {done.returncode}{': ' + told[0].strip() if told else ''}")

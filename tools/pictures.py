@@ -47,7 +47,7 @@ CROWDS = 5
 CROWDED = 210  # lines
 CUTS = 4
 LEAST_LETTERS = 8  # of a line
-MOST_WIDTH = 1000
+MAX_WIDTH = 1000
 LETTER = 7.22  # as wide as a letter of the pictures' font is
 BOX_BEGINS, UNDER_A_BOX = 3, 9
 SVG = "{http://www.w3.org/2000/svg}"
@@ -389,7 +389,7 @@ def legend_unsound(picture, _):
 
 def words_unsound(picture, _):
     width = int(picture.get("width"))
-    if width > MOST_WIDTH:
+    if width > MAX_WIDTH:
         yield f"it is {width} pixels wide"
     words = sorted(words_of(picture))
     yield from (f"'{each}' stands outside" for _, begin, end, each in words if begin < 0 or end > width)

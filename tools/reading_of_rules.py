@@ -14,12 +14,12 @@ from dataclasses import dataclass, field
 
 LONGEST_SCRIPT = 1_048_576
 LONGEST_LINE = 512
-MOST_ARGUMENTS = 4
-MOST_CALLS = 65_536
-MOST_COPIES = 65_535
+MAX_ARGUMENTS = 4
+MAX_CALLS = 65_536
+MAX_COPIES = 65_535
 LARGEST_LIMIT = 65_536
-MOST_KEYS = 1_024
-MOST_ITEMS = 4_096
+MAX_KEYS = 1_024
+MAX_ITEMS = 4_096
 LEAST_INT, LARGEST_INT = -(2**63), 2**63 - 1
 LARGEST_NUMBER = 2**32 - 1
 
@@ -91,7 +91,7 @@ class Table:
         self.pairs = {}  # a dict keeps the order in which its keys came
 
     def put(self, key, value):
-        if key not in self.pairs and len(self.pairs) == MOST_KEYS:
+        if key not in self.pairs and len(self.pairs) == MAX_KEYS:
             raise Fault("KindFull")
         self.pairs[key] = value
         return UNIT
@@ -147,7 +147,7 @@ class ItemList:
         self.items = []
 
     def push(self, item):
-        if len(self.items) == MOST_ITEMS:
+        if len(self.items) == MAX_ITEMS:
             raise Fault("KindFull")
         self.items.append(item)
         return len(self.items)
@@ -528,11 +528,11 @@ class World:
     def submit(self, caller, actor, method, arguments):
         submitter, called = self.with_handle(caller, actor)
         future = len(submitter.calls)
-        if len(arguments) > MOST_ARGUMENTS:
+        if len(arguments) > MAX_ARGUMENTS:
             raise Refused("TooManyArgs")
         if any(isinstance(each, Future) and each.number >= future for each in arguments):
             raise Refused("BadFuture")
-        if future == MOST_CALLS:
+        if future == MAX_CALLS:
             raise Refused("TooManyCalls")
         if called.limit is not None and submitter.pending(actor) >= called.limit:
             self.meet_limit()
@@ -548,7 +548,7 @@ class World:
 
     def copy(self, caller, actor):
         holder, _ = self.with_handle(caller, actor)
-        if holder.copies[actor] == MOST_COPIES:
+        if holder.copies[actor] == MAX_COPIES:
             raise Refused("TooManyCopies")
         holder.copies[actor] += 1
         return f"copies {holder.copies[actor]}"

@@ -40,8 +40,8 @@ BANK = EXAMPLES / "bank.actors"
 SWEPT = ROWS / "kill.actors"
 COUNT = 1_000  # random scripts of each seed
 AT_ONCE = 4
-MOST_SECONDS = 60
-MOST_SHOWN = 5
+MAX_SECONDS = 60
+MAX_SHOWN = 5
 ONE_PROCESSOR = ["taskset", "-c", "0"]
 BAD_OUTCOMES = re.compile(rb"^\d+: (refused .*|gap|repeat|stranger)$", re.MULTILINE)
 LIVE = re.compile(rb"^a\d+ live .*$", re.MULTILINE)
@@ -56,9 +56,9 @@ TOO_LONG = b"the play has more than 1048576 bytes, and can't be read again\n"
 def ran(command, script):
     """The status of a run, its output, and its notes."""
     try:
-        done = subprocess.run(list(map(str, command)), input=script, capture_output=True, timeout=MOST_SECONDS)
+        done = subprocess.run(list(map(str, command)), input=script, capture_output=True, timeout=MAX_SECONDS)
     except subprocess.TimeoutExpired:
-        return None, b"", b"no end within %d seconds" % MOST_SECONDS
+        return None, b"", b"no end within %d seconds" % MAX_SECONDS
     return done.returncode, done.stdout, done.stderr
 
 
@@ -146,7 +146,7 @@ def failures_of(results):
         good += why is None
         if why is not None:
             failures.append(f"{name}: {why}")
-            if len(failures) <= MOST_SHOWN:
+            if len(failures) <= MAX_SHOWN:
                 with tempfile.NamedTemporaryFile(prefix="recorded-", suffix=".actors", delete=False) as file:
                     file.write(script)
                 failures[-1] += f"; the script is {file.name}"

@@ -5,7 +5,7 @@ import subprocess
 
 from program import TOP
 
-MOST_SECONDS = 60
+MAX_SECONDS = 60
 HANGS = (None, b"", b"it does not end")
 
 
@@ -25,7 +25,7 @@ class Refusing:
         environment = dict(self.environment, REFUSE=str(nth), REFUSE_THREAD=str(thread))
         with open(standard_input, "rb") as given:
             try:
-                done = subprocess.run(command, stdin=given, capture_output=True, timeout=MOST_SECONDS, env=environment)
+                done = subprocess.run(command, stdin=given, capture_output=True, timeout=MAX_SECONDS, env=environment)
             except subprocess.TimeoutExpired:
                 return HANGS
         return done.returncode, done.stdout, done.stderr

@@ -19,8 +19,8 @@ ROWS = TOP / "crates/ray_actors/rows"
 THREAD_ROWS = TOP / "crates/ray_actors/thread_rows"
 PROGRAMS = [PROVED, PROVED.with_name("ray_actors.by-rattle")]
 LONGEST = 1_048_576
-MOST_COPIES = 65_535
-MOST_ITEMS = 4_096
+MAX_COPIES = 65_535
+MAX_ITEMS = 4_096
 LARGE_LIMIT = 60_000
 USAGE = b"usage: ray_actors play|threads\n"
 ROLE = b"actor a1 counter c1\n"
@@ -49,10 +49,10 @@ def large_scripts():
 
 def full_list(limit):
     """A script with one push more than a list takes, and its output, which is the same under any limit."""
-    places = range(MOST_ITEMS + 1)
-    answers = [b"%d" % (place + 1) for place in range(MOST_ITEMS)] + [b"KindFull"]
+    places = range(MAX_ITEMS + 1)
+    answers = [b"%d" % (place + 1) for place in range(MAX_ITEMS)] + [b"KindFull"]
     report = b"".join(b"c1.%d a1 = %s\n" % answer for answer in enumerate(answers))
-    report += b"a1 retired list" + b" 1" * MOST_ITEMS + b"\n"
+    report += b"a1 retired list" + b" 1" * MAX_ITEMS + b"\n"
     report += b"".join(b"a1.%d c1.%d push 1\n" % (place, place) for place in places)
     return b"actor a1 list" + limit + b" c1\n" + b"submit c1 a1 push 1\n" * len(places), report
 
@@ -61,9 +61,9 @@ def large_thread_scripts():
     """The same for threads."""
     yield "a million line ends", b"\n" * LONGEST, b"", 0
     yield "one byte too many", b"\n" * (LONGEST + 1), b"line 0: TooLong\n", 1
-    copies = ROLE + b"copy c1 a1\n" * (MOST_COPIES - 1)
+    copies = ROLE + b"copy c1 a1\n" * (MAX_COPIES - 1)
     yield "as many copies as can be", copies, b"a1 retired counter 0\n", 0
-    yield "one copy too many", copies + b"copy c1 a1\n", b"line %d: BadPlan\n" % (MOST_COPIES + 1), 1
+    yield "one copy too many", copies + b"copy c1 a1\n", b"line %d: BadPlan\n" % (MAX_COPIES + 1), 1
     yield "a fault after a megabyte", ROLE + b"#\n" * 524_000 + b"take a1", b"line 524002: BadLine\n", 1
     yield "a stranger after a megabyte", ROLE + b"#\n" * 524_000 + b"kill c2 a1", b"line 524002: BadPlan\n", 1
     yield "a full list", *full_list(b""), 0

@@ -37,8 +37,8 @@ END = ROWS / "terminate_waits_its_turn.actors"
 LIMITS = [ROWS / f"limit_{name}.actors" for name in ["of_one", "and_a_chain_over_two_actors", "before_a_kill"]]
 
 AT_ONCE = 4
-MOST_SECONDS = 60
-MOST_SHOWN = 5
+MAX_SECONDS = 60
+MAX_SHOWN = 5
 
 # Each step: how often it is tried, and what follows its word: a caller, an actor or a number.
 STEPS = {"submit": (60, "ca"), "await": (8, "cn"), "copy": (3, "ca"), "release": (2, "ca"), "kill": (1, "ca")}
@@ -213,9 +213,9 @@ def too_seldom(gots):
 def run(program, script):
     """Report and status of one run of the program; with what stood on standard error, where there was any."""
     try:
-        done = subprocess.run([program, "threads"], input=script, capture_output=True, timeout=MOST_SECONDS)
+        done = subprocess.run([program, "threads"], input=script, capture_output=True, timeout=MAX_SECONDS)
     except subprocess.TimeoutExpired:
-        return b"", f"no end within {MOST_SECONDS} seconds"
+        return b"", f"no end within {MAX_SECONDS} seconds"
     return done.stdout, done.returncode if not done.stderr else (done.returncode, done.stderr)
 
 
@@ -683,7 +683,7 @@ def judge_scripts(program, scripts):
             right[script] = got
             continue
         wrong += 1
-        if wrong <= MOST_SHOWN:
+        if wrong <= MAX_SHOWN:
             show(name, script, *got, why)
     return right, wrong
 
@@ -717,7 +717,7 @@ def tell_trial(checks):
     passed = failed = 0
     for name, is_well in checks:
         passed, failed = passed + is_well, failed + (not is_well)
-        if not is_well and failed <= MOST_SHOWN:
+        if not is_well and failed <= MAX_SHOWN:
             print(f"the judge goes wrong: it should hold that {name}")
     return passed, failed
 

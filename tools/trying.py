@@ -21,7 +21,7 @@ from edits import TOP, BadEdit
 
 ONE_JOB = ["--jobs", "1"]
 # An edit takes up to 0.1 GB more.
-MOST_TOGETHER = 12
+MAX_TOGETHER = 12
 
 VERDICT = re.compile(r"fn (\S+): (.*)")
 REFUSED = re.compile(r"(not proved|no proof)\b")
@@ -139,7 +139,7 @@ def groups(edits, functions):
 def fits(edit, group, functions):
     """Whether the edit can be tried together with these."""
     taken = {symbol for other in group for symbol in functions(other)}
-    if len(group) >= MOST_TOGETHER or taken & {*functions(edit)}:
+    if len(group) >= MAX_TOGETHER or taken & {*functions(edit)}:
         return False
     texts = {}
     try:

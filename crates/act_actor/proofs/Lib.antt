@@ -1,4 +1,4 @@
 pub mod Values
 pub mod Pairs
 pub mod Running
-pub mod Castings
+pub mod ActorSpecs

@@ -6,48 +6,48 @@ use Rattle.act_types.specs.declared.message.Packet.{Packet}
 use Rattle.act_types.specs.declared.message.Reply.{Reply}
 use Rattle.act_rules.specs.RunList.{after_item, state_after, answer_at}
 use Rattle.act_rules.proofs.RunLists.{state_after-push, answer_at-push}
-use Rattle.act_actor.specs.View.{ActorSeen}
-use Rattle.act_actor.specs.Actor.{item_of, reply_to, HasRun, HasRunFrom}
+use Rattle.act_actor.specs.View.{ActorView}
+use Rattle.act_actor.specs.Actor.{item_of, reply_of_run, HasRunCall, HasRunFrom}
 
 -- an actor that ran one more packet
-follows_more : (opening : KindState) (caller : ℕ) (packet : Packet) (before after : ActorSeen)
-    → HasRun caller packet before after → HasRunFrom opening before → HasRunFrom opening after
+follows_more : (opening : KindState) (caller : ℕ) (packet : Packet) (before after : ActorView)
+    → HasRunCall caller packet before after → HasRunFrom opening before → HasRunFrom opening after
 follows_more opening caller packet before after ran from =
     ran.state ∙ ap (λ state. (after_item state (item_of packet)).0) from ∙ sym (state_after-push opening before.log (item_of packet)) ∙ ap (state_after opening) (sym ran.log)
 
 -- what it answered
-answer_more : (opening : KindState) (caller : ℕ) (packet : Packet) (before after : ActorSeen)
-    → HasRun caller packet before after → HasRunFrom opening before
+answer_more : (opening : KindState) (caller : ℕ) (packet : Packet) (before after : ActorView)
+    → HasRunCall caller packet before after → HasRunFrom opening before
     → answer_at opening after.log (length before.log) ≡ Some (after_item before.state (item_of packet)).1
 answer_more opening caller packet before after ran from =
     ap (λ log. answer_at opening log (length before.log)) ran.log ∙ answer_at-push opening before.log (item_of packet) ∙ ap (λ state. Some (after_item state (item_of packet)).1) (sym from)
 
 -- an actor that ran its next packet, if there was one
-follows_next : (caller : ℕ) (before after : ActorSeen) (next : Option Packet) (reply : Option Reply)
-    → reply ≡ option_map (reply_to before) next → IfNone reply (after ≡ before) → IfSome next (λ packet. HasRun caller packet before after)
+follows_next : (caller : ℕ) (before after : ActorView) (next : Option Packet) (reply : Option Reply)
+    → reply ≡ option_map (reply_of_run before) next → IfNone reply (after ≡ before) → IfSome next (λ packet. HasRunCall caller packet before after)
     → (opening : KindState) → HasRunFrom opening before → HasRunFrom opening after
 follows_next caller before after None reply is gap ran =
     let same : after ≡ before = rw is at gap in
-    λ opening from. ap (λ (actor : ActorSeen). actor.state) same ∙ from ∙ ap (λ (actor : ActorSeen). state_after opening actor.log) (sym same)
+    λ opening from. ap (λ (actor : ActorView). actor.state) same ∙ from ∙ ap (λ (actor : ActorView). state_after opening actor.log) (sym same)
 follows_next caller before after (Some packet) reply is gap ran = λ opening from. follows_more opening caller packet before after ran from
 
 -- and what it replied
-answers_next : (caller : ℕ) (before after : ActorSeen) (next : Option Packet) (reply : Option Reply)
-    → reply ≡ option_map (reply_to before) next → IfSome next (λ packet. HasRun caller packet before after)
+answers_next : (caller : ℕ) (before after : ActorView) (next : Option Packet) (reply : Option Reply)
+    → reply ≡ option_map (reply_of_run before) next → IfSome next (λ packet. HasRunCall caller packet before after)
     → IfSome reply (λ reply. (opening : KindState) → HasRunFrom opening before → answer_at opening after.log reply.place ≡ Some reply.answer)
 answers_next caller before after None reply is ran = rw is tt
 answers_next caller before after (Some packet) reply is ran = rw is (λ opening from. answer_more opening caller packet before after ran from)
 
 -- the same where memory served
-pub follows_when_ok : {E : Type 0} (caller : ℕ) (before after : ActorSeen) (next : Option Packet) (result : Result (Option Reply) E)
-    → IfOk result (λ reply. reply ≡ option_map (reply_to before) next) → IfOk result (λ reply. IfNone reply (after ≡ before))
-    → OnOk result (IfSome next (λ packet. HasRun caller packet before after))
+pub follows_when_ok : {E : Type 0} (caller : ℕ) (before after : ActorView) (next : Option Packet) (result : Result (Option Reply) E)
+    → IfOk result (λ reply. reply ≡ option_map (reply_of_run before) next) → IfOk result (λ reply. IfNone reply (after ≡ before))
+    → OnOk result (IfSome next (λ packet. HasRunCall caller packet before after))
     → OnOk result ((opening : KindState) → HasRunFrom opening before → HasRunFrom opening after)
 follows_when_ok caller before after next (Ok reply) is gap ran = follows_next caller before after next reply is gap ran
 follows_when_ok caller before after next (Err error) is gap ran = tt
 
-pub answers_when_ok : {E : Type 0} (caller : ℕ) (before after : ActorSeen) (next : Option Packet) (result : Result (Option Reply) E)
-    → IfOk result (λ reply. reply ≡ option_map (reply_to before) next) → OnOk result (IfSome next (λ packet. HasRun caller packet before after))
+pub answers_when_ok : {E : Type 0} (caller : ℕ) (before after : ActorView) (next : Option Packet) (result : Result (Option Reply) E)
+    → IfOk result (λ reply. reply ≡ option_map (reply_of_run before) next) → OnOk result (IfSome next (λ packet. HasRunCall caller packet before after))
     → IfOk result (λ reply. IfSome reply (λ reply. (opening : KindState) → HasRunFrom opening before → answer_at opening after.log reply.place ≡ Some reply.answer))
 answers_when_ok caller before after next (Ok reply) is ran = answers_next caller before after next reply is ran
 answers_when_ok caller before after next (Err error) is ran = tt

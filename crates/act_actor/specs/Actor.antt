@@ -8,33 +8,39 @@ use Rattle.act_rules.specs.RunList.{after_item, state_after, has_terminated}
 use Rattle.act_rules.specs.declared.history.RunItem.{RunItem}
 use Rattle.act_rules.specs.declared.outcome.Arrival.{Arrival}
 use Rattle.act_rules.specs.declared.outcome.Arrival.TheVariants.{New, Stranger}
-use Rattle.act_inbox.specs.Inbox.{InboxValue, arrival_of, note_arrival, handed_of, holding, next_of, HoldsNone, IsNextTaken, IsDrained}
-use Rattle.act_actor.specs.View.{ActorSeen}
+use Rattle.act_inbox.specs.Inbox.{InboxView, arrival_of, note_arrival, handed_of, holding, next_of, HoldsNone, IsNextTaken, IsDrained}
+use Rattle.act_actor.specs.View.{ActorView}
 
 -- what a packet is to an actor
-abbrev pub arrival_at : ℕ → InboxValue → Packet → Arrival
+abbrev pub arrival_at : ℕ → InboxView → Packet → Arrival
 arrival_at id inbox packet = if packet.actor == id then arrival_of inbox packet else Stranger
 
 -- what a release note is to an actor
-abbrev pub note_arrival_at : ℕ → InboxValue → ReleaseNote → Arrival
+abbrev pub note_arrival_at : ℕ → InboxView → ReleaseNote → Arrival
 note_arrival_at id inbox note = if note.actor == id then note_arrival inbox note else Stranger
 
 -- the caller's next call, if it came: an actor that terminated runs none
-abbrev pub next_call : List RunItem → InboxValue → ℕ → Option Packet
+abbrev pub next_call : List RunItem → InboxView → ℕ → Option Packet
 next_call log inbox caller = if has_terminated log then None else next_of inbox caller
 
 -- the actor did not terminate, each caller's note came, and all calls of which it tells were run
-pub record MayRetire (log : List RunItem) (inbox : InboxValue) : Type 0 where
+pub record MayRetire (log : List RunItem) (inbox : InboxView) : Type 0 where
   pub lives : has_terminated log ≡ false
   pub drained : IsDrained inbox
 
 -- the item that a packet becomes in the log
 abbrev pub item_of : Packet → RunItem
-item_of packet = record { caller = packet.caller; number = packet.number; future = packet.future; method = packet.method; args = packet.args }
+item_of packet = record {
+  caller = packet.caller;
+  number = packet.number;
+  future = packet.future;
+  method = packet.method;
+  args = packet.args;
+}
 
 -- what the actor replies when it runs a packet
-abbrev pub reply_to : ActorSeen → Packet → Reply
-reply_to actor packet = record {
+abbrev pub reply_of_run : ActorView → Packet → Reply
+reply_of_run actor packet = record {
   actor = actor.id;
   caller = packet.caller;
   future = packet.future;
@@ -43,23 +49,23 @@ reply_to actor packet = record {
 }
 
 -- the actor did not terminate, it holds no call, and the packet is new to it and its caller's next call
-pub record RunsAtOnce (packet : Packet) (id : ℕ) (log : List RunItem) (inbox : InboxValue) : Type 0 where
+pub record RunsAtOnce (packet : Packet) (id : ℕ) (log : List RunItem) (inbox : InboxView) : Type 0 where
   pub lives : has_terminated log ≡ false
   pub alone : HoldsNone inbox
   pub is_new : arrival_at id inbox packet ≡ New
   pub numbered : packet.number ≡ handed_of inbox packet.caller
 
 -- the actor after a new packet arrived
-abbrev pub with_call : Packet → ActorSeen → ActorSeen
-with_call packet actor = record actor { inbox = holding packet actor.inbox }
+abbrev pub with_packet : Packet → ActorView → ActorView
+with_packet packet actor = record actor { inbox = holding packet actor.inbox }
 
 -- the actor took the caller's packet, and it ran
-pub record HasRun (caller : ℕ) (packet : Packet) (old new : ActorSeen) : Type 0 where
+pub record HasRunCall (caller : ℕ) (packet : Packet) (old new : ActorView) : Type 0 where
   pub id : new.id ≡ old.id
   pub taken : IsNextTaken caller packet old.inbox new.inbox
   pub log : new.log ≡ old.log ++ item_of packet ∷ []
   pub state : new.state ≡ (after_item old.state (item_of packet)).0
 
 -- the state is what the log leaves of this opening state
-abbrev pub HasRunFrom : KindState → ActorSeen → Type 0
+abbrev pub HasRunFrom : KindState → ActorView → Type 0
 HasRunFrom opening actor = actor.state ≡ state_after opening actor.log

@@ -2,29 +2,29 @@
 use Rattle.std.specs.Prelude.{ℕ, List}
 use Rattle.act_types.specs.KindState.{KindState}
 use Rattle.act_rules.specs.declared.history.RunItem.{RunItem}
-use Rattle.act_inbox.specs.View.{InboxValue}
+use Rattle.act_inbox.specs.View.{InboxView}
 
 -- an actor that runs: a name, the calls that came, those that ran, and its kind
-pub record LiveValue (K : Type 0) : Type 0 where
+pub record LiveView (K : Type 0) : Type 0 where
   pub id : ℕ
-  pub inbox : InboxValue
+  pub inbox : InboxView
   pub log : List RunItem
   pub kind : K
 
 -- the same with the state that its kind is in
-pub record ActorSeen : Type 0 where
+pub record ActorView : Type 0 where
   pub id : ℕ
-  pub inbox : InboxValue
+  pub inbox : InboxView
   pub log : List RunItem
   pub state : KindState
 
 -- a killed actor: its name, and what it ran
-pub record DeadValue : Type 0 where
+pub record DeadView : Type 0 where
   pub id : ℕ
   pub log : List RunItem
 
 -- a retired actor: its name, what it ran, and the state that its kind was left in
-pub record RetiredSeen : Type 0 where
+pub record RetiredView : Type 0 where
   pub id : ℕ
   pub log : List RunItem
   pub state : KindState

@@ -5,10 +5,10 @@ ghost use Rattle.std.specs.List.{list_any};
 ghost use Rattle.act_actor.specs.Cast.{CallersDiffer, ActorsDiffer, IsFitting};
 ghost use Rattle.act_rules.specs.History.{contains};
 ghost use Rattle.act_rules.specs.Submissions.{IsLimit};
-ghost use Rattle.act_actor.specs.Casts.{actors_naming, limits_naming};
+ghost use Rattle.act_actor.specs.Casts.{actors_that_name, limits_that_name};
 
 use act_kinds::Boxed;
-use act_types::{ActorId, CallerId, ListOf, MOST_CALLS, NoMemory};
+use act_types::{ActorId, CallerId, ListOf, MAX_CALLS, NoMemory};
 use std::alloc::Global;
 
 /// An actor that is to be opened: its name, who may call it, its kind, and its limit if it has one.
@@ -58,7 +58,7 @@ fn is_limit(pending: Option<u32>) -> bool
 {
     match pending {
         None => true,
-        Some(limit) => 1 <= limit && limit <= MOST_CALLS,
+        Some(limit) => 1 <= limit && limit <= MAX_CALLS,
     }
 }
 
@@ -80,7 +80,7 @@ fn names_caller<K>(cast: &Cast<K>, c: CallerId) -> bool
 
 /// The actors whose casts name the caller, in the order of the casts.
 pub fn actors_of<K>(alloc: Global, casts: &[Cast<K>], c: CallerId) -> Result<Vec<ActorId>, NoMemory>
-    ensures { IfOk result (λ actors. actors.items ≡ actors_naming c casts.now) }
+    ensures { IfOk result (λ actors. actors.items ≡ actors_that_name c casts.now) }
 {
     let actors = casts
         .iter()
@@ -96,7 +96,7 @@ pub fn limits_of<K>(
     casts: &[Cast<K>],
     c: CallerId,
 ) -> Result<Vec<(ActorId, Option<u32>)>, NoMemory>
-    ensures { IfOk result (λ limits. limits.items ≡ limits_naming c casts.now) }
+    ensures { IfOk result (λ limits. limits.items ≡ limits_that_name c casts.now) }
 {
     let limits = casts
         .iter()

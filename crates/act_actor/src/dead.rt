@@ -14,9 +14,9 @@ pub struct Dead {
 }
 
 impl Model for Dead {
-    ghost use Rattle.act_actor.specs.View.{DeadValue};
+    ghost use Rattle.act_actor.specs.View.{DeadView};
 
-    ghost Value = { DeadValue };
+    ghost Value = { DeadView };
 
     ghost view = { λ dead. record { id = dead.id; log = dead.log.items } };
 }

@@ -1,6 +1,6 @@
 //! An actor that runs.
 //!
-//! `K` is the kind, mostly a box. A clause names what is seen of an actor by `live_seen` at the
+//! `K` is the kind, mostly a box. A clause names what is seen of an actor by `live_view` at the
 //! kind's state.
 
 ghost use Rattle.std.specs.Prelude.{◌≡◌, ◌≢◌, ◌<◌, ◌≤◌, ◌*◌, ◌↔◌, ◌++◌, ℕ, [], length, Some, IfOk, OnOk, IfErr, OnErr, IfSome, IfNone, IsOk, IsSome, is_some, IsTrue};
@@ -11,10 +11,10 @@ ghost use Rattle.act_types.specs.KindState.{KindState};
 ghost use Rattle.act_types.specs.Texts.{state_text};
 ghost use Rattle.act_rules.specs.RunList.{after_item, answer_at, has_terminated};
 ghost use Rattle.act_rules.specs.declared.outcome.Arrival.TheVariants.{New};
-ghost use Rattle.act_inbox.specs.Inbox.{IsOpened, note_of, waiting, held_at, note_after, waiting_after, held_after, IsTakenIn, HoldsNone};
+ghost use Rattle.act_inbox.specs.Inbox.{IsOpened, note_of, waiting_packet, held_at, note_after, waiting_after, held_after, IsTakenIn, HoldsNone};
 ghost use Rattle.act_actor.specs.Cast.{CallersDiffer};
-ghost use Rattle.act_actor.specs.Actor.{item_of, reply_to, arrival_at, note_arrival_at, next_call, with_call, MayRetire, RunsAtOnce, HasRun, HasRunFrom};
-ghost use Rattle.act_actor.specs.StateViews.{live_seen, retired_seen};
+ghost use Rattle.act_actor.specs.Actor.{item_of, reply_of_run, arrival_at, note_arrival_at, next_call, with_packet, MayRetire, RunsAtOnce, HasRunCall, HasRunFrom};
+ghost use Rattle.act_actor.specs.StateViews.{live_view, retired_view};
 
 use crate::arguments::values_of;
 use crate::terminate::{is_end, terminated};
@@ -23,7 +23,7 @@ use act_inbox::Inbox;
 use act_kinds::{Actor, Boxed};
 use act_rules::{Arrival, RunItem};
 use act_types::{
-    ActorId, Answer, CallerId, Fault, MOST_CALLERS, MOST_CALLS, Method, NoMemory, Packet,
+    ActorId, Answer, CallerId, Fault, MAX_CALLERS, MAX_CALLS, Method, NoMemory, Packet,
     ReleaseNote, Reply,
 };
 use std::alloc::Global;
@@ -40,16 +40,17 @@ pub struct Live<K = Boxed> {
 
 impl<K> Model for Live<K> {
     ghost use Rattle.std.specs.Prelude.{◌≡◌, ◌≤◌, ◌*◌, length};
-    ghost use Rattle.act_types.specs.declared.limits.TheConstants.{MOST_CALLERS, MOST_CALLS};
+    ghost use Rattle.act_types.specs.declared.limits.TheConstants.{MAX_CALLERS, MAX_CALLS};
     ghost use Rattle.act_inbox.specs.Inbox.{handed_in_all};
-    ghost use Rattle.act_actor.specs.View.{LiveValue};
+    ghost use Rattle.act_actor.specs.View.{LiveView};
 
-    ghost Value = { LiveValue K };
+    ghost Value = { LiveView K };
 
     ghost view = { λ live. record { id = live.id; inbox = live.inbox; log = live.log.items; kind = live.kind } };
 
     // Each call that was handed out stands in the log, and the inbox hands out no more than that.
-    ghost invariant = { λ live. (length live.log.items ≡ handed_in_all live.inbox) × (length live.log.items ≤ MOST_CALLERS * MOST_CALLS) };
+    ghost invariant = { λ live.
+        (length live.log.items ≡ handed_in_all live.inbox) × (length live.log.items ≤ MAX_CALLERS * MAX_CALLS) };
 }
 
 /// The item that a packet becomes in the log.
@@ -89,7 +90,7 @@ fn answered<K: Actor>(
     kind: &mut K,
     packet: &Packet,
 ) -> Result<Reply, NoMemory>
-    requires few { length log.old.items ≤ MOST_CALLERS * MOST_CALLS }
+    requires few { length log.old.items ≤ MAX_CALLERS * MAX_CALLS }
     ensures reply { IfOk result (λ reply. reply ≡ record {
       actor = id;
       caller = packet.now.caller;
@@ -122,10 +123,10 @@ impl<K: Actor> Live<K> {
         kind: K,
     ) -> Result<Live<K>, NoMemory>
         requires distinct { CallersDiffer callers.now }
-        ensures id { IfOk result (λ live. (live_seen K.state live).id ≡ id) }
-        ensures inbox { IfOk result (λ live. IsOpened callers.now (live_seen K.state live).inbox) }
-        ensures log { IfOk result (λ live. (live_seen K.state live).log ≡ []) }
-        ensures state { IfOk result (λ live. (live_seen K.state live).state ≡ K.state kind) }
+        ensures id { IfOk result (λ live. (live_view K.state live).id ≡ id) }
+        ensures inbox { IfOk result (λ live. IsOpened callers.now (live_view K.state live).inbox) }
+        ensures log { IfOk result (λ live. (live_view K.state live).log ≡ []) }
+        ensures state { IfOk result (λ live. (live_view K.state live).state ≡ K.state kind) }
     {
         Ok(Live {
             id,
@@ -137,29 +138,30 @@ impl<K: Actor> Live<K> {
 
     /// Its name.
     pub fn id(&self) -> ActorId
-        ensures { result ≡ (live_seen K.state self.now).id }
+        ensures { result ≡ (live_view K.state self.now).id }
     {
         self.id
     }
 
     /// What it ran.
     pub fn log(&self) -> &[RunItem]
-        ensures value { result.now ≡ (live_seen K.state self.now).log }
-        ensures few { length result.now ≤ MOST_CALLERS * MOST_CALLS }
+        ensures value { result.now ≡ (live_view K.state self.now).log }
+        ensures few { length result.now ≤ MAX_CALLERS * MAX_CALLS }
     {
         self.log.as_slice()
     }
 
     /// Its kind, to look at. Only a call that it runs changes it.
     pub fn kind(&self) -> &K
-        ensures { K.state result.now ≡ (live_seen K.state self.now).state }
+        ensures { K.state result.now ≡ (live_view K.state self.now).state }
     {
         &self.kind
     }
 
     /// Appends the state's text, or leaves the text as it was.
     pub fn state_text(&self, text: &mut String) -> Result<(), NoMemory>
-        ensures ok { OnOk result (string_bytes text.new ≡ string_bytes text.old ++ state_text (live_seen K.state self.now).state) }
+        ensures ok { OnOk result
+            (string_bytes text.new ≡ string_bytes text.old ++ state_text (live_view K.state self.now).state) }
         ensures err { OnErr result (string_bytes text.new ≡ string_bytes text.old) }
     {
         self.kind.state_text(text)
@@ -167,24 +169,30 @@ impl<K: Actor> Live<K> {
 
     /// Takes in a packet. An `Err` hands it back for want of memory.
     pub fn arrive(&mut self, packet: Packet) -> Result<Arrival, Packet>
-        ensures arrival { let before = live_seen K.state self.old in
+        ensures arrival { let before = live_view K.state self.old in
             IfOk result (λ arrival. arrival ≡ arrival_at before.id before.inbox packet) }
-        ensures same { let after = live_seen K.state self.new in after ≡ record (live_seen K.state self.old) { inbox = after.inbox } }
-        ensures lanes { (live_seen K.state self.new).inbox.lanes ≡ (live_seen K.state self.old).inbox.lanes }
-        ensures notes { let before = (live_seen K.state self.old).inbox in
-            let after = (live_seen K.state self.new).inbox in
+        ensures same { let after = live_view K.state self.new in
+            after ≡ record (live_view K.state self.old) { inbox = after.inbox } }
+        ensures lanes { (live_view K.state self.new).inbox.lanes ≡ (live_view K.state self.old).inbox.lanes }
+        ensures notes { let before = (live_view K.state self.old).inbox in
+            let after = (live_view K.state self.new).inbox in
             (caller : ℕ) → note_of after caller ≡ note_of before caller }
-        ensures waiting { let before = (live_seen K.state self.old).inbox in
-            let after = (live_seen K.state self.new).inbox in
-            IfOk result (λ arrival. (caller number : ℕ) → waiting after caller number ≡ waiting_after arrival packet before caller number) }
-        ensures held { let before = (live_seen K.state self.old).inbox in
-            let after = (live_seen K.state self.new).inbox in
-            IfOk result (λ arrival. (caller number : ℕ) → held_at after caller number ≡ held_after arrival packet before caller number) }
-        ensures elsewhere { packet.actor ≢ (live_seen K.state self.old).id → live_seen K.state self.new ≡ live_seen K.state self.old }
-        ensures unless_new { IfOk result (λ arrival. arrival ≢ New → live_seen K.state self.new ≡ live_seen K.state self.old) }
-        ensures last { let before = live_seen K.state self.old in OnErr result (arrival_at before.id before.inbox packet ≡ New) }
+        ensures waiting { let before = (live_view K.state self.old).inbox in
+            let after = (live_view K.state self.new).inbox in
+            IfOk result (λ arrival. (caller number : ℕ) →
+            waiting_packet after caller number ≡ waiting_after arrival packet before caller number) }
+        ensures held { let before = (live_view K.state self.old).inbox in
+            let after = (live_view K.state self.new).inbox in
+            IfOk result (λ arrival. (caller number : ℕ) →
+            held_at after caller number ≡ held_after arrival packet before caller number) }
+        ensures elsewhere { packet.actor ≢ (live_view K.state self.old).id →
+            live_view K.state self.new ≡ live_view K.state self.old }
+        ensures unless_new { IfOk result (λ arrival. arrival ≢ New →
+            live_view K.state self.new ≡ live_view K.state self.old) }
+        ensures memory_last { let before = live_view K.state self.old in
+            OnErr result (arrival_at before.id before.inbox packet ≡ New) }
         ensures back { IfErr result (λ back. back ≡ packet) }
-        ensures err { OnErr result (live_seen K.state self.new ≡ live_seen K.state self.old) }
+        ensures err { OnErr result (live_view K.state self.new ≡ live_view K.state self.old) }
     {
         if packet.actor != self.id {
             return Ok(Arrival::Stranger);
@@ -194,21 +202,24 @@ impl<K: Actor> Live<K> {
 
     /// Takes in a packet that is new to the actor. An `Err` hands it back for want of memory.
     pub fn hold(&mut self, packet: Packet) -> Result<(), Packet>
-        requires is_new { let before = live_seen K.state self.old in arrival_at before.id before.inbox packet ≡ New }
-        ensures same { let after = live_seen K.state self.new in after ≡ record (live_seen K.state self.old) { inbox = after.inbox } }
-        ensures taken { OnOk result (IsTakenIn packet New (live_seen K.state self.old).inbox (live_seen K.state self.new).inbox) }
-        ensures held { let before = (live_seen K.state self.old).inbox in
-            let after = (live_seen K.state self.new).inbox in
-            OnOk result ((caller number : ℕ) → held_at after caller number ≡ held_after New packet before caller number) }
+        requires is_new { let before = live_view K.state self.old in arrival_at before.id before.inbox packet ≡ New }
+        ensures same { let after = live_view K.state self.new in
+            after ≡ record (live_view K.state self.old) { inbox = after.inbox } }
+        ensures taken { OnOk result
+            (IsTakenIn packet New (live_view K.state self.old).inbox (live_view K.state self.new).inbox) }
+        ensures held { let before = (live_view K.state self.old).inbox in
+            let after = (live_view K.state self.new).inbox in
+            OnOk result ((caller number : ℕ) →
+            held_at after caller number ≡ held_after New packet before caller number) }
         ensures back { IfErr result (λ back. back ≡ packet) }
-        ensures err { OnErr result (live_seen K.state self.new ≡ live_seen K.state self.old) }
+        ensures err { OnErr result (live_view K.state self.new ≡ live_view K.state self.old) }
     {
         self.inbox.hold(packet)
     }
 
     /// What a packet is to the actor, before it is taken in.
     pub fn arrival(&self, packet: &Packet) -> Arrival
-        ensures value { let now = live_seen K.state self.now in result ≡ arrival_at now.id now.inbox packet.now }
+        ensures value { let now = live_view K.state self.now in result ≡ arrival_at now.id now.inbox packet.now }
     {
         if packet.actor != self.id {
             return Arrival::Stranger;
@@ -218,15 +229,17 @@ impl<K: Actor> Live<K> {
 
     /// Takes in that a caller's last handle copy is gone. Only its first note counts.
     pub fn released(&mut self, note: ReleaseNote) -> Arrival
-        ensures arrival { let before = live_seen K.state self.old in result ≡ note_arrival_at before.id before.inbox note }
-        ensures same { let after = live_seen K.state self.new in after ≡ record (live_seen K.state self.old) { inbox = after.inbox } }
-        ensures calls { let before = (live_seen K.state self.old).inbox in
-            let after = (live_seen K.state self.new).inbox in
+        ensures arrival { let before = live_view K.state self.old in
+            result ≡ note_arrival_at before.id before.inbox note }
+        ensures same { let after = live_view K.state self.new in
+            after ≡ record (live_view K.state self.old) { inbox = after.inbox } }
+        ensures calls { let before = (live_view K.state self.old).inbox in
+            let after = (live_view K.state self.new).inbox in
             (after.lanes ≡ before.lanes) × (after.held ≡ before.held) }
-        ensures notes { let before = (live_seen K.state self.old).inbox in
-            let after = (live_seen K.state self.new).inbox in
+        ensures notes { let before = (live_view K.state self.old).inbox in
+            let after = (live_view K.state self.new).inbox in
             (caller : ℕ) → note_of after caller ≡ note_after result note before caller }
-        ensures unless_new { result ≢ New → live_seen K.state self.new ≡ live_seen K.state self.old }
+        ensures unless_new { result ≢ New → live_view K.state self.new ≡ live_view K.state self.old }
     {
         if note.actor != self.id {
             return Arrival::Stranger;
@@ -237,7 +250,7 @@ impl<K: Actor> Live<K> {
     /// Whether the last call that ran was a `terminate` that ended the actor: one without
     /// arguments. It runs no call any more, and is to be killed by whoever holds it.
     pub fn terminated(&self) -> bool
-        ensures { result ≡ has_terminated (live_seen K.state self.now).log }
+        ensures { result ≡ has_terminated (live_view K.state self.now).log }
     {
         self.log.last().is_some_and(is_end)
     }
@@ -245,14 +258,14 @@ impl<K: Actor> Live<K> {
     /// Whether it did not terminate, each caller's note came, and all calls of which it tells were
     /// run.
     pub fn drained(&self) -> bool
-        ensures { let now = live_seen K.state self.now in IsTrue result ↔ MayRetire now.log now.inbox }
+        ensures { let now = live_view K.state self.now in IsTrue result ↔ MayRetire now.log now.inbox }
     {
         !self.terminated() && self.inbox.drained()
     }
 
     /// Whether the caller's next call came, and the actor did not terminate.
     pub fn has_next(&self, caller: CallerId) -> bool
-        ensures { let now = live_seen K.state self.now in result ≡ is_some (next_call now.log now.inbox caller) }
+        ensures { let now = live_view K.state self.now in result ≡ is_some (next_call now.log now.inbox caller) }
     {
         !self.terminated() && self.inbox.has_next(caller)
     }
@@ -260,14 +273,16 @@ impl<K: Actor> Live<K> {
     /// Runs the caller's next call. Each growth comes before the kind is asked, and the call leaves
     /// the inbox after it.
     fn run_next(&mut self, caller: CallerId) -> Result<Option<Reply>, NoMemory>
-        ensures reply { let before = live_seen K.state self.old in
-            IfOk result (λ reply. reply ≡ option_map (reply_to before) (next_call before.log before.inbox caller)) }
-        ensures gap { IfOk result (λ reply. IfNone reply (live_seen K.state self.new ≡ live_seen K.state self.old)) }
-        ensures ran { let before = live_seen K.state self.old in
-            let after = live_seen K.state self.new in
-            OnOk result (IfSome (next_call before.log before.inbox caller) (λ packet. HasRun caller packet before after)) }
-        ensures last { let before = live_seen K.state self.old in OnErr result (IsSome (next_call before.log before.inbox caller)) }
-        ensures err { OnErr result (live_seen K.state self.new ≡ live_seen K.state self.old) }
+        ensures reply { let before = live_view K.state self.old in
+            IfOk result (λ reply. reply ≡ option_map (reply_of_run before) (next_call before.log before.inbox caller)) }
+        ensures gap { IfOk result (λ reply. IfNone reply (live_view K.state self.new ≡ live_view K.state self.old)) }
+        ensures ran { let before = live_view K.state self.old in
+            let after = live_view K.state self.new in
+            OnOk result (IfSome (next_call before.log before.inbox caller) (λ packet.
+            HasRunCall caller packet before after)) }
+        ensures memory_last { let before = live_view K.state self.old in
+            OnErr result (IsSome (next_call before.log before.inbox caller)) }
+        ensures err { OnErr result (live_view K.state self.new ≡ live_view K.state self.old) }
     {
         if self.terminated() {
             return Ok(None);
@@ -283,30 +298,33 @@ impl<K: Actor> Live<K> {
 
     /// Runs the caller's next call, if it came and the actor did not terminate.
     pub fn run(&mut self, caller: CallerId) -> Result<Option<Reply>, NoMemory>
-        ensures reply { let before = live_seen K.state self.old in
-            IfOk result (λ reply. reply ≡ option_map (reply_to before) (next_call before.log before.inbox caller)) }
-        ensures gap { IfOk result (λ reply. IfNone reply (live_seen K.state self.new ≡ live_seen K.state self.old)) }
-        ensures ran { let before = live_seen K.state self.old in
-            let after = live_seen K.state self.new in
-            OnOk result (IfSome (next_call before.log before.inbox caller) (λ packet. HasRun caller packet before after)) }
+        ensures reply { let before = live_view K.state self.old in
+            IfOk result (λ reply. reply ≡ option_map (reply_of_run before) (next_call before.log before.inbox caller)) }
+        ensures gap { IfOk result (λ reply. IfNone reply (live_view K.state self.new ≡ live_view K.state self.old)) }
+        ensures ran { let before = live_view K.state self.old in
+            let after = live_view K.state self.new in
+            OnOk result (IfSome (next_call before.log before.inbox caller) (λ packet.
+            HasRunCall caller packet before after)) }
 
         // The state is what the log leaves, whatever the kind was when it was opened.
-        ensures follows { let before = live_seen K.state self.old in
-            let after = live_seen K.state self.new in
+        ensures follows { let before = live_view K.state self.old in
+            let after = live_view K.state self.new in
             OnOk result ((opening : KindState) → HasRunFrom opening before → HasRunFrom opening after) }
-        ensures answers { let before = live_seen K.state self.old in
-            let after = live_seen K.state self.new in
+        ensures answers { let before = live_view K.state self.old in
+            let after = live_view K.state self.new in
             IfOk result (λ reply. IfSome reply (λ reply.
-            (opening : KindState) → HasRunFrom opening before → answer_at opening after.log reply.place ≡ Some reply.answer)) }
-        ensures last { let before = live_seen K.state self.old in OnErr result (IsSome (next_call before.log before.inbox caller)) }
-        ensures err { OnErr result (live_seen K.state self.new ≡ live_seen K.state self.old) }
+            (opening : KindState) → HasRunFrom opening before →
+            answer_at opening after.log reply.place ≡ Some reply.answer)) }
+        ensures memory_last { let before = live_view K.state self.old in
+            OnErr result (IsSome (next_call before.log before.inbox caller)) }
+        ensures err { OnErr result (live_view K.state self.new ≡ live_view K.state self.old) }
     {
         self.run_next(caller)
     }
 
     /// Whether no call is held.
     pub fn holds_none(&self) -> bool
-        ensures { IsTrue result ↔ HoldsNone (live_seen K.state self.now).inbox }
+        ensures { IsTrue result ↔ HoldsNone (live_view K.state self.now).inbox }
     {
         self.inbox.is_empty()
     }
@@ -314,7 +332,8 @@ impl<K: Actor> Live<K> {
     /// Whether the actor did not terminate, no call is held, and this one is its caller's next and
     /// new: if it arrived, it would be the one call to run.
     pub fn runs_at_once(&self, packet: &Packet) -> bool
-        ensures { let now = live_seen K.state self.now in IsTrue result ↔ RunsAtOnce packet.now now.id now.log now.inbox }
+        ensures { let now = live_view K.state self.now in
+            IsTrue result ↔ RunsAtOnce packet.now now.id now.log now.inbox }
     {
         if self.terminated() || !self.inbox.is_empty() {
             return false;
@@ -328,12 +347,14 @@ impl<K: Actor> Live<K> {
     /// Runs a call at once, as `arrive` and then `run` do. It never stands in the inbox, each growth
     /// comes before the kind is asked, and the packet is dropped where memory is refused.
     pub fn run_now(&mut self, packet: Packet) -> Result<Reply, NoMemory>
-        requires at_once { let before = live_seen K.state self.old in RunsAtOnce packet before.id before.log before.inbox }
-        ensures reply { IfOk result (λ reply. reply ≡ reply_to (with_call packet (live_seen K.state self.old)) packet) }
-        ensures ran { let before = live_seen K.state self.old in
-            OnOk result (HasRun packet.caller packet (with_call packet before) (live_seen K.state self.new)) }
-        ensures alone { HoldsNone (live_seen K.state self.new).inbox }
-        ensures err { OnErr result (live_seen K.state self.new ≡ live_seen K.state self.old) }
+        requires at_once { let before = live_view K.state self.old in
+            RunsAtOnce packet before.id before.log before.inbox }
+        ensures reply { IfOk result (λ reply.
+            reply ≡ reply_of_run (with_packet packet (live_view K.state self.old)) packet) }
+        ensures ran { let before = live_view K.state self.old in
+            OnOk result (HasRunCall packet.caller packet (with_packet packet before) (live_view K.state self.new)) }
+        ensures alone { HoldsNone (live_view K.state self.new).inbox }
+        ensures err { OnErr result (live_view K.state self.new ≡ live_view K.state self.old) }
     {
         let reply = answered(&mut self.log, self.id, &mut self.kind, &packet)?;
         self.inbox.pass_by(&packet);
@@ -343,7 +364,7 @@ impl<K: Actor> Live<K> {
 
     /// Ends the actor. Its kind and the calls that it holds are dropped.
     pub fn kill(self) -> Dead
-        ensures { result ≡ record { id = (live_seen K.state self).id; log = (live_seen K.state self).log } }
+        ensures { result ≡ record { id = (live_view K.state self).id; log = (live_view K.state self).log } }
     {
         let Live { id, log, .. } = self;
         Dead::new(id, log)
@@ -351,10 +372,11 @@ impl<K: Actor> Live<K> {
 
     /// Ends the actor once it is drained; else an `Err` hands it back.
     pub fn retire(self) -> Result<Retired<K>, Live<K>>
-        ensures when { let live = live_seen K.state self in IsOk result ↔ MayRetire live.log live.inbox }
-        ensures ok { let live = live_seen K.state self in
-            IfOk result (λ retired. retired_seen K.state retired ≡ record { id = live.id; log = live.log; state = live.state }) }
-        ensures err { IfErr result (λ live. live_seen K.state live ≡ live_seen K.state self) }
+        ensures when { let live = live_view K.state self in IsOk result ↔ MayRetire live.log live.inbox }
+        ensures ok { let live = live_view K.state self in
+            IfOk result (λ retired. retired_view K.state retired
+            ≡ record { id = live.id; log = live.log; state = live.state }) }
+        ensures err { IfErr result (λ live. live_view K.state live ≡ live_view K.state self) }
     {
         if !self.drained() {
             return Err(self);

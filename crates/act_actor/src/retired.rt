@@ -3,7 +3,7 @@
 ghost use Rattle.std.specs.Prelude.{◌≡◌, ◌++◌, OnOk, OnErr};
 ghost use Rattle.std.specs.String.{string_bytes};
 ghost use Rattle.act_types.specs.Texts.{state_text};
-ghost use Rattle.act_actor.specs.StateViews.{retired_seen};
+ghost use Rattle.act_actor.specs.StateViews.{retired_view};
 
 use act_kinds::{Actor, Boxed};
 use act_rules::RunItem;
@@ -20,35 +20,36 @@ pub struct Retired<K = Boxed> {
 impl<K: Actor> Retired<K> {
     /// A retired actor of this name, which ran these calls and left its kind so.
     pub(crate) fn new(id: ActorId, log: Vec<RunItem>, kind: K) -> Retired<K>
-        ensures { retired_seen K.state result ≡ record { id = id; log = log.items; state = K.state kind } }
+        ensures { retired_view K.state result ≡ record { id = id; log = log.items; state = K.state kind } }
     {
         Retired { id, log, kind }
     }
 
     /// Its name.
     pub fn id(&self) -> ActorId
-        ensures { result ≡ (retired_seen K.state self.now).id }
+        ensures { result ≡ (retired_view K.state self.now).id }
     {
         self.id
     }
 
     /// What it ran.
     pub fn log(&self) -> &[RunItem]
-        ensures { result.now ≡ (retired_seen K.state self.now).log }
+        ensures { result.now ≡ (retired_view K.state self.now).log }
     {
         self.log.as_slice()
     }
 
     /// Its kind, as its last call left it.
     pub fn kind(&self) -> &K
-        ensures { K.state result.now ≡ (retired_seen K.state self.now).state }
+        ensures { K.state result.now ≡ (retired_view K.state self.now).state }
     {
         &self.kind
     }
 
     /// Appends the state's text, or leaves the text as it was.
     pub fn state_text(&self, text: &mut String) -> Result<(), NoMemory>
-        ensures ok { OnOk result (string_bytes text.new ≡ string_bytes text.old ++ state_text (retired_seen K.state self.now).state) }
+        ensures ok { OnOk result
+            (string_bytes text.new ≡ string_bytes text.old ++ state_text (retired_view K.state self.now).state) }
         ensures err { OnErr result (string_bytes text.new ≡ string_bytes text.old) }
     {
         self.kind.state_text(text)

@@ -3,7 +3,7 @@
 ghost use Rattle.std.specs.Prelude.{◌≡◌, Some};
 ghost use Rattle.act_types.specs.KindState.{KindState};
 ghost use Rattle.act_types.specs.declared.call.Method.TheVariants.{Terminate};
-ghost use Rattle.act_rules.specs.RunList.{replied, call_reply, ends_actor};
+ghost use Rattle.act_rules.specs.RunList.{step_of_reply, call_reply, ends_actor};
 
 use act_rules::RunItem;
 use act_types::{Answer, Fault, Method, Value};
@@ -20,7 +20,7 @@ pub(crate) fn is_end(item: &RunItem) -> bool
 
 /// What an actor answers to a `terminate`. Its kind isn't asked.
 pub(crate) fn terminated(values: &[Value]) -> Answer
-    ensures { (state : KindState) → (state, result) ≡ replied state (call_reply state Terminate values.now) }
+    ensures { (state : KindState) → (state, result) ≡ step_of_reply state (call_reply state Terminate values.now) }
 {
     match values {
         [] => Ok(Value::Unit),

@@ -2,11 +2,11 @@
 use Rattle.std.proofs.Common.{◌≡◌, ℕ, ◌==◌, List, [], ◌++◌, map, get_or, Option, Some, None, option_map, ap, sym, ◌∙◌, append_assoc}
 use Rattle.std.specs.Prelude.{position}
 use Rattle.std.specs.List.{flat_map}
-use Rattle.act_rules.specs.Report.{one_to, placed, future_line, actor_lines}
+use Rattle.act_rules.specs.Report.{one_to, numbered_lines, future_line, actor_lines}
 use Rattle.act_rules.proofs.Lists.{find-map}
 use Rattle.act_rules.proofs.Finding.{find-None}
-use Rattle.act_owner.specs.Owner.{OwnerValue}
-use Rattle.act_serve.specs.Served.{EndSeen, id_of, log_of}
+use Rattle.act_owner.specs.Owner.{OwnerView}
+use Rattle.act_serve.specs.Served.{EndView, end_id, end_log}
 use Rattle.act_executor.specs.Joined.{owner_of, end_of, calls_of_owner, kept_of_owner, log_of_end}
 use Rattle.act_plans.proofs.Taking.{find_some}
 use Rattle.act_console.specs.Parts.{owner_lines}
@@ -16,40 +16,40 @@ use Rattle.act_console.proofs.Shown.{found_named}
 -- ---- one caller, one actor
 
 -- a caller that isn't there
-pub no_owner : (owners : List OwnerValue) (c n : ℕ) → c ≡ n → owner_of c owners ≡ None → owner_lines_in owners n ≡ []
+pub no_owner : (owners : List OwnerView) (c n : ℕ) → c ≡ n → owner_of c owners ≡ None → owner_lines_in owners n ≡ []
 unfolding owner_lines_in
 no_owner owners c n is none =
-    ap (owner_lines_in owners) (sym is) ∙ ap (λ (owner : Option OwnerValue). placed (future_line c (kept_of_owner owner)) 0 (calls_of_owner owner)) none
+    ap (owner_lines_in owners) (sym is) ∙ ap (λ (owner : Option OwnerView). numbered_lines (future_line c (kept_of_owner owner)) 0 (calls_of_owner owner)) none
 
 -- a caller that is there
-pub one_owner : (owners : List OwnerValue) (owner : OwnerValue) (c n : ℕ) → c ≡ n → owner_of c owners ≡ Some owner → owner_lines owner ≡ owner_lines_in owners n
+pub one_owner : (owners : List OwnerView) (owner : OwnerView) (c n : ℕ) → c ≡ n → owner_of c owners ≡ Some owner → owner_lines owner ≡ owner_lines_in owners n
 unfolding owner_lines_in
 one_owner owners owner c n is found =
-    ap (λ (id : ℕ). placed (future_line id owner.kept) 0 owner.calls) (found_named c owners owner found)
-    ∙ ap (λ (found : Option OwnerValue). placed (future_line c (kept_of_owner found)) 0 (calls_of_owner found)) (sym found)
+    ap (λ (id : ℕ). numbered_lines (future_line id owner.kept) 0 owner.calls) (found_named c owners owner found)
+    ∙ ap (λ (found : Option OwnerView). numbered_lines (future_line c (kept_of_owner found)) 0 (calls_of_owner found)) (sym found)
     ∙ ap (owner_lines_in owners) is
 
 -- an actor that isn't there
-pub no_end : (ends : List EndSeen) (a n : ℕ) → a ≡ n → end_of a ends ≡ None → end_lines_in ends n ≡ []
+pub no_end : (ends : List EndView) (a n : ℕ) → a ≡ n → end_of a ends ≡ None → end_lines_in ends n ≡ []
 unfolding end_lines_in
 no_end ends a n is none =
-    ap (end_lines_in ends) (sym is) ∙ ap (λ (end : Option EndSeen). actor_lines a (log_of_end end) (option_map end_text end)) none
+    ap (end_lines_in ends) (sym is) ∙ ap (λ (end : Option EndView). actor_lines a (log_of_end end) (option_map end_text end)) none
 
 -- an actor that is there
-pub one_end : (ends : List EndSeen) (end : EndSeen) (a n : ℕ) → a ≡ n → end_of a ends ≡ Some end → actor_lines a (log_of end) (Some (end_text end)) ≡ end_lines_in ends n
+pub one_end : (ends : List EndView) (end : EndView) (a n : ℕ) → a ≡ n → end_of a ends ≡ Some end → actor_lines a (end_log end) (Some (end_text end)) ≡ end_lines_in ends n
 unfolding end_lines_in
 one_end ends end a n is found =
-    ap (λ (found : Option EndSeen). actor_lines a (log_of_end found) (option_map end_text found)) (sym found) ∙ ap (end_lines_in ends) is
+    ap (λ (found : Option EndView). actor_lines a (log_of_end found) (option_map end_text found)) (sym found) ∙ ap (end_lines_in ends) is
 
 -- ---- an actor's place
 
 -- no actor is seen as this one
-pub none_seen : {X : Type 0} (seen : X → EndSeen) (a : ℕ) (xs : List X) → position (λ x. id_of (seen x) == a) xs ≡ None → end_of a (map seen xs) ≡ None
-none_seen seen a xs none = find-map (λ end. id_of end == a) seen xs ∙ ap (option_map seen) (find-None (λ x. id_of (seen x) == a) xs none)
+pub none_view : {X : Type 0} (seen : X → EndView) (a : ℕ) (xs : List X) → position (λ x. end_id (seen x) == a) xs ≡ None → end_of a (map seen xs) ≡ None
+none_view seen a xs none = find-map (λ end. end_id end == a) seen xs ∙ ap (option_map seen) (find-None (λ x. end_id (seen x) == a) xs none)
 
 -- the first that is seen as this one, at its place
-pub one_seen : {X : Type 0} (seen : X → EndSeen) (a : ℕ) (xs : List X) (i : ℕ) (d : X) → position (λ x. id_of (seen x) == a) xs ≡ Some i → end_of a (map seen xs) ≡ Some (seen (get_or xs i d))
-one_seen seen a xs i d some = find-map (λ end. id_of end == a) seen xs ∙ ap (option_map seen) (find_some (λ x. id_of (seen x) == a) xs i d some).1
+pub one_view : {X : Type 0} (seen : X → EndView) (a : ℕ) (xs : List X) (i : ℕ) (d : X) → position (λ x. end_id (seen x) == a) xs ≡ Some i → end_of a (map seen xs) ≡ Some (seen (get_or xs i d))
+one_view seen a xs i d some = find-map (λ end. end_id end == a) seen xs ∙ ap (option_map seen) (find_some (λ x. end_id (seen x) == a) xs i d some).1
 
 -- ---- all of them
 
@@ -59,7 +59,7 @@ two_parts before head tail lines first whole one two all =
     two ∙ ap (λ (text : List ℕ). text ++ tail) one ∙ append_assoc before head tail ∙ ap (λ (text : List ℕ). before ++ text) all
 
 -- a text that was made part by part is the summary
-pub both_parts : (owners : List OwnerValue) (ends : List EndSeen) (empty first whole : List ℕ) → empty ≡ [] →
+pub both_parts : (owners : List OwnerView) (ends : List EndView) (empty first whole : List ℕ) → empty ≡ [] →
     first ≡ empty ++ flat_map (owner_lines_in owners) (one_to 16) →
     whole ≡ first ++ flat_map (end_lines_in ends) (one_to 8) →
     whole ≡ joined_summary owners ends

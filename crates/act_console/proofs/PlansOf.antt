@@ -9,18 +9,18 @@ use Rattle.std.proofs.Math.Bool.{or-true}
 use Rattle.act_rules.proofs.Lists.{filter_map-same, element}
 use Rattle.act_rules.specs.declared.script.Step.{Step}
 use Rattle.act_rules.specs.declared.script.Role.{Role}
-use Rattle.act_rules.specs.History.{Casting, contains, actors_naming}
+use Rattle.act_rules.specs.History.{ActorSpec, contains, actors_naming}
 use Rattle.act_rules.specs.Grammar.{Script}
-use Rattle.act_rules.specs.Plans.{Progress, nothing_done, is_refused, stepped, first_bad, first_bad_from}
+use Rattle.act_rules.specs.Plans.{Progress, nothing_done, is_refused, do_step, first_bad, first_bad_from}
 use Rattle.act_rules.specs.Report.{one_to}
-use Rattle.act_rules.specs.Scripts.{role_casting, callers_of, actors_of, plan_of, bad_line, bad_lines}
-use Rattle.act_plans.specs.Runs.{callers_of as callers_cast, plan_of as plan_among, bad_step_of, first_bad_plan, steps_of}
+use Rattle.act_rules.specs.Scripts.{actor_spec_of, callers_of_roles, actors_of_roles, plan_in_script, bad_line, bad_lines}
+use Rattle.act_plans.specs.Runs.{callers_of_casts as callers_cast, plan_of as plan_among, bad_step_of, first_bad_plan, steps_of_plan}
 use Rattle.act_console.specs.Threads.{plans_in}
 
 -- ---- the first refused step stands in its plan
 
 refused_step : (n : ℕ) (actors : List ℕ) (p : Progress) (step : Step) (steps : List Step) (i : ℕ) (b : Bool) → is_refused actors p step ≡ b
-    → (first_bad_from (n + 1) actors (stepped p step) steps ≡ Some i → i < (n + 1) + length steps)
+    → (first_bad_from (n + 1) actors (do_step p step) steps ≡ Some i → i < (n + 1) + length steps)
     → first_bad_from n actors p (step ∷ steps) ≡ Some i → i < n + suc (length steps)
 refused_step n actors p step steps i true here rest is =
     let same : n ≡ i = cc (rw here at is) in
@@ -31,7 +31,7 @@ refused_step n actors p step steps i false here rest is =
 
 first_within : (n : ℕ) (actors : List ℕ) (p : Progress) (steps : List Step) (i : ℕ) → first_bad_from n actors p steps ≡ Some i → i < n + length steps
 first_within n actors p [] i is = absurd (cc is)
-first_within n actors p (step ∷ steps) i is = refused_step n actors p step steps i (is_refused actors p step) refl (first_within (n + 1) actors (stepped p step) steps i) is
+first_within n actors p (step ∷ steps) i is = refused_step n actors p step steps i (is_refused actors p step) refl (first_within (n + 1) actors (do_step p step) steps i) is
 
 bad_within : (actors : List ℕ) (steps : List Step) (i : ℕ) → first_bad actors steps ≡ Some i → i < length steps
 bad_within actors steps i is = let below = first_within 0 actors nothing_done steps i is in omega (arith, below)
@@ -52,18 +52,18 @@ all_contained P (n ∷ ns) each = (
 
 -- ---- the plans of a script, told as those of a run
 
-any_cast : (c : ℕ) (roles : List Role) → list_any (λ (cast : Casting). contains c cast.callers) (map role_casting roles) ≡ list_any (λ (role : Role). contains c role.callers) roles
+any_cast : (c : ℕ) (roles : List Role) → list_any (λ (cast : ActorSpec). contains c cast.callers) (map actor_spec_of roles) ≡ list_any (λ (role : Role). contains c role.callers) roles
 any_cast c [] = refl
 any_cast c (role ∷ roles) = ap (λ (b : Bool). contains c role.callers || b) (any_cast c roles)
 
-callers_same : (roles : List Role) → callers_cast (map role_casting roles) ≡ callers_of roles
-callers_same roles = filter_agree (λ c. list_any (λ (cast : Casting). contains c cast.callers) (map role_casting roles)) (λ c. list_any (λ (role : Role). contains c role.callers) roles) (λ c. any_cast c roles) (one_to 16)
+callers_same : (roles : List Role) → callers_cast (map actor_spec_of roles) ≡ callers_of_roles roles
+callers_same roles = filter_agree (λ c. list_any (λ (cast : ActorSpec). contains c cast.callers) (map actor_spec_of roles)) (λ c. list_any (λ (role : Role). contains c role.callers) roles) (λ c. any_cast c roles) (one_to 16)
 
-actors_step : (c : ℕ) (role : Role) (roles : List Role) (b : Bool) → contains c role.callers ≡ b → actors_naming c (map role_casting roles) ≡ actors_of c roles → actors_naming c (map role_casting (role ∷ roles)) ≡ actors_of c (role ∷ roles)
+actors_step : (c : ℕ) (role : Role) (roles : List Role) (b : Bool) → contains c role.callers ≡ b → actors_naming c (map actor_spec_of roles) ≡ actors_of_roles c roles → actors_naming c (map actor_spec_of (role ∷ roles)) ≡ actors_of_roles c (role ∷ roles)
 actors_step c role roles true is same = rw is (ap (λ (rest : List ℕ). role.actor ∷ rest) same)
 actors_step c role roles false is same = rw is same
 
-actors_same : (c : ℕ) (roles : List Role) → actors_naming c (map role_casting roles) ≡ actors_of c roles
+actors_same : (c : ℕ) (roles : List Role) → actors_naming c (map actor_spec_of roles) ≡ actors_of_roles c roles
 actors_same c [] = refl
 actors_same c (role ∷ roles) = actors_step c role roles (contains c role.callers) refl (actors_same c roles)
 
@@ -79,41 +79,41 @@ with_caller c o = option_map (λ (place : ℕ). (c, place)) o
 found_own : (steps : ℕ → List Step) (c : ℕ) (ns : List ℕ) → contains c ns ≡ true → plan_among c (map (λ (n : ℕ). pair_of steps n) ns) ≡ steps c
 found_own steps c [] has = absurd (cc has)
 found_own steps c (n ∷ ns) has = elim (eqb_tells n c) [
-  | inl t ↦ ap (λ (b : Bool). steps_of (if b then Some (pair_of steps n) else find (λ (plan : ℕ × List Step). plan.0 == c) (map (λ (n : ℕ). pair_of steps n) ns))) t.0 ∙ ap steps t.1
+  | inl t ↦ ap (λ (b : Bool). steps_of_plan (if b then Some (pair_of steps n) else find (λ (plan : ℕ × List Step). plan.0 == c) (map (λ (n : ℕ). pair_of steps n) ns))) t.0 ∙ ap steps t.1
   | inr f ↦
-      ap (λ (b : Bool). steps_of (if b then Some (pair_of steps n) else find (λ (plan : ℕ × List Step). plan.0 == c) (map (λ (n : ℕ). pair_of steps n) ns))) f.0
+      ap (λ (b : Bool). steps_of_plan (if b then Some (pair_of steps n) else find (λ (plan : ℕ × List Step). plan.0 == c) (map (λ (n : ℕ). pair_of steps n) ns))) f.0
       ∙ found_own steps c ns (sym (ap (λ (b : Bool). b || contains c ns) f.0) ∙ has)
 ]
 
-plan_found : (script : Script) (c : ℕ) → contains c (callers_of script.roles) ≡ true → plan_among c (plans_in script) ≡ map (λ (s : ℕ × Step × ℕ). s.1) (plan_of c script)
-plan_found script c has = found_own (λ (n : ℕ). map (λ (s : ℕ × Step × ℕ). s.1) (plan_of n script)) c (callers_of script.roles) has
+plan_found : (script : Script) (c : ℕ) → contains c (callers_of_roles script.roles) ≡ true → plan_among c (plans_in script) ≡ map (λ (s : ℕ × Step × ℕ). s.1) (plan_in_script c script)
+plan_found script c has = found_own (λ (n : ℕ). map (λ (s : ℕ × Step × ℕ). s.1) (plan_in_script n script)) c (callers_of_roles script.roles) has
 
 -- ---- the first caller with a bad plan
 
 -- the place of the first bad step of a caller
 abbrev bad_place : Script → ℕ → Option ℕ
-bad_place script c = first_bad (actors_of c script.roles) (map (λ (s : ℕ × Step × ℕ). s.1) (plan_of c script))
+bad_place script c = first_bad (actors_of_roles c script.roles) (map (λ (s : ℕ × Step × ℕ). s.1) (plan_in_script c script))
 
 -- the line of a caller's step
 abbrev line_at : Script → ℕ → ℕ → Option ℕ
-line_at script c place = option_map (λ (s : ℕ × Step × ℕ). s.2) (slice_get (plan_of c script) place)
+line_at script c place = option_map (λ (s : ℕ × Step × ℕ). s.2) (slice_get (plan_in_script c script) place)
 
-bad_same : (script : Script) (c : ℕ) → contains c (callers_of script.roles) ≡ true → bad_step_of (map role_casting script.roles) (plans_in script) c ≡ with_caller c (bad_place script c)
+bad_same : (script : Script) (c : ℕ) → contains c (callers_of_roles script.roles) ≡ true → bad_step_of (map actor_spec_of script.roles) (plans_in script) c ≡ with_caller c (bad_place script c)
 bad_same script c has =
     ap (λ (actors : List ℕ). with_caller c (first_bad actors (plan_among c (plans_in script)))) (actors_same c script.roles)
-    ∙ ap (λ (steps : List Step). with_caller c (first_bad (actors_of c script.roles) steps)) (plan_found script c has)
+    ∙ ap (λ (steps : List Step). with_caller c (first_bad (actors_of_roles c script.roles) steps)) (plan_found script c has)
 
 -- all callers in a row
-rows_same : (script : Script) → filter_map (bad_step_of (map role_casting script.roles) (plans_in script)) (callers_cast (map role_casting script.roles)) ≡ filter_map (λ (c : ℕ). with_caller c (bad_place script c)) (callers_of script.roles)
+rows_same : (script : Script) → filter_map (bad_step_of (map actor_spec_of script.roles) (plans_in script)) (callers_cast (map actor_spec_of script.roles)) ≡ filter_map (λ (c : ℕ). with_caller c (bad_place script c)) (callers_of_roles script.roles)
 rows_same script =
-    ap (filter_map (bad_step_of (map role_casting script.roles) (plans_in script))) (callers_same script.roles)
-    ∙ filter_map-same (bad_step_of (map role_casting script.roles) (plans_in script)) (λ (c : ℕ). with_caller c (bad_place script c)) (callers_of script.roles)
-    (all_contained (λ (c : ℕ). bad_step_of (map role_casting script.roles) (plans_in script) c ≡ with_caller c (bad_place script c)) (callers_of script.roles) (bad_same script))
+    ap (filter_map (bad_step_of (map actor_spec_of script.roles) (plans_in script))) (callers_same script.roles)
+    ∙ filter_map-same (bad_step_of (map actor_spec_of script.roles) (plans_in script)) (λ (c : ℕ). with_caller c (bad_place script c)) (callers_of_roles script.roles)
+    (all_contained (λ (c : ℕ). bad_step_of (map actor_spec_of script.roles) (plans_in script) c ≡ with_caller c (bad_place script c)) (callers_of_roles script.roles) (bad_same script))
 
 has_line : (script : Script) (c place : ℕ) → bad_place script c ≡ Some place → (line : ℕ) × (line_at script c place ≡ Some line)
 has_line script c place is =
-    let below : place < length (plan_of c script) = omega (arith, bad_within (actors_of c script.roles) (map (λ (s : ℕ × Step × ℕ). s.1) (plan_of c script)) place is, length-map (plan_of c script) (λ (s : ℕ × Step × ℕ). s.1)) in
-    let step = element (plan_of c script) place below in
+    let below : place < length (plan_in_script c script) = omega (arith, bad_within (actors_of_roles c script.roles) (map (λ (s : ℕ × Step × ℕ). s.1) (plan_in_script c script)) place is, length-map (plan_in_script c script) (λ (s : ℕ × Step × ℕ). s.1)) in
+    let step = element (plan_in_script c script) place below in
     (step.0.2, ap (option_map (λ (s : ℕ × Step × ℕ). s.2)) step.1)
 
 module _ (bad : ℕ → Option ℕ) (line : ℕ → ℕ → Option ℕ) (has : (c place : ℕ) → bad c ≡ Some place → (n : ℕ) × (line c place ≡ Some n)) where
@@ -148,18 +148,18 @@ module _ (bad : ℕ → Option ℕ) (line : ℕ → ℕ → Option ℕ) (has : (
 
 -- ---- the line of the first bad plan
 
-pub bad_plan_line : (script : Script) (c place : ℕ) → first_bad_plan (map role_casting script.roles) (plans_in script) ≡ Some (c, place)
-    → slice_get (map (λ (s : ℕ × Step × ℕ). s.2) (filter (λ (s : ℕ × Step × ℕ). not (contains s.0 (callers_of script.roles))) script.steps)) 0 ≡ None
-    → (line : ℕ) × (slice_get (bad_lines script) 0 ≡ Some line) × (option_map (λ (s : ℕ × Step × ℕ). s.2) (slice_get (plan_of c script) place) ≡ Some line)
+pub bad_plan_line : (script : Script) (c place : ℕ) → first_bad_plan (map actor_spec_of script.roles) (plans_in script) ≡ Some (c, place)
+    → slice_get (map (λ (s : ℕ × Step × ℕ). s.2) (filter (λ (s : ℕ × Step × ℕ). not (contains s.0 (callers_of_roles script.roles))) script.steps)) 0 ≡ None
+    → (line : ℕ) × (slice_get (bad_lines script) 0 ≡ Some line) × (option_map (λ (s : ℕ × Step × ℕ). s.2) (slice_get (plan_in_script c script) place) ≡ Some line)
 unfolding line_of_bad
 bad_plan_line script c place is known =
-    let found = head_found (bad_place script) (line_at script) (has_line script) c place (callers_of script.roles) (ap (λ (l : List (ℕ × ℕ)). slice_get l 0) (sym (rows_same script)) ∙ is) in
-    (found.0, after_none (map (λ (s : ℕ × Step × ℕ). s.2) (filter (λ (s : ℕ × Step × ℕ). not (contains s.0 (callers_of script.roles))) script.steps)) (filter_map (λ (c : ℕ). bad_line c script) (callers_of script.roles)) known ∙ found.1, found.2)
+    let found = head_found (bad_place script) (line_at script) (has_line script) c place (callers_of_roles script.roles) (ap (λ (l : List (ℕ × ℕ)). slice_get l 0) (sym (rows_same script)) ∙ is) in
+    (found.0, after_none (map (λ (s : ℕ × Step × ℕ). s.2) (filter (λ (s : ℕ × Step × ℕ). not (contains s.0 (callers_of_roles script.roles))) script.steps)) (filter_map (λ (c : ℕ). bad_line c script) (callers_of_roles script.roles)) known ∙ found.1, found.2)
 
-pub no_bad_line : (script : Script) → first_bad_plan (map role_casting script.roles) (plans_in script) ≡ None
-    → slice_get (map (λ (s : ℕ × Step × ℕ). s.2) (filter (λ (s : ℕ × Step × ℕ). not (contains s.0 (callers_of script.roles))) script.steps)) 0 ≡ None
+pub no_bad_line : (script : Script) → first_bad_plan (map actor_spec_of script.roles) (plans_in script) ≡ None
+    → slice_get (map (λ (s : ℕ × Step × ℕ). s.2) (filter (λ (s : ℕ × Step × ℕ). not (contains s.0 (callers_of_roles script.roles))) script.steps)) 0 ≡ None
     → slice_get (bad_lines script) 0 ≡ None
 unfolding line_of_bad
 no_bad_line script is known =
-    after_none (map (λ (s : ℕ × Step × ℕ). s.2) (filter (λ (s : ℕ × Step × ℕ). not (contains s.0 (callers_of script.roles))) script.steps)) (filter_map (λ (c : ℕ). bad_line c script) (callers_of script.roles)) known
-    ∙ none_found (bad_place script) (line_at script) (has_line script) (callers_of script.roles) (ap (λ (l : List (ℕ × ℕ)). slice_get l 0) (sym (rows_same script)) ∙ is)
+    after_none (map (λ (s : ℕ × Step × ℕ). s.2) (filter (λ (s : ℕ × Step × ℕ). not (contains s.0 (callers_of_roles script.roles))) script.steps)) (filter_map (λ (c : ℕ). bad_line c script) (callers_of_roles script.roles)) known
+    ∙ none_found (bad_place script) (line_at script) (has_line script) (callers_of_roles script.roles) (ap (λ (l : List (ℕ × ℕ)). slice_get l 0) (sym (rows_same script)) ∙ is)

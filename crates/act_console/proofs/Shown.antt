@@ -11,16 +11,16 @@ use Rattle.act_rules.specs.declared.event.Event.{Event}
 use Rattle.act_rules.specs.declared.history.RunItem.{RunItem}
 use Rattle.act_rules.specs.declared.history.Submission.{Submission}
 use Rattle.act_rules.specs.RunList.{Answer, state_after}
-use Rattle.act_rules.specs.History.{Casting, History, opening, calls_of, kept_of, runs_of, cast_of, is_dead, is_retired}
+use Rattle.act_rules.specs.History.{ActorSpec, History, opening, calls_of, kept_of, runs_of, cast_of, is_dead, is_retired}
 use Rattle.act_rules.specs.Laws.{history}
-use Rattle.act_rules.specs.Report.{one_to, outcome_lines, placed, future_line, stage_of, stage_text, summary, summary_of, actor_lines, report}
+use Rattle.act_rules.specs.Report.{one_to, outcome_lines, numbered_lines, future_line, stage_of, stage_text, summary, summary_of, actor_lines, report}
 use Rattle.act_rules.specs.Rules.{Outcome, outcomes}
-use Rattle.act_owner.specs.Owner.{OwnerValue}
-use Rattle.act_world.specs.Exchange.{is_owner}
-use Rattle.act_world.specs.View.{SlotSeen, Runs, Died, Ended, Vacant, WorldSeen, stage_of_slot, stage_in}
-use Rattle.act_world.specs.Ties.{IsStage}
-use Rattle.act_world.specs.Stands.{Stands, Played}
-use Rattle.act_world.specs.Headline.{kept_in, log_of, log_in}
+use Rattle.act_owner.specs.Owner.{OwnerView}
+use Rattle.act_world.specs.Network.{is_owner}
+use Rattle.act_world.specs.View.{SlotView, Runs, Died, Ended, Vacant, WorldView, stage_of_slot, stage_in}
+use Rattle.act_world.specs.Refines.{IsStage}
+use Rattle.act_world.specs.IsReachedBy.{IsReachedBy, HasPlayed}
+use Rattle.act_world.specs.Headline.{world_kept, slot_log, world_log}
 use Rattle.act_world.proofs.Lawful.{world_lawful}
 use Rattle.act_world.proofs.Headline.{calls_are, kept_are, logs_are}
 use Rattle.act_console.specs.Parts.{owner_lines, standing_text, standing_in, caller_lines, stage_lines, world_summary, world_report}
@@ -28,35 +28,35 @@ use Rattle.act_console.specs.Parts.{owner_lines, standing_text, standing_in, cal
 -- ---- one caller, one actor
 
 -- a caller whom the world doesn't have
-pub no_owner : (world : WorldSeen) (c n : ℕ) → c ≡ n → find (is_owner c) world.exchange.owners ≡ None → caller_lines world n ≡ []
+pub no_owner : (world : WorldView) (c n : ℕ) → c ≡ n → find (is_owner c) world.network.owners ≡ None → caller_lines world n ≡ []
 unfolding caller_lines
 no_owner world c n is none =
     ap (caller_lines world) (sym is)
-    ∙ ap (λ (owner : Option OwnerValue). placed (future_line c (option_map_or (λ o. o.kept) owner [])) 0 (option_map_or (λ o. o.calls) owner [])) none
+    ∙ ap (λ (owner : Option OwnerView). numbered_lines (future_line c (option_map_or (λ o. o.kept) owner [])) 0 (option_map_or (λ o. o.calls) owner [])) none
 
-pub found_named : (c : ℕ) (owners : List OwnerValue) (owner : OwnerValue) → find (is_owner c) owners ≡ Some owner → owner.id ≡ c
+pub found_named : (c : ℕ) (owners : List OwnerView) (owner : OwnerView) → find (is_owner c) owners ≡ Some owner → owner.id ≡ c
 found_named c [] owner e = cc
 found_named c (one ∷ owners) owner e = go (is_owner c one) refl e (found_named c owners owner)
   where
     go : (b : Bool) → is_owner c one ≡ b → (if b then Some one else find (is_owner c) owners) ≡ Some owner → (find (is_owner c) owners ≡ Some owner → owner.id ≡ c) → owner.id ≡ c
-    go true is found rest = ap (λ (o : Option OwnerValue). option_map_or (λ o. o.id) o c) (sym found) ∙ eqb-true one.id c is
+    go true is found rest = ap (λ (o : Option OwnerView). option_map_or (λ o. o.id) o c) (sym found) ∙ eqb-true one.id c is
     go false is found rest = rest found
 
 -- a caller whom the world has
-pub one_owner : (world : WorldSeen) (owner : OwnerValue) (c n : ℕ) → c ≡ n → find (is_owner c) world.exchange.owners ≡ Some owner → owner_lines owner ≡ caller_lines world n
+pub one_owner : (world : WorldView) (owner : OwnerView) (c n : ℕ) → c ≡ n → find (is_owner c) world.network.owners ≡ Some owner → owner_lines owner ≡ caller_lines world n
 unfolding caller_lines
 one_owner world owner c n is found =
-    ap (λ (id : ℕ). placed (future_line id owner.kept) 0 owner.calls) (found_named c world.exchange.owners owner found)
-    ∙ ap (λ (found : Option OwnerValue). placed (future_line c (option_map_or (λ o. o.kept) found [])) 0 (option_map_or (λ o. o.calls) found [])) (sym found)
+    ap (λ (id : ℕ). numbered_lines (future_line id owner.kept) 0 owner.calls) (found_named c world.network.owners owner found)
+    ∙ ap (λ (found : Option OwnerView). numbered_lines (future_line c (option_map_or (λ o. o.kept) found [])) 0 (option_map_or (λ o. o.calls) found [])) (sym found)
     ∙ ap (caller_lines world) is
 
 -- an actor that the world doesn't have
-pub no_stage : (world : WorldSeen) (a n : ℕ) → a ≡ n → stage_in world a ≡ None → stage_lines world n ≡ []
+pub no_stage : (world : WorldView) (a n : ℕ) → a ≡ n → stage_in world a ≡ None → stage_lines world n ≡ []
 unfolding stage_lines
 no_stage world a n is none =
-    ap (stage_lines world) (sym is) ∙ ap (λ (stage : Option SlotSeen). actor_lines a (log_in world a) (option_map standing_text stage)) none
+    ap (stage_lines world) (sym is) ∙ ap (λ (stage : Option SlotView). actor_lines a (world_log world a) (option_map standing_text stage)) none
 
-in_slot : (slot : Option SlotSeen) (seen : SlotSeen) → stage_of_slot slot ≡ Some seen → slot ≡ Some seen
+in_slot : (slot : Option SlotView) (seen : SlotView) → stage_of_slot slot ≡ Some seen → slot ≡ Some seen
 in_slot None seen e = cc
 in_slot (Some Vacant) seen e = cc
 in_slot (Some (Runs live)) seen e = e
@@ -64,27 +64,27 @@ in_slot (Some (Died dead)) seen e = e
 in_slot (Some (Ended retired)) seen e = e
 
 -- an actor that the world has
-pub one_stage : (world : WorldSeen) (seen : SlotSeen) (a n : ℕ) → a ≡ n → stage_in world a ≡ Some seen → actor_lines a (log_of seen) (Some (standing_text seen)) ≡ stage_lines world n
+pub one_stage : (world : WorldView) (seen : SlotView) (a n : ℕ) → a ≡ n → stage_in world a ≡ Some seen → actor_lines a (slot_log seen) (Some (standing_text seen)) ≡ stage_lines world n
 unfolding stage_lines
 one_stage world seen a n is found =
-    ap (λ (slot : Option SlotSeen). actor_lines a (option_map_or log_of slot []) (Some (standing_text seen))) (sym (in_slot (slice_get world.slots a) seen found))
-    ∙ ap (λ (stage : Option SlotSeen). actor_lines a (log_in world a) (option_map standing_text stage)) (sym found)
+    ap (λ (slot : Option SlotView). actor_lines a (option_map_or slot_log slot []) (Some (standing_text seen))) (sym (in_slot (slice_get world.slots a) seen found))
+    ∙ ap (λ (stage : Option SlotView). actor_lines a (world_log world a) (option_map standing_text stage)) (sym found)
     ∙ ap (stage_lines world) is
 
 -- ---- all of them
 
 -- how an actor without a cast stands, and how one with a cast does
 pub uncast : (h : History) (a : ℕ) → cast_of a h ≡ None → stage_of a h ≡ None
-uncast h a none = ap (λ (cast : Option Casting). option_map (λ state. stage_text (is_dead a h) (is_retired a h) (state_after state (runs_of a h))) (option_map (λ cast. cast.opening) cast)) none
+uncast h a none = ap (λ (cast : Option ActorSpec). option_map (λ state. stage_text (is_dead a h) (is_retired a h) (state_after state (runs_of a h))) (option_map (λ cast. cast.opening) cast)) none
 
-pub stage_at : (h : History) (a : ℕ) (cast : Casting) (dead retired : Bool) (state : KindState) → cast_of a h ≡ Some cast → is_dead a h ≡ dead → is_retired a h ≡ retired → state ≡ state_after cast.opening (runs_of a h) → stage_of a h ≡ Some (stage_text dead retired state)
+pub stage_at : (h : History) (a : ℕ) (cast : ActorSpec) (dead retired : Bool) (state : KindState) → cast_of a h ≡ Some cast → is_dead a h ≡ dead → is_retired a h ≡ retired → state ≡ state_after cast.opening (runs_of a h) → stage_of a h ≡ Some (stage_text dead retired state)
 stage_at h a cast dead retired state is died ended same =
-    ap (λ (cast : Option Casting). option_map (λ state. stage_text (is_dead a h) (is_retired a h) (state_after state (runs_of a h))) (option_map (λ cast. cast.opening) cast)) is
+    ap (λ (cast : Option ActorSpec). option_map (λ state. stage_text (is_dead a h) (is_retired a h) (state_after state (runs_of a h))) (option_map (λ cast. cast.opening) cast)) is
     ∙ ap (λ (b : Bool). Some (stage_text b (is_retired a h) (state_after cast.opening (runs_of a h)))) died
     ∙ ap (λ (b : Bool). Some (stage_text dead b (state_after cast.opening (runs_of a h)))) ended
     ∙ ap (λ (s : KindState). Some (stage_text dead retired s)) (sym same)
 
-stages_are : (h : History) (a : ℕ) (slot : Option SlotSeen) → IsStage h a slot → stage_of a h ≡ option_map standing_text (stage_of_slot slot)
+stages_are : (h : History) (a : ℕ) (slot : Option SlotView) → IsStage h a slot → stage_of a h ≡ option_map standing_text (stage_of_slot slot)
 stages_are h a None is = uncast h a is
 stages_are h a (Some Vacant) is = uncast h a is
 stages_are h a (Some (Runs live)) is = let runs = or_parts (is_dead a h) (is_retired a h) is.runs in stage_at h a is.cast false false live.state is.cast_is runs.0 runs.1 is.state
@@ -103,7 +103,7 @@ next_lines lines n old new text one so_far =
     ∙ ap (λ (m : ℕ). old ++ flat_map lines (one_to m)) (sym (add-one n))
 
 -- a text that was made part by part is the report
-pub all_parts : (world : WorldSeen) (told : List Outcome) (empty first second whole : List ℕ) → empty ≡ [] →
+pub all_parts : (world : WorldView) (told : List Outcome) (empty first second whole : List ℕ) → empty ≡ [] →
     first ≡ empty ++ outcome_lines told →
     second ≡ first ++ flat_map (caller_lines world) (one_to 16) →
     whole ≡ second ++ flat_map (stage_lines world) (one_to 8) →
@@ -115,24 +115,24 @@ all_parts world told empty first second whole none one two three =
     ∙ append_assoc (outcome_lines told) (flat_map (caller_lines world) (one_to 16)) (flat_map (stage_lines world) (one_to 8))
 
 -- what is told of casts and events is told of others that are the same
-pub told_of_same : (told : List Casting → List Event → List ℕ) (text : List ℕ) (casts same_casts : List Casting) (events same_events : List Event) → casts ≡ same_casts → events ≡ same_events
+pub told_of_same : (told : List ActorSpec → List Event → List ℕ) (text : List ℕ) (casts same_casts : List ActorSpec) (events same_events : List Event) → casts ≡ same_casts → events ≡ same_events
     → text ≡ told casts events → text ≡ told same_casts same_events
 told_of_same told text casts same_casts events same_events one other is = is ∙ ap (λ cs. told cs events) one ∙ ap (told same_casts) other
 
 -- a standing world shows what the history tells
-pub summary_is : (casts : List Casting) (events : List Event) (world : WorldSeen) → Stands casts events world → world_summary world ≡ summary (history casts events)
+pub summary_is : (casts : List ActorSpec) (events : List Event) (world : WorldView) → IsReachedBy casts events world → world_summary world ≡ summary (history casts events)
 unfolding world_summary
-summary_is casts events world ties =
+summary_is casts events world refines =
     let h = history casts events in
     let lawful = world_lawful casts events in
     sym
-    (subst (λ (f : ℕ → List Submission). summary h ≡ summary_of f (kept_in world) (standing_in world) (log_in world)) (λ i c. calls_are h c (find (is_owner c) world.exchange.owners) lawful (ties.owners c) i)
-    (subst (λ (f : ℕ → List (Option Answer)). summary h ≡ summary_of (λ c. calls_of c h) f (standing_in world) (log_in world)) (λ i c. kept_are h c (find (is_owner c) world.exchange.owners) lawful (ties.owners c) i)
-    (subst (λ (f : ℕ → Option (List ℕ)). summary h ≡ summary_of (λ c. calls_of c h) (λ c. kept_of c h) f (log_in world)) (λ i a. stages_are h a (slice_get world.slots a) (ties.actors a) i)
-    (subst (λ (f : ℕ → List RunItem). summary h ≡ summary_of (λ c. calls_of c h) (λ c. kept_of c h) (λ a. stage_of a h) f) (λ i a. logs_are h a (slice_get world.slots a) lawful (ties.actors a) i) refl))))
+    (subst (λ (f : ℕ → List Submission). summary h ≡ summary_of f (world_kept world) (standing_in world) (world_log world)) (λ i c. calls_are h c (find (is_owner c) world.network.owners) lawful (refines.owners c) i)
+    (subst (λ (f : ℕ → List (Option Answer)). summary h ≡ summary_of (λ c. calls_of c h) f (standing_in world) (world_log world)) (λ i c. kept_are h c (find (is_owner c) world.network.owners) lawful (refines.owners c) i)
+    (subst (λ (f : ℕ → Option (List ℕ)). summary h ≡ summary_of (λ c. calls_of c h) (λ c. kept_of c h) f (world_log world)) (λ i a. stages_are h a (slice_get world.slots a) (refines.actors a) i)
+    (subst (λ (f : ℕ → List RunItem). summary h ≡ summary_of (λ c. calls_of c h) (λ c. kept_of c h) (λ a. stage_of a h) f) (λ i a. logs_are h a (slice_get world.slots a) lawful (refines.actors a) i) refl))))
 
 -- the report of events that were told in full, and of the world after them
-pub report_is : (casts : List Casting) (events : List Event) (old new : WorldSeen) (empty told shown : List Outcome) → Stands casts [] old → Played events old new empty told → empty ≡ [] → shown ≡ told → world_report shown new ≡ report (opening casts) events
+pub report_is : (casts : List ActorSpec) (events : List Event) (old new : WorldView) (empty told shown : List Outcome) → IsReachedBy casts [] old → HasPlayed events old new empty told → empty ≡ [] → shown ≡ told → world_report shown new ≡ report (opening casts) events
 report_is casts events old new empty told shown opened played none same =
     let after = played casts [] opened in
     ap (λ (told : List Outcome). world_report told new) (same ∙ after.1 ∙ ap (λ (front : List Outcome). front ++ outcomes (opening casts) events) none)

@@ -4,10 +4,10 @@ use Rattle.std.proofs.lemmas.List.{append-nil, map-append}
 use Rattle.act_types.specs.KindState.{KindState}
 use Rattle.act_rules.specs.declared.script.KindName.{KindName}
 use Rattle.act_rules.specs.declared.script.Role.{Role}
-use Rattle.act_rules.specs.History.{Casting}
-use Rattle.act_rules.specs.Scripts.{role_casting}
+use Rattle.act_rules.specs.History.{ActorSpec}
+use Rattle.act_rules.specs.Scripts.{actor_spec_of}
 use Rattle.act_actor.specs.declared.cast.Cast.{Cast}
-use Rattle.act_actor.specs.Casts.{casting}
+use Rattle.act_actor.specs.Casts.{actor_spec}
 use Rattle.act_console.specs.declared.stock.Stock.{Stock}
 use Rattle.act_console.specs.Stock.{HasOf, HasEach}
 
@@ -28,18 +28,18 @@ pub one_of : {K : Type 0} (state : K → KindState) (stock : Stock K) (role : Ro
 one_of state stock role old rest is has = subst (λ n. HasEach state n stock) (ap length is ∙ sym (add-one (length rest))) has
 
 -- one cast more
-pub one_made : {K : Type 0} (state : K → KindState) (made : List (Cast K)) (cast : Cast K) (role : Role) (old rest : List Role) (whole : List Casting) →
-    old ≡ role ∷ rest → casting state cast ≡ role_casting role → map (casting state) made ++ map role_casting old ≡ whole → map (casting state) (made ++ cast ∷ []) ++ map role_casting rest ≡ whole
+pub one_made : {K : Type 0} (state : K → KindState) (made : List (Cast K)) (cast : Cast K) (role : Role) (old rest : List Role) (whole : List ActorSpec) →
+    old ≡ role ∷ rest → actor_spec state cast ≡ actor_spec_of role → map (actor_spec state) made ++ map actor_spec_of old ≡ whole → map (actor_spec state) (made ++ cast ∷ []) ++ map actor_spec_of rest ≡ whole
 one_made state made cast role old rest whole is same so_far =
-    ap (λ (front : List Casting). front ++ map role_casting rest) (map-append (casting state) made (cast ∷ []))
-    ∙ append_assoc (map (casting state) made) (casting state cast ∷ []) (map role_casting rest)
-    ∙ ap (λ (c : Casting). map (casting state) made ++ c ∷ map role_casting rest) same
-    ∙ ap (λ (roles : List Role). map (casting state) made ++ map role_casting roles) (sym is)
+    ap (λ (front : List ActorSpec). front ++ map actor_spec_of rest) (map-append (actor_spec state) made (cast ∷ []))
+    ∙ append_assoc (map (actor_spec state) made) (actor_spec state cast ∷ []) (map actor_spec_of rest)
+    ∙ ap (λ (c : ActorSpec). map (actor_spec state) made ++ c ∷ map actor_spec_of rest) same
+    ∙ ap (λ (roles : List Role). map (actor_spec state) made ++ map actor_spec_of roles) (sym is)
     ∙ so_far
 
 -- the casts of all roles
-pub all_made : {K : Type 0} (state : K → KindState) (made : List (Cast K)) (left : List Role) (whole : List Casting) → left ≡ [] → map (casting state) made ++ map role_casting left ≡ whole → map (casting state) made ≡ whole
-all_made state made left whole none so_far = sym (append-nil (map (casting state) made)) ∙ ap (λ (roles : List Role). map (casting state) made ++ map role_casting roles) (sym none) ∙ so_far
+pub all_made : {K : Type 0} (state : K → KindState) (made : List (Cast K)) (left : List Role) (whole : List ActorSpec) → left ≡ [] → map (actor_spec state) made ++ map actor_spec_of left ≡ whole → map (actor_spec state) made ≡ whole
+all_made state made left whole none so_far = sym (append-nil (map (actor_spec state) made)) ∙ ap (λ (roles : List Role). map (actor_spec state) made ++ map actor_spec_of roles) (sym none) ∙ so_far
 
 -- the cast that was found
 pub found_cast : {K : Type 0} (P : Cast K → Type 0) (found : Option (Cast K)) (cast : Cast K) → found ≡ Some cast → IfSome found P → P cast

@@ -12,30 +12,30 @@ use Rattle.act_rules.specs.declared.script.Role.{Role}
 use Rattle.act_rules.specs.declared.script.Step.{Step}
 use Rattle.act_rules.specs.declared.script.Wrong.{Wrong}
 use Rattle.act_rules.specs.declared.script.Wrong.TheVariants.{TooMany, BadPlan}
-use Rattle.act_rules.specs.History.{Casting, contains}
+use Rattle.act_rules.specs.History.{ActorSpec, contains}
 use Rattle.act_rules.specs.Report.{one_to}
 use Rattle.act_rules.specs.declared.script.Mode.TheVariants.{Threads}
 use Rattle.act_rules.specs.Grammar.{Script as Spelled, spelled}
-use Rattle.act_rules.specs.Scripts.{role_casting, callers_of, plan_of, is_too_many, bad_lines, or_fault, checked}
+use Rattle.act_rules.specs.Scripts.{actor_spec_of, callers_of_roles, plan_in_script, is_too_many, bad_lines, or_fault, with_good_plans}
 use Rattle.act_rules.proofs.Lists.{list_any-map, length-filter_least}
 use Rattle.act_actor.specs.declared.cast.Cast.{Cast}
-use Rattle.act_actor.specs.Casts.{casting}
-use Rattle.act_owner.specs.Owner.{OwnerValue}
-use Rattle.act_serve.specs.Served.{EndSeen}
+use Rattle.act_actor.specs.Casts.{actor_spec}
+use Rattle.act_owner.specs.Owner.{OwnerView}
+use Rattle.act_serve.specs.Served.{EndView}
 use Rattle.act_plans.specs.Parts.{PlansFit}
 use Rattle.act_plans.proofs.Keys.{pairs_of_map}
 use Rattle.act_plans.specs.Runs.{first_bad_plan}
 use Rattle.act_executor.specs.Joined.{IsJoined}
 use Rattle.act_executor.specs.declared.run.RunFault.{RunFault}
 use Rattle.act_executor.specs.declared.run.RunFault.TheVariants as faults
-use Rattle.act_executor.specs.Runs.{plan_seen, IsFault}
+use Rattle.act_executor.specs.Runs.{plan_view, IsFault}
 use Rattle.act_scripts.specs.declared.script.Items.{Items}
 use Rattle.act_scripts.specs.declared.script.Items.TheVariants.{Steps}
 use Rattle.act_scripts.specs.declared.script.Script.{Script}
 use Rattle.act_scripts.specs.Roles.{AreFitting}
-use Rattle.act_scripts.specs.Spelled.{events_of, steps_of as items_steps, spelled_script}
+use Rattle.act_scripts.specs.Spelled.{events_among, steps_among as items_steps, spelled_script}
 use Rattle.act_console.specs.declared.plans.Mark.{Mark}
-use Rattle.act_console.specs.Plans.{plan_from, script_of, mark_seen, step_seen, line_in, first_stranger, HasLine, Explains}
+use Rattle.act_console.specs.Plans.{plan_from, script_of, mark_view, step_view, line_in, first_stranger, HasLine, Explains}
 use Rattle.act_console.specs.Threads.{plans_in, spelled_threads}
 use Rattle.act_console.proofs.Sorting.{callers_differ}
 use Rattle.act_console.proofs.PlansOf.{bad_plan_line, no_bad_line}
@@ -63,30 +63,30 @@ kept_step p x kept false is all = all
 abbrev names : List Role → ℕ → Bool
 names roles c = list_any (λ role. contains c role.callers) roles
 
-module _ {K : Type 0} (state : K → KindState) (casts : List (Cast K)) (roles : List Role) (same : map (casting state) casts ≡ map role_casting roles) where
+module _ {K : Type 0} (state : K → KindState) (casts : List (Cast K)) (roles : List Role) (same : map (actor_spec state) casts ≡ map actor_spec_of roles) where
   -- the casts name the callers that the roles name
   named_same : (c : ℕ) → list_any (λ (cast : Cast K). contains c cast.callers) casts ≡ names roles c
   named_same c =
-      sym (list_any-map (λ (cast : Casting). contains c cast.callers) (casting state) casts)
-      ∙ ap (list_any (λ (cast : Casting). contains c cast.callers)) same
-      ∙ list_any-map (λ (cast : Casting). contains c cast.callers) role_casting roles
+      sym (list_any-map (λ (cast : ActorSpec). contains c cast.callers) (actor_spec state) casts)
+      ∙ ap (list_any (λ (cast : ActorSpec). contains c cast.callers)) same
+      ∙ list_any-map (λ (cast : ActorSpec). contains c cast.callers) actor_spec_of roles
 
-  module _ (steps : List (ℕ × Step × ℕ)) (plans : List (ℕ × Vec Step)) (sorted : map plan_seen plans ≡ map (plan_from steps) (callers_of roles)) where
+  module _ (steps : List (ℕ × Step × ℕ)) (plans : List (ℕ × Vec Step)) (sorted : map plan_view plans ≡ map (plan_from steps) (callers_of_roles roles)) where
     -- the plans' callers are those that the roles name
-    callers_are : map (λ (plan : ℕ × Vec Step). plan.0) plans ≡ callers_of roles
+    callers_are : map (λ (plan : ℕ × Vec Step). plan.0) plans ≡ callers_of_roles roles
     callers_are =
-        sym (map_both (λ (plan : ℕ × List Step). plan.0) plan_seen plans)
+        sym (map_both (λ (plan : ℕ × List Step). plan.0) plan_view plans)
         ∙ ap (map (λ (plan : ℕ × List Step). plan.0)) sorted
-        ∙ map_both (λ (plan : ℕ × List Step). plan.0) (plan_from steps) (callers_of roles)
-        ∙ map_same (callers_of roles)
+        ∙ map_both (λ (plan : ℕ × List Step). plan.0) (plan_from steps) (callers_of_roles roles)
+        ∙ map_same (callers_of_roles roles)
 
     are_short : length steps < 4294967296 → All (λ (plan : ℕ × Vec Step). length plan.1.items < 4294967296) plans
     are_short few =
-        all_of_map (λ (plan : ℕ × List Step). length plan.1 < 4294967296) plan_seen plans
+        all_of_map (λ (plan : ℕ × List Step). length plan.1 < 4294967296) plan_view plans
         (subst (All (λ (plan : ℕ × List Step). length plan.1 < 4294967296)) (sym sorted)
-        (All-map (λ (plan : ℕ × List Step). length plan.1 < 4294967296) (plan_from steps) (callers_of roles)
+        (All-map (λ (plan : ℕ × List Step). length plan.1 < 4294967296) (plan_from steps) (callers_of_roles roles)
         (λ k d within.
-        let c : ℕ = get_or (callers_of roles) k d in
+        let c : ℕ = get_or (callers_of_roles roles) k d in
         omega (arith, length-map (filter (λ (s : ℕ × Step × ℕ). s.0 == c) steps) (λ (s : ℕ × Step × ℕ). s.1), length-filter_least (λ (s : ℕ × Step × ℕ). s.0 == c) steps))))
 
     -- the plans can be run with the casts
@@ -96,47 +96,47 @@ module _ {K : Type 0} (state : K → KindState) (casts : List (Cast K)) (roles :
           (subst (AllPairs (λ one other. one ≢ other)) (sym callers_are) (callers_differ roles));
       named = all_of_map (λ (c : ℕ). list_any (λ (cast : Cast K). contains c cast.callers) casts ≡ true) (λ (plan : ℕ × Vec Step). plan.0) plans
           (subst (All (λ (c : ℕ). list_any (λ (cast : Cast K). contains c cast.callers) casts ≡ true)) (sym callers_are)
-          (λ k d within. named_same (get_or (callers_of roles) k d) ∙ filter_passes (names roles) (one_to 16) k d within));
+          (λ k d within. named_same (get_or (callers_of_roles roles) k d) ∙ filter_passes (names roles) (one_to 16) k d within));
       short = are_short few;
     }
 
     -- a run of casts and plans is one of roles and steps
-    pub joined_same : (owners : List OwnerValue) (ends : List EndSeen) → IsJoined (map (casting state) casts) (map plan_seen plans) owners ends → IsJoined (map role_casting roles) (plans_in (script_of roles steps)) owners ends
+    pub joined_same : (owners : List OwnerView) (ends : List EndView) → IsJoined (map (actor_spec state) casts) (map plan_view plans) owners ends → IsJoined (map actor_spec_of roles) (plans_in (script_of roles steps)) owners ends
     joined_same owners ends joined =
-        subst (λ (casts : List Casting). IsJoined casts (plans_in (script_of roles steps)) owners ends) same
-        (subst (λ (plans : List (ℕ × List Step)). IsJoined (map (casting state) casts) plans owners ends) sorted joined)
+        subst (λ (casts : List ActorSpec). IsJoined casts (plans_in (script_of roles steps)) owners ends) same
+        (subst (λ (plans : List (ℕ × List Step)). IsJoined (map (actor_spec state) casts) plans owners ends) sorted joined)
 
     -- and has the same first bad step
-    pub bad_same : first_bad_plan (map (casting state) casts) (map plan_seen plans) ≡ first_bad_plan (map role_casting roles) (plans_in (script_of roles steps))
+    pub bad_same : first_bad_plan (map (actor_spec state) casts) (map plan_view plans) ≡ first_bad_plan (map actor_spec_of roles) (plans_in (script_of roles steps))
     bad_same =
-        ap (λ (casts : List Casting). first_bad_plan casts (map plan_seen plans)) same
-        ∙ ap (λ (plans : List (ℕ × List Step)). first_bad_plan (map role_casting roles) plans) sorted
+        ap (λ (casts : List ActorSpec). first_bad_plan casts (map plan_view plans)) same
+        ∙ ap (λ (plans : List (ℕ × List Step)). first_bad_plan (map actor_spec_of roles) plans) sorted
 
 -- ---- what is spelled
 
-few_named : (roles : List Role) → length (callers_of roles) ≤ 16
+few_named : (roles : List Role) → length (callers_of_roles roles) ≤ 16
 few_named roles = length-filter_least (names roles) (one_to 16)
 
 -- threads serve as many actors and callers as a script can name
-not_too_many : (roles : List Role) (steps : List (ℕ × Step × ℕ)) → AreFitting (map role_casting roles) → is_too_many 16 8 (script_of roles steps) ≡ false
+not_too_many : (roles : List Role) (steps : List (ℕ × Step × ℕ)) → AreFitting (map actor_spec_of roles) → is_too_many 16 8 (script_of roles steps) ≡ false
 not_too_many roles steps fit =
-    let few : length (map role_casting roles) ≤ 8 = fit.few in
-    let actors : length roles ≤ 8 = omega (arith, length-map roles role_casting) in
-    let named : length (callers_of roles) ≤ 16 = few_named roles in
-    go (length roles) (length (callers_of roles)) actors named
+    let few : length (map actor_spec_of roles) ≤ 8 = fit.few in
+    let actors : length roles ≤ 8 = omega (arith, length-map roles actor_spec_of) in
+    let named : length (callers_of_roles roles) ≤ 16 = few_named roles in
+    go (length roles) (length (callers_of_roles roles)) actors named
   where
     go : (a c : ℕ) → a ≤ 8 → c ≤ 16 → (nat_lt 8 a || nat_lt 16 c) ≡ false
     go a c below under = grind (arith, nat_tests)
 
 -- a script whose plans are good
-pub good_script : (roles : List Role) (steps : List (ℕ × Step × ℕ)) → AreFitting (map role_casting roles) → slice_get (bad_lines (script_of roles steps)) 0 ≡ None → checked 16 8 (Ok (script_of roles steps)) ≡ Ok (script_of roles steps)
+pub good_script : (roles : List Role) (steps : List (ℕ × Step × ℕ)) → AreFitting (map actor_spec_of roles) → slice_get (bad_lines (script_of roles steps)) 0 ≡ None → with_good_plans 16 8 (Ok (script_of roles steps)) ≡ Ok (script_of roles steps)
 good_script roles steps fit none =
     let script : Spelled = script_of roles steps in
     ap (λ b. or_fault (if b then Some (0, TooMany) else option_map (λ n. (n, BadPlan)) (slice_get (bad_lines script) 0)) script) (not_too_many roles steps fit)
     ∙ ap (λ (line : Option ℕ). or_fault (option_map (λ n. (n, BadPlan)) line) script) none
 
 -- a script with a bad line
-pub bad_script : (roles : List Role) (steps : List (ℕ × Step × ℕ)) (line : ℕ) → AreFitting (map role_casting roles) → slice_get (bad_lines (script_of roles steps)) 0 ≡ Some line → checked 16 8 (Ok (script_of roles steps)) ≡ Err (line, BadPlan)
+pub bad_script : (roles : List Role) (steps : List (ℕ × Step × ℕ)) (line : ℕ) → AreFitting (map actor_spec_of roles) → slice_get (bad_lines (script_of roles steps)) 0 ≡ Some line → with_good_plans 16 8 (Ok (script_of roles steps)) ≡ Err (line, BadPlan)
 bad_script roles steps line fit bad =
     let script : Spelled = script_of roles steps in
     ap (λ b. or_fault (if b then Some (0, TooMany) else option_map (λ n. (n, BadPlan)) (slice_get (bad_lines script) 0)) script) (not_too_many roles steps fit)
@@ -147,10 +147,10 @@ some_first [] ys x is = absurd (cc is)
 some_first (first ∷ xs) ys x is = is
 
 -- a script with a caller that no role names
-pub strange_script : (script : Script) (steps : List (ℕ × Step × ℕ)) (line : ℕ) → script.items ≡ Steps steps → first_stranger script.casts steps ≡ Some line → AreFitting (map role_casting script.casts) → checked 16 8 (Ok (spelled_script script)) ≡ Err (line, BadPlan)
+pub strange_script : (script : Script) (steps : List (ℕ × Step × ℕ)) (line : ℕ) → script.items ≡ Steps steps → first_stranger script.casts steps ≡ Some line → AreFitting (map actor_spec_of script.casts) → with_good_plans 16 8 (Ok (spelled_script script)) ≡ Err (line, BadPlan)
 strange_script script steps line is strange fit =
-    ap (λ (items : Items). checked 16 8 (Ok (record { roles = script.casts; events = events_of items; steps = items_steps items }))) is
-    ∙ bad_script script.casts steps line fit (some_first (map (λ (s : ℕ × Step × ℕ). s.2) (filter (λ (s : ℕ × Step × ℕ). not (contains s.0 (callers_of script.casts))) steps)) _ line strange)
+    ap (λ (items : Items). with_good_plans 16 8 (Ok (record { roles = script.casts; events = events_among items; steps = items_steps items }))) is
+    ∙ bad_script script.casts steps line fit (some_first (map (λ (s : ℕ × Step × ℕ). s.2) (filter (λ (s : ℕ × Step × ℕ). not (contains s.0 (callers_of_roles script.casts))) steps)) _ line strange)
 
 -- whether such a caller was found
 pub told_stranger : (roles seen : List Role) (steps shown : List (ℕ × Step × ℕ)) (result found : Option ℕ) → seen ≡ roles → shown ≡ steps → result ≡ first_stranger seen shown → result ≡ found → first_stranger roles steps ≡ found
@@ -158,9 +158,9 @@ told_stranger roles seen steps shown result found same_roles same_steps told is 
     sym (told ∙ ap (λ (roles : List Role). first_stranger roles shown) same_roles ∙ ap (first_stranger roles) same_steps) ∙ is
 
 -- what bytes spell for threads, by what their lines spell
-pub checked_spelling : (bytes : List ℕ) (read : Result Spelled (ℕ × Wrong)) → spelled Threads bytes ≡ read → spelled_threads bytes ≡ checked 16 8 read
+pub checked_spelling : (bytes : List ℕ) (read : Result Spelled (ℕ × Wrong)) → spelled Threads bytes ≡ read → spelled_threads bytes ≡ with_good_plans 16 8 read
 unfolding spelled_threads
-checked_spelling bytes read is = ap (checked 16 8) is
+checked_spelling bytes read is = ap (with_good_plans 16 8) is
 
 -- ---- what a fault of a run tells
 
@@ -174,16 +174,16 @@ kept_mapped {X} g p f (x ∷ xs) = go (p (f x)) (kept_mapped g p f xs)
     go false same = same
 
 -- the line of a caller's step is that of its mark
-line_of_mark : (roles : List Role) (steps : List (ℕ × Step × ℕ)) (marks : List Mark) (c place : ℕ) → map mark_seen marks ≡ map step_seen steps → line_in c place marks ≡ option_map (λ (s : ℕ × Step × ℕ). s.2) (slice_get (plan_of c (script_of roles steps)) place)
+line_of_mark : (roles : List Role) (steps : List (ℕ × Step × ℕ)) (marks : List Mark) (c place : ℕ) → map mark_view marks ≡ map step_view steps → line_in c place marks ≡ option_map (λ (s : ℕ × Step × ℕ). s.2) (slice_get (plan_in_script c (script_of roles steps)) place)
 line_of_mark roles steps marks c place same =
     ap (λ (lines : List ℕ). slice_get lines place)
-    (sym (kept_mapped (λ (m : ℕ × ℕ). m.1) (λ (m : ℕ × ℕ). m.0 == c) mark_seen marks)
+    (sym (kept_mapped (λ (m : ℕ × ℕ). m.1) (λ (m : ℕ × ℕ). m.0 == c) mark_view marks)
     ∙ ap (λ (seen : List (ℕ × ℕ)). map (λ (m : ℕ × ℕ). m.1) (filter (λ (m : ℕ × ℕ). m.0 == c) seen)) same
-    ∙ kept_mapped (λ (m : ℕ × ℕ). m.1) (λ (m : ℕ × ℕ). m.0 == c) step_seen steps)
-    ∙ slice_get-map (λ (s : ℕ × Step × ℕ). s.2) (plan_of c (script_of roles steps)) place
+    ∙ kept_mapped (λ (m : ℕ × ℕ). m.1) (λ (m : ℕ × ℕ). m.0 == c) step_view steps)
+    ∙ slice_get-map (λ (s : ℕ × Step × ℕ). s.2) (plan_in_script c (script_of roles steps)) place
 
-module _ (roles : List Role) (steps : List (ℕ × Step × ℕ)) (marks : List Mark) (marked : map mark_seen marks ≡ map step_seen steps) (known : first_stranger roles steps ≡ None) (casts : List Casting) (plans : List (ℕ × List Step))
-    (same : first_bad_plan casts plans ≡ first_bad_plan (map role_casting roles) (plans_in (script_of roles steps))) where
+module _ (roles : List Role) (steps : List (ℕ × Step × ℕ)) (marks : List Mark) (marked : map mark_view marks ≡ map step_view steps) (known : first_stranger roles steps ≡ None) (casts : List ActorSpec) (plans : List (ℕ × List Step))
+    (same : first_bad_plan casts plans ≡ first_bad_plan (map actor_spec_of roles) (plans_in (script_of roles steps))) where
   bad_line_of : (c place : ℕ) → first_bad_plan casts plans ≡ Some (c, place) → (line : ℕ) × (slice_get (bad_lines (script_of roles steps)) 0 ≡ Some line) × (line_in c place marks ≡ Some line)
   bad_line_of c place is =
       let bad = bad_plan_line (script_of roles steps) c place (sym same ∙ is) known in
@@ -196,7 +196,7 @@ module _ (roles : List Role) (steps : List (ℕ × Step × ℕ)) (marks : List M
   has_line faults.NoThread told = tt
   has_line faults.NoMemory told = tt
 
-  pub explains : (fault : RunFault) → AreFitting (map role_casting roles) → IsFault casts plans fault → Explains marks fault (checked 16 8 (Ok (script_of roles steps)))
+  pub explains : (fault : RunFault) → AreFitting (map actor_spec_of roles) → IsFault casts plans fault → Explains marks fault (with_good_plans 16 8 (Ok (script_of roles steps)))
   explains faults.TooMany fit told = absurd told
   explains (faults.BadPlan c place) fit told = let bad = bad_line_of c place told in (bad.0, bad.2, bad_script roles steps bad.0 fit bad.1)
   explains faults.NoThread fit told = (script_of roles steps, good_script roles steps fit (no_bad_line (script_of roles steps) (sym same ∙ told) known))

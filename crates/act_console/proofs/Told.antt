@@ -2,7 +2,7 @@
 use Rattle.std.proofs.Common.{ℕ, ◌+◌, List, Option, Some, None, Result, Ok, Err, refl, ap, subst, sym, ◌∙◌}
 use Rattle.std.specs.Prelude.{string_bytes}
 use Rattle.std.specs.Io.KnownBytes.{Keeps, Appends}
-use Rattle.act_types.specs.declared.limits.TheConstants.{MOST_SCRIPT_BYTES}
+use Rattle.act_types.specs.declared.limits.TheConstants.{MAX_SCRIPT_BYTES}
 use Rattle.act_rules.specs.declared.script.Wrong.{Wrong}
 use Rattle.act_rules.specs.declared.script.Mode.TheVariants.{Play}
 use Rattle.act_rules.specs.Grammar.{Script, spelled}
@@ -12,22 +12,22 @@ use Rattle.act_console.specs.declared.output.Output.TheVariants.{Report, Refusal
 use Rattle.act_console.specs.declared.fault.ConsoleFault.{ConsoleFault}
 use Rattle.act_console.specs.declared.fault.ConsoleFault.TheVariants as faults
 use Rattle.act_console.specs.Input.{IsWholeInput}
-use Rattle.act_console.specs.Output.{AppendsFront, Wrote}
+use Rattle.act_console.specs.Output.{AppendsPrefix, Wrote}
 use Rattle.act_console.specs.Console.{IsPlayOutput, ScriptPlayed}
 use Rattle.act_console.specs.Threads.{IsToldOf, IsThreadsOutput, Threaded, spelled_threads}
 
-module _ (had left old new : Option (List ℕ)) (bytes : List ℕ) (whole : IsWholeInput (MOST_SCRIPT_BYTES + 1) had left bytes) where
+module _ (had left old new : Option (List ℕ)) (bytes : List ℕ) (whole : IsWholeInput (MAX_SCRIPT_BYTES + 1) had left bytes) where
   -- an answer of a play was written
   pub play_told : (answer : Output) (result : Result (Unit {0}) ConsoleFault) → IsPlayOutput answer (spelled Play bytes) → Wrote old new answer result → ScriptPlayed had left old new result
   play_told (Report text) (Ok done) is wrote = (bytes, whole, is.0, is.1, subst (Appends old new) is.2 wrote)
-  play_told (Report text) (Err faults.Writing) is wrote = (bytes, whole, subst (AppendsFront old new) (is.2 ∙ sym (ap text_of is.1)) wrote)
+  play_told (Report text) (Err faults.Writing) is wrote = (bytes, whole, subst (AppendsPrefix old new) (is.2 ∙ sym (ap text_of is.1)) wrote)
   play_told (Report text) (Err faults.Script) is wrote = absurd wrote
   play_told (Report text) (Err faults.Memory) is wrote = absurd wrote
   play_told (Report text) (Err faults.Thread) is wrote = absurd wrote
   play_told (Report text) (Err faults.Reading) is wrote = absurd wrote
   play_told (Refusal text) (Ok done) is wrote = absurd wrote
   play_told (Refusal text) (Err faults.Script) is wrote = (bytes, whole, is.0, is.1, subst (Appends old new) is.2 wrote)
-  play_told (Refusal text) (Err faults.Writing) is wrote = (bytes, whole, subst (AppendsFront old new) (is.2 ∙ sym (ap text_of is.1)) wrote)
+  play_told (Refusal text) (Err faults.Writing) is wrote = (bytes, whole, subst (AppendsPrefix old new) (is.2 ∙ sym (ap text_of is.1)) wrote)
   play_told (Refusal text) (Err faults.Memory) is wrote = absurd wrote
   play_told (Refusal text) (Err faults.Thread) is wrote = absurd wrote
   play_told (Refusal text) (Err faults.Reading) is wrote = absurd wrote
@@ -51,7 +51,7 @@ keeps_itself : (contents : Option (List ℕ)) → Keeps contents contents
 keeps_itself None = tt
 keeps_itself (Some bytes) = refl
 
-module _ (had left old : Option (List ℕ)) (bytes : List ℕ) (whole : IsWholeInput (MOST_SCRIPT_BYTES + 1) had left bytes) where
+module _ (had left old : Option (List ℕ)) (bytes : List ℕ) (whole : IsWholeInput (MAX_SCRIPT_BYTES + 1) had left bytes) where
   -- nothing was to be written
   pub untold : (fault : ConsoleFault) → IsThreadsOutput (Err fault) (spelled_threads bytes) → Threaded had left old old (Err fault)
   untold faults.Memory is = keeps_itself old

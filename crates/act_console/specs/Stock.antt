@@ -1,6 +1,6 @@
 -- What a play needs of the kinds that it is given.
 use Rattle.std.specs.Prelude.{◌≡◌, ℕ, ◌≤◌, List, [], ◌∷◌, ◌++◌, length, All}
-use Rattle.act_types.specs.declared.limits.TheConstants.{MOST_ACTORS}
+use Rattle.act_types.specs.declared.limits.TheConstants.{MAX_ACTORS}
 use Rattle.act_types.specs.KindState.{KindState}
 use Rattle.act_rules.specs.declared.script.KindName.{KindName}
 use Rattle.act_rules.specs.declared.script.KindName.TheVariants as kind
@@ -21,7 +21,7 @@ pub record HasEach {K : Type 0} (state : K → KindState) (count : ℕ) (stock :
 
 -- enough for every script
 abbrev pub IsReady : {K : Type 0} → (K → KindState) → Stock K → Type 0
-IsReady state stock = HasEach state MOST_ACTORS stock
+IsReady state stock = HasEach state MAX_ACTORS stock
 
 -- each list has its kind more
 pub record HasOneMore {K : Type 0} (counter table account list : K) (old new : Stock K) : Type 0 where

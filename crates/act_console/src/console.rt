@@ -3,7 +3,7 @@
 ghost use Rattle.std.specs.Prelude.{◌≡◌, ◌<◌, ◌^◌, IfOk, length, map, string_bytes};
 ghost use Rattle.act_rules.specs.declared.script.Mode.TheVariants.{Play};
 ghost use Rattle.act_rules.specs.Report.{report};
-ghost use Rattle.act_rules.specs.Scripts.{opened, role_casting};
+ghost use Rattle.act_rules.specs.Scripts.{world_of, actor_spec_of};
 ghost use Rattle.act_rules.specs.Grammar.{spelled};
 ghost use Rattle.act_console.specs.Console.{IsPlayOutput, ScriptPlayed};
 ghost use Rattle.act_scripts.specs.Roles.{AreFitting};
@@ -32,9 +32,9 @@ fn report_on(
     events: ListOf<Event>,
 ) -> Result<String, NoMemory>
     requires ready { IsReady ⟦<Boxed as Actor>⟧.state stock }
-    requires roles { AreFitting (map role_casting roles) }
+    requires roles { AreFitting (map actor_spec_of roles) }
     requires few { length events < 2 ^ 32 }
-    ensures { IfOk result (λ text. string_bytes text ≡ report (opened roles) events) }
+    ensures { IfOk result (λ text. string_bytes text ≡ report (world_of roles) events) }
 {
     let casts = casts_of(alloc, stock, roles)?;
     let mut world = World::open(alloc, casts)?;
@@ -45,9 +45,9 @@ fn report_on(
 fn report_of_script(alloc: Global, stock: Stock, script: Script) -> Result<String, NoMemory>
     requires ready { IsReady ⟦<Boxed as Actor>⟧.state stock }
     requires mode { mode_of script.items ≡ Play }
-    requires roles { AreFitting (map role_casting script.casts) }
+    requires roles { AreFitting (map actor_spec_of script.casts) }
     requires few { count_of script.items < 2 ^ 32 }
-    ensures { IfOk result (λ text. string_bytes text ≡ report (opened script.casts) (spelled_script script).events) }
+    ensures { IfOk result (λ text. string_bytes text ≡ report (world_of script.casts) (spelled_script script).events) }
 {
     let Script {
         casts: roles,
@@ -92,7 +92,8 @@ pub fn play_script<R: Read, W: Write>(
     writer: &mut W,
 ) -> Result<(), ConsoleFault>
     requires ready { IsReady ⟦<Boxed as Actor>⟧.state stock }
-    ensures { ScriptPlayed (R.remaining reader.old) (R.remaining reader.new) (W.contents writer.old) (W.contents writer.new) result }
+    ensures { ScriptPlayed (R.remaining reader.old) (R.remaining reader.new) (W.contents writer.old)
+        (W.contents writer.new) result }
 {
     let bytes = read_whole(alloc, reader)?;
     match output_of(alloc, stock, bytes) {

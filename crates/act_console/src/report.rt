@@ -3,11 +3,11 @@ ghost use Rattle.std.specs.Prelude.{◌≡◌, ◌≤◌, ◌++◌, List, [], On
 ghost use Rattle.std.specs.List.{flat_map};
 ghost use Rattle.std.specs.Vec.{vec_len};
 ghost use Rattle.act_types.specs.Texts.{space, actor_text, settled_text};
-ghost use Rattle.act_rules.specs.History.{Casting, opening};
-ghost use Rattle.act_rules.specs.Report.{line, placed, one_to, outcome_line, outcome_lines, future_text, kept_text, item_line, report};
-ghost use Rattle.act_world.specs.View.{world_seen, stage_seen};
-ghost use Rattle.act_world.specs.Headline.{log_of, IsConsistent};
-ghost use Rattle.act_world.specs.Stands.{Stands, HasRoom};
+ghost use Rattle.act_rules.specs.History.{ActorSpec, opening};
+ghost use Rattle.act_rules.specs.Report.{line, numbered_lines, one_to, outcome_line, outcome_lines, future_text, kept_text, item_line, report};
+ghost use Rattle.act_world.specs.View.{world_view, stage_view};
+ghost use Rattle.act_world.specs.Headline.{slot_log, IsConsistent};
+ghost use Rattle.act_world.specs.IsReachedBy.{IsReachedBy, HasRoom};
 ghost use Rattle.act_console.specs.Parts.{item_head, owner_line, owner_lines, standing_text, caller_lines, stage_lines, world_report, AreTold};
 
 use crate::words::{
@@ -18,7 +18,7 @@ use act_kinds::Actor;
 use act_owner::Owner;
 use act_rules::{Event, Outcome, RunItem};
 use act_types::{
-    ActorId, Answer, CallerId, FutureId, ListOf, MOST_ACTORS, MOST_CALLERS, NoMemory, Settled,
+    ActorId, Answer, CallerId, FutureId, ListOf, MAX_ACTORS, MAX_CALLERS, NoMemory, Settled,
 };
 use act_world::{Stage, World, is_memory};
 use std::alloc::{AllocError, Global};
@@ -64,7 +64,8 @@ fn push_outcomes(text: &mut String, outcomes: &[Outcome]) -> Result<(), AllocErr
 
 /// Adds what is kept of a future, and the end of its line.
 fn push_kept(text: &mut String, kept: Option<&Answer>) -> Result<(), AllocError>
-    ensures { OnOk result (string_bytes text.new ≡ string_bytes text.old ++ line (kept_text (option_copied kept.entry))) }
+    ensures { OnOk result (string_bytes text.new
+        ≡ string_bytes text.old ++ line (kept_text (option_copied kept.entry))) }
 {
     match kept {
         None => text.push_str(" ?\n"),
@@ -125,7 +126,8 @@ fn push_arg(text: &mut String, arg: &Settled) -> Result<(), AllocError>
 
 /// Adds the arguments of a call, a space before each.
 fn push_args(text: &mut String, args: &[Settled]) -> Result<(), AllocError>
-    ensures { OnOk result (string_bytes text.new ≡ string_bytes text.old ++ flat_map (λ arg. space ++ settled_text arg) args.now) }
+    ensures { OnOk result (string_bytes text.new
+        ≡ string_bytes text.old ++ flat_map (λ arg. space ++ settled_text arg) args.now) }
 {
     for arg in args {
         push_arg(text, arg)?;
@@ -170,7 +172,8 @@ pub(crate) fn push_items(
     actor: ActorId,
     items: &[RunItem],
 ) -> Result<(), AllocError>
-    ensures { OnOk result (string_bytes text.new ≡ string_bytes text.old ++ placed (item_line actor) 0 items.now) }
+    ensures { OnOk result (string_bytes text.new
+        ≡ string_bytes text.old ++ numbered_lines (item_line actor) 0 items.now) }
 {
     for (place, item) in items.iter().enumerate() {
         push_item(text, actor, place, item)?;
@@ -180,7 +183,8 @@ pub(crate) fn push_items(
 
 /// Adds how an actor stands.
 fn push_standing<K: Actor>(text: &mut String, stage: &Stage<'_, K>) -> Result<(), NoMemory>
-    ensures { OnOk result (string_bytes text.new ≡ string_bytes text.old ++ standing_text (stage_seen K.state stage.now)) }
+    ensures { OnOk result (string_bytes text.new
+        ≡ string_bytes text.old ++ standing_text (stage_view K.state stage.now)) }
 {
     match *stage {
         Stage::Live(live) => {
@@ -198,7 +202,7 @@ fn push_standing<K: Actor>(text: &mut String, stage: &Stage<'_, K>) -> Result<()
 
 /// What an actor ran, in whatever state it is.
 fn log_of<'a, K: Actor>(stage: &Stage<'a, K>) -> &'a [RunItem]
-    ensures { result.now ≡ log_of (stage_seen K.state stage.now) }
+    ensures { result.now ≡ slot_log (stage_view K.state stage.now) }
 {
     match *stage {
         Stage::Live(live) => live.log(),
@@ -214,7 +218,7 @@ fn push_actor<K: Actor>(
     stage: &Stage<'_, K>,
 ) -> Result<(), NoMemory>
     ensures { OnOk result (string_bytes text.new ≡
-        string_bytes text.old ++ line (actor_text actor ++ space ++ standing_text (stage_seen K.state stage.now))) }
+        string_bytes text.old ++ line (actor_text actor ++ space ++ standing_text (stage_view K.state stage.now))) }
 {
     write!(text, "{actor} ")?;
     push_standing(text, stage)?;
@@ -224,8 +228,9 @@ fn push_actor<K: Actor>(
 
 /// Adds a line for each future of the caller of this number, where the world has it.
 fn push_caller<K: Actor>(text: &mut String, world: &World<K>, number: u8) -> Result<(), NoMemory>
-    requires { (1 ≤ number) × (number ≤ MOST_CALLERS) }
-    ensures { OnOk result (string_bytes text.new ≡ string_bytes text.old ++ caller_lines (world_seen K.state world.now) number) }
+    requires { (1 ≤ number) × (number ≤ MAX_CALLERS) }
+    ensures { OnOk result (string_bytes text.new
+        ≡ string_bytes text.old ++ caller_lines (world_view K.state world.now) number) }
 {
     let Some(caller) = CallerId::new(number) else {
         return Ok(());
@@ -240,9 +245,9 @@ fn push_caller<K: Actor>(text: &mut String, world: &World<K>, number: u8) -> Res
 /// Adds a line for each future, callers by rising number.
 fn push_callers<K: Actor>(text: &mut String, world: &World<K>) -> Result<(), NoMemory>
     ensures { OnOk result (string_bytes text.new ≡
-        string_bytes text.old ++ flat_map (caller_lines (world_seen K.state world.now)) (one_to MOST_CALLERS)) }
+        string_bytes text.old ++ flat_map (caller_lines (world_view K.state world.now)) (one_to MAX_CALLERS)) }
 {
-    for before in 0..MOST_CALLERS {
+    for before in 0..MAX_CALLERS {
         push_caller(text, world, before + 1)?;
     }
     Ok(())
@@ -250,8 +255,9 @@ fn push_callers<K: Actor>(text: &mut String, world: &World<K>) -> Result<(), NoM
 
 /// Adds the lines of the actor of this number, where the world has it.
 fn push_stage<K: Actor>(text: &mut String, world: &World<K>, number: u8) -> Result<(), NoMemory>
-    requires { (1 ≤ number) × (number ≤ MOST_ACTORS) }
-    ensures { OnOk result (string_bytes text.new ≡ string_bytes text.old ++ stage_lines (world_seen K.state world.now) number) }
+    requires { (1 ≤ number) × (number ≤ MAX_ACTORS) }
+    ensures { OnOk result (string_bytes text.new
+        ≡ string_bytes text.old ++ stage_lines (world_view K.state world.now) number) }
 {
     let Some(actor) = ActorId::new(number) else {
         return Ok(());
@@ -267,9 +273,9 @@ fn push_stage<K: Actor>(text: &mut String, world: &World<K>, number: u8) -> Resu
 /// Adds the lines of each actor, by rising number.
 fn push_stages<K: Actor>(text: &mut String, world: &World<K>) -> Result<(), NoMemory>
     ensures { OnOk result (string_bytes text.new ≡
-        string_bytes text.old ++ flat_map (stage_lines (world_seen K.state world.now)) (one_to MOST_ACTORS)) }
+        string_bytes text.old ++ flat_map (stage_lines (world_view K.state world.now)) (one_to MAX_ACTORS)) }
 {
-    for before in 0..MOST_ACTORS {
+    for before in 0..MAX_ACTORS {
         push_stage(text, world, before + 1)?;
     }
     Ok(())
@@ -278,7 +284,7 @@ fn push_stages<K: Actor>(text: &mut String, world: &World<K>) -> Result<(), NoMe
 /// The report of what was told of events, and of the world after them.
 #[tactic(auto, using(crate::proofs::Shown::all_parts))]
 fn text_of<K: Actor>(alloc: Global, world: &World<K>, told: &[Outcome]) -> Result<String, NoMemory>
-    ensures { IfOk result (λ text. string_bytes text ≡ world_report told.now (world_seen K.state world.now)) }
+    ensures { IfOk result (λ text. string_bytes text ≡ world_report told.now (world_view K.state world.now)) }
 {
     let mut text = String::new(alloc);
     push_outcomes(&mut text, told)?;
@@ -296,7 +302,8 @@ pub fn play_report<K: Actor>(
     told: &[Outcome],
     text: &mut String,
 ) -> Result<(), NoMemory>
-    ensures ok { OnOk result (string_bytes text.new ≡ string_bytes text.old ++ world_report told.now (world_seen K.state world.now)) }
+    ensures ok { OnOk result
+        (string_bytes text.new ≡ string_bytes text.old ++ world_report told.now (world_view K.state world.now)) }
     ensures err { OnErr result (string_bytes text.new ≡ string_bytes text.old) }
 {
     let report = text_of(alloc, world, told)?;
@@ -311,8 +318,8 @@ fn play_all<K: Actor>(
     events: ListOf<Event>,
     text: &mut String,
 ) -> Result<(), NoMemory>
-    requires room { HasRoom (length events) (world_seen K.state world.old).exchange }
-    ensures { OnOk result (AreTold events (world_seen K.state world.old) (world_seen K.state world.new)
+    requires room { HasRoom (length events) (world_view K.state world.old).network }
+    ensures { OnOk result (AreTold events (world_view K.state world.old) (world_view K.state world.new)
         (string_bytes text.old) (string_bytes text.new)) }
 {
     let mut left = events.into_vec();
@@ -337,13 +344,13 @@ pub(crate) fn play_and_report<K: Actor>(
     world: &mut World<K>,
     events: ListOf<Event>,
 ) -> Result<String, NoMemory>
-    requires room { HasRoom (length events) (world_seen K.state world.old).exchange }
+    requires room { HasRoom (length events) (world_view K.state world.old).network }
     ensures report { IfOk result (λ text.
-        (casts : List Casting) → Stands casts [] (world_seen K.state world.old) →
+        (casts : List ActorSpec) → IsReachedBy casts [] (world_view K.state world.old) →
         string_bytes text ≡ report (opening casts) events) }
-    // What is reported is consistent: what ran is a front of what was submitted, in order, each once.
-    ensures consistent { OnOk result ((casts : List Casting) → Stands casts [] (world_seen K.state world.old) →
-        IsConsistent casts (world_seen K.state world.new)) }
+    // What is reported is consistent: what ran is a prefix of what was submitted, in order, each once.
+    ensures consistent { OnOk result ((casts : List ActorSpec) → IsReachedBy casts [] (world_view K.state world.old) →
+        IsConsistent casts (world_view K.state world.new)) }
 {
     world.make_room(events.as_slice());
     let mut text = String::with_capacity(alloc, events.len() * EVENT_BYTES)?;

@@ -2,14 +2,14 @@
 
 ghost use Rattle.std.specs.Prelude.{◌≡◌, ◌+◌, ◌≤◌, ℕ, length, map, IfOk, OnOk, OnErr, IfSome, IsSome};
 ghost use Rattle.act_rules.specs.declared.script.KindName.TheVariants as kind;
-ghost use Rattle.act_rules.specs.Scripts.{opening_state, role_casting};
-ghost use Rattle.act_actor.specs.Casts.{casting};
+ghost use Rattle.act_rules.specs.Scripts.{opening_state, actor_spec_of};
+ghost use Rattle.act_actor.specs.Casts.{actor_spec};
 ghost use Rattle.act_console.specs.Stock.{HasEach, HasOneMore, HasSame, IsReady};
 
 use act_actor::Cast;
 use act_kinds::{Actor, Boxed};
 use act_rules::{KindName, Role};
-use act_types::{ListOf, MOST_ACTORS, NoMemory};
+use act_types::{ListOf, MAX_ACTORS, NoMemory};
 use std::alloc::Global;
 
 /// Kinds for the actors of a script, each in its opening state. A play asks for as many of each name
@@ -62,7 +62,8 @@ fn kind_for<K: Actor>(stock: &mut Stock<K>, name: KindName) -> Option<K>
 /// A role's cast, with a kind of the stock.
 fn cast_for<K: Actor>(stock: &mut Stock<K>, role: Role) -> Option<Cast<K>>
     ensures found { (n : ℕ) → HasEach K.state (n + 1) stock.old → IsSome result }
-    ensures cast { (n : ℕ) → HasEach K.state n stock.old → IfSome result (λ cast. casting K.state cast ≡ role_casting role) }
+    ensures cast { (n : ℕ) → HasEach K.state n stock.old →
+        IfSome result (λ cast. actor_spec K.state cast ≡ actor_spec_of role) }
     ensures left { (n : ℕ) → HasEach K.state (n + 1) stock.old → HasEach K.state n stock.new }
 {
     let Role {
@@ -89,8 +90,8 @@ pub fn casts_of<K: Actor>(
     roles: ListOf<Role>,
 ) -> Result<Vec<Cast<K>>, NoMemory>
     requires ready { IsReady K.state stock }
-    requires few { length roles ≤ MOST_ACTORS }
-    ensures { IfOk result (λ casts. map (casting K.state) casts.items ≡ map role_casting roles) }
+    requires few { length roles ≤ MAX_ACTORS }
+    ensures { IfOk result (λ casts. map (actor_spec K.state) casts.items ≡ map actor_spec_of roles) }
 {
     let mut stock = stock;
     let mut casts = Vec::new(alloc);

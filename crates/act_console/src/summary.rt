@@ -4,7 +4,7 @@ ghost use Rattle.std.specs.Prelude.{◌≡◌, ◌≤◌, ◌==◌, ◌++◌, On
 ghost use Rattle.std.specs.List.{flat_map};
 ghost use Rattle.act_types.specs.Texts.{space, actor_text};
 ghost use Rattle.act_rules.specs.Report.{line, one_to};
-ghost use Rattle.act_serve.specs.Served.{end_seen, log_of, id_of};
+ghost use Rattle.act_serve.specs.Served.{end_view, end_log, end_id};
 ghost use Rattle.act_executor.specs.Joined.{owner_of, end_of};
 ghost use Rattle.act_console.specs.Threads.{end_text, owner_lines_in, end_lines_in, joined_summary};
 
@@ -13,12 +13,12 @@ use act_executor::{Ended, Finished, Joined};
 use act_kinds::Actor;
 use act_owner::Owner;
 use act_rules::RunItem;
-use act_types::{ActorId, CallerId, MOST_ACTORS, MOST_CALLERS, NoMemory};
+use act_types::{ActorId, CallerId, MAX_ACTORS, MAX_CALLERS, NoMemory};
 use std::alloc::Global;
 
 /// The actor that ended.
 fn id_of<K: Actor>(ended: &Ended<K>) -> ActorId
-    ensures { result ≡ id_of (end_seen K.state ended.now) }
+    ensures { result ≡ end_id (end_view K.state ended.now) }
 {
     match ended {
         Ended::Killed(dead) | Ended::Starved(dead) => dead.id(),
@@ -28,7 +28,7 @@ fn id_of<K: Actor>(ended: &Ended<K>) -> ActorId
 
 /// What an actor ran, however it ended.
 fn log_of<K: Actor>(ended: &Ended<K>) -> &[RunItem]
-    ensures { result.now ≡ log_of (end_seen K.state ended.now) }
+    ensures { result.now ≡ end_log (end_view K.state ended.now) }
 {
     match ended {
         Ended::Killed(dead) | Ended::Starved(dead) => dead.log(),
@@ -53,14 +53,15 @@ fn owner_of(owners: &[Owner], caller: CallerId) -> Option<&Owner>
 
 /// The place of the actor of this number, if it is there.
 fn place_of_end<K: Actor>(actors: &[Finished<K>], actor: ActorId) -> Option<usize>
-    ensures { result ≡ position (λ one. id_of (end_seen K.state one.ended) == actor) actors.now }
+    ensures { result ≡ position (λ one. end_id (end_view K.state one.ended) == actor) actors.now }
 {
     actors.iter().position(|one| id_of(&one.ended) == actor)
 }
 
 /// The actor of this number, if it is there.
 fn end_of<K: Actor>(actors: &[Finished<K>], actor: ActorId) -> Option<&Ended<K>>
-    ensures { option_map (end_seen K.state) (option_copied result) ≡ end_of actor (map (λ actor. end_seen K.state actor.ended) actors.now) }
+    ensures { option_map (end_view K.state) (option_copied result)
+        ≡ end_of actor (map (λ actor. end_view K.state actor.ended) actors.now) }
 {
     let place = place_of_end(actors, actor)?;
     Some(&actors[place].ended)
@@ -68,7 +69,7 @@ fn end_of<K: Actor>(actors: &[Finished<K>], actor: ActorId) -> Option<&Ended<K>>
 
 /// Adds how an actor ended.
 fn push_end<K: Actor>(text: &mut String, ended: &Ended<K>) -> Result<(), NoMemory>
-    ensures { OnOk result (string_bytes text.new ≡ string_bytes text.old ++ end_text (end_seen K.state ended.now)) }
+    ensures { OnOk result (string_bytes text.new ≡ string_bytes text.old ++ end_text (end_view K.state ended.now)) }
 {
     match ended {
         Ended::Killed(_) | Ended::Starved(_) => text.push_str("dead")?,
@@ -83,7 +84,7 @@ fn push_end<K: Actor>(text: &mut String, ended: &Ended<K>) -> Result<(), NoMemor
 /// Adds the line of an actor.
 fn push_actor<K: Actor>(text: &mut String, actor: ActorId, ended: &Ended<K>) -> Result<(), NoMemory>
     ensures { OnOk result (string_bytes text.new ≡
-        string_bytes text.old ++ line (actor_text actor ++ space ++ end_text (end_seen K.state ended.now))) }
+        string_bytes text.old ++ line (actor_text actor ++ space ++ end_text (end_view K.state ended.now))) }
 {
     write!(text, "{actor} ")?;
     push_end(text, ended)?;
@@ -93,7 +94,7 @@ fn push_actor<K: Actor>(text: &mut String, actor: ActorId, ended: &Ended<K>) -> 
 
 /// Adds a line for each future of the caller of this number, if it is there.
 fn push_owner(text: &mut String, owners: &[Owner], number: u8) -> Result<(), NoMemory>
-    requires { (1 ≤ number) × (number ≤ MOST_CALLERS) }
+    requires { (1 ≤ number) × (number ≤ MAX_CALLERS) }
     ensures { OnOk result (string_bytes text.new ≡ string_bytes text.old ++ owner_lines_in owners.now number) }
 {
     let caller = CallerId::new(number).unwrap();
@@ -106,9 +107,10 @@ fn push_owner(text: &mut String, owners: &[Owner], number: u8) -> Result<(), NoM
 
 /// Adds a line for each future, callers by rising number.
 fn push_owners(text: &mut String, owners: &[Owner]) -> Result<(), NoMemory>
-    ensures { OnOk result (string_bytes text.new ≡ string_bytes text.old ++ flat_map (owner_lines_in owners.now) (one_to MOST_CALLERS)) }
+    ensures { OnOk result (string_bytes text.new
+        ≡ string_bytes text.old ++ flat_map (owner_lines_in owners.now) (one_to MAX_CALLERS)) }
 {
-    for before in 0..MOST_CALLERS {
+    for before in 0..MAX_CALLERS {
         push_owner(text, owners, before + 1)?;
     }
     Ok(())
@@ -120,9 +122,9 @@ fn push_ended<K: Actor>(
     actors: &[Finished<K>],
     number: u8,
 ) -> Result<(), NoMemory>
-    requires { (1 ≤ number) × (number ≤ MOST_ACTORS) }
+    requires { (1 ≤ number) × (number ≤ MAX_ACTORS) }
     ensures { OnOk result (string_bytes text.new ≡
-        string_bytes text.old ++ end_lines_in (map (λ actor. end_seen K.state actor.ended) actors.now) number) }
+        string_bytes text.old ++ end_lines_in (map (λ actor. end_view K.state actor.ended) actors.now) number) }
 {
     let actor = ActorId::new(number).unwrap();
     let Some(ended) = end_of(actors, actor) else {
@@ -136,10 +138,10 @@ fn push_ended<K: Actor>(
 /// Adds the lines of each actor, by rising number.
 fn push_ends<K: Actor>(text: &mut String, actors: &[Finished<K>]) -> Result<(), NoMemory>
     ensures { OnOk result (string_bytes text.new ≡
-        string_bytes text.old ++ flat_map (end_lines_in (map (λ actor. end_seen K.state actor.ended) actors.now))
-        (one_to MOST_ACTORS)) }
+        string_bytes text.old ++ flat_map (end_lines_in (map (λ actor. end_view K.state actor.ended) actors.now))
+        (one_to MAX_ACTORS)) }
 {
-    for before in 0..MOST_ACTORS {
+    for before in 0..MAX_ACTORS {
         push_ended(text, actors, before + 1)?;
     }
     Ok(())
@@ -149,7 +151,7 @@ fn push_ends<K: Actor>(text: &mut String, actors: &[Finished<K>]) -> Result<(), 
 pub(crate) fn summary_of<K: Actor>(alloc: Global, joined: &Joined<K>) -> Result<String, NoMemory>
     ensures { IfOk result (λ text.
         string_bytes text ≡ joined_summary joined.now.owners.items
-        (map (λ actor. end_seen K.state actor.ended) joined.now.actors.items)) }
+        (map (λ actor. end_view K.state actor.ended) joined.now.actors.items)) }
 {
     let mut text = String::new(alloc);
     push_owners(&mut text, joined.owners.as_slice())?;
@@ -166,7 +168,7 @@ pub fn joined_report<K: Actor>(
 ) -> Result<(), NoMemory>
     ensures ok { OnOk result (string_bytes text.new ≡
         string_bytes text.old ++ joined_summary joined.now.owners.items
-        (map (λ actor. end_seen K.state actor.ended) joined.now.actors.items)) }
+        (map (λ actor. end_view K.state actor.ended) joined.now.actors.items)) }
     ensures err { OnErr result (string_bytes text.new ≡ string_bytes text.old) }
 {
     let report = summary_of(alloc, joined)?;

@@ -6,45 +6,45 @@ use Rattle.act_types.specs.declared.message.Reply.{Reply}
 use Rattle.act_types.specs.declared.message.Notice.{Notice}
 use Rattle.act_types.specs.declared.message.Notice.TheVariants.{Answered}
 use Rattle.act_rules.specs.declared.history.RunItem.{RunItem}
-use Rattle.act_rules.specs.Consistent.{IsFront}
+use Rattle.act_rules.specs.Consistent.{IsPrefix}
 use Rattle.act_rules.proofs.Lists.{All-two}
-use Rattle.act_actor.specs.View.{ActorSeen}
-use Rattle.act_actor.specs.Actor.{item_of, reply_to, next_call, HasRun}
+use Rattle.act_actor.specs.View.{ActorView}
+use Rattle.act_actor.specs.Actor.{item_of, reply_of_run, next_call, HasRunCall}
 use Rattle.std.proofs.lemmas.List.Elements.{All-push}
 use Rattle.std.proofs.lemmas.List.Quantifiers.{all_pairs_push}
-use Rattle.act_mailbox.specs.Mails.{MailValue}
-use Rattle.act_mailbox.specs.Controls.{ControlValue}
-use Rattle.act_mailbox.specs.Notices.{RepliesValue, ReplyExecValue, IsReply, NamesPlace}
-use Rattle.act_mailbox.specs.Passes.{PutterValue, new_putter, new_taker}
+use Rattle.act_mailbox.specs.Mails.{MailView}
+use Rattle.act_mailbox.specs.Controls.{ControlView}
+use Rattle.act_mailbox.specs.Notices.{RepliesView, ReplyExecView, IsNoDeath, NamesPlace}
+use Rattle.act_mailbox.specs.Passes.{PutterView, new_putter, new_taker}
 use Rattle.act_mailbox.specs.declared.control.Asked.{Asked}
 use Rattle.act_mailbox.specs.declared.mail.Letter.{Letter}
-use Rattle.act_seats.specs.declared.seat.Seat.{Seat}
-use Rattle.act_drive.specs.declared.desk.CallerPasses.{CallerPasses}
-use Rattle.act_drive.specs.Driven.{IsFreshSeat, IsKillSeat, AreKillSeats, IsUnused}
+use Rattle.act_mailbox.specs.declared.endpoint.Endpoint.{Endpoint}
+use Rattle.act_drive.specs.declared.driver.CallerPasses.{CallerPasses}
+use Rattle.act_drive.specs.Driven.{IsFreshEndpoint, IsKillEndpoint, AreKillEndpoints, IsUnusedCaller}
 
-one_seat : (mail : MailValue) (c : ℕ) (post : PutterValue Letter Unit) → post ≡ new_putter mail.line c → IsFreshSeat (mail ∷ []) c (record { place = 0; pass = post })
-one_seat mail c post is = record {
+one_endpoint : (mail : MailView) (c : ℕ) (post : PutterView Letter Unit) → post ≡ new_putter mail.line c → IsFreshEndpoint (mail ∷ []) c (record { place = 0; pass = post })
+one_endpoint mail c post is = record {
   below = omega arith;
-  line = λ d. sym (ap (λ (p : PutterValue Letter Unit). p.line) is);
-  number = ap (λ (p : PutterValue Letter Unit). p.number) is;
-  put = ap (λ (p : PutterValue Letter Unit). p.put) is;
+  line = λ d. sym (ap (λ (p : PutterView Letter Unit). p.line) is);
+  number = ap (λ (p : PutterView Letter Unit). p.number) is;
+  put = ap (λ (p : PutterView Letter Unit). p.put) is;
 }
 
-one_kill : (control : ControlValue) (c : ℕ) (pass : PutterValue Asked ℕ) → pass ≡ new_putter control.line c → AreKillSeats (control ∷ []) (record { place = 0; pass = pass } ∷ [])
+one_kill : (control : ControlView) (c : ℕ) (pass : PutterView Asked ℕ) → pass ≡ new_putter control.line c → AreKillEndpoints (control ∷ []) (record { place = 0; pass = pass } ∷ [])
 one_kill control c pass is = (
-  All-push (IsKillSeat (control ∷ [])) [] (record { place = 0; pass = pass }) (λ k d below. absurd (omega arith)) (record { below = omega arith; line = λ d. sym (ap (λ (p : PutterValue Asked ℕ). p.line) is) }),
+  All-push (IsKillEndpoint (control ∷ [])) [] (record { place = 0; pass = pass }) (λ k d below. absurd (omega arith)) (record { below = omega arith; line = λ d. sym (ap (λ (p : PutterView Asked ℕ). p.line) is) }),
   λ i j d lt below. absurd (omega arith),
 )
 
-pub unused_alone : (passes : CallerPasses) (a c : ℕ) (mail : MailValue) (control : ControlValue) (replies : RepliesValue) (post : PutterValue Letter Unit) (ask : PutterValue Asked ℕ)
-    → post ≡ new_putter mail.line c → ask ≡ new_putter control.line c → passes.letters.items ≡ record { place = 0; pass = post } ∷ [] → passes.kills.items ≡ record { place = 0; pass = ask } ∷ [] → passes.collects ≡ new_taker replies.line (a ∷ []) → IsUnused (mail ∷ []) (control ∷ []) replies c passes
+pub unused_alone : (passes : CallerPasses) (a c : ℕ) (mail : MailView) (control : ControlView) (replies : RepliesView) (post : PutterView Letter Unit) (ask : PutterView Asked ℕ)
+    → post ≡ new_putter mail.line c → ask ≡ new_putter control.line c → passes.letters.items ≡ record { place = 0; pass = post } ∷ [] → passes.kills.items ≡ record { place = 0; pass = ask } ∷ [] → passes.collects ≡ new_taker replies.line (a ∷ []) → IsUnusedCaller (mail ∷ []) (control ∷ []) replies c passes
 unused_alone passes a c mail control replies post ask posted asked letters kills collects = record {
   collects = ap (λ (t : _). t.line) collects;
   taken = ap (λ (t : _). t.taken) collects;
   distinct = rw letters (λ i j d lt below. absurd (omega (arith, lt, below)));
-  letters = rw letters (All-push (IsFreshSeat (mail ∷ []) c) [] (record { place = 0; pass = post }) (λ k d below. absurd (omega arith)) (one_seat mail c post posted));
+  letters = rw letters (All-push (IsFreshEndpoint (mail ∷ []) c) [] (record { place = 0; pass = post }) (λ k d below. absurd (omega arith)) (one_endpoint mail c post posted));
   kills = rw kills (one_kill control c ask asked);
-  asked = rw kills (All-push (λ (s : Seat (PutterValue Asked ℕ)). s.pass.put ≡ []) [] (record { place = 0; pass = ask }) (λ k d below. absurd (omega arith)) (ap (λ (p : PutterValue Asked ℕ). p.put) asked));
+  asked = rw kills (All-push (λ (s : Endpoint (PutterView Asked ℕ)). s.pass.put ≡ []) [] (record { place = 0; pass = ask }) (λ k d below. absurd (omega arith)) (ap (λ (p : PutterView Asked ℕ). p.put) asked));
 }
 
 -- ---- the same with two actors
@@ -53,33 +53,33 @@ at_one : {X : Type 0} (x d : X) (j : ℕ) → j < length (x ∷ []) → get_or (
 at_one x d zero below = refl
 at_one x d (suc j) below = absurd (omega (arith, below))
 
-pub unused_pair : (passes : CallerPasses) (c : ℕ) (mail mail2 : MailValue) (control control2 : ControlValue) (replies : RepliesValue) (post post2 : PutterValue Letter Unit) (ask ask2 : PutterValue Asked ℕ) (actors : List ℕ)
+pub unused_pair : (passes : CallerPasses) (c : ℕ) (mail mail2 : MailView) (control control2 : ControlView) (replies : RepliesView) (post post2 : PutterView Letter Unit) (ask ask2 : PutterView Asked ℕ) (actors : List ℕ)
     → post ≡ new_putter mail.line c → post2 ≡ new_putter mail2.line c → ask ≡ new_putter control.line c → ask2 ≡ new_putter control2.line c → mail.actor ≢ mail2.actor → control.actor ≢ control2.actor
     → passes.letters.items ≡ record { place = 0; pass = post } ∷ record { place = 1; pass = post2 } ∷ [] → passes.kills.items ≡ record { place = 0; pass = ask } ∷ record { place = 1; pass = ask2 } ∷ [] → passes.collects ≡ new_taker replies.line actors
-    → IsUnused (mail ∷ mail2 ∷ []) (control ∷ control2 ∷ []) replies c passes
+    → IsUnusedCaller (mail ∷ mail2 ∷ []) (control ∷ control2 ∷ []) replies c passes
 unused_pair passes c mail mail2 control control2 replies post post2 ask ask2 actors posted posted2 asked asked2 mails_apart apart letters kills collects =
-    let controls : List ControlValue = control ∷ control2 ∷ [] in
-    let one : Seat (PutterValue Asked ℕ) = record { place = 0; pass = ask } in
-    let two : Seat (PutterValue Asked ℕ) = record { place = 1; pass = ask2 } in
-    let P : Seat (PutterValue Asked ℕ) → Seat (PutterValue Asked ℕ) → Type 0 = λ s t. (d : ControlValue) → (get_or controls s.place d).actor ≢ (get_or controls t.place d).actor in
-    let differ : AllPairs P (one ∷ two ∷ []) = all_pairs_push P (one ∷ []) two (λ i j d lt below. absurd (omega (arith, lt, below))) (λ j d below. subst (λ (s : Seat (PutterValue Asked ℕ)). P s two) (sym (at_one one d j below)) (λ d. apart)) in
-    let mails : List MailValue = mail ∷ mail2 ∷ [] in
-    let first : Seat (PutterValue Letter Unit) = record { place = 0; pass = post } in
-    let second : Seat (PutterValue Letter Unit) = record { place = 1; pass = post2 } in
-    let Q : Seat (PutterValue Letter Unit) → Seat (PutterValue Letter Unit) → Type 0 = λ s t. (d : MailValue) → (get_or mails s.place d).actor ≢ (get_or mails t.place d).actor in
-    let distinct : AllPairs Q (first ∷ second ∷ []) = all_pairs_push Q (first ∷ []) second (λ i j d lt below. absurd (omega (arith, lt, below))) (λ j d below. subst (λ (s : Seat (PutterValue Letter Unit)). Q s second) (sym (at_one first d j below)) (λ d. mails_apart)) in
+    let controls : List ControlView = control ∷ control2 ∷ [] in
+    let one : Endpoint (PutterView Asked ℕ) = record { place = 0; pass = ask } in
+    let two : Endpoint (PutterView Asked ℕ) = record { place = 1; pass = ask2 } in
+    let P : Endpoint (PutterView Asked ℕ) → Endpoint (PutterView Asked ℕ) → Type 0 = λ s t. (d : ControlView) → (get_or controls s.place d).actor ≢ (get_or controls t.place d).actor in
+    let differ : AllPairs P (one ∷ two ∷ []) = all_pairs_push P (one ∷ []) two (λ i j d lt below. absurd (omega (arith, lt, below))) (λ j d below. subst (λ (s : Endpoint (PutterView Asked ℕ)). P s two) (sym (at_one one d j below)) (λ d. apart)) in
+    let mails : List MailView = mail ∷ mail2 ∷ [] in
+    let first : Endpoint (PutterView Letter Unit) = record { place = 0; pass = post } in
+    let second : Endpoint (PutterView Letter Unit) = record { place = 1; pass = post2 } in
+    let Q : Endpoint (PutterView Letter Unit) → Endpoint (PutterView Letter Unit) → Type 0 = λ s t. (d : MailView) → (get_or mails s.place d).actor ≢ (get_or mails t.place d).actor in
+    let distinct : AllPairs Q (first ∷ second ∷ []) = all_pairs_push Q (first ∷ []) second (λ i j d lt below. absurd (omega (arith, lt, below))) (λ j d below. subst (λ (s : Endpoint (PutterView Letter Unit)). Q s second) (sym (at_one first d j below)) (λ d. mails_apart)) in
     record {
       collects = ap (λ (t : _). t.line) collects;
       taken = ap (λ (t : _). t.taken) collects;
       distinct = rw letters distinct;
-      letters = rw letters (All-two (IsFreshSeat (mail ∷ mail2 ∷ []) c) (record { place = 0; pass = post }) (record { place = 1; pass = post2 })
-          (record { below = omega arith; line = λ d. sym (ap (λ (p : PutterValue Letter Unit). p.line) posted); number = ap (λ (p : PutterValue Letter Unit). p.number) posted; put = ap (λ (p : PutterValue Letter Unit). p.put) posted })
-          (record { below = omega arith; line = λ d. sym (ap (λ (p : PutterValue Letter Unit). p.line) posted2); number = ap (λ (p : PutterValue Letter Unit). p.number) posted2; put = ap (λ (p : PutterValue Letter Unit). p.put) posted2 }));
+      letters = rw letters (All-two (IsFreshEndpoint (mail ∷ mail2 ∷ []) c) (record { place = 0; pass = post }) (record { place = 1; pass = post2 })
+          (record { below = omega arith; line = λ d. sym (ap (λ (p : PutterView Letter Unit). p.line) posted); number = ap (λ (p : PutterView Letter Unit). p.number) posted; put = ap (λ (p : PutterView Letter Unit). p.put) posted })
+          (record { below = omega arith; line = λ d. sym (ap (λ (p : PutterView Letter Unit). p.line) posted2); number = ap (λ (p : PutterView Letter Unit). p.number) posted2; put = ap (λ (p : PutterView Letter Unit). p.put) posted2 }));
       kills = rw kills (
-        All-two (IsKillSeat controls) one two (record { below = omega arith; line = λ d. sym (ap (λ (p : PutterValue Asked ℕ). p.line) asked) }) (record { below = omega arith; line = λ d. sym (ap (λ (p : PutterValue Asked ℕ). p.line) asked2) }),
+        All-two (IsKillEndpoint controls) one two (record { below = omega arith; line = λ d. sym (ap (λ (p : PutterView Asked ℕ). p.line) asked) }) (record { below = omega arith; line = λ d. sym (ap (λ (p : PutterView Asked ℕ). p.line) asked2) }),
         differ,
       );
-      asked = rw kills (All-two (λ (s : Seat (PutterValue Asked ℕ)). s.pass.put ≡ []) one two (ap (λ (p : PutterValue Asked ℕ). p.put) asked) (ap (λ (p : PutterValue Asked ℕ). p.put) asked2));
+      asked = rw kills (All-two (λ (s : Endpoint (PutterView Asked ℕ)). s.pass.put ≡ []) one two (ap (λ (p : PutterView Asked ℕ). p.put) asked) (ap (λ (p : PutterView Asked ℕ). p.put) asked2));
     }
 
 -- ---- an actor's run, and what is given
@@ -88,25 +88,25 @@ get_last : (xs : List RunItem) (x : RunItem) → slice_get (xs ++ x ∷ []) (len
 get_last [] x = refl
 get_last (y ∷ xs) x = get_last xs x
 
-named : (caller : ℕ) (before after : ActorSeen) (next : Option Packet) (reply : Reply) → Some reply ≡ option_map (reply_to before) next → IfSome next (λ packet. HasRun caller packet before after) → (after.id ≡ before.id) × IsFront before.log after.log × ((reply.actor ≡ before.id) × NamesPlace after.log (Answered reply))
+named : (caller : ℕ) (before after : ActorView) (next : Option Packet) (reply : Reply) → Some reply ≡ option_map (reply_of_run before) next → IfSome next (λ packet. HasRunCall caller packet before after) → (after.id ≡ before.id) × IsPrefix before.log after.log × ((reply.actor ≡ before.id) × NamesPlace after.log (Answered reply))
 named caller before after None reply is ran = absurd (cc is)
 named caller before after (Some packet) reply is ran =
-    let same : reply ≡ reply_to before packet = cc is in
+    let same : reply ≡ reply_of_run before packet = cc is in
     let at : slice_get after.log reply.place ≡ Some (item_of packet) = subst (λ (l : List RunItem). slice_get l reply.place ≡ Some (item_of packet)) (sym ran.log) (subst (λ (n : ℕ). slice_get (before.log ++ item_of packet ∷ []) n ≡ Some (item_of packet)) (sym (ap (λ (r : Reply). r.place) same)) (get_last before.log (item_of packet))) in
     (ran.id, (item_of packet ∷ [], sym ran.log), (ap (λ (r : Reply). r.actor) same, (item_of packet, at, ap (λ (r : Reply). r.caller) same, ap (λ (r : Reply). r.future) same)))
 
-same_front : (before after : ActorSeen) → after ≡ before → IsFront before.log after.log
-same_front before after same = ([], append-nil before.log ∙ sym (ap (λ (a : ActorSeen). a.log) same))
+same_front : (before after : ActorView) → after ≡ before → IsPrefix before.log after.log
+same_front before after same = ([], append-nil before.log ∙ sym (ap (λ (a : ActorView). a.log) same))
 
-pub run_named : {E : Type 0} (caller : ℕ) (before after : ActorSeen) (result : Result (Option Reply) E) → IfOk result (λ reply. reply ≡ option_map (reply_to before) (next_call before.log before.inbox caller)) → OnOk result (IfSome (next_call before.log before.inbox caller) (λ packet. HasRun caller packet before after)) → IfOk result (λ reply. IfNone reply (after ≡ before)) → OnErr result (after ≡ before)
-    → (after.id ≡ before.id) × IsFront before.log after.log × IfOk result (λ ran. IfSome ran (λ reply. (reply.actor ≡ before.id) × NamesPlace after.log (Answered reply)))
-run_named caller before after (Err e) told ran gap same = (ap (λ (a : ActorSeen). a.id) same, same_front before after same, tt)
-run_named caller before after (Ok None) told ran gap same = (ap (λ (a : ActorSeen). a.id) gap, same_front before after gap, tt)
+pub run_named : {E : Type 0} (caller : ℕ) (before after : ActorView) (result : Result (Option Reply) E) → IfOk result (λ reply. reply ≡ option_map (reply_of_run before) (next_call before.log before.inbox caller)) → OnOk result (IfSome (next_call before.log before.inbox caller) (λ packet. HasRunCall caller packet before after)) → IfOk result (λ reply. IfNone reply (after ≡ before)) → OnErr result (after ≡ before)
+    → (after.id ≡ before.id) × IsPrefix before.log after.log × IfOk result (λ ran. IfSome ran (λ reply. (reply.actor ≡ before.id) × NamesPlace after.log (Answered reply)))
+run_named caller before after (Err e) told ran gap same = (ap (λ (a : ActorView). a.id) same, same_front before after same, tt)
+run_named caller before after (Ok None) told ran gap same = (ap (λ (a : ActorView). a.id) gap, same_front before after gap, tt)
 run_named caller before after (Ok (Some reply)) told ran gap same = named caller before after (next_call before.log before.inbox caller) reply told ran
 
-pub given_on : (result : Result Unit Notice) (old new : ReplyExecValue) (log : List RunItem) (reply : Reply) → OnOk result (new ≡ record old { given = old.given ++ Answered reply ∷ []; seen = log }) → OnErr result (new ≡ old) → IsFront old.seen log → All IsReply old.given
-    → (new.line ≡ old.line) × (new.actor ≡ old.actor) × IsFront new.seen log × All IsReply new.given
+pub given_on : (result : Result Unit Notice) (old new : ReplyExecView) (log : List RunItem) (reply : Reply) → OnOk result (new ≡ record old { given = old.given ++ Answered reply ∷ []; seen = log }) → OnErr result (new ≡ old) → IsPrefix old.seen log → All IsNoDeath old.given
+    → (new.line ≡ old.line) × (new.actor ≡ old.actor) × IsPrefix new.seen log × All IsNoDeath new.given
 given_on (Ok x) old new log reply ok err front alive =
-    (ap (λ (p : ReplyExecValue). p.line) ok, ap (λ (p : ReplyExecValue). p.actor) ok, ([], append-nil new.seen ∙ ap (λ (p : ReplyExecValue). p.seen) ok), subst (λ (p : ReplyExecValue). All IsReply p.given) (sym ok) (All-push IsReply old.given (Answered reply) alive tt))
+    (ap (λ (p : ReplyExecView). p.line) ok, ap (λ (p : ReplyExecView). p.actor) ok, ([], append-nil new.seen ∙ ap (λ (p : ReplyExecView). p.seen) ok), subst (λ (p : ReplyExecView). All IsNoDeath p.given) (sym ok) (All-push IsNoDeath old.given (Answered reply) alive tt))
 given_on (Err e) old new log reply ok err front alive =
-    (ap (λ (p : ReplyExecValue). p.line) err, ap (λ (p : ReplyExecValue). p.actor) err, subst (λ (p : ReplyExecValue). IsFront p.seen log) (sym err) front, subst (λ (p : ReplyExecValue). All IsReply p.given) (sym err) alive)
+    (ap (λ (p : ReplyExecView). p.line) err, ap (λ (p : ReplyExecView). p.actor) err, subst (λ (p : ReplyExecView). IsPrefix p.seen log) (sym err) front, subst (λ (p : ReplyExecView). All IsNoDeath p.given) (sym err) alive)

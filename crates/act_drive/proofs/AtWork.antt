@@ -6,11 +6,11 @@ use Rattle.std.proofs.lemmas.List.{get_or-set_other, get_or-replicate, get_or_pa
 use Rattle.std.proofs.lemmas.Grind.{get_or-set_at}
 use Rattle.act_rules.specs.declared.script.Step.{Step}
 use Rattle.act_rules.specs.declared.script.Step.TheVariants.{Kill}
-use Rattle.act_drive.specs.declared.desk.CallerLines.{CallerLines}
-use Rattle.act_drive.specs.declared.desk.Desk.{Desk}
-use Rattle.act_drive.specs.Driven.{IsCalling, Stays, Waits, Follows}
+use Rattle.act_drive.specs.declared.driver.CallerLines.{CallerLines}
+use Rattle.act_drive.specs.declared.driver.Driver.{Driver}
+use Rattle.act_drive.specs.Driven.{IsCalling, Stays, Waits, FollowsSteps}
 use Rattle.act_drive.specs.Lent.{Does, IsAtWork}
-use Rattle.act_drive.proofs.Desks.{stays_trans, waits_same}
+use Rattle.act_drive.proofs.Drivers.{stays_trans, waits_same}
 use Rattle.act_rules.specs.Plans.{kills_to}
 use Rattle.act_drive.proofs.PlanSteps.{follows_waits, kills_more}
 
@@ -21,19 +21,19 @@ all_same x n a = elim (leb_tells (suc a) n) [
 ]
 
 -- at first
-pub work_begun : (actors : List ℕ) (began : Desk → Type 0) (lines : CallerLines) (desk : Desk) → IsCalling lines desk → began desk → Follows lines actors [] desk → IsAtWork actors began lines desk (replicate 9 0)
-work_begun actors began lines desk calling so follows = record {
+pub work_begun : (actors : List ℕ) (began : Driver → Type 0) (lines : CallerLines) (driver : Driver) → IsCalling lines driver → began driver → FollowsSteps lines actors [] driver → IsAtWork actors began lines driver (replicate 9 0)
+work_begun actors began lines driver calling so follows = record {
   calling = calling;
-  opened = desk;
+  opened = driver;
   began_so = so;
-  stays = (waits_same desk).stay;
+  stays = (waits_same driver).stay;
   steps = [];
   follows = follows;
   asked = all_same 0 9;
 }
 
 -- a step more
-pub work_step : (actors : List ℕ) (began : Desk → Type 0) (lines : CallerLines) (old new : Desk) (step : Step) (kills more : List ℕ) → IsAtWork actors began lines old kills → IsCalling lines new → Stays old new → Does lines step old new → ((a : ℕ) → get_or more a 0 ≡ get_or kills a 0 + kills_to a (step ∷ [])) → IsAtWork actors began lines new more
+pub work_step : (actors : List ℕ) (began : Driver → Type 0) (lines : CallerLines) (old new : Driver) (step : Step) (kills more : List ℕ) → IsAtWork actors began lines old kills → IsCalling lines new → Stays old new → Does lines step old new → ((a : ℕ) → get_or more a 0 ≡ get_or kills a 0 + kills_to a (step ∷ [])) → IsAtWork actors began lines new more
 work_step actors began lines old new step kills more was calling stays does grown = record {
   calling = calling;
   opened = was.opened;
@@ -45,7 +45,7 @@ work_step actors began lines old new step kills more was calling stays does grow
 }
 
 -- the same of a step that is no kill
-pub work_does : (actors : List ℕ) (began : Desk → Type 0) (lines : CallerLines) (old new : Desk) (step : Step) (kills : List ℕ) → ((a : ℕ) → kills_to a (step ∷ []) ≡ 0) → IsAtWork actors began lines old kills → IsCalling lines new → Stays old new → Does lines step old new → IsAtWork actors began lines new kills
+pub work_does : (actors : List ℕ) (began : Driver → Type 0) (lines : CallerLines) (old new : Driver) (step : Step) (kills : List ℕ) → ((a : ℕ) → kills_to a (step ∷ []) ≡ 0) → IsAtWork actors began lines old kills → IsCalling lines new → Stays old new → Does lines step old new → IsAtWork actors began lines new kills
 work_does actors began lines old new step kills none was calling stays does = work_step actors began lines old new step kills kills was calling stays does (λ a. let none_to = none a in omega (arith, none_to))
 
 kill_grown : (kills : List ℕ) (a : ℕ) → a < length kills → (b : ℕ) → get_or (set kills a (get_or kills a 0 + 1)) b 0 ≡ get_or kills b 0 + kills_to b (Kill a ∷ [])
@@ -57,13 +57,13 @@ kill_grown kills a below b = elim (eqb_tells a b) [
 ]
 
 -- a kill, at the place of the actor's number
-pub work_kill : (actors : List ℕ) (began : Desk → Type 0) (lines : CallerLines) (old new : Desk) (a n : ℕ) (kills : List ℕ) → n ≡ a → n < length kills → IsAtWork actors began lines old kills → IsCalling lines new → Stays old new → Does lines (Kill a) old new
+pub work_kill : (actors : List ℕ) (began : Driver → Type 0) (lines : CallerLines) (old new : Driver) (a n : ℕ) (kills : List ℕ) → n ≡ a → n < length kills → IsAtWork actors began lines old kills → IsCalling lines new → Stays old new → Does lines (Kill a) old new
     → IsAtWork actors began lines new (set kills n (get_or kills n 0 + 1))
 work_kill actors began lines old new a n kills is below was calling stays does =
     work_step actors began lines old new (Kill a) kills _ was calling stays does (subst (λ (m : ℕ). (b : ℕ) → get_or (set kills n (get_or kills n 0 + 1)) b 0 ≡ get_or kills b 0 + kills_to b (Kill m ∷ [])) is (kill_grown kills n below))
 
 -- a wait
-pub work_waits : (actors : List ℕ) (began : Desk → Type 0) (lines : CallerLines) (old new : Desk) (kills : List ℕ) → IsAtWork actors began lines old kills → IsCalling lines new → Waits old new → IsAtWork actors began lines new kills
+pub work_waits : (actors : List ℕ) (began : Driver → Type 0) (lines : CallerLines) (old new : Driver) (kills : List ℕ) → IsAtWork actors began lines old kills → IsCalling lines new → Waits old new → IsAtWork actors began lines new kills
 work_waits actors began lines old new kills was calling waits = record {
   calling = calling;
   opened = was.opened;

@@ -8,17 +8,17 @@ use Rattle.act_rules.specs.Submissions.{copies_held}
 use Rattle.act_handles.specs.Handles.{copies_in, without_copy}
 use Rattle.act_handles.specs.declared.handles.Handle.{Handle}
 use Rattle.act_handles.proofs.Lookups.{copies-without_copy, copies-without_copy-other}
-use Rattle.act_owner.specs.Owner.{OwnerValue, with_handles}
-use Rattle.act_mailbox.specs.Mails.{MailValue}
-use Rattle.act_drive.specs.declared.desk.Desk.{Desk}
-use Rattle.act_drive.specs.declared.desk.CallerPasses.{CallerPasses}
-use Rattle.act_drive.specs.Driven.{Waits, Winds}
-use Rattle.act_drive.proofs.Desks.{stays_same, stays_trans}
+use Rattle.act_owner.specs.Owner.{OwnerView, with_handles}
+use Rattle.act_mailbox.specs.Mails.{MailView}
+use Rattle.act_drive.specs.declared.driver.Driver.{Driver}
+use Rattle.act_drive.specs.declared.driver.CallerPasses.{CallerPasses}
+use Rattle.act_drive.specs.Driven.{Waits, OnlyReleases}
+use Rattle.act_drive.proofs.Drivers.{stays_same, stays_trans}
 
-pub winds_same : (desk : Desk) → Winds desk desk
-winds_same desk = record { stay = stays_same desk desk refl refl refl refl; calls = refl; kills = refl; heard = λ notice has. has; handles = λ a. (refl, omega arith) }
+pub winds_same : (driver : Driver) → OnlyReleases driver driver
+winds_same driver = record { stay = stays_same driver driver refl refl refl refl; calls = refl; kills = refl; heard = λ notice has. has; handles = λ a. (refl, omega arith) }
 
-pub winds_trans : (one two three : Desk) → Winds one two → Winds two three → Winds one three
+pub winds_trans : (one two three : Driver) → OnlyReleases one two → OnlyReleases two three → OnlyReleases one three
 winds_trans one two three a b = record { stay = stays_trans one two three a.stay b.stay; calls = b.calls ∙ a.calls; kills = b.kills ∙ a.kills; heard = λ notice has. b.heard notice (a.heard notice has); handles = λ n. ((b.handles n).0 ∙ (a.handles n).0, omega (arith, (b.handles n).1, (a.handles n).1)) }
 
 -- handles that stay
@@ -27,7 +27,7 @@ same_handles one two a same =
     let held : copies_held (copies_in a two) ≡ copies_held (copies_in a one) = ap (λ (h : List Handle). copies_held (copies_in a h)) same in
     (ap (λ (h : List Handle). is_some (copies_in a h)) same, omega (arith, held))
 
-pub waits_wind : (one two : Desk) → Waits one two → Winds one two
+pub waits_wind : (one two : Driver) → Waits one two → OnlyReleases one two
 waits_wind one two a = record { stay = a.stay; calls = a.calls; kills = a.kills; heard = a.heard; handles = λ n. same_handles one.owner.handles two.owner.handles n a.handles }
 
 less_copies : (copies : Option ℕ) → (is_some (option_map (λ n. n - 1) copies) ≡ is_some copies) × (copies_held (option_map (λ n. n - 1) copies) ≤ copies_held copies)
@@ -45,10 +45,10 @@ less_handles handles a b =
           (ap (λ (o : Option ℕ). is_some o) same, omega (arith, held))
     ]
 
-pub released_winds : (old between new : Desk) (a : ℕ) → Waits old between → new.owner ≡ with_handles between.owner (without_copy a between.owner.handles) → new.passes ≡ between.passes → Winds old new
+pub released_winds : (old between new : Driver) (a : ℕ) → Waits old between → new.owner ≡ with_handles between.owner (without_copy a between.owner.handles) → new.passes ≡ between.passes → OnlyReleases old new
 released_winds old between new a waits is passes = record {
-  stay = stays_trans old between new waits.stay (stays_same between new (ap (λ (o : OwnerValue). o.id) is) (ap (λ (o : OwnerValue). o.kept) is) (ap (λ (o : OwnerValue). o.limits) is) passes);
-  calls = ap (λ (o : OwnerValue). o.calls) is ∙ waits.calls;
+  stay = stays_trans old between new waits.stay (stays_same between new (ap (λ (o : OwnerView). o.id) is) (ap (λ (o : OwnerView). o.kept) is) (ap (λ (o : OwnerView). o.limits) is) passes);
+  calls = ap (λ (o : OwnerView). o.calls) is ∙ waits.calls;
   kills = ap (λ (p : CallerPasses). p.kills.items) passes ∙ waits.kills;
   heard = λ notice has. rw passes (waits.heard notice has);
   handles = λ b.
@@ -66,9 +66,9 @@ one_gone handles a = ap copies_held (copies-without_copy a handles) ∙ go (copi
     go (Some n) = refl
 
 -- no copy is left of one actor more
-pub none_more : (mails : List MailValue) (i a : ℕ) (old new : Desk) → i < length mails → ((d : MailValue) → (get_or mails i d).actor ≡ a) → Winds old new → copies_held (copies_in a new.owner.handles) ≡ 0
+pub none_more : (mails : List MailView) (i a : ℕ) (old new : Driver) → i < length mails → ((d : MailView) → (get_or mails i d).actor ≡ a) → OnlyReleases old new → copies_held (copies_in a new.owner.handles) ≡ 0
     → All (λ mail. copies_held (copies_in mail.actor old.owner.handles) ≡ 0) (take i mails) → All (λ mail. copies_held (copies_in mail.actor new.owner.handles) ≡ 0) (take (i + 1) mails)
-none_more mails i a old new long here winds none before k d below =
-    let P : MailValue → Type 0 = λ mail. copies_held (copies_in mail.actor new.owner.handles) ≡ 0 in
-    let was : All P (take i mails) = All-weaker (λ mail. copies_held (copies_in mail.actor old.owner.handles) ≡ 0) P (λ mail is. let less = (winds.handles mail.actor).1 in omega (arith, less, is)) (take i mails) before in
-    subst (λ (l : List MailValue). All P l) (sym (take_more mails i d long)) (All-push P (take i mails) (get_or mails i d) was (ap (λ (n : ℕ). copies_held (copies_in n new.owner.handles)) (here d) ∙ none)) k d below
+none_more mails i a old new long here only_releases none before k d below =
+    let P : MailView → Type 0 = λ mail. copies_held (copies_in mail.actor new.owner.handles) ≡ 0 in
+    let was : All P (take i mails) = All-weaker (λ mail. copies_held (copies_in mail.actor old.owner.handles) ≡ 0) P (λ mail is. let less = (only_releases.handles mail.actor).1 in omega (arith, less, is)) (take i mails) before in
+    subst (λ (l : List MailView). All P l) (sym (take_more mails i d long)) (All-push P (take i mails) (get_or mails i d) was (ap (λ (n : ℕ). copies_held (copies_in n new.owner.handles)) (here d) ∙ none)) k d below

@@ -6,7 +6,7 @@ use Rattle.std.specs.Option.{option_or}
 use Rattle.std.specs.List.{list_all}
 use Rattle.act_types.specs.declared.call.Method.{Method}
 use Rattle.act_types.specs.declared.call.Arg.{Arg}
-use Rattle.act_types.specs.declared.limits.TheConstants.{MOST_ARGS, MOST_CALLS}
+use Rattle.act_types.specs.declared.limits.TheConstants.{MAX_ARGS, MAX_CALLS}
 use Rattle.act_rules.specs.declared.history.Submission.{Submission}
 use Rattle.act_rules.specs.declared.outcome.HandleRefusal.{HandleRefusal}
 use Rattle.act_rules.specs.declared.outcome.SubmitRefusal.{SubmitRefusal}
@@ -19,12 +19,12 @@ use Rattle.act_rules.proofs.Lists.{option_or-none}
 use Rattle.act_handles.specs.Handles.{copies_in, with_copy}
 use Rattle.act_handles.specs.declared.handles.Handle.{Handle}
 use Rattle.act_handles.proofs.Lookups.{copies-with_number}
-use Rattle.act_owner.specs.Owner.{OwnerValue, submission_refusal, limit_of, pending, with_call, with_handles}
-use Rattle.act_drive.specs.declared.desk.CallerLines.{CallerLines}
-use Rattle.act_drive.specs.declared.desk.Desk.{Desk}
-use Rattle.act_drive.specs.declared.desk.CallerPasses.{CallerPasses}
+use Rattle.act_owner.specs.Owner.{OwnerView, refusal_to_submit, owner_limit, pending, with_submission, with_handles}
+use Rattle.act_drive.specs.declared.driver.CallerLines.{CallerLines}
+use Rattle.act_drive.specs.declared.driver.Driver.{Driver}
+use Rattle.act_drive.specs.declared.driver.CallerPasses.{CallerPasses}
 use Rattle.act_drive.specs.Driven.{KeptOn, bare_post, bare_ask, Stays, Waits, FollowsBy}
-use Rattle.act_drive.specs.Sessions.{Seen, seen_of, call_refusal, use_refusal, Hears, Submits}
+use Rattle.act_drive.specs.Sessions.{SessionView, session_view, call_refusal, use_refusal, OnlyHears, Submits}
 use Rattle.act_drive.specs.Lent.{Does}
 use Rattle.act_drive.proofs.PlanSteps.{follows_waits, submit_follows, copy_follows}
 
@@ -51,21 +51,21 @@ kept_below (x ∷ kept) (suc k) has = let below = kept_below kept k has in omega
 
 -- ---- what is seen
 
-pub hears_waits : (old new : Desk) → Waits old new → Hears (seen_of old.owner) (seen_of new.owner)
+pub hears_waits : (old new : Driver) → Waits old new → OnlyHears (session_view old.owner) (session_view new.owner)
 hears_waits old new waits = record { calls = waits.calls; handles = waits.handles; kills = refl }
 
-pub submits_hears : (call : Submission) (old mid new : Seen) → Submits call old mid → Hears mid new → Submits call old new
+pub submits_hears : (call : Submission) (old mid new : SessionView) → Submits call old mid → OnlyHears mid new → Submits call old new
 submits_hears call old mid new submits hears = record {
   calls = hears.calls ∙ submits.calls;
   copies = λ a. ap (λ (h : List Handle). copies_in a h) hears.handles ∙ submits.copies a;
   kills = hears.kills ∙ submits.kills;
 }
 
-pub stays_submitted : (old new : Desk) (a : ℕ) (method : Method) (args : List Arg) → new.owner ≡ with_call old.owner a method args → new.passes ≡ old.passes → Stays old new
+pub stays_submitted : (old new : Driver) (a : ℕ) (method : Method) (args : List Arg) → new.owner ≡ with_submission old.owner a method args → new.passes ≡ old.passes → Stays old new
 stays_submitted old new a method args is passes = record {
-  id = ap (λ (o : OwnerValue). o.id) is;
-  kept = λ k answer has. subst (λ (o : OwnerValue). kept_at o.kept k ≡ Some answer) (sym is) (kept_before old.owner.kept _ k answer has);
-  limits = ap (λ (o : OwnerValue). o.limits) is;
+  id = ap (λ (o : OwnerView). o.id) is;
+  kept = λ k answer has. subst (λ (o : OwnerView). kept_at o.kept k ≡ Some answer) (sym is) (kept_before old.owner.kept _ k answer has);
+  limits = ap (λ (o : OwnerView). o.limits) is;
   passes = record {
     letters = ap (λ (p : CallerPasses). map bare_post p.letters.items) passes;
     kills = ap (λ (p : CallerPasses). map bare_ask p.kills.items) passes;
@@ -73,11 +73,11 @@ stays_submitted old new a method args is passes = record {
   };
 }
 
-pub submits_waited : (old mid new : Desk) (a : ℕ) (method : Method) (args : List Arg) → Waits old mid → new.owner ≡ with_call mid.owner a method args
-    → Submits (record { actor = a; method = method; args = args }) (seen_of old.owner) (seen_of new.owner)
+pub submits_waited : (old mid new : Driver) (a : ℕ) (method : Method) (args : List Arg) → Waits old mid → new.owner ≡ with_submission mid.owner a method args
+    → Submits (record { actor = a; method = method; args = args }) (session_view old.owner) (session_view new.owner)
 submits_waited old mid new a method args waits is = record {
-  calls = ap (λ (o : OwnerValue). o.calls) is ∙ ap (λ (l : List Submission). l ++ record { actor = a; method = method; args = args } ∷ []) waits.calls;
-  copies = λ b. ap (λ (o : OwnerValue). copies_in b o.handles) is ∙ copies-with_number a b mid.owner.handles ∙ ap (λ (h : List Handle). copies_in b h) waits.handles;
+  calls = ap (λ (o : OwnerView). o.calls) is ∙ ap (λ (l : List Submission). l ++ record { actor = a; method = method; args = args } ∷ []) waits.calls;
+  copies = λ b. ap (λ (o : OwnerView). copies_in b o.handles) is ∙ copies-with_number a b mid.owner.handles ∙ ap (λ (h : List Handle). copies_in b h) waits.handles;
   kills = refl;
 }
 
@@ -96,8 +96,8 @@ or_limit None limit not_so is = refl
 or_limit (Some r) limit not_so is = absurd (not_so is)
 
 -- the limit's refusal comes last
-pub limit_last : (owner : OwnerValue) (a : ℕ) (args : List Arg) → submission_refusal owner a args ≡ Some PendingLimit → call_refusal (seen_of owner) a args ≡ None
-limit_last owner a args is = or_limit (call_refusal (seen_of owner) a args) (limit_refusal (limit_of owner a) (pending owner a)) (λ full. no_limit (is_some (copies_in a owner.handles)) (nat_lt 0 (copies_held (copies_in a owner.handles))) (nat_le (length args) MOST_ARGS) (list_all (is_earlier (length owner.calls)) args) (nat_lt (length owner.calls) MOST_CALLS) full) is
+pub limit_last : (owner : OwnerView) (a : ℕ) (args : List Arg) → refusal_to_submit owner a args ≡ Some PendingLimit → call_refusal (session_view owner) a args ≡ None
+limit_last owner a args is = or_limit (call_refusal (session_view owner) a args) (limit_refusal (owner_limit owner a) (pending owner a)) (λ full. no_limit (is_some (copies_in a owner.handles)) (nat_lt 0 (copies_held (copies_in a owner.handles))) (nat_le (length args) MAX_ARGS) (list_all (is_earlier (length owner.calls)) args) (nat_lt (length owner.calls) MAX_CALLS) full) is
 
 in_room : (refusal : Option SubmitRefusal) (limit : Option ℕ) (pending : ℕ) → option_or refusal (limit_refusal limit pending) ≢ Some PendingLimit → option_or refusal (limit_refusal limit pending) ≡ refusal
 in_room (Some r) limit pending room = refl
@@ -109,21 +109,21 @@ in_room None (Some limit) pending room = go (nat_lt pending limit) room
     go false is = absurd (is refl)
 
 -- while a caller waits no reason to refuse a call comes or goes, its limit apart
-pub call_refusal_waits : (old mid : Desk) (a : ℕ) (args : List Arg) → Waits old mid → call_refusal (seen_of mid.owner) a args ≡ call_refusal (seen_of old.owner) a args
+pub call_refusal_waits : (old mid : Driver) (a : ℕ) (args : List Arg) → Waits old mid → call_refusal (session_view mid.owner) a args ≡ call_refusal (session_view old.owner) a args
 call_refusal_waits old mid a args waits =
     ap (λ (h : List Handle). submit_refusal (copies_in a h) (length mid.owner.calls) args) waits.handles
     ∙ ap (λ (l : List Submission). submit_refusal (copies_in a old.owner.handles) (length l) args) waits.calls
 
 -- where there is room, only that
-pub refusal_in_room : (old mid : Desk) (a : ℕ) (args : List Arg) → Waits old mid → submission_refusal mid.owner a args ≢ Some PendingLimit → submission_refusal mid.owner a args ≡ call_refusal (seen_of old.owner) a args
+pub refusal_in_room : (old mid : Driver) (a : ℕ) (args : List Arg) → Waits old mid → refusal_to_submit mid.owner a args ≢ Some PendingLimit → refusal_to_submit mid.owner a args ≡ call_refusal (session_view old.owner) a args
 refusal_in_room old mid a args waits room =
-    in_room (call_refusal (seen_of mid.owner) a args) (limit_of mid.owner a) (pending mid.owner a) room ∙ call_refusal_waits old mid a args waits
+    in_room (call_refusal (session_view mid.owner) a args) (owner_limit mid.owner a) (pending mid.owner a) room ∙ call_refusal_waits old mid a args waits
 
-pub accepted_before : (old mid : Desk) (a : ℕ) (args : List Arg) → Waits old mid → submission_refusal mid.owner a args ≡ None → call_refusal (seen_of old.owner) a args ≡ None
+pub accepted_before : (old mid : Driver) (a : ℕ) (args : List Arg) → Waits old mid → refusal_to_submit mid.owner a args ≡ None → call_refusal (session_view old.owner) a args ≡ None
 accepted_before old mid a args waits accepted = sym (call_refusal_waits old mid a args waits) ∙ option_or-none _ _ accepted
 
 -- a call that is refused for another reason than memory was refused before any waiting
-pub refused_same : (r : SubmitRefusal) (before : Option SubmitRefusal) (old mid new : Desk) → r ≡ unwrap_or before NoMemory → new ≡ mid → (mid ≡ old) ⊎ (before ≡ None) → r ≢ NoMemory → new ≡ old
+pub refused_same : (r : SubmitRefusal) (before : Option SubmitRefusal) (old mid new : Driver) → r ≡ unwrap_or before NoMemory → new ≡ mid → (mid ≡ old) ⊎ (before ≡ None) → r ≢ NoMemory → new ≡ old
 refused_same r before old mid new told is (inl same) other = is ∙ same
 refused_same r before old mid new told is (inr none) other = absurd (other (told ∙ ap (λ (o : Option SubmitRefusal). unwrap_or o NoMemory) none))
 
@@ -139,7 +139,7 @@ on_err (Err e) P is = is
 -- ---- steps
 
 -- a step that is done, where what would refuse it is none
-pub does_submit : (lines : CallerLines) (old mid new : Desk) (a : ℕ) (method : Method) (args : List Arg) → Waits old mid → new.owner ≡ with_call mid.owner a method args → new.passes ≡ mid.passes → call_refusal (seen_of old.owner) a args ≡ None → Does lines (Submit a method args) old new
+pub does_submit : (lines : CallerLines) (old mid new : Driver) (a : ℕ) (method : Method) (args : List Arg) → Waits old mid → new.owner ≡ with_submission mid.owner a method args → new.passes ≡ mid.passes → call_refusal (session_view old.owner) a args ≡ None → Does lines (Submit a method args) old new
 does_submit lines old mid new a method args waits is passes fine actors steps f =
     submit_follows lines mid new a method args is passes actors steps
     (ap (λ (o : Option ℕ). is_some (submit_refusal o (length (done_by actors nothing_done steps).submitted) args)) (sym (f.copies a))
@@ -147,14 +147,14 @@ does_submit lines old mid new a method args waits is passes fine actors steps f 
     ∙ ap (λ (o : Option SubmitRefusal). is_some o) fine)
     (follows_waits lines actors steps old mid waits f)
 
-pub does_copy : (lines : CallerLines) (old new : Desk) (a : ℕ) → new.owner ≡ with_handles old.owner (with_copy a old.owner.handles) → new.passes ≡ old.passes → copy_refusal (copies_in a old.owner.handles) ≡ None → Does lines (Copy a) old new
+pub does_copy : (lines : CallerLines) (old new : Driver) (a : ℕ) → new.owner ≡ with_handles old.owner (with_copy a old.owner.handles) → new.passes ≡ old.passes → copy_refusal (copies_in a old.owner.handles) ≡ None → Does lines (Copy a) old new
 does_copy lines old new a is passes fine actors steps f =
     copy_follows lines old new a is passes actors steps (ap (λ (o : Option ℕ). is_some (copy_refusal o)) (sym (f.copies a)) ∙ ap (λ (o : Option HandleRefusal). is_some o) fine) f
 
-pub does_release : (lines : CallerLines) (old new : Desk) (a : ℕ) → FollowsBy lines (Release a) old new → use_refusal (seen_of old.owner) a ≡ None → Does lines (Release a) old new
+pub does_release : (lines : CallerLines) (old new : Driver) (a : ℕ) → FollowsBy lines (Release a) old new → use_refusal (session_view old.owner) a ≡ None → Does lines (Release a) old new
 does_release lines old new a follows fine actors steps f =
     follows actors steps (ap (λ (o : Option ℕ). is_some (handle_refusal o)) (sym (f.copies a)) ∙ ap (λ (o : Option HandleRefusal). is_some o) fine) f
 
-pub does_kill : (lines : CallerLines) (old new : Desk) (a : ℕ) → FollowsBy lines (Kill a) old new → use_refusal (seen_of old.owner) a ≡ None → Does lines (Kill a) old new
+pub does_kill : (lines : CallerLines) (old new : Driver) (a : ℕ) → FollowsBy lines (Kill a) old new → use_refusal (session_view old.owner) a ≡ None → Does lines (Kill a) old new
 does_kill lines old new a follows fine actors steps f =
     follows actors steps (ap (λ (o : Option ℕ). is_some (handle_refusal o)) (sym (f.copies a)) ∙ ap (λ (o : Option HandleRefusal). is_some o) fine) f

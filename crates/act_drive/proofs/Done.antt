@@ -14,22 +14,22 @@ use Rattle.act_rules.specs.Submissions.{copies_held, kept_at}
 use Rattle.act_handles.specs.Handles.{copies_in, actors_in}
 use Rattle.act_handles.specs.declared.handles.Handle.{Handle}
 use Rattle.act_handles.proofs.Lookups.{copies-opened}
-use Rattle.act_owner.specs.Owner.{OwnerValue}
+use Rattle.act_owner.specs.Owner.{OwnerView}
 use Rattle.act_owner.specs.Life.{Hears}
 use Rattle.act_owner.proofs.Told.{hears_opened}
-use Rattle.act_mailbox.specs.Passes.{PutterValue}
-use Rattle.act_mailbox.specs.Mails.{MailValue}
+use Rattle.act_mailbox.specs.Passes.{PutterView}
+use Rattle.act_mailbox.specs.Mails.{MailView}
 use Rattle.act_mailbox.specs.declared.control.Asked.{Asked}
 use Rattle.act_mailbox.specs.declared.mail.Letter.{Letter}
-use Rattle.act_seats.specs.declared.seat.Seat.{Seat}
-use Rattle.act_drive.specs.declared.desk.CallerLines.{CallerLines}
-use Rattle.act_drive.specs.declared.desk.Desk.{Desk}
-use Rattle.act_drive.specs.declared.desk.CallerPasses.{CallerPasses}
-use Rattle.act_drive.specs.Driven.{IsSeat, IsPosting, IsCalling, Stays, Waits, Follows, HasAsked, Winds, IsFresh, IsFreshSeat, HasDone, HasDriven, HasEnded, HasPosted, AreDistinct, futures_in, last_note, IsKeeping, posted_in, IsIdle, IsDue, actor_of}
+use Rattle.act_mailbox.specs.declared.endpoint.Endpoint.{Endpoint}
+use Rattle.act_drive.specs.declared.driver.CallerLines.{CallerLines}
+use Rattle.act_drive.specs.declared.driver.Driver.{Driver}
+use Rattle.act_drive.specs.declared.driver.CallerPasses.{CallerPasses}
+use Rattle.act_drive.specs.Driven.{IsEndpoint, IsPosting, IsCalling, Stays, Waits, FollowsSteps, HasAsked, OnlyReleases, IsFreshCaller, IsFreshEndpoint, HasDone, HasDriven, HasEndedAt, HasPosted, AreDistinct, futures_in, last_note, IsKeeping, posted_in, IsIdle, IsDue, actor_of_letter}
 use Rattle.act_drive.proofs.Keeps.{keeps_opened}
-use Rattle.act_drive.proofs.Desks.{posting_less}
+use Rattle.act_drive.proofs.Drivers.{posting_less}
 use Rattle.act_drive.proofs.PlanSteps.{kills_on}
-use Rattle.act_drive.proofs.Seats.{posted_once, distinct_stays}
+use Rattle.act_drive.proofs.Endpoints.{posted_once, distinct_stays}
 
 -- ---- a plan
 
@@ -51,37 +51,37 @@ let_go_all : (copies : Option ℕ) → is_some copies ≡ true → copies_held c
 let_go_all None some none = absurd (cc some)
 let_go_all (Some n) some none = ap Some none
 
--- what was kept of what is due, with nothing in hand
-due_posted : (mails : List MailValue) (taken : List Notice) (seats : List (Seat (PutterValue Letter Unit))) (hand : Option Letter) (letter : Letter) → hand ≡ None → Contains (posted_in seats ++ option_to_list hand) letter ⊎ IsIdle mails taken seats (actor_of letter) → Contains (posted_in seats) letter ⊎ IsIdle mails taken seats (actor_of letter)
-due_posted mails taken seats hand letter empty is =
-    subst (λ (l : List Letter). Contains l letter ⊎ IsIdle mails taken seats (actor_of letter)) (ap (λ (h : Option Letter). posted_in seats ++ option_to_list h) empty ∙ append-nil (posted_in seats)) is
+-- what was kept of what is due, with nothing in the outbox
+due_posted : (mails : List MailView) (taken : List Notice) (endpoints : List (Endpoint (PutterView Letter Unit))) (outbox : Option Letter) (letter : Letter) → outbox ≡ None → Contains (posted_in endpoints ++ option_to_list outbox) letter ⊎ IsIdle mails taken endpoints (actor_of_letter letter) → Contains (posted_in endpoints) letter ⊎ IsIdle mails taken endpoints (actor_of_letter letter)
+due_posted mails taken endpoints outbox letter empty is =
+    subst (λ (l : List Letter). Contains l letter ⊎ IsIdle mails taken endpoints (actor_of_letter letter)) (ap (λ (h : Option Letter). posted_in endpoints ++ option_to_list h) empty ∙ append-nil (posted_in endpoints)) is
 
--- at a seat nothing is idle but after the death
-note_posted : (mails : List MailValue) (taken : List Notice) (seats : List (Seat (PutterValue Letter Unit))) (letter : Letter) (a k : ℕ) (s : Seat (PutterValue Letter Unit)) (d : MailValue) → k < length seats → (get_or mails (get_or seats k s).place d).actor ≡ a → Contains (posted_in seats) letter ⊎ IsIdle mails taken seats a → Contains (posted_in seats) letter ⊎ Contains taken (Death a)
-note_posted mails taken seats letter a k s d below here (inl posted) = inl posted
-note_posted mails taken seats letter a k s d below here (inr (inl dead)) = inr dead
-note_posted mails taken seats letter a k s d below here (inr (inr apart)) = absurd (apart k s below d here)
+-- at an endpoint nothing is idle but after the death
+note_posted : (mails : List MailView) (taken : List Notice) (endpoints : List (Endpoint (PutterView Letter Unit))) (letter : Letter) (a k : ℕ) (s : Endpoint (PutterView Letter Unit)) (d : MailView) → k < length endpoints → (get_or mails (get_or endpoints k s).place d).actor ≡ a → Contains (posted_in endpoints) letter ⊎ IsIdle mails taken endpoints a → Contains (posted_in endpoints) letter ⊎ Contains taken (Death a)
+note_posted mails taken endpoints letter a k s d below here (inl posted) = inl posted
+note_posted mails taken endpoints letter a k s d below here (inr (inl dead)) = inr dead
+note_posted mails taken endpoints letter a k s d below here (inr (inr apart)) = absurd (apart k s below d here)
 
-pub done_of : (lines : CallerLines) (actors : List ℕ) (plan : List Step) (one two three : Desk) → Winds one two → All (λ mail. copies_held (copies_in mail.actor two.owner.handles) ≡ 0) lines.mails.now → Waits two three → IsCalling lines three → list_all is_some three.owner.kept ≡ true → three.hand ≡ None
-    → Follows lines actors plan one → HasDone lines actors plan three.owner three.passes
-done_of lines actors plan one two three winds closed waits calling answered empty f =
+pub done_of : (lines : CallerLines) (actors : List ℕ) (plan : List Step) (one two three : Driver) → OnlyReleases one two → All (λ mail. copies_held (copies_in mail.actor two.owner.handles) ≡ 0) lines.mails.now → Waits two three → IsCalling lines three → list_all is_some three.owner.kept ≡ true → three.outbox ≡ None
+    → FollowsSteps lines actors plan one → HasDone lines actors plan three.owner three.passes
+done_of lines actors plan one two three only_releases closed waits calling answered empty f =
     let mails = lines.mails.now in
     let taken = three.passes.collects.taken in
-    let seats = three.passes.letters.items in
-    let sent : (letter : Letter) → IsDue three.owner letter → Contains (posted_in seats) letter ⊎ IsIdle mails taken seats (actor_of letter) = λ letter due. due_posted mails taken seats three.hand letter empty (calling.keeps.due letter due) in
+    let endpoints = three.passes.letters.items in
+    let sent : (letter : Letter) → IsDue three.owner letter → Contains (posted_in endpoints) letter ⊎ IsIdle mails taken endpoints (actor_of_letter letter) = λ letter due. due_posted mails taken endpoints three.outbox letter empty (calling.keeps.due letter due) in
     record {
-      calls = waits.calls ∙ winds.calls ∙ f.calls;
+      calls = waits.calls ∙ only_releases.calls ∙ f.calls;
       answered = λ k below. kept_all three.owner.kept k answered (let places = calling.places in omega (arith, below, places));
-      kills = subst (λ (v : List (Seat (PutterValue Asked ℕ))). All (HasAsked lines.controls.now plan taken) v) (sym (waits.kills ∙ winds.kills))
-          (kills_on lines.controls.now plan plan one.passes.collects.taken taken one.passes.kills.items (λ a. refl) (λ n has. waits.heard n (winds.heard n has)) f.kills);
+      kills = subst (λ (v : List (Endpoint (PutterView Asked ℕ))). All (HasAsked lines.controls.now plan taken) v) (sym (waits.kills ∙ only_releases.kills))
+          (kills_on lines.controls.now plan plan one.passes.collects.taken taken one.passes.kills.items (λ a. refl) (λ n has. waits.heard n (only_releases.heard n has)) f.kills);
       sent = sent;
       noted = λ k s below d listed.
-          let place = (get_or seats k s).place in
+          let place = (get_or endpoints k s).place in
           let a = (get_or mails place d).actor in
           let some : is_some (copies_in a three.owner.handles) ≡ true =
-          ap (λ (h : List Handle). is_some (copies_in a h)) waits.handles ∙ (winds.handles a).0 ∙ ap (λ (o : Option ℕ). is_some o) (f.copies a) ∙ listed_holds a actors (done_by actors nothing_done plan) listed in
+          ap (λ (h : List Handle). is_some (copies_in a h)) waits.handles ∙ (only_releases.handles a).0 ∙ ap (λ (o : Option ℕ). is_some o) (f.copies a) ∙ listed_holds a actors (done_by actors nothing_done plan) listed in
           let none : copies_held (copies_in a three.owner.handles) ≡ 0 = ap (λ (h : List Handle). copies_held (copies_in a h)) waits.handles ∙ closed place d (calling.letters k s below).below in
-          note_posted mails taken seats (last_note three.owner a) a k s d below refl (sent (last_note three.owner a) (refl, let_go_all (copies_in a three.owner.handles) some none));
+          note_posted mails taken endpoints (last_note three.owner a) a k s d below refl (sent (last_note three.owner a) (refl, let_go_all (copies_in a three.owner.handles) some none));
     }
 
 -- ---- the opening
@@ -93,50 +93,50 @@ unset_flags n a = elim (leb_tells (suc a) n) [
   | inr f ↦ let long : length (replicate n false) ≡ n = length-replicate n false in get_or_past (replicate n false) a false (omega (arith, f.1, long))
 ]
 
-posting_none : (owner : OwnerValue) (a : ℕ) → IsPosting owner a [] []
+posting_none : (owner : OwnerView) (a : ℕ) → IsPosting owner a [] []
 posting_none owner a = record { sent = λ k e below. absurd (omega arith); distinct = λ i j e lt below. absurd (omega arith); marked = λ k e below. absurd (omega arith) }
 
-posting_fresh : (owner : OwnerValue) (a : ℕ) (put : List Letter) → put ≡ [] → IsPosting owner a [] put
+posting_fresh : (owner : OwnerView) (a : ℕ) (put : List Letter) → put ≡ [] → IsPosting owner a [] put
 posting_fresh owner a put is = subst (λ (l : List Letter). IsPosting owner a [] l) (sym is) (posting_none owner a)
 
-pub fresh_calling : (lines : CallerLines) (owner : OwnerValue) (passes : CallerPasses) (noted : List Bool) → ((a : ℕ) → get_or noted a false ≡ false) → IsFresh lines owner passes → IsCalling lines (record { owner = owner; passes = passes; hand = None; noted = noted })
+pub fresh_calling : (lines : CallerLines) (owner : OwnerView) (passes : CallerPasses) (noted : List Bool) → ((a : ℕ) → get_or noted a false ≡ false) → IsFreshCaller lines owner passes → IsCalling lines (record { owner = owner; passes = passes; outbox = None; noted = noted })
 fresh_calling lines owner passes noted unset fresh =
     let actors = actors_in owner.handles in
     record {
       places = rw fresh.owner_is refl;
       flags = rw fresh.owner_is refl;
-      hears = subst (λ (l : List Notice). Hears owner l) (sym fresh.unused.taken) (subst (λ (o : OwnerValue). Hears o []) (sym fresh.owner_is) (hears_opened owner.limits owner.id actors));
+      hears = subst (λ (l : List Notice). Hears owner l) (sym fresh.unused.taken) (subst (λ (o : OwnerView). Hears o []) (sym fresh.owner_is) (hears_opened owner.limits owner.id actors));
       collects = fresh.unused.collects;
       held = tt;
-      letters = All-weaker (IsFreshSeat lines.mails.now owner.id) (IsSeat lines.mails.now owner []) (λ seat s. record {
+      letters = All-weaker (IsFreshEndpoint lines.mails.now owner.id) (IsEndpoint lines.mails.now owner []) (λ endpoint s. record {
         below = s.below;
         line = s.line;
         number = s.number;
-        posting = λ d. posting_fresh owner (get_or lines.mails.now seat.place d).actor seat.pass.put s.put;
+        posting = λ d. posting_fresh owner (get_or lines.mails.now endpoint.place d).actor endpoint.pass.put s.put;
       }) passes.letters.items fresh.unused.letters;
       kills = fresh.unused.kills;
-      keeps = rw fresh.unused.taken (subst (λ (o : OwnerValue). IsKeeping lines.mails.now o [] passes.letters.items []) (sym fresh.owner_is) (keeps_opened lines.mails.now owner.limits owner.id actors passes.letters.items));
+      keeps = rw fresh.unused.taken (subst (λ (o : OwnerView). IsKeeping lines.mails.now o [] passes.letters.items []) (sym fresh.owner_is) (keeps_opened lines.mails.now owner.limits owner.id actors passes.letters.items));
       noted = λ a set. absurd (cc (unset a, set));
       names = λ k s below d. subst (λ (l : List Asked). All (λ kill. kill.note ≡ record { caller = owner.id; actor = (get_or lines.controls.now (get_or passes.kills.items k s).place d).actor }) l) (sym (fresh.unused.asked k s below)) (λ i e inside. absurd (omega arith));
     }
 
-pub fresh_follows : (lines : CallerLines) (owner : OwnerValue) (passes : CallerPasses) (noted : List Bool) → IsFresh lines owner passes → Follows lines (actors_in owner.handles) [] (record { owner = owner; passes = passes; hand = None; noted = noted })
+pub fresh_follows : (lines : CallerLines) (owner : OwnerView) (passes : CallerPasses) (noted : List Bool) → IsFreshCaller lines owner passes → FollowsSteps lines (actors_in owner.handles) [] (record { owner = owner; passes = passes; outbox = None; noted = noted })
 fresh_follows lines owner passes noted fresh = record {
-  calls = ap (λ (o : OwnerValue). o.calls) fresh.owner_is;
-  copies = λ a. ap (λ (o : OwnerValue). copies_in a o.handles) fresh.owner_is ∙ copies-opened a (actors_in owner.handles);
+  calls = ap (λ (o : OwnerView). o.calls) fresh.owner_is;
+  copies = λ a. ap (λ (o : OwnerView). copies_in a o.handles) fresh.owner_is ∙ copies-opened a (actors_in owner.handles);
   kills = λ k s below d. inl (ap (λ (l : List Asked). length l) (fresh.unused.asked k s below));
 }
 
-have_posted : (lines : CallerLines) (desk : Desk) → IsCalling lines desk → All (HasPosted lines.mails.now desk.owner) desk.passes.letters.items
-have_posted lines desk calling k s below d =
+have_posted : (lines : CallerLines) (driver : Driver) → IsCalling lines driver → All (HasPosted lines.mails.now driver.owner) driver.passes.letters.items
+have_posted lines driver calling k s below d =
     let posting = (calling.letters k s below).posting d in
-    let less = posting_less desk.owner _ (option_to_list desk.hand) _ posting in (
+    let less = posting_less driver.owner _ (option_to_list driver.outbox) _ posting in (
       less.sent,
-      subst (λ (l : List Letter). AllPairs (λ one other. one ≢ other) (futures_in l)) (append-nil (get_or desk.passes.letters.items k s).pass.put) less.distinct,
+      subst (λ (l : List Letter). AllPairs (λ one other. one ≢ other) (futures_in l)) (append-nil (get_or driver.passes.letters.items k s).pass.put) less.distinct,
     )
 
-pub driven_of : (lines : CallerLines) (plan : List Step) (starved : Bool) (start new : Desk) → AreDistinct lines.mails.now start.passes.letters.items → IsCalling lines new → Stays start new → (starved ≡ false → HasDone lines (actors_in start.owner.handles) plan new.owner new.passes)
-    → (starved ≡ true → All (HasEnded lines.controls.now new.owner new.passes) new.passes.kills.items)
+pub driven_of : (lines : CallerLines) (plan : List Step) (starved : Bool) (start new : Driver) → AreDistinct lines.mails.now start.passes.letters.items → IsCalling lines new → Stays start new → (starved ≡ false → HasDone lines (actors_in start.owner.handles) plan new.owner new.passes)
+    → (starved ≡ true → All (HasEndedAt lines.controls.now new.owner new.passes) new.passes.kills.items)
     → HasDriven lines start.owner start.passes plan (record { owner = new.owner; starved = starved; passes = new.passes })
 driven_of lines plan starved start new distinct calling stay done ended = record {
   id = stay.id;

@@ -14,23 +14,23 @@ use Rattle.act_types.specs.declared.message.Notice.TheVariants.{Death}
 use Rattle.act_rules.specs.Submissions.{calls_to, copies_held}
 use Rattle.act_handles.specs.Handles.{copies_in, with_copy, without_copy}
 use Rattle.act_handles.proofs.Lookups.{copies-opened, copies-with_copy, copies-with_copy-other, copies-without_copy, copies-without_copy-other, copies-with_number}
-use Rattle.act_owner.specs.Owner.{OwnerValue, opened_under, packet_at, is_sent, with_handles, with_call, with_sent}
+use Rattle.act_owner.specs.Owner.{OwnerView, opened_under, packet_at, is_sent, with_handles, with_submission, with_sent}
 use Rattle.act_owner.specs.Life.{is_known_at}
-use Rattle.act_mailbox.specs.Mails.{MailValue}
-use Rattle.act_mailbox.specs.Passes.{PutterValue}
+use Rattle.act_mailbox.specs.Mails.{MailView}
+use Rattle.act_mailbox.specs.Passes.{PutterView}
 use Rattle.act_mailbox.specs.declared.mail.Letter.{Letter}
 use Rattle.act_mailbox.specs.declared.mail.Letter.TheVariants.{Call, Note}
-use Rattle.act_seats.specs.declared.seat.Seat.{Seat}
-use Rattle.act_drive.specs.Driven.{actor_of, GoesOn, last_note, IsDue, posted_in, IsApart, IsIdle, IsKeeping}
+use Rattle.act_mailbox.specs.declared.endpoint.Endpoint.{Endpoint}
+use Rattle.act_drive.specs.Driven.{actor_of_letter, OwnerGoesOn, last_note, IsDue, posted_in, IsApart, IsIdle, IsKeeping}
 
 -- ---- the owner goes on
 
 -- what is marked sent, or let go, later was so before
-pub record Returns (owner later : OwnerValue) : Type 0 where
+pub record Returns (owner later : OwnerView) : Type 0 where
   pub sent : (k : ℕ) → is_sent later k ≡ true → is_sent owner k ≡ true
   pub ended : (a : ℕ) → copies_in a later.handles ≡ Some 0 → copies_in a owner.handles ≡ Some 0
 
-due_before : (owner later : OwnerValue) (letter : Letter) → GoesOn owner later → Returns owner later → ((k : ℕ) → is_sent owner k ≡ true → is_known_at owner k ≡ true) → IsDue later letter → IsDue owner letter
+due_before : (owner later : OwnerView) (letter : Letter) → OwnerGoesOn owner later → Returns owner later → ((k : ℕ) → is_sent owner k ≡ true → is_known_at owner k ≡ true) → IsDue later letter → IsDue owner letter
 due_before owner later (Call packet) on back known due =
     let sent = back.sent packet.future due.1 in
     (sym (on.packets packet.future (known packet.future sent)).1 ∙ due.0, sent)
@@ -42,20 +42,20 @@ due_before owner later (Note note) on back known due =
     )
 
 -- a letter among these, or that need not be posted, is so with more letters and notices
-more : (mails : List MailValue) (taken later : List Notice) (seats : List (Seat (PutterValue Letter Unit))) (letters others : List Letter) (letter : Letter) → ((n : Notice) → Contains taken n → Contains later n) → (Contains letters letter → Contains others letter)
-    → Contains letters letter ⊎ IsIdle mails taken seats (actor_of letter) → Contains others letter ⊎ IsIdle mails later seats (actor_of letter)
-more mails taken later seats letters others letter heard grown (inl here) = inl (grown here)
-more mails taken later seats letters others letter heard grown (inr (inl dead)) = inr (inl (heard (Death (actor_of letter)) dead))
-more mails taken later seats letters others letter heard grown (inr (inr apart)) = inr (inr apart)
+more : (mails : List MailView) (taken later : List Notice) (endpoints : List (Endpoint (PutterView Letter Unit))) (letters others : List Letter) (letter : Letter) → ((n : Notice) → Contains taken n → Contains later n) → (Contains letters letter → Contains others letter)
+    → Contains letters letter ⊎ IsIdle mails taken endpoints (actor_of_letter letter) → Contains others letter ⊎ IsIdle mails later endpoints (actor_of_letter letter)
+more mails taken later endpoints letters others letter heard grown (inl here) = inl (grown here)
+more mails taken later endpoints letters others letter heard grown (inr (inl dead)) = inr (inl (heard (Death (actor_of_letter letter)) dead))
+more mails taken later endpoints letters others letter heard grown (inr (inr apart)) = inr (inr apart)
 
-pub keeps_on : (mails : List MailValue) (owner later : OwnerValue) (taken more_taken : List Notice) (seats : List (Seat (PutterValue Letter Unit))) (held : List Letter) → GoesOn owner later → Returns owner later → ((n : Notice) → Contains taken n → Contains more_taken n)
-    → IsKeeping mails owner taken seats held → IsKeeping mails later more_taken seats held
-keeps_on mails owner later taken more_taken seats held on back heard keeps = record {
+pub keeps_on : (mails : List MailView) (owner later : OwnerView) (taken more_taken : List Notice) (endpoints : List (Endpoint (PutterView Letter Unit))) (held : List Letter) → OwnerGoesOn owner later → Returns owner later → ((n : Notice) → Contains taken n → Contains more_taken n)
+    → IsKeeping mails owner taken endpoints held → IsKeeping mails later more_taken endpoints held
+keeps_on mails owner later taken more_taken endpoints held on back heard keeps = record {
   known = λ k is. (on.packets k (keeps.known k (back.sent k is))).0;
-  due = λ letter due. more mails taken more_taken seats (posted_in seats ++ held) (posted_in seats ++ held) letter heard (λ here. here) (keeps.due letter (due_before owner later letter on back keeps.known due));
+  due = λ letter due. more mails taken more_taken endpoints (posted_in endpoints ++ held) (posted_in endpoints ++ held) letter heard (λ here. here) (keeps.due letter (due_before owner later letter on back keeps.known due));
 }
 
-pub same_returns : (owner later : OwnerValue) → later.sent ≡ owner.sent → later.handles ≡ owner.handles → Returns owner later
+pub same_returns : (owner later : OwnerView) → later.sent ≡ owner.sent → later.handles ≡ owner.handles → Returns owner later
 same_returns owner later sent handles = record {
   sent = λ k is. ap (λ (l : List Bool). unwrap_or (slice_get l k) false) (sym sent) ∙ is;
   ended = λ a is. ap (copies_in a) (sym handles) ∙ is;
@@ -67,7 +67,7 @@ sent_before [] (suc k) is = is
 sent_before (b ∷ flags) zero is = is
 sent_before (b ∷ flags) (suc k) is = sent_before flags k is
 
-pub submit_returns : (owner : OwnerValue) (a : ℕ) (method : Method) (args : List Arg) → Returns owner (with_call owner a method args)
+pub submit_returns : (owner : OwnerView) (a : ℕ) (method : Method) (args : List Arg) → Returns owner (with_submission owner a method args)
 submit_returns owner a method args = record {
   sent = λ k is. sent_before owner.sent k is;
   ended = λ b is. sym (copies-with_number a b owner.handles) ∙ is;
@@ -77,7 +77,7 @@ not_more : (copies : Option ℕ) → option_map (λ n. n + 1) copies ≡ Some 0 
 not_more None is = absurd (cc is)
 not_more (Some n) is = let one : n + 1 ≡ 0 = cc is in absurd (omega (arith, one))
 
-pub copy_returns : (owner : OwnerValue) (a : ℕ) → Returns owner (with_handles owner (with_copy a owner.handles))
+pub copy_returns : (owner : OwnerView) (a : ℕ) → Returns owner (with_handles owner (with_copy a owner.handles))
 copy_returns owner a = record {
   sent = λ k is. is;
   ended = λ b is. elim (eqb_tells a b) [
@@ -92,7 +92,7 @@ not_less (Some zero) one is = refl
 not_less (Some (suc zero)) one is = absurd (one refl)
 not_less (Some (suc (suc n))) one is = let none : suc (suc n) - 1 ≡ 0 = cc is in absurd (omega (arith, none))
 
-pub release_returns : (owner : OwnerValue) (a : ℕ) → copies_in a owner.handles ≢ Some 1 → Returns owner (with_handles owner (without_copy a owner.handles))
+pub release_returns : (owner : OwnerView) (a : ℕ) → copies_in a owner.handles ≢ Some 1 → Returns owner (with_handles owner (without_copy a owner.handles))
 release_returns owner a one = record {
   sent = λ k is. is;
   ended = λ b is. elim (eqb_tells a b) [
@@ -107,28 +107,28 @@ one_is_some : (listed : Bool) → if◌then◌else◌ {A = Option ℕ} listed (S
 one_is_some true is = cc is
 one_is_some false is = cc is
 
-pub keeps_opened : (mails : List MailValue) (limits : List (ℕ × Option ℕ)) (id : ℕ) (actors : List ℕ) (seats : List (Seat (PutterValue Letter Unit))) → IsKeeping mails (opened_under limits id actors) [] seats []
-keeps_opened mails limits id actors seats = record { known = λ k is. absurd (cc is); due = due }
+pub keeps_opened : (mails : List MailView) (limits : List (ℕ × Option ℕ)) (id : ℕ) (actors : List ℕ) (endpoints : List (Endpoint (PutterView Letter Unit))) → IsKeeping mails (opened_under limits id actors) [] endpoints []
+keeps_opened mails limits id actors endpoints = record { known = λ k is. absurd (cc is); due = due }
   where
-    due : (letter : Letter) → IsDue (opened_under limits id actors) letter → Contains (posted_in seats ++ []) letter ⊎ IsIdle mails [] seats (actor_of letter)
+    due : (letter : Letter) → IsDue (opened_under limits id actors) letter → Contains (posted_in endpoints ++ []) letter ⊎ IsIdle mails [] endpoints (actor_of_letter letter)
     due (Call packet) is = absurd (cc is.1)
     due (Note note) is = absurd (one_is_some _ (sym (copies-opened note.actor actors) ∙ is.1))
 
--- ---- what is in hand
+-- ---- what is in the outbox
 
-sent_other : (owner : OwnerValue) (k j : ℕ) → j ≢ k → is_sent (with_sent owner k) j ≡ is_sent owner j
+sent_other : (owner : OwnerView) (k j : ℕ) → j ≢ k → is_sent (with_sent owner k) j ≡ is_sent owner j
 sent_other owner k j apart = unwrap_or-slice_get (set owner.sent k true) j false ∙ get_or-set_other owner.sent k j true false apart ∙ sym (unwrap_or-slice_get owner.sent j false)
 
-held_more : (mails : List MailValue) (taken : List Notice) (seats : List (Seat (PutterValue Letter Unit))) (held letter : Letter) → Contains (posted_in seats ++ []) letter ⊎ IsIdle mails taken seats (actor_of letter) → Contains (posted_in seats ++ held ∷ []) letter ⊎ IsIdle mails taken seats (actor_of letter)
-held_more mails taken seats held letter is =
-    more mails taken taken seats _ _ letter (λ n has. has) (λ here. elim (Contains-append_cases (posted_in seats) [] letter here) [
-      | inl before ↦ Contains-append_left (posted_in seats) (held ∷ []) letter before
+held_more : (mails : List MailView) (taken : List Notice) (endpoints : List (Endpoint (PutterView Letter Unit))) (held letter : Letter) → Contains (posted_in endpoints ++ []) letter ⊎ IsIdle mails taken endpoints (actor_of_letter letter) → Contains (posted_in endpoints ++ held ∷ []) letter ⊎ IsIdle mails taken endpoints (actor_of_letter letter)
+held_more mails taken endpoints held letter is =
+    more mails taken taken endpoints _ _ letter (λ n has. has) (λ here. elim (Contains-append_cases (posted_in endpoints) [] letter here) [
+      | inl before ↦ Contains-append_left (posted_in endpoints) (held ∷ []) letter before
       | inr none ↦ absurd (let below = none.1 in omega (arith, below))
     ]) is
 
-pub keeps_taken : (mails : List MailValue) (owner : OwnerValue) (taken : List Notice) (seats : List (Seat (PutterValue Letter Unit))) (k : ℕ) (packet : Packet) → packet_at owner k ≡ Some packet → is_known_at owner k ≡ true
-    → IsKeeping mails owner taken seats [] → IsKeeping mails (with_sent owner k) taken seats (Call packet ∷ [])
-keeps_taken mails owner taken seats k packet at known keeps = record {
+pub keeps_taken : (mails : List MailView) (owner : OwnerView) (taken : List Notice) (endpoints : List (Endpoint (PutterView Letter Unit))) (k : ℕ) (packet : Packet) → packet_at owner k ≡ Some packet → is_known_at owner k ≡ true
+    → IsKeeping mails owner taken endpoints [] → IsKeeping mails (with_sent owner k) taken endpoints (Call packet ∷ [])
+keeps_taken mails owner taken endpoints k packet at known keeps = record {
   known = λ j is. elim (eqb_tells j k) [
     | inl t ↦ subst (λ (n : ℕ). is_known_at owner n ≡ true) (sym t.1) known
     | inr f ↦ keeps.known j (sym (sent_other owner k j f.1) ∙ is)
@@ -136,83 +136,83 @@ keeps_taken mails owner taken seats k packet at known keeps = record {
   due = due;
 }
   where
-    due : (letter : Letter) → IsDue (with_sent owner k) letter → Contains (posted_in seats ++ Call packet ∷ []) letter ⊎ IsIdle mails taken seats (actor_of letter)
+    due : (letter : Letter) → IsDue (with_sent owner k) letter → Contains (posted_in endpoints ++ Call packet ∷ []) letter ⊎ IsIdle mails taken endpoints (actor_of_letter letter)
     due (Call other) is = elim (eqb_tells other.future k) [
       | inl t ↦
           let same : packet ≡ other = cc (sym at ∙ sym (ap (packet_at owner) t.1) ∙ is.0) in
-          inl (subst (λ (p : Packet). Contains (posted_in seats ++ Call packet ∷ []) (Call p)) same (Contains-push (posted_in seats) (Call packet)))
-      | inr f ↦ held_more mails taken seats (Call packet) (Call other) (keeps.due (Call other) (is.0, sym (sent_other owner k other.future f.1) ∙ is.1))
+          inl (subst (λ (p : Packet). Contains (posted_in endpoints ++ Call packet ∷ []) (Call p)) same (Contains-push (posted_in endpoints) (Call packet)))
+      | inr f ↦ held_more mails taken endpoints (Call packet) (Call other) (keeps.due (Call other) (is.0, sym (sent_other owner k other.future f.1) ∙ is.1))
     ]
-    due (Note note) is = held_more mails taken seats (Call packet) (Note note) (keeps.due (Note note) is)
+    due (Note note) is = held_more mails taken endpoints (Call packet) (Note note) (keeps.due (Note note) is)
 
 -- the last handle is let go, and its note is held
-pub keeps_noted : (mails : List MailValue) (owner : OwnerValue) (taken : List Notice) (seats : List (Seat (PutterValue Letter Unit))) (a : ℕ) (note : ReleaseNote) → Note note ≡ last_note owner a
-    → IsKeeping mails owner taken seats [] → IsKeeping mails (with_handles owner (without_copy a owner.handles)) taken seats (Note note ∷ [])
-keeps_noted mails owner taken seats a note last keeps = record { known = keeps.known; due = due }
+pub keeps_noted : (mails : List MailView) (owner : OwnerView) (taken : List Notice) (endpoints : List (Endpoint (PutterView Letter Unit))) (a : ℕ) (note : ReleaseNote) → Note note ≡ last_note owner a
+    → IsKeeping mails owner taken endpoints [] → IsKeeping mails (with_handles owner (without_copy a owner.handles)) taken endpoints (Note note ∷ [])
+keeps_noted mails owner taken endpoints a note last keeps = record { known = keeps.known; due = due }
   where
-    due : (letter : Letter) → IsDue (with_handles owner (without_copy a owner.handles)) letter → Contains (posted_in seats ++ Note note ∷ []) letter ⊎ IsIdle mails taken seats (actor_of letter)
-    due (Call packet) is = held_more mails taken seats (Note note) (Call packet) (keeps.due (Call packet) is)
+    due : (letter : Letter) → IsDue (with_handles owner (without_copy a owner.handles)) letter → Contains (posted_in endpoints ++ Note note ∷ []) letter ⊎ IsIdle mails taken endpoints (actor_of_letter letter)
+    due (Call packet) is = held_more mails taken endpoints (Note note) (Call packet) (keeps.due (Call packet) is)
     due (Note other) is = elim (eqb_tells a other.actor) [
       | inl t ↦
           let same : Note note ≡ Note other = last ∙ ap (last_note owner) t.1 ∙ sym is.0 in
-          inl (subst (λ (l : Letter). Contains (posted_in seats ++ Note note ∷ []) l) same (Contains-push (posted_in seats) (Note note)))
-      | inr f ↦ held_more mails taken seats (Note note) (Note other) (keeps.due (Note other) (is.0, sym (copies-without_copy-other a other.actor owner.handles f.1) ∙ is.1))
+          inl (subst (λ (l : Letter). Contains (posted_in endpoints ++ Note note ∷ []) l) same (Contains-push (posted_in endpoints) (Note note)))
+      | inr f ↦ held_more mails taken endpoints (Note note) (Note other) (keeps.due (Note other) (is.0, sym (copies-without_copy-other a other.actor owner.handles f.1) ∙ is.1))
     ]
 
 -- the letter that is held need not be posted
-pub keeps_dropped : (mails : List MailValue) (owner : OwnerValue) (taken : List Notice) (seats : List (Seat (PutterValue Letter Unit))) (held : Letter) → IsIdle mails taken seats (actor_of held) → IsKeeping mails owner taken seats (held ∷ []) → IsKeeping mails owner taken seats []
-keeps_dropped mails owner taken seats held idle keeps = record { known = keeps.known; due = λ letter due. go letter (keeps.due letter due) }
+pub keeps_dropped : (mails : List MailView) (owner : OwnerView) (taken : List Notice) (endpoints : List (Endpoint (PutterView Letter Unit))) (held : Letter) → IsIdle mails taken endpoints (actor_of_letter held) → IsKeeping mails owner taken endpoints (held ∷ []) → IsKeeping mails owner taken endpoints []
+keeps_dropped mails owner taken endpoints held idle keeps = record { known = keeps.known; due = λ letter due. go letter (keeps.due letter due) }
   where
-    go : (letter : Letter) → Contains (posted_in seats ++ held ∷ []) letter ⊎ IsIdle mails taken seats (actor_of letter) → Contains (posted_in seats ++ []) letter ⊎ IsIdle mails taken seats (actor_of letter)
+    go : (letter : Letter) → Contains (posted_in endpoints ++ held ∷ []) letter ⊎ IsIdle mails taken endpoints (actor_of_letter letter) → Contains (posted_in endpoints ++ []) letter ⊎ IsIdle mails taken endpoints (actor_of_letter letter)
     go letter (inr is) = inr is
-    go letter (inl here) = elim (Contains-push_cases (posted_in seats) held letter here) [
-      | inl before ↦ inl (Contains-append_left (posted_in seats) [] letter before)
-      | inr same ↦ inr (subst (λ (l : Letter). IsIdle mails taken seats (actor_of l)) same idle)
+    go letter (inl here) = elim (Contains-push_cases (posted_in endpoints) held letter here) [
+      | inl before ↦ inl (Contains-append_left (posted_in endpoints) [] letter before)
+      | inr same ↦ inr (subst (λ (l : Letter). IsIdle mails taken endpoints (actor_of_letter l)) same idle)
     ]
 
 -- ---- what is posted
 
--- at a seat more was put
-put_stays : (seats : List (Seat (PutterValue Letter Unit))) (at : ℕ) (next : Seat (PutterValue Letter Unit)) (letter : Letter) → (Contains (get_or seats at next).pass.put letter → Contains next.pass.put letter) → Contains (posted_in seats) letter → Contains (posted_in (set seats at next)) letter
+-- at an endpoint more was put
+put_stays : (endpoints : List (Endpoint (PutterView Letter Unit))) (at : ℕ) (next : Endpoint (PutterView Letter Unit)) (letter : Letter) → (Contains (get_or endpoints at next).pass.put letter → Contains next.pass.put letter) → Contains (posted_in endpoints) letter → Contains (posted_in (set endpoints at next)) letter
 put_stays [] at next letter grown here = here
-put_stays (seat ∷ seats) zero next letter grown here = elim (Contains-append_cases seat.pass.put (posted_in seats) letter here) [
-  | inl first ↦ Contains-append_left next.pass.put (posted_in seats) letter (grown first)
-  | inr later ↦ Contains-append_right next.pass.put (posted_in seats) letter later
+put_stays (endpoint ∷ endpoints) zero next letter grown here = elim (Contains-append_cases endpoint.pass.put (posted_in endpoints) letter here) [
+  | inl first ↦ Contains-append_left next.pass.put (posted_in endpoints) letter (grown first)
+  | inr later ↦ Contains-append_right next.pass.put (posted_in endpoints) letter later
 ]
-put_stays (seat ∷ seats) (suc at) next letter grown here = elim (Contains-append_cases seat.pass.put (posted_in seats) letter here) [
-  | inl first ↦ Contains-append_left seat.pass.put (posted_in (set seats at next)) letter first
-  | inr later ↦ Contains-append_right seat.pass.put (posted_in (set seats at next)) letter (put_stays seats at next letter grown later)
+put_stays (endpoint ∷ endpoints) (suc at) next letter grown here = elim (Contains-append_cases endpoint.pass.put (posted_in endpoints) letter here) [
+  | inl first ↦ Contains-append_left endpoint.pass.put (posted_in (set endpoints at next)) letter first
+  | inr later ↦ Contains-append_right endpoint.pass.put (posted_in (set endpoints at next)) letter (put_stays endpoints at next letter grown later)
 ]
 
-put_here : (seats : List (Seat (PutterValue Letter Unit))) (at : ℕ) (next : Seat (PutterValue Letter Unit)) (letter : Letter) → at < length seats → Contains next.pass.put letter → Contains (posted_in (set seats at next)) letter
+put_here : (endpoints : List (Endpoint (PutterView Letter Unit))) (at : ℕ) (next : Endpoint (PutterView Letter Unit)) (letter : Letter) → at < length endpoints → Contains next.pass.put letter → Contains (posted_in (set endpoints at next)) letter
 put_here [] at next letter below here = absurd (omega (arith, below))
-put_here (seat ∷ seats) zero next letter below here = Contains-append_left next.pass.put (posted_in seats) letter here
-put_here (seat ∷ seats) (suc at) next letter below here = Contains-append_right seat.pass.put (posted_in (set seats at next)) letter (put_here seats at next letter (omega (arith, below)) here)
+put_here (endpoint ∷ endpoints) zero next letter below here = Contains-append_left next.pass.put (posted_in endpoints) letter here
+put_here (endpoint ∷ endpoints) (suc at) next letter below here = Contains-append_right endpoint.pass.put (posted_in (set endpoints at next)) letter (put_here endpoints at next letter (omega (arith, below)) here)
 
-all_posted : (mails : List MailValue) (taken : List Notice) (seats later : List (Seat (PutterValue Letter Unit))) (held : Letter) → ((letter : Letter) → Contains (posted_in seats) letter → Contains (posted_in later) letter) → Contains (posted_in later) held → ((a : ℕ) → All (IsApart mails a) seats → All (IsApart mails a) later)
-    → (letter : Letter) → Contains (posted_in seats ++ held ∷ []) letter ⊎ IsIdle mails taken seats (actor_of letter) → Contains (posted_in later ++ []) letter ⊎ IsIdle mails taken later (actor_of letter)
-all_posted mails taken seats later held stays posted apart letter (inl here) = elim (Contains-push_cases (posted_in seats) held letter here) [
+all_posted : (mails : List MailView) (taken : List Notice) (endpoints later : List (Endpoint (PutterView Letter Unit))) (held : Letter) → ((letter : Letter) → Contains (posted_in endpoints) letter → Contains (posted_in later) letter) → Contains (posted_in later) held → ((a : ℕ) → All (IsApart mails a) endpoints → All (IsApart mails a) later)
+    → (letter : Letter) → Contains (posted_in endpoints ++ held ∷ []) letter ⊎ IsIdle mails taken endpoints (actor_of_letter letter) → Contains (posted_in later ++ []) letter ⊎ IsIdle mails taken later (actor_of_letter letter)
+all_posted mails taken endpoints later held stays posted apart letter (inl here) = elim (Contains-push_cases (posted_in endpoints) held letter here) [
   | inl before ↦ inl (Contains-append_left (posted_in later) [] letter (stays letter before))
   | inr same ↦ inl (Contains-append_left (posted_in later) [] letter (subst (Contains (posted_in later)) same posted))
 ]
-all_posted mails taken seats later held stays posted apart letter (inr (inl dead)) = inr (inl dead)
-all_posted mails taken seats later held stays posted apart letter (inr (inr off)) = inr (inr (apart (actor_of letter) off))
+all_posted mails taken endpoints later held stays posted apart letter (inr (inl dead)) = inr (inl dead)
+all_posted mails taken endpoints later held stays posted apart letter (inr (inr off)) = inr (inr (apart (actor_of_letter letter) off))
 
--- a letter more at a seat: what was posted before is, and so is the letter
-pub more_posted : (seats : List (Seat (PutterValue Letter Unit))) (at : ℕ) (seat : Seat (PutterValue Letter Unit)) (pass : PutterValue Letter Unit) (held : Letter) → at < length seats → seat ≡ get_or seats at seat → pass.put ≡ seat.pass.put ++ held ∷ []
-    → ((letter : Letter) → Contains (posted_in seats) letter → Contains (posted_in (set seats at (record { place = seat.place; pass = pass }))) letter) × Contains (posted_in (set seats at (record { place = seat.place; pass = pass }))) held
-more_posted seats at seat pass held below here put =
-    let next : Seat (PutterValue Letter Unit) = record { place = seat.place; pass = pass } in
-    let there : get_or seats at next ≡ seat = get_or_default seats at next seat below ∙ sym here in (
-      λ letter. put_stays seats at next letter
-          (λ has. subst (λ (l : List Letter). Contains l letter) (sym put) (Contains-append_left seat.pass.put (held ∷ []) letter (subst (λ (s : Seat (PutterValue Letter Unit)). Contains s.pass.put letter) there has))),
-      put_here seats at next held below (subst (λ (l : List Letter). Contains l held) (sym put) (Contains-push seat.pass.put held)),
+-- a letter more at an endpoint: what was posted before is, and so is the letter
+pub more_posted : (endpoints : List (Endpoint (PutterView Letter Unit))) (at : ℕ) (endpoint : Endpoint (PutterView Letter Unit)) (pass : PutterView Letter Unit) (held : Letter) → at < length endpoints → endpoint ≡ get_or endpoints at endpoint → pass.put ≡ endpoint.pass.put ++ held ∷ []
+    → ((letter : Letter) → Contains (posted_in endpoints) letter → Contains (posted_in (set endpoints at (record { place = endpoint.place; pass = pass }))) letter) × Contains (posted_in (set endpoints at (record { place = endpoint.place; pass = pass }))) held
+more_posted endpoints at endpoint pass held below here put =
+    let next : Endpoint (PutterView Letter Unit) = record { place = endpoint.place; pass = pass } in
+    let there : get_or endpoints at next ≡ endpoint = get_or_default endpoints at next endpoint below ∙ sym here in (
+      λ letter. put_stays endpoints at next letter
+          (λ has. subst (λ (l : List Letter). Contains l letter) (sym put) (Contains-append_left endpoint.pass.put (held ∷ []) letter (subst (λ (s : Endpoint (PutterView Letter Unit)). Contains s.pass.put letter) there has))),
+      put_here endpoints at next held below (subst (λ (l : List Letter). Contains l held) (sym put) (Contains-push endpoint.pass.put held)),
     )
 
-pub keeps_posted : (mails : List MailValue) (owner : OwnerValue) (taken : List Notice) (seats : List (Seat (PutterValue Letter Unit))) (at : ℕ) (seat : Seat (PutterValue Letter Unit)) (pass : PutterValue Letter Unit) (held : Letter) → at < length seats → seat ≡ get_or seats at seat → pass.put ≡ seat.pass.put ++ held ∷ []
-    → IsKeeping mails owner taken seats (held ∷ []) → IsKeeping mails owner taken (set seats at (record { place = seat.place; pass = pass })) []
-keeps_posted mails owner taken seats at seat pass held below here put keeps =
-    let next : Seat (PutterValue Letter Unit) = record { place = seat.place; pass = pass } in
-    let more = more_posted seats at seat pass held below here put in
-    let apart : (a : ℕ) → All (IsApart mails a) seats → All (IsApart mails a) (set seats at next) = λ a all. All-set (IsApart mails a) seats at next (subst (IsApart mails a) (sym here) (all at seat below)) all in
-    record { known = keeps.known; due = λ letter due. all_posted mails taken seats (set seats at next) held more.0 more.1 apart letter (keeps.due letter due) }
+pub keeps_posted : (mails : List MailView) (owner : OwnerView) (taken : List Notice) (endpoints : List (Endpoint (PutterView Letter Unit))) (at : ℕ) (endpoint : Endpoint (PutterView Letter Unit)) (pass : PutterView Letter Unit) (held : Letter) → at < length endpoints → endpoint ≡ get_or endpoints at endpoint → pass.put ≡ endpoint.pass.put ++ held ∷ []
+    → IsKeeping mails owner taken endpoints (held ∷ []) → IsKeeping mails owner taken (set endpoints at (record { place = endpoint.place; pass = pass })) []
+keeps_posted mails owner taken endpoints at endpoint pass held below here put keeps =
+    let next : Endpoint (PutterView Letter Unit) = record { place = endpoint.place; pass = pass } in
+    let more = more_posted endpoints at endpoint pass held below here put in
+    let apart : (a : ℕ) → All (IsApart mails a) endpoints → All (IsApart mails a) (set endpoints at next) = λ a all. All-set (IsApart mails a) endpoints at next (subst (IsApart mails a) (sym here) (all at endpoint below)) all in
+    record { known = keeps.known; due = λ letter due. all_posted mails taken endpoints (set endpoints at next) held more.0 more.1 apart letter (keeps.due letter due) }

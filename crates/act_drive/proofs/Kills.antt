@@ -1,8 +1,8 @@
--- Kills: what was asked of each actor, at its seat.
+-- Kills: what was asked of each actor, at its endpoint.
 use Rattle.std.proofs.Common.{◌≡◌, ◌≢◌, ℕ, suc, ◌+◌, ◌<◌, ◌≤◌, ◌==◌, Bool, true, if◌then◌else◌, List, [], ◌∷◌, ◌++◌, length, get_or, set, sym, ◌∙◌, ap, subst, arith, rules, All, AllPairs, Contains, inl, inr}
 use Rattle.std.specs.Prelude.{map}
 use Rattle.std.proofs.Math.Seq.{map-set_same}
-use Rattle.act_mailbox.specs.Passes.{TakerValue}
+use Rattle.act_mailbox.specs.Passes.{TakerView}
 use Rattle.std.proofs.lemmas.List.{set-get_or, length-map}
 use Rattle.std.proofs.lemmas.List.{get_or_default, get_or-set_same, get_or-set_other, length-set}
 use Rattle.std.proofs.lemmas.Bool.{ne_eqb}
@@ -16,14 +16,14 @@ use Rattle.act_rules.specs.declared.script.Step.{Step}
 use Rattle.act_rules.specs.declared.script.Step.TheVariants.{Kill}
 use Rattle.act_rules.specs.Plans.{Progress, holds, nothing_done, kills_to}
 use Rattle.act_handles.specs.Handles.{copies_in}
-use Rattle.act_owner.specs.Owner.{OwnerValue}
-use Rattle.act_mailbox.specs.Passes.{PutterValue}
-use Rattle.act_mailbox.specs.Controls.{ControlValue}
+use Rattle.act_owner.specs.Owner.{OwnerView}
+use Rattle.act_mailbox.specs.Passes.{PutterView}
+use Rattle.act_mailbox.specs.Controls.{ControlView}
 use Rattle.act_mailbox.specs.declared.control.Asked.{Asked}
-use Rattle.act_seats.specs.declared.seat.Seat.{Seat}
-use Rattle.act_drive.specs.declared.desk.CallerLines.{CallerLines}
-use Rattle.act_drive.specs.declared.desk.Desk.{Desk}
-use Rattle.act_drive.specs.Driven.{IsCalling, Stays, Waits, bare_post, bare_ask, FollowsBy, HasAsked, AreAsked, AreKillSeats, IsKillSeat, IsElsewhere, HasNamed}
+use Rattle.act_mailbox.specs.declared.endpoint.Endpoint.{Endpoint}
+use Rattle.act_drive.specs.declared.driver.CallerLines.{CallerLines}
+use Rattle.act_drive.specs.declared.driver.Driver.{Driver}
+use Rattle.act_drive.specs.Driven.{IsCalling, Stays, Waits, bare_post, bare_ask, FollowsBy, HasAsked, AreAsked, AreKillEndpoints, IsKillEndpoint, IsElsewhere, HasNamed}
 use Rattle.act_drive.proofs.Noted.{noted_same}
 use Rattle.act_drive.proofs.PlanSteps.{done_more, kills_more, no_kill, follows_waits}
 
@@ -51,119 +51,119 @@ asked_more : (taken : List Notice) (a asked more : ℕ) (steps : List Step) → 
 asked_more taken a asked more steps one (inl t) = inl (omega (arith, t, one, one_kill a steps))
 asked_more taken a asked more steps one (inr f) = inr (omega (arith, f.0, one, one_kill a steps), f.1)
 
-pub kill_follows : (lines : CallerLines) (old between new : Desk) (a : ℕ) → Waits old between → new.owner ≡ between.owner → new.passes.collects ≡ between.passes.collects
+pub kill_follows : (lines : CallerLines) (old between new : Driver) (a : ℕ) → Waits old between → new.owner ≡ between.owner → new.passes.collects ≡ between.passes.collects
     → ((steps : List Step) → All (HasAsked lines.controls.now steps between.passes.collects.taken) between.passes.kills.items → All (HasAsked lines.controls.now (steps ++ Kill a ∷ []) between.passes.collects.taken) new.passes.kills.items) → FollowsBy lines (Kill a) old new
-kill_follows lines old between new a waits is collects seats actors steps fine before =
+kill_follows lines old between new a waits is collects endpoints actors steps fine before =
     let f = follows_waits lines actors steps old between waits before in
     let more = done_more actors nothing_done steps (Kill a) fine in
     record {
-      calls = ap (λ (o : OwnerValue). o.calls) is ∙ f.calls ∙ sym (ap (λ (q : Progress). q.submitted) more);
-      copies = λ b. ap (λ (o : OwnerValue). copies_in b o.handles) is ∙ f.copies b ∙ sym (ap (holds b actors) more);
-      kills = rw collects (seats steps f.kills);
+      calls = ap (λ (o : OwnerView). o.calls) is ∙ f.calls ∙ sym (ap (λ (q : Progress). q.submitted) more);
+      copies = λ b. ap (λ (o : OwnerView). copies_in b o.handles) is ∙ f.copies b ∙ sym (ap (holds b actors) more);
+      kills = rw collects (endpoints steps f.kills);
     }
 
-pub kills_elsewhere : (controls : List ControlValue) (taken : List Notice) (seats : List (Seat (PutterValue Asked ℕ))) (a : ℕ) → All (IsElsewhere controls a) seats → (steps : List Step) → All (HasAsked controls steps taken) seats → All (HasAsked controls (steps ++ Kill a ∷ []) taken) seats
-kills_elsewhere controls taken seats a apart steps all k s below d =
-    subst (λ (n : ℕ). AreAsked taken (get_or controls (get_or seats k s).place d).actor n (length (get_or seats k s).pass.put)) (other_kill a _ steps (λ same. apart k s below d (sym same))) (all k s below d)
+pub kills_elsewhere : (controls : List ControlView) (taken : List Notice) (endpoints : List (Endpoint (PutterView Asked ℕ))) (a : ℕ) → All (IsElsewhere controls a) endpoints → (steps : List Step) → All (HasAsked controls steps taken) endpoints → All (HasAsked controls (steps ++ Kill a ∷ []) taken) endpoints
+kills_elsewhere controls taken endpoints a apart steps all k s below d =
+    subst (λ (n : ℕ). AreAsked taken (get_or controls (get_or endpoints k s).place d).actor n (length (get_or endpoints k s).pass.put)) (other_kill a _ steps (λ same. apart k s below d (sym same))) (all k s below d)
 
-pub kills_dead : (controls : List ControlValue) (taken : List Notice) (seats : List (Seat (PutterValue Asked ℕ))) (a : ℕ) → Contains taken (Death a) → (steps : List Step) → All (HasAsked controls steps taken) seats → All (HasAsked controls (steps ++ Kill a ∷ []) taken) seats
-kills_dead controls taken seats a dead steps all k s below d = asked_dead taken a _ _ steps dead (all k s below d)
+pub kills_dead : (controls : List ControlView) (taken : List Notice) (endpoints : List (Endpoint (PutterView Asked ℕ))) (a : ℕ) → Contains taken (Death a) → (steps : List Step) → All (HasAsked controls steps taken) endpoints → All (HasAsked controls (steps ++ Kill a ∷ []) taken) endpoints
+kills_dead controls taken endpoints a dead steps all k s below d = asked_dead taken a _ _ steps dead (all k s below d)
 
--- the seats are at lines of different actors
-other_seat : (controls : List ControlValue) (seats : List (Seat (PutterValue Asked ℕ))) (a at k : ℕ) (seat s : Seat (PutterValue Asked ℕ)) (d : ControlValue) → AllPairs (λ one other. (e : ControlValue) → (get_or controls one.place e).actor ≢ (get_or controls other.place e).actor) seats → at < length seats → k < length seats → k ≢ at
-    → seat ≡ get_or seats at seat → ((e : ControlValue) → (get_or controls seat.place e).actor ≡ a) → a ≢ (get_or controls (get_or seats k s).place d).actor
-other_seat controls seats a at k seat s d apart below long ne here there same =
-    let here2 : get_or seats at s ≡ seat = get_or_default seats at s seat below ∙ sym here in
-    let eq : (get_or controls (get_or seats at s).place d).actor ≡ (get_or controls (get_or seats k s).place d).actor = ap (λ (x : Seat (PutterValue Asked ℕ)). (get_or controls x.place d).actor) here2 ∙ there d ∙ same in
+-- the endpoints are at lines of different actors
+other_endpoint : (controls : List ControlView) (endpoints : List (Endpoint (PutterView Asked ℕ))) (a at k : ℕ) (endpoint s : Endpoint (PutterView Asked ℕ)) (d : ControlView) → AllPairs (λ one other. (e : ControlView) → (get_or controls one.place e).actor ≢ (get_or controls other.place e).actor) endpoints → at < length endpoints → k < length endpoints → k ≢ at
+    → endpoint ≡ get_or endpoints at endpoint → ((e : ControlView) → (get_or controls endpoint.place e).actor ≡ a) → a ≢ (get_or controls (get_or endpoints k s).place d).actor
+other_endpoint controls endpoints a at k endpoint s d apart below long ne here there same =
+    let here2 : get_or endpoints at s ≡ endpoint = get_or_default endpoints at s endpoint below ∙ sym here in
+    let eq : (get_or controls (get_or endpoints at s).place d).actor ≡ (get_or controls (get_or endpoints k s).place d).actor = ap (λ (x : Endpoint (PutterView Asked ℕ)). (get_or controls x.place d).actor) here2 ∙ there d ∙ same in
     elim (leb_tells (suc k) at) [
       | inl t ↦ apart k at s t.1 below d (sym eq)
       | inr f ↦ apart at k s (omega (arith, f.1, ne)) long d eq
     ]
 
--- one kill more at its seat
-pub kills_asked : (controls : List ControlValue) (taken : List Notice) (seats : List (Seat (PutterValue Asked ℕ))) (a at : ℕ) (seat : Seat (PutterValue Asked ℕ)) (pass : PutterValue Asked ℕ) → AreKillSeats controls seats → at < length seats → seat ≡ get_or seats at seat
-    → ((d : ControlValue) → (get_or controls seat.place d).actor ≡ a) → length pass.put ≡ length seat.pass.put + 1
-    → (steps : List Step) → All (HasAsked controls steps taken) seats → All (HasAsked controls (steps ++ Kill a ∷ []) taken) (set seats at (record { place = seat.place; pass = pass }))
-kills_asked controls taken seats a at seat pass good below here there one steps all k s inside d =
-    let next : Seat (PutterValue Asked ℕ) = record { place = seat.place; pass = pass } in
-    let long : k < length seats = omega (arith, inside, length-set seats at next) in
+-- one kill more at its endpoint
+pub kills_asked : (controls : List ControlView) (taken : List Notice) (endpoints : List (Endpoint (PutterView Asked ℕ))) (a at : ℕ) (endpoint : Endpoint (PutterView Asked ℕ)) (pass : PutterView Asked ℕ) → AreKillEndpoints controls endpoints → at < length endpoints → endpoint ≡ get_or endpoints at endpoint
+    → ((d : ControlView) → (get_or controls endpoint.place d).actor ≡ a) → length pass.put ≡ length endpoint.pass.put + 1
+    → (steps : List Step) → All (HasAsked controls steps taken) endpoints → All (HasAsked controls (steps ++ Kill a ∷ []) taken) (set endpoints at (record { place = endpoint.place; pass = pass }))
+kills_asked controls taken endpoints a at endpoint pass good below here there one steps all k s inside d =
+    let next : Endpoint (PutterView Asked ℕ) = record { place = endpoint.place; pass = pass } in
+    let long : k < length endpoints = omega (arith, inside, length-set endpoints at next) in
     elim (eqb_tells k at) [
       | inl t ↦
-          let now : get_or (set seats at next) k s ≡ next = ap (λ (n : ℕ). get_or (set seats at next) n s) t.1 ∙ get_or-set_same seats at next s below in
-          let was : HasAsked controls steps taken seat = subst (HasAsked controls steps taken) (sym here) (all at seat below) in
-          let mine : AreAsked taken a (kills_to a (steps ++ Kill a ∷ [])) (length pass.put) = asked_more taken a (length seat.pass.put) (length pass.put) steps one (subst (λ (n : ℕ). AreAsked taken n (kills_to n steps) (length seat.pass.put)) (there d) (was d)) in
-          subst (λ (x : Seat (PutterValue Asked ℕ)). AreAsked taken (get_or controls x.place d).actor (kills_to (get_or controls x.place d).actor (steps ++ Kill a ∷ [])) (length x.pass.put)) (sym now)
+          let now : get_or (set endpoints at next) k s ≡ next = ap (λ (n : ℕ). get_or (set endpoints at next) n s) t.1 ∙ get_or-set_same endpoints at next s below in
+          let was : HasAsked controls steps taken endpoint = subst (HasAsked controls steps taken) (sym here) (all at endpoint below) in
+          let mine : AreAsked taken a (kills_to a (steps ++ Kill a ∷ [])) (length pass.put) = asked_more taken a (length endpoint.pass.put) (length pass.put) steps one (subst (λ (n : ℕ). AreAsked taken n (kills_to n steps) (length endpoint.pass.put)) (there d) (was d)) in
+          subst (λ (x : Endpoint (PutterView Asked ℕ)). AreAsked taken (get_or controls x.place d).actor (kills_to (get_or controls x.place d).actor (steps ++ Kill a ∷ [])) (length x.pass.put)) (sym now)
           (subst (λ (n : ℕ). AreAsked taken n (kills_to n (steps ++ Kill a ∷ [])) (length pass.put)) (sym (there d)) mine)
       | inr f ↦
-          let now : get_or (set seats at next) k s ≡ get_or seats k s = get_or-set_other seats at k next s f.1 in
-          let apart : a ≢ (get_or controls (get_or seats k s).place d).actor = λ same. other_seat controls seats a at k seat s d good.1 below long f.1 here there same in
-          subst (λ (x : Seat (PutterValue Asked ℕ)). AreAsked taken (get_or controls x.place d).actor (kills_to (get_or controls x.place d).actor (steps ++ Kill a ∷ [])) (length x.pass.put)) (sym now)
-          (subst (λ (n : ℕ). AreAsked taken (get_or controls (get_or seats k s).place d).actor n (length (get_or seats k s).pass.put)) (other_kill a _ steps apart) (all k s long d))
+          let now : get_or (set endpoints at next) k s ≡ get_or endpoints k s = get_or-set_other endpoints at k next s f.1 in
+          let apart : a ≢ (get_or controls (get_or endpoints k s).place d).actor = λ same. other_endpoint controls endpoints a at k endpoint s d good.1 below long f.1 here there same in
+          subst (λ (x : Endpoint (PutterView Asked ℕ)). AreAsked taken (get_or controls x.place d).actor (kills_to (get_or controls x.place d).actor (steps ++ Kill a ∷ [])) (length x.pass.put)) (sym now)
+          (subst (λ (n : ℕ). AreAsked taken (get_or controls (get_or endpoints k s).place d).actor n (length (get_or endpoints k s).pass.put)) (other_kill a _ steps apart) (all k s long d))
     ]
 
-set_place : (seats : List (Seat (PutterValue Asked ℕ))) (at i : ℕ) (seat s : Seat (PutterValue Asked ℕ)) (pass : PutterValue Asked ℕ) → at < length seats → seat ≡ get_or seats at seat → (get_or (set seats at (record { place = seat.place; pass = pass })) i s).place ≡ (get_or seats i s).place
-set_place seats at i seat s pass below here =
-    let next : Seat (PutterValue Asked ℕ) = record { place = seat.place; pass = pass } in
+set_place : (endpoints : List (Endpoint (PutterView Asked ℕ))) (at i : ℕ) (endpoint s : Endpoint (PutterView Asked ℕ)) (pass : PutterView Asked ℕ) → at < length endpoints → endpoint ≡ get_or endpoints at endpoint → (get_or (set endpoints at (record { place = endpoint.place; pass = pass })) i s).place ≡ (get_or endpoints i s).place
+set_place endpoints at i endpoint s pass below here =
+    let next : Endpoint (PutterView Asked ℕ) = record { place = endpoint.place; pass = pass } in
     elim (eqb_tells i at) [
-      | inl t ↦ subst (λ (n : ℕ). (get_or (set seats at next) n s).place ≡ (get_or seats n s).place) (sym t.1)
-          (ap (λ (x : Seat (PutterValue Asked ℕ)). x.place) (get_or-set_same seats at next s below) ∙ ap (λ (x : Seat (PutterValue Asked ℕ)). x.place) (here ∙ get_or_default seats at seat s below))
-      | inr f ↦ ap (λ (x : Seat (PutterValue Asked ℕ)). x.place) (get_or-set_other seats at i next s f.1)
+      | inl t ↦ subst (λ (n : ℕ). (get_or (set endpoints at next) n s).place ≡ (get_or endpoints n s).place) (sym t.1)
+          (ap (λ (x : Endpoint (PutterView Asked ℕ)). x.place) (get_or-set_same endpoints at next s below) ∙ ap (λ (x : Endpoint (PutterView Asked ℕ)). x.place) (here ∙ get_or_default endpoints at endpoint s below))
+      | inr f ↦ ap (λ (x : Endpoint (PutterView Asked ℕ)). x.place) (get_or-set_other endpoints at i next s f.1)
     ]
 
 -- a caller after a kill is asked
-pub calling_asked : (lines : CallerLines) (old new : Desk) (at : ℕ) (seat : Seat (PutterValue Asked ℕ)) (pass : PutterValue Asked ℕ) → at < length old.passes.kills.items → seat ≡ get_or old.passes.kills.items at seat → pass.line ≡ seat.pass.line
-    → HasNamed lines.controls.now old.owner.id (record { place = seat.place; pass = pass }) → new.owner ≡ old.owner → new.hand ≡ old.hand → new.noted ≡ old.noted → new.passes.letters ≡ old.passes.letters → new.passes.collects ≡ old.passes.collects → new.passes.kills.items ≡ set old.passes.kills.items at (record { place = seat.place; pass = pass })
+pub calling_asked : (lines : CallerLines) (old new : Driver) (at : ℕ) (endpoint : Endpoint (PutterView Asked ℕ)) (pass : PutterView Asked ℕ) → at < length old.passes.kills.items → endpoint ≡ get_or old.passes.kills.items at endpoint → pass.line ≡ endpoint.pass.line
+    → HasNamed lines.controls.now old.owner.id (record { place = endpoint.place; pass = pass }) → new.owner ≡ old.owner → new.outbox ≡ old.outbox → new.noted ≡ old.noted → new.passes.letters ≡ old.passes.letters → new.passes.collects ≡ old.passes.collects → new.passes.kills.items ≡ set old.passes.kills.items at (record { place = endpoint.place; pass = pass })
     → IsCalling lines old → IsCalling lines new
-calling_asked lines old new at seat pass below here line named is hand flags letters collects kills calling =
-    let seats = old.passes.kills.items in
+calling_asked lines old new at endpoint pass below here line named is outbox flags letters collects kills calling =
+    let endpoints = old.passes.kills.items in
     let controls = lines.controls.now in
-    let next : Seat (PutterValue Asked ℕ) = record { place = seat.place; pass = pass } in
-    let was : IsKillSeat controls seat = subst (IsKillSeat controls) (sym here) (calling.kills.0 at seat below) in
-    let one : IsKillSeat controls next = record { below = was.below; line = λ d. was.line d ∙ sym line } in
-    let apart : AllPairs (λ one other. (e : ControlValue) → (get_or controls one.place e).actor ≢ (get_or controls other.place e).actor) (set seats at next) = λ i j d lt inside e same.
-    calling.kills.1 i j d lt (omega (arith, inside, length-set seats at next)) e
-    (ap (λ (n : ℕ). (get_or controls n e).actor) (sym (set_place seats at i seat d pass below here)) ∙ same ∙ ap (λ (n : ℕ). (get_or controls n e).actor) (set_place seats at j seat d pass below here)) in
-    let good : AreKillSeats controls (set seats at next) = (All-set (IsKillSeat controls) seats at next one calling.kills.0, apart) in
+    let next : Endpoint (PutterView Asked ℕ) = record { place = endpoint.place; pass = pass } in
+    let was : IsKillEndpoint controls endpoint = subst (IsKillEndpoint controls) (sym here) (calling.kills.0 at endpoint below) in
+    let one : IsKillEndpoint controls next = record { below = was.below; line = λ d. was.line d ∙ sym line } in
+    let apart : AllPairs (λ one other. (e : ControlView) → (get_or controls one.place e).actor ≢ (get_or controls other.place e).actor) (set endpoints at next) = λ i j d lt inside e same.
+    calling.kills.1 i j d lt (omega (arith, inside, length-set endpoints at next)) e
+    (ap (λ (n : ℕ). (get_or controls n e).actor) (sym (set_place endpoints at i endpoint d pass below here)) ∙ same ∙ ap (λ (n : ℕ). (get_or controls n e).actor) (set_place endpoints at j endpoint d pass below here)) in
+    let good : AreKillEndpoints controls (set endpoints at next) = (All-set (IsKillEndpoint controls) endpoints at next one calling.kills.0, apart) in
     record {
       places = rw is calling.places;
       flags = rw is calling.flags;
       hears = rw (is, collects) calling.hears;
       collects = rw collects calling.collects;
-      held = rw (is, hand) calling.held;
-      letters = rw (is, hand, letters) calling.letters;
+      held = rw (is, outbox) calling.held;
+      letters = rw (is, outbox, letters) calling.letters;
       kills = rw kills good;
-      keeps = rw (is, hand, letters, collects) calling.keeps;
-      names = rw (is, kills) (All-set (HasNamed controls old.owner.id) seats at next named calling.names);
+      keeps = rw (is, outbox, letters, collects) calling.keeps;
+      names = rw (is, kills) (All-set (HasNamed controls old.owner.id) endpoints at next named calling.names);
       noted = rw (is, letters) (noted_same old.owner old.passes.letters.items old.noted new.noted flags calling.noted);
     }
 
 -- a kill more that names the actor of its line
-pub named_more : (controls : List ControlValue) (id a : ℕ) (seat : Seat (PutterValue Asked ℕ)) (pass : PutterValue Asked ℕ) (kill : Asked) → ((d : ControlValue) → (get_or controls seat.place d).actor ≡ a) → kill.note ≡ record { caller = id; actor = a } → pass.put ≡ seat.pass.put ++ kill ∷ []
-    → HasNamed controls id seat → HasNamed controls id (record { place = seat.place; pass = pass })
-named_more controls id a seat pass kill there note put named d =
-    let one : kill.note ≡ record { caller = id; actor = (get_or controls seat.place d).actor } = note ∙ ap (λ (n : ℕ). record { caller = id; actor = n }) (sym (there d)) in
-    subst (λ (l : List Asked). All (λ k. k.note ≡ record { caller = id; actor = (get_or controls seat.place d).actor }) l) (sym put) (All-push (λ (k : Asked). k.note ≡ record { caller = id; actor = (get_or controls seat.place d).actor }) seat.pass.put kill (named d) one)
+pub named_more : (controls : List ControlView) (id a : ℕ) (endpoint : Endpoint (PutterView Asked ℕ)) (pass : PutterView Asked ℕ) (kill : Asked) → ((d : ControlView) → (get_or controls endpoint.place d).actor ≡ a) → kill.note ≡ record { caller = id; actor = a } → pass.put ≡ endpoint.pass.put ++ kill ∷ []
+    → HasNamed controls id endpoint → HasNamed controls id (record { place = endpoint.place; pass = pass })
+named_more controls id a endpoint pass kill there note put named d =
+    let one : kill.note ≡ record { caller = id; actor = (get_or controls endpoint.place d).actor } = note ∙ ap (λ (n : ℕ). record { caller = id; actor = n }) (sym (there d)) in
+    subst (λ (l : List Asked). All (λ k. k.note ≡ record { caller = id; actor = (get_or controls endpoint.place d).actor }) l) (sym put) (All-push (λ (k : Asked). k.note ≡ record { caller = id; actor = (get_or controls endpoint.place d).actor }) endpoint.pass.put kill (named d) one)
 
 -- ---- a kill that was refused
 
--- a kill more, or none, at a seat
-pub asked_stays : (old new : Desk) (at : ℕ) (seat : Seat (PutterValue Asked ℕ)) (pass : PutterValue Asked ℕ) → seat ≡ get_or old.passes.kills.items at seat → bare_ask (record { place = seat.place; pass = pass }) ≡ bare_ask seat
-    → new.owner ≡ old.owner → new.passes.kills.items ≡ set old.passes.kills.items at (record { place = seat.place; pass = pass }) → new.passes.letters ≡ old.passes.letters → new.passes.collects ≡ old.passes.collects → Stays old new
-asked_stays old new at seat pass here same is kills letters collects = record {
-  id = ap (λ (o : OwnerValue). o.id) is;
-  kept = λ k answer has. ap (λ (o : OwnerValue). kept_at o.kept k) is ∙ has;
-  limits = ap (λ (o : OwnerValue). o.limits) is;
+-- a kill more, or none, at an endpoint
+pub asked_stays : (old new : Driver) (at : ℕ) (endpoint : Endpoint (PutterView Asked ℕ)) (pass : PutterView Asked ℕ) → endpoint ≡ get_or old.passes.kills.items at endpoint → bare_ask (record { place = endpoint.place; pass = pass }) ≡ bare_ask endpoint
+    → new.owner ≡ old.owner → new.passes.kills.items ≡ set old.passes.kills.items at (record { place = endpoint.place; pass = pass }) → new.passes.letters ≡ old.passes.letters → new.passes.collects ≡ old.passes.collects → Stays old new
+asked_stays old new at endpoint pass here same is kills letters collects = record {
+  id = ap (λ (o : OwnerView). o.id) is;
+  kept = λ k answer has. ap (λ (o : OwnerView). kept_at o.kept k) is ∙ has;
+  limits = ap (λ (o : OwnerView). o.limits) is;
   passes = record {
     letters = ap (λ (v : _). map bare_post v.items) letters;
-    kills = ap (λ (l : List (Seat (PutterValue Asked ℕ))). map bare_ask l) kills ∙ map-set_same bare_ask old.passes.kills.items at (record { place = seat.place; pass = pass }) seat (same ∙ ap bare_ask here);
-    collects = collects ∙ sym (ap (λ (t : TakerValue Notice RunItem). record old.passes.collects { taken = t.taken }) collects);
+    kills = ap (λ (l : List (Endpoint (PutterView Asked ℕ))). map bare_ask l) kills ∙ map-set_same bare_ask old.passes.kills.items at (record { place = endpoint.place; pass = pass }) endpoint (same ∙ ap bare_ask here);
+    collects = collects ∙ sym (ap (λ (t : TakerView Notice RunItem). record old.passes.collects { taken = t.taken }) collects);
   };
 }
 
--- the list of seats is as long as before
-pub kills_long : (old new : Desk) → Stays old new → length new.passes.kills.items ≡ length old.passes.kills.items
-kills_long old new stay = sym (length-map new.passes.kills.items bare_ask) ∙ ap (λ (l : List (Seat (PutterValue Asked ℕ))). length l) stay.passes.kills ∙ length-map old.passes.kills.items bare_ask
+-- the list of endpoints is as long as before
+pub kills_long : (old new : Driver) → Stays old new → length new.passes.kills.items ≡ length old.passes.kills.items
+kills_long old new stay = sym (length-map new.passes.kills.items bare_ask) ∙ ap (λ (l : List (Endpoint (PutterView Asked ℕ))). length l) stay.passes.kills ∙ length-map old.passes.kills.items bare_ask
 
-pub ask_refused : (seats : List (Seat (PutterValue Asked ℕ))) (at : ℕ) (seat : Seat (PutterValue Asked ℕ)) (pass : PutterValue Asked ℕ) → seat ≡ get_or seats at seat → pass ≡ seat.pass → set seats at (record { place = seat.place; pass = pass }) ≡ seats
-ask_refused seats at seat pass here same =
-    ap (λ (p : PutterValue Asked ℕ). set seats at (record { place = seat.place; pass = p })) same ∙ ap (λ (x : Seat (PutterValue Asked ℕ)). set seats at x) here ∙ set-get_or seats at seat
+pub ask_refused : (endpoints : List (Endpoint (PutterView Asked ℕ))) (at : ℕ) (endpoint : Endpoint (PutterView Asked ℕ)) (pass : PutterView Asked ℕ) → endpoint ≡ get_or endpoints at endpoint → pass ≡ endpoint.pass → set endpoints at (record { place = endpoint.place; pass = pass }) ≡ endpoints
+ask_refused endpoints at endpoint pass here same =
+    ap (λ (p : PutterView Asked ℕ). set endpoints at (record { place = endpoint.place; pass = p })) same ∙ ap (λ (x : Endpoint (PutterView Asked ℕ)). set endpoints at x) here ∙ set-get_or endpoints at endpoint

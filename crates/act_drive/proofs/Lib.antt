@@ -1,5 +1,5 @@
 pub mod Alone
-pub mod Desks
+pub mod Drivers
 pub mod OwnChanges
 pub mod PlanSteps
 pub mod Notes
@@ -9,7 +9,7 @@ pub mod Done
 pub mod Keeps
 pub mod Noted
 pub mod Through
-pub mod Seats
+pub mod Endpoints
 pub mod CodeSteps
 pub mod AtWork
 pub mod Worked

@@ -4,12 +4,12 @@ use Rattle.std.proofs.lemmas.List.{get_or-set_other}
 use Rattle.std.proofs.lemmas.Bool.Decides.{eqb_tells}
 use Rattle.act_rules.specs.Submissions.{calls_to, copies_held}
 use Rattle.act_handles.specs.Handles.{copies_in}
-use Rattle.act_owner.specs.Owner.{OwnerValue}
-use Rattle.act_mailbox.specs.Passes.{PutterValue}
+use Rattle.act_owner.specs.Owner.{OwnerView}
+use Rattle.act_mailbox.specs.Passes.{PutterView}
 use Rattle.act_mailbox.specs.declared.mail.Letter.{Letter}
 use Rattle.act_mailbox.specs.declared.mail.Letter.TheVariants.{Call, Note}
-use Rattle.act_seats.specs.declared.seat.Seat.{Seat}
-use Rattle.act_drive.specs.Driven.{actor_of, is_note, IsSent, GoesOn, last_note, posted_in, IsNoted, AreNoted}
+use Rattle.act_mailbox.specs.declared.endpoint.Endpoint.{Endpoint}
+use Rattle.act_drive.specs.Driven.{actor_of_letter, is_note_letter, IsSent, OwnerGoesOn, last_note, posted_in, IsNoted, AreNoted}
 use Rattle.act_drive.proofs.Keeps.{more_posted}
 
 -- the same flags
@@ -17,26 +17,26 @@ flag_was : (flags now : List Bool) (a : ℕ) → now ≡ flags → get_or now a 
 flag_was flags now a same is = ap (λ (l : List Bool). get_or l a false) (sym same) ∙ is
 
 -- the owner goes on
-pub noted_on : (owner later : OwnerValue) (seats : List (Seat (PutterValue Letter Unit))) (flags now : List Bool) → GoesOn owner later → now ≡ flags → AreNoted owner seats flags → AreNoted later seats now
-noted_on owner later seats flags now on same noted a is =
+pub noted_on : (owner later : OwnerView) (endpoints : List (Endpoint (PutterView Letter Unit))) (flags now : List Bool) → OwnerGoesOn owner later → now ≡ flags → AreNoted owner endpoints flags → AreNoted later endpoints now
+noted_on owner later endpoints flags now on same noted a is =
     let was = noted a (flag_was flags now a same is) in
     let ended = on.ended a was.ended in
     let last : last_note owner a ≡ last_note later a =
     ap (λ (n : ℕ). Note (record { caller = n; actor = a; after = length (calls_to a owner.calls) })) (sym on.id) ∙ ap (λ (n : ℕ). Note (record { caller = later.id; actor = a; after = n })) (sym ended.1) in
-    record { posted = subst (Contains (posted_in seats)) last was.posted; ended = ended.0 }
+    record { posted = subst (Contains (posted_in endpoints)) last was.posted; ended = ended.0 }
 
-pub noted_same : (owner : OwnerValue) (seats : List (Seat (PutterValue Letter Unit))) (flags now : List Bool) → now ≡ flags → AreNoted owner seats flags → AreNoted owner seats now
-noted_same owner seats flags now same noted a is = noted a (flag_was flags now a same is)
+pub noted_same : (owner : OwnerView) (endpoints : List (Endpoint (PutterView Letter Unit))) (flags now : List Bool) → now ≡ flags → AreNoted owner endpoints flags → AreNoted owner endpoints now
+noted_same owner endpoints flags now same noted a is = noted a (flag_was flags now a same is)
 
--- the letter in hand is posted, and marked where it is a note
-pub noted_posted : (owner : OwnerValue) (seats : List (Seat (PutterValue Letter Unit))) (at : ℕ) (seat : Seat (PutterValue Letter Unit)) (pass : PutterValue Letter Unit) (letter : Letter) (flags now : List Bool) → at < length seats → seat ≡ get_or seats at seat → pass.put ≡ seat.pass.put ++ letter ∷ []
-    → IsSent owner (actor_of letter) letter → now ≡ (if is_note letter then set flags (actor_of letter) true else flags) → AreNoted owner seats flags → AreNoted owner (set seats at (record { place = seat.place; pass = pass })) now
-noted_posted owner seats at seat pass letter flags now below here put sent marked noted a is =
-    let later : List (Seat (PutterValue Letter Unit)) = set seats at (record { place = seat.place; pass = pass }) in
-    let more = more_posted seats at seat pass letter below here put in
+-- the letter in the outbox is posted, and marked where it is a note
+pub noted_posted : (owner : OwnerView) (endpoints : List (Endpoint (PutterView Letter Unit))) (at : ℕ) (endpoint : Endpoint (PutterView Letter Unit)) (pass : PutterView Letter Unit) (letter : Letter) (flags now : List Bool) → at < length endpoints → endpoint ≡ get_or endpoints at endpoint → pass.put ≡ endpoint.pass.put ++ letter ∷ []
+    → IsSent owner (actor_of_letter letter) letter → now ≡ (if is_note_letter letter then set flags (actor_of_letter letter) true else flags) → AreNoted owner endpoints flags → AreNoted owner (set endpoints at (record { place = endpoint.place; pass = pass })) now
+noted_posted owner endpoints at endpoint pass letter flags now below here put sent marked noted a is =
+    let later : List (Endpoint (PutterView Letter Unit)) = set endpoints at (record { place = endpoint.place; pass = pass }) in
+    let more = more_posted endpoints at endpoint pass letter below here put in
     go letter later sent more.1 marked (λ was. record { posted = more.0 (last_note owner a) was.posted; ended = was.ended })
   where
-    go : (mine : Letter) (later : List (Seat (PutterValue Letter Unit))) → IsSent owner (actor_of mine) mine → Contains (posted_in later) mine → now ≡ (if is_note mine then set flags (actor_of mine) true else flags) → (IsNoted owner seats a → IsNoted owner later a) → IsNoted owner later a
+    go : (mine : Letter) (later : List (Endpoint (PutterView Letter Unit))) → IsSent owner (actor_of_letter mine) mine → Contains (posted_in later) mine → now ≡ (if is_note_letter mine then set flags (actor_of_letter mine) true else flags) → (IsNoted owner endpoints a → IsNoted owner later a) → IsNoted owner later a
     go (Call packet) later mine posted flag grown = grown (noted a (flag_was flags now a flag is))
     go (Note note) later mine posted flag grown = elim (eqb_tells a note.actor) [
       | inl t ↦ record {

@@ -11,17 +11,17 @@ use Rattle.act_rules.specs.Submissions.{calls_to, copies_held, handle_refusal}
 use Rattle.act_handles.specs.Handles.{copies_in, given_in, without_copy, or_else}
 use Rattle.act_handles.specs.declared.handles.Handle.{Handle}
 use Rattle.act_handles.proofs.Lookups.{copies-without_copy}
-use Rattle.act_owner.specs.Owner.{OwnerValue, is_sent, with_call, with_handles, release_note}
+use Rattle.act_owner.specs.Owner.{OwnerView, is_sent, with_submission, with_handles, release_note}
 use Rattle.act_owner.specs.Life.{Released, Hears}
 use Rattle.act_owner.proofs.Told.{hears_step}
 use Rattle.act_mailbox.specs.declared.mail.Letter.{Letter}
 use Rattle.act_mailbox.specs.declared.mail.Letter.TheVariants.{Note}
-use Rattle.act_drive.specs.declared.desk.CallerLines.{CallerLines}
-use Rattle.act_drive.specs.declared.desk.Desk.{Desk}
-use Rattle.act_drive.specs.Driven.{IsSent, IsSeat, IsPosting, IsCalling, Waits, GoesOn, futures_in, future_of, IsKeeping}
+use Rattle.act_drive.specs.declared.driver.CallerLines.{CallerLines}
+use Rattle.act_drive.specs.declared.driver.Driver.{Driver}
+use Rattle.act_drive.specs.Driven.{IsSent, IsEndpoint, IsPosting, IsCalling, Waits, OwnerGoesOn, futures_in, future_of_letter, IsKeeping}
 use Rattle.act_drive.proofs.Keeps.{keeps_noted}
 use Rattle.act_drive.proofs.Noted.{noted_on}
-use Rattle.act_drive.proofs.Desks.{change_on, seats_on, desk_same}
+use Rattle.act_drive.proofs.Drivers.{change_on, endpoints_on, driver_same}
 use Rattle.act_drive.proofs.OwnChanges.{ended_released}
 
 pub ok_of : {X : Type 0} (refusal : Option HandleRefusal) (value x : X) → Ok x ≡ or_else refusal value → refusal ≡ None
@@ -35,48 +35,48 @@ last_of None copies last note is = elim (eqb_tells copies 1) [
   | inr f ↦ absurd (cc (is, ap (λ (b : Bool). or_else None (if b then Some last else None)) f.0))
 ]
 
-pub submit_flags : (owner : OwnerValue) (a : ℕ) (method : Method) (args : List Arg) → length owner.sent ≡ length owner.calls → length (with_call owner a method args).sent ≡ length (with_call owner a method args).calls
+pub submit_flags : (owner : OwnerView) (a : ℕ) (method : Method) (args : List Arg) → length owner.sent ≡ length owner.calls → length (with_submission owner a method args).sent ≡ length (with_submission owner a method args).calls
 submit_flags owner a method args flags = omega (arith, flags, length-append owner.sent (false ∷ []), length-append owner.calls (record { actor = a; method = method; args = args } ∷ []))
 
 one_less : (copies : Option ℕ) → copies_held copies ≡ 1 → copies_held (option_map (λ n. n - 1) copies) ≡ 0
 one_less None is = omega (arith, is)
 one_less (Some n) is = omega (arith, is)
 
-posting_note : (owner : OwnerValue) (a : ℕ) (put : List Letter) (note : ReleaseNote) → IsPosting owner a [] put → IsPosting owner a (Note note ∷ []) put
+posting_note : (owner : OwnerView) (a : ℕ) (put : List Letter) (note : ReleaseNote) → IsPosting owner a [] put → IsPosting owner a (Note note ∷ []) put
 posting_note owner a put note is =
-    let all : futures_in (put ++ []) ≡ futures_in (put ++ Note note ∷ []) = ap (λ (l : List Letter). futures_in l) (append-nil put) ∙ sym (filter_map-append future_of put (Note note ∷ []) ∙ append-nil (futures_in put)) in
+    let all : futures_in (put ++ []) ≡ futures_in (put ++ Note note ∷ []) = ap (λ (l : List Letter). futures_in l) (append-nil put) ∙ sym (filter_map-append future_of_letter put (Note note ∷ []) ∙ append-nil (futures_in put)) in
     record {
       sent = is.sent;
       distinct = subst (λ (l : List ℕ). AllPairs (λ one other. one ≢ other) l) all is.distinct;
       marked = subst (λ (l : List ℕ). All (λ k. is_sent owner k ≡ true) l) all is.marked;
     }
 
--- the last handle is let go, and its note is in hand
-pub calling_noted : (lines : CallerLines) (old new : Desk) (a : ℕ) (note : ReleaseNote) → new.owner ≡ with_handles old.owner (without_copy a old.owner.handles) → new.passes ≡ old.passes → old.hand ≡ None → new.hand ≡ Some (Note note) → new.noted ≡ old.noted → note ≡ release_note old.owner a
+-- the last handle is let go, and its note is in the outbox
+pub calling_noted : (lines : CallerLines) (old new : Driver) (a : ℕ) (note : ReleaseNote) → new.owner ≡ with_handles old.owner (without_copy a old.owner.handles) → new.passes ≡ old.passes → old.outbox ≡ None → new.outbox ≡ Some (Note note) → new.noted ≡ old.noted → note ≡ release_note old.owner a
     → given_in a old.owner.handles ≡ length (calls_to a old.owner.calls) → copies_held (copies_in a old.owner.handles) ≡ 1 → IsCalling lines old → IsCalling lines new
-calling_noted lines old new a note is passes empty hand flags told given one calling =
-    let now : OwnerValue = with_handles old.owner (without_copy a old.owner.handles) in
-    let on : GoesOn old.owner now = change_on old.owner (Released a) calling.places (ended_released old.owner a) in
-    let seats : All (IsSeat lines.mails.now old.owner []) old.passes.letters.items = subst (λ (h : Option Letter). All (IsSeat lines.mails.now old.owner (option_to_list h)) old.passes.letters.items) empty calling.letters in
+calling_noted lines old new a note is passes empty outbox flags told given one calling =
+    let now : OwnerView = with_handles old.owner (without_copy a old.owner.handles) in
+    let on : OwnerGoesOn old.owner now = change_on old.owner (Released a) calling.places (ended_released old.owner a) in
+    let endpoints : All (IsEndpoint lines.mails.now old.owner []) old.passes.letters.items = subst (λ (h : Option Letter). All (IsEndpoint lines.mails.now old.owner (option_to_list h)) old.passes.letters.items) empty calling.letters in
     let kept : IsKeeping lines.mails.now old.owner old.passes.collects.taken old.passes.letters.items [] = subst (λ (h : Option Letter). IsKeeping lines.mails.now old.owner old.passes.collects.taken old.passes.letters.items (option_to_list h)) empty calling.keeps in
     let last : note ≡ record { caller = old.owner.id; actor = a; after = length (calls_to a old.owner.calls) } = told ∙ ap (λ (n : ℕ). record { caller = old.owner.id; actor = a; after = n }) given in
     let mine : IsSent now note.actor (Note note) = subst (λ (n : ReleaseNote). IsSent now n.actor (Note n)) (sym told)
     (ap (λ (n : ℕ). record { caller = old.owner.id; actor = a; after = n }) given, ap copies_held (copies-without_copy a old.owner.handles) ∙ one_less (copies_in a old.owner.handles) one) in
-    let good : IsCalling lines (record { owner = now; passes = old.passes; hand = Some (Note note); noted = new.noted }) = record {
+    let good : IsCalling lines (record { owner = now; passes = old.passes; outbox = Some (Note note); noted = new.noted }) = record {
       places = calling.places;
       flags = calling.flags;
       hears = subst (Hears now) (append-nil old.passes.collects.taken) (hears_step old.owner old.passes.collects.taken (Released a) calling.places calling.hears);
       collects = calling.collects;
       held = mine;
-      letters = All-weaker (IsSeat lines.mails.now now []) (IsSeat lines.mails.now now (Note note ∷ [])) (λ seat s. record { below = s.below; line = s.line; number = s.number; posting = λ d. posting_note now _ seat.pass.put note (s.posting d) }) old.passes.letters.items (seats_on lines.mails.now old.owner now [] old.passes.letters.items on seats);
+      letters = All-weaker (IsEndpoint lines.mails.now now []) (IsEndpoint lines.mails.now now (Note note ∷ [])) (λ endpoint s. record { below = s.below; line = s.line; number = s.number; posting = λ d. posting_note now _ endpoint.pass.put note (s.posting d) }) old.passes.letters.items (endpoints_on lines.mails.now old.owner now [] old.passes.letters.items on endpoints);
       kills = calling.kills;
       keeps = keeps_noted lines.mails.now old.owner old.passes.collects.taken old.passes.letters.items a note (ap Note last) kept;
       names = calling.names;
       noted = noted_on old.owner now old.passes.letters.items old.noted new.noted on flags calling.noted;
     } in
-    subst (IsCalling lines) (sym (desk_same new _ _ _ is passes hand)) good
+    subst (IsCalling lines) (sym (driver_same new _ _ _ is passes outbox)) good
 
-pub note_stays : (old between : Desk) (a : ℕ) → Waits old between → release_note between.owner a ≡ release_note old.owner a
+pub note_stays : (old between : Driver) (a : ℕ) → Waits old between → release_note between.owner a ≡ release_note old.owner a
 note_stays old between a waits =
     ap (λ (n : ℕ). record { caller = n; actor = a; after = given_in a between.owner.handles }) waits.stay.id ∙ ap (λ (h : List Handle). record { caller = old.owner.id; actor = a; after = given_in a h }) waits.handles
 

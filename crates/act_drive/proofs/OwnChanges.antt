@@ -14,39 +14,39 @@ use Rattle.act_rules.proofs.Ended.{needs-none}
 use Rattle.act_handles.specs.Handles.{copies_in, with_copy, with_number, without_copy}
 use Rattle.act_handles.proofs.Lookups.{copies-with_copy-other, copies-without_copy, copies-without_copy-other, copies-with_number}
 use Rattle.act_handles.proofs.Copies.{copy_holds, positive}
-use Rattle.act_owner.specs.Owner.{OwnerValue, submission_refusal}
-use Rattle.act_owner.specs.Life.{Change, after, notices_in, Hears}
+use Rattle.act_owner.specs.Owner.{OwnerView, refusal_to_submit}
+use Rattle.act_owner.specs.Life.{Change, after_change, notices_in, Hears}
 use Rattle.act_owner.proofs.Life.{step}
 use Rattle.act_owner.proofs.Told.{hears_step, calls_to-length}
-use Rattle.act_drive.specs.declared.desk.CallerLines.{CallerLines}
-use Rattle.act_drive.specs.declared.desk.Desk.{Desk}
-use Rattle.act_drive.specs.Driven.{IsCalling, GoesOn, HasNamed}
+use Rattle.act_drive.specs.declared.driver.CallerLines.{CallerLines}
+use Rattle.act_drive.specs.declared.driver.Driver.{Driver}
+use Rattle.act_drive.specs.Driven.{IsCalling, OwnerGoesOn, HasNamed}
 use Rattle.act_drive.proofs.Keeps.{Returns, keeps_on}
 use Rattle.act_drive.proofs.Noted.{noted_on}
-use Rattle.act_drive.proofs.Desks.{change_on, held_on, seats_on, desk_same}
+use Rattle.act_drive.proofs.Drivers.{change_on, held_on, endpoints_on, driver_same}
 
 -- ---- the owner changes by itself
 
-pub calling_step : (lines : CallerLines) (old new : Desk) (change : Change) → new.owner ≡ after old.owner change → new.passes ≡ old.passes → new.hand ≡ old.hand → new.noted ≡ old.noted → notices_in (change ∷ []) ≡ [] → length (after old.owner change).sent ≡ length (after old.owner change).calls
-    → ((b : ℕ) → copies_held (copies_in b old.owner.handles) ≡ 0 → (copies_held (copies_in b (after old.owner change).handles) ≡ 0) × (length (calls_to b (after old.owner change).calls) ≡ length (calls_to b old.owner.calls)))
-    → Returns old.owner (after old.owner change) → IsCalling lines old → IsCalling lines new
-calling_step lines old new change is passes hand marks quiet flags ended back calling =
-    let now = after old.owner change in
-    let on : GoesOn old.owner now = change_on old.owner change calling.places ended in
-    let later : Desk = record { owner = now; passes = old.passes; hand = old.hand; noted = new.noted } in
+pub calling_step : (lines : CallerLines) (old new : Driver) (change : Change) → new.owner ≡ after_change old.owner change → new.passes ≡ old.passes → new.outbox ≡ old.outbox → new.noted ≡ old.noted → notices_in (change ∷ []) ≡ [] → length (after_change old.owner change).sent ≡ length (after_change old.owner change).calls
+    → ((b : ℕ) → copies_held (copies_in b old.owner.handles) ≡ 0 → (copies_held (copies_in b (after_change old.owner change).handles) ≡ 0) × (length (calls_to b (after_change old.owner change).calls) ≡ length (calls_to b old.owner.calls)))
+    → Returns old.owner (after_change old.owner change) → IsCalling lines old → IsCalling lines new
+calling_step lines old new change is passes outbox marks quiet flags ended back calling =
+    let now = after_change old.owner change in
+    let on : OwnerGoesOn old.owner now = change_on old.owner change calling.places ended in
+    let later : Driver = record { owner = now; passes = old.passes; outbox = old.outbox; noted = new.noted } in
     let good : IsCalling lines later = record {
       places = (step old.owner change calling.places).places;
       flags = flags;
       hears = subst (Hears now) (ap (λ (l : List Notice). old.passes.collects.taken ++ l) quiet ∙ append-nil old.passes.collects.taken) (hears_step old.owner old.passes.collects.taken change calling.places calling.hears);
       collects = calling.collects;
-      held = held_on old.owner now old.hand on calling.held;
-      letters = seats_on lines.mails.now old.owner now (option_to_list old.hand) old.passes.letters.items on calling.letters;
+      held = held_on old.owner now old.outbox on calling.held;
+      letters = endpoints_on lines.mails.now old.owner now (option_to_list old.outbox) old.passes.letters.items on calling.letters;
       kills = calling.kills;
-      keeps = keeps_on lines.mails.now old.owner now old.passes.collects.taken old.passes.collects.taken old.passes.letters.items (option_to_list old.hand) on back (λ n has. has) calling.keeps;
+      keeps = keeps_on lines.mails.now old.owner now old.passes.collects.taken old.passes.collects.taken old.passes.letters.items (option_to_list old.outbox) on back (λ n has. has) calling.keeps;
       names = subst (λ (n : ℕ). All (HasNamed lines.controls.now n) old.passes.kills.items) (sym on.id) calling.names;
       noted = noted_on old.owner now old.passes.letters.items old.noted new.noted on marks calling.noted;
     } in
-    subst (IsCalling lines) (sym (desk_same new _ _ _ is passes hand)) good
+    subst (IsCalling lines) (sym (driver_same new _ _ _ is passes outbox)) good
 
 -- ---- what was not refused
 
@@ -65,14 +65,14 @@ calls_other b calls call apart =
     ∙ ap (λ (l : List Submission). length l) (filter-append (λ (c : Submission). c.actor == b) calls (call ∷ []) ∙ ap (λ (t : Bool). filter (λ (c : Submission). c.actor == b) calls ++ (if t then call ∷ [] else [])) (ne_eqb call.actor b apart) ∙ append-nil (filter (λ (c : Submission). c.actor == b) calls))
     ∙ sym (calls_to-length b 0 calls)
 
-pub ended_submitted : (owner : OwnerValue) (a : ℕ) (method : Method) (args : List Arg) → submission_refusal owner a args ≡ None → (b : ℕ) → copies_held (copies_in b owner.handles) ≡ 0
+pub ended_submitted : (owner : OwnerView) (a : ℕ) (method : Method) (args : List Arg) → refusal_to_submit owner a args ≡ None → (b : ℕ) → copies_held (copies_in b owner.handles) ≡ 0
     → (copies_held (copies_in b (with_number a owner.handles)) ≡ 0) × (length (calls_to b (owner.calls ++ record { actor = a; method = method; args = args } ∷ [])) ≡ length (calls_to b owner.calls))
 ended_submitted owner a method args accepted b none = (
   ap copies_held (copies-with_number a b owner.handles) ∙ none,
   calls_other b owner.calls (record { actor = a; method = method; args = args }) (λ same. submit_holds (copies_in a owner.handles) (length owner.calls) args (option_or-none _ _ accepted) (ap (λ (n : ℕ). copies_held (copies_in n owner.handles)) same ∙ none)),
 )
 
-pub ended_copied : (owner : OwnerValue) (a : ℕ) → copy_refusal (copies_in a owner.handles) ≡ None → (b : ℕ) → copies_held (copies_in b owner.handles) ≡ 0 → (copies_held (copies_in b (with_copy a owner.handles)) ≡ 0) × (length (calls_to b owner.calls) ≡ length (calls_to b owner.calls))
+pub ended_copied : (owner : OwnerView) (a : ℕ) → copy_refusal (copies_in a owner.handles) ≡ None → (b : ℕ) → copies_held (copies_in b owner.handles) ≡ 0 → (copies_held (copies_in b (with_copy a owner.handles)) ≡ 0) × (length (calls_to b owner.calls) ≡ length (calls_to b owner.calls))
 ended_copied owner a accepted b none =
     (ap copies_held (copies-with_copy-other a b owner.handles (λ same. copy_holds (copies_in a owner.handles) accepted (ap (λ (n : ℕ). copies_held (copies_in n owner.handles)) same ∙ none))) ∙ none, refl)
 
@@ -80,7 +80,7 @@ less_none : (copies : Option ℕ) → copies_held copies ≡ 0 → copies_held (
 less_none None none = refl
 less_none (Some n) none = omega (arith, none)
 
-pub ended_released : (owner : OwnerValue) (a : ℕ) (b : ℕ) → copies_held (copies_in b owner.handles) ≡ 0 → (copies_held (copies_in b (without_copy a owner.handles)) ≡ 0) × (length (calls_to b owner.calls) ≡ length (calls_to b owner.calls))
+pub ended_released : (owner : OwnerView) (a : ℕ) (b : ℕ) → copies_held (copies_in b owner.handles) ≡ 0 → (copies_held (copies_in b (without_copy a owner.handles)) ≡ 0) × (length (calls_to b owner.calls) ≡ length (calls_to b owner.calls))
 ended_released owner a b none =
     elim (eqb_tells a b) [
       | inl t ↦ (subst (λ (n : ℕ). copies_held (copies_in n (without_copy a owner.handles)) ≡ 0) t.1 (ap copies_held (copies-without_copy a owner.handles) ∙ less_none (copies_in a owner.handles) (ap (λ (n : ℕ). copies_held (copies_in n owner.handles)) t.1 ∙ none)), refl)

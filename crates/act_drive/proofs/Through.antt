@@ -8,32 +8,32 @@ use Rattle.std.proofs.lemmas.List.Elements.{All-push}
 use Rattle.act_rules.specs.declared.history.Submission.{Submission}
 use Rattle.act_rules.specs.RunList.{Answer}
 use Rattle.act_rules.specs.Submissions.{kept_at}
-use Rattle.act_owner.specs.Owner.{OwnerValue, waits_for}
-use Rattle.act_mailbox.specs.Passes.{PutterValue}
-use Rattle.act_mailbox.specs.Controls.{ControlValue}
+use Rattle.act_owner.specs.Owner.{OwnerView, call_waits_for}
+use Rattle.act_mailbox.specs.Passes.{PutterView}
+use Rattle.act_mailbox.specs.Controls.{ControlView}
 use Rattle.act_mailbox.specs.declared.control.Asked.{Asked}
-use Rattle.act_seats.specs.declared.seat.Seat.{Seat}
-use Rattle.act_drive.specs.declared.desk.CallerLines.{CallerLines}
-use Rattle.act_drive.specs.declared.desk.Desk.{Desk}
-use Rattle.act_drive.specs.declared.desk.CallerPasses.{CallerPasses}
-use Rattle.act_drive.specs.Driven.{IsCalling, IsThrough, HasEnded, AreAnswered}
+use Rattle.act_mailbox.specs.declared.endpoint.Endpoint.{Endpoint}
+use Rattle.act_drive.specs.declared.driver.CallerLines.{CallerLines}
+use Rattle.act_drive.specs.declared.driver.Driver.{Driver}
+use Rattle.act_drive.specs.declared.driver.CallerPasses.{CallerPasses}
+use Rattle.act_drive.specs.Driven.{IsCalling, IsThrough, HasEndedAt, AreAnswered}
 
 -- where no call of an actor waits, each is answered
-none_waits : (a : ℕ) (calls : List Submission) (kept : List (Option Answer)) → length kept ≡ length calls → list_any (waits_for a) (zip calls kept) ≡ false → (k : ℕ) (call : Submission) → slice_get calls k ≡ Some call → call.actor ≡ a → is_some (kept_at kept k) ≡ true
+none_waits : (a : ℕ) (calls : List Submission) (kept : List (Option Answer)) → length kept ≡ length calls → list_any (call_waits_for a) (zip calls kept) ≡ false → (k : ℕ) (call : Submission) → slice_get calls k ≡ Some call → call.actor ≡ a → is_some (kept_at kept k) ≡ true
 none_waits a [] kept long none k call at of = absurd (cc at)
 none_waits a (first ∷ calls) [] long none k call at of = absurd (omega (arith, long))
 none_waits a (first ∷ calls) (answer ∷ kept) long none zero call at of =
     let same : first ≡ call = cc at in
     let here : (first.actor == a) ≡ true = eq-eqb first.actor a (ap (λ (s : Submission). s.actor) same ∙ of) in
-    answered answer (subst (λ (b : Bool). (b && not (is_some answer)) ≡ false) here (or_parts (waits_for a (first, answer)) (list_any (waits_for a) (zip calls kept)) none).0)
+    answered answer (subst (λ (b : Bool). (b && not (is_some answer)) ≡ false) here (or_parts (call_waits_for a (first, answer)) (list_any (call_waits_for a) (zip calls kept)) none).0)
   where
     answered : (o : Option Answer) → (true && not (is_some o)) ≡ false → is_some o ≡ true
     answered None is = absurd (cc is)
     answered (Some x) is = refl
 none_waits a (first ∷ calls) (answer ∷ kept) long none (suc k) call at of =
-    none_waits a calls kept (omega (arith, long)) (or_parts (waits_for a (first, answer)) (list_any (waits_for a) (zip calls kept)) none).1 k call at of
+    none_waits a calls kept (omega (arith, long)) (or_parts (call_waits_for a (first, answer)) (list_any (call_waits_for a) (zip calls kept)) none).1 k call at of
 
-pub all_answered : (owner : OwnerValue) (a : ℕ) → length owner.kept ≡ length owner.calls → list_any (waits_for a) (zip owner.calls owner.kept) ≡ false → AreAnswered owner a
+pub all_answered : (owner : OwnerView) (a : ℕ) → length owner.kept ≡ length owner.calls → list_any (call_waits_for a) (zip owner.calls owner.kept) ≡ false → AreAnswered owner a
 all_answered owner a places none k call at of = none_waits a owner.calls owner.kept places none k call at of
 
 pub not_true : (b : Bool) → not b ≡ true → b ≡ false
@@ -41,16 +41,16 @@ not_true true is = absurd (cc is)
 not_true false is = refl
 
 -- its note was posted and none of its calls waits
-pub through_answered : (lines : CallerLines) (desk : Desk) (a : ℕ) → IsCalling lines desk → get_or desk.noted a false ≡ true → list_any (waits_for a) (zip desk.owner.calls desk.owner.kept) ≡ false → IsThrough desk.owner desk.passes a
-through_answered lines desk a calling noted none = inr ((calling.noted a noted).posted, all_answered desk.owner a calling.places none)
+pub through_answered : (lines : CallerLines) (driver : Driver) (a : ℕ) → IsCalling lines driver → get_or driver.noted a false ≡ true → list_any (call_waits_for a) (zip driver.owner.calls driver.owner.kept) ≡ false → IsThrough driver.owner driver.passes a
+through_answered lines driver a calling noted none = inr ((calling.noted a noted).posted, all_answered driver.owner a calling.places none)
 
--- one seat more
-pub ended_more : (controls : List ControlValue) (owner : OwnerValue) (passes : CallerPasses) (seats : List (Seat (PutterValue Asked ℕ))) (at : ℕ) → at < length seats → ((s : Seat (PutterValue Asked ℕ)) → HasEnded controls owner passes (get_or seats at s)) → All (HasEnded controls owner passes) (take at seats) → All (HasEnded controls owner passes) (take (at + 1) seats)
-ended_more controls owner passes seats at below here before k d inside =
-    subst (λ (l : List (Seat (PutterValue Asked ℕ))). All (HasEnded controls owner passes) l) (sym (take_more seats at d below)) (All-push (HasEnded controls owner passes) (take at seats) (get_or seats at d) before (here d)) k d inside
+-- one endpoint more
+pub ended_more : (controls : List ControlView) (owner : OwnerView) (passes : CallerPasses) (endpoints : List (Endpoint (PutterView Asked ℕ))) (at : ℕ) → at < length endpoints → ((s : Endpoint (PutterView Asked ℕ)) → HasEndedAt controls owner passes (get_or endpoints at s)) → All (HasEndedAt controls owner passes) (take at endpoints) → All (HasEndedAt controls owner passes) (take (at + 1) endpoints)
+ended_more controls owner passes endpoints at below here before k d inside =
+    subst (λ (l : List (Endpoint (PutterView Asked ℕ))). All (HasEndedAt controls owner passes) l) (sym (take_more endpoints at d below)) (All-push (HasEndedAt controls owner passes) (take at endpoints) (get_or endpoints at d) before (here d)) k d inside
 
--- the seat at the next place has ended, and nothing changed
-pub through_more : (controls : List ControlValue) (old new : Desk) (at : ℕ) → at < length old.passes.kills.items → new ≡ old → All (HasEnded controls old.owner old.passes) (take at old.passes.kills.items) → ((s : Seat (PutterValue Asked ℕ)) → HasEnded controls old.owner old.passes (get_or old.passes.kills.items at s))
-    → All (HasEnded controls new.owner new.passes) (take (at + 1) new.passes.kills.items)
+-- the endpoint at the next place has ended, and nothing changed
+pub through_more : (controls : List ControlView) (old new : Driver) (at : ℕ) → at < length old.passes.kills.items → new ≡ old → All (HasEndedAt controls old.owner old.passes) (take at old.passes.kills.items) → ((s : Endpoint (PutterView Asked ℕ)) → HasEndedAt controls old.owner old.passes (get_or old.passes.kills.items at s))
+    → All (HasEndedAt controls new.owner new.passes) (take (at + 1) new.passes.kills.items)
 through_more controls old new at below same before here =
-    subst (λ (desk : Desk). All (HasEnded controls desk.owner desk.passes) (take (at + 1) desk.passes.kills.items)) (sym same) (ended_more controls old.owner old.passes old.passes.kills.items at below here before)
+    subst (λ (driver : Driver). All (HasEndedAt controls driver.owner driver.passes) (take (at + 1) driver.passes.kills.items)) (sym same) (ended_more controls old.owner old.passes old.passes.kills.items at below here before)

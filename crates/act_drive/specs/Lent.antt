@@ -2,34 +2,37 @@
 use Rattle.std.specs.Prelude.{◌≡◌, true, false, ℕ, List, ◌∷◌, ◌++◌, [], slice_index_or, All}
 use Rattle.act_rules.specs.declared.script.Step.{Step}
 use Rattle.act_rules.specs.Plans.{kills_to}
-use Rattle.act_drive.specs.declared.desk.CallerLines.{CallerLines}
-use Rattle.act_drive.specs.declared.desk.Desk.{Desk}
+use Rattle.act_drive.specs.declared.driver.CallerLines.{CallerLines}
+use Rattle.act_drive.specs.declared.driver.Driver.{Driver}
 use Rattle.act_drive.specs.declared.caller.Driven.{Driven}
-use Rattle.act_drive.specs.Driven.{IsCalling, Stays, Follows, HasDone, HasEnded}
-use Rattle.act_drive.specs.Sessions.{Seen}
-use Rattle.act_drive.specs.Coded.{IsTold}
+use Rattle.act_drive.specs.Driven.{IsCalling, Stays, FollowsSteps, HasDone, HasEndedAt}
+use Rattle.act_drive.specs.Sessions.{SessionView}
+use Rattle.act_drive.specs.Coded.{HasConcluded}
 
 -- this step more is done, and it was not refused
-abbrev pub Does : CallerLines → Step → Desk → Desk → Type 0
-Does lines step old new = (actors : List ℕ) (steps : List Step) → Follows lines actors steps old → Follows lines actors (steps ++ step ∷ []) new
+abbrev pub Does : CallerLines → Step → Driver → Driver → Type 0
+Does lines step old new = (actors : List ℕ) (steps : List Step) → FollowsSteps lines actors steps old →
+    FollowsSteps lines actors (steps ++ step ∷ []) new
 
--- a desk at work: it is that of the caller that began, it did some steps, and so many kills were asked
-pub record IsAtWork (actors : List ℕ) (began : Desk → Type 0) (lines : CallerLines) (desk : Desk) (kills : List ℕ) : Type 0 where
-  pub calling : IsCalling lines desk
-  pub opened : Desk
+-- a driver at work: it is that of the caller that began, it did some steps, and so many kills were asked
+pub record IsAtWork (actors : List ℕ) (began : Driver → Type 0) (lines : CallerLines) (driver : Driver)
+    (kills : List ℕ) : Type 0 where
+  pub calling : IsCalling lines driver
+  pub opened : Driver
   pub began_so : began opened
-  pub stays : Stays opened desk
+  pub stays : Stays opened driver
   pub steps : List Step
-  pub follows : Follows lines actors steps desk
+  pub follows : FollowsSteps lines actors steps driver
   pub asked : (a : ℕ) → slice_index_or kills a 0 ≡ kills_to a steps
 
--- what a caller by code of its own leaves of a desk
-pub record HasWorked (lines : CallerLines) (actors : List ℕ) (start : Desk) (tells : Seen → Seen → Type 0) (driven : Driven) : Type 0 where
-  pub new : Desk
+-- what a caller by code of its own leaves of a driver
+pub record HasDrivenCode (lines : CallerLines) (actors : List ℕ) (start : Driver)
+    (tells : SessionView → SessionView → Type 0) (driven : Driven) : Type 0 where
+  pub new : Driver
   pub is : driven ≡ record { owner = new.owner; starved = driven.starved; passes = new.passes }
   pub calling : IsCalling lines new
   pub stays : Stays start new
   pub steps : List Step
   pub done : driven.starved ≡ false → HasDone lines actors steps new.owner new.passes
-  pub ended : driven.starved ≡ true → All (HasEnded lines.controls.now new.owner new.passes) new.passes.kills.items
-  pub told : driven.starved ≡ false → IsTold tells steps start.owner new.owner
+  pub ended : driven.starved ≡ true → All (HasEndedAt lines.controls.now new.owner new.passes) new.passes.kills.items
+  pub told : driven.starved ≡ false → HasConcluded tells steps start.owner new.owner

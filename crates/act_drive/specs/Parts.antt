@@ -4,15 +4,17 @@ use Rattle.act_types.specs.declared.message.Notice.{Notice}
 use Rattle.act_rules.specs.declared.script.Step.{Step}
 use Rattle.act_rules.specs.declared.script.Step.TheVariants.{Submit, Copy, Release, Kill, Await}
 use Rattle.act_rules.specs.Submissions.{kept_at}
-use Rattle.act_owner.specs.Owner.{OwnerValue, after_collect}
-use Rattle.act_drive.specs.declared.desk.Desk.{Desk}
+use Rattle.act_owner.specs.Owner.{OwnerView, after_collect}
+use Rattle.act_drive.specs.declared.driver.Driver.{Driver}
 
 -- nothing came, or a notice came, and the owner collected it
-abbrev pub IsHeard : Desk → Desk → Type 0
-IsHeard old new = ((new.owner ≡ old.owner) × (new.passes.collects ≡ old.passes.collects)) ⊎ ((notice : Notice) × (new.passes.collects.taken ≡ old.passes.collects.taken ++ notice ∷ []) × (new.owner ≡ after_collect old.owner notice))
+abbrev pub IsHeard : Driver → Driver → Type 0
+IsHeard old new = ((new.owner ≡ old.owner) × (new.passes.collects ≡ old.passes.collects))
+    ⊎ ((notice : Notice) × (new.passes.collects.taken ≡ old.passes.collects.taken ++ notice ∷ [])
+    × (new.owner ≡ after_collect old.owner notice))
 
 -- a future that a step awaits is answered after it
-abbrev pub IsAwaited : Step → OwnerValue → Type 0
+abbrev pub IsAwaited : Step → OwnerView → Type 0
 IsAwaited (Submit a method args) owner = Unit {0}
 IsAwaited (Copy a) owner = Unit {0}
 IsAwaited (Release a) owner = Unit {0}

@@ -9,14 +9,15 @@ use Rattle.act_rules.specs.RunList.{Answer}
 use Rattle.act_rules.specs.Submissions.{submit_refusal, handle_refusal}
 use Rattle.act_handles.specs.declared.handles.Handle.{Handle}
 use Rattle.act_handles.specs.Handles.{copies_in, without_copy}
-use Rattle.act_owner.specs.Owner.{OwnerValue, waits_for}
+use Rattle.act_owner.specs.Owner.{OwnerView, call_waits_for}
 use Rattle.act_drive.specs.declared.refusals.KillRefusal.{KillRefusal}
 use Rattle.act_drive.specs.declared.refusals.KillRefusal.TheVariants.{Handle as BadHandle, TooManyKills, NoMemory}
-use Rattle.act_drive.specs.declared.session.TheConstants.{MOST_KILLS}
+use Rattle.act_drive.specs.declared.session.TheConstants.{MAX_KILLS}
 use Rattle.act_drive.specs.Driven.{KeptOn}
 
--- what code sees of its caller: its calls so far, the answers kept so far, its handles, and its limits; and how many kills it asked of each actor, by the actors' numbers
-pub record Seen : Type 0 where
+-- what code sees of its caller: its calls so far, the answers kept so far, its handles, and its limits; and how many
+-- kills it asked of each actor, by the actors' numbers
+pub record SessionView : Type 0 where
   pub calls : List Submission
   pub kept : List (Option Answer)
   pub handles : List Handle
@@ -24,58 +25,65 @@ pub record Seen : Type 0 where
   pub kills : List ℕ
 
 -- what code sees of a caller that asked no kill yet
-abbrev pub seen_of : OwnerValue → Seen
-seen_of owner = record { calls = owner.calls; kept = owner.kept; handles = owner.handles; limits = owner.limits; kills = replicate 9 0 }
+abbrev pub session_view : OwnerView → SessionView
+session_view owner = record {
+  calls = owner.calls;
+  kept = owner.kept;
+  handles = owner.handles;
+  limits = owner.limits;
+  kills = replicate 9 0;
+}
 
 -- how many kills of an actor were asked
-abbrev pub kills_of : Seen → ℕ → ℕ
+abbrev pub kills_of : SessionView → ℕ → ℕ
 kills_of seen a = slice_index_or seen.kills a 0
 
 -- how many calls of an actor have no answer yet
-abbrev pub pending_of : Seen → ℕ → ℕ
-pending_of seen a = count_by (waits_for a) (zip seen.calls seen.kept)
+abbrev pub pending_of : SessionView → ℕ → ℕ
+pending_of seen a = count_by (call_waits_for a) (zip seen.calls seen.kept)
 
 -- how many may have none, where the caller was opened with a limit of it
-abbrev pub limit_of : Seen → ℕ → Option ℕ
-limit_of seen a = option_and_then (λ limit. limit.1) (find (λ limit. limit.0 == a) seen.limits)
+abbrev pub session_limit : SessionView → ℕ → Option ℕ
+session_limit seen a = option_and_then (λ limit. limit.1) (find (λ limit. limit.0 == a) seen.limits)
 
 -- why a call is not submitted, memory apart: an actor's limit refuses none, since the caller waits
-abbrev pub call_refusal : Seen → ℕ → List Arg → Option SubmitRefusal
+abbrev pub call_refusal : SessionView → ℕ → List Arg → Option SubmitRefusal
 call_refusal seen a args = submit_refusal (copies_in a seen.handles) (length seen.calls) args
 
 -- why a handle is not let go, or a kill not asked
-abbrev pub use_refusal : Seen → ℕ → Option HandleRefusal
+abbrev pub use_refusal : SessionView → ℕ → Option HandleRefusal
 use_refusal seen a = handle_refusal (copies_in a seen.handles)
 
 -- why a kill is not asked, where one is refused
-abbrev pub kill_refusal : Seen → ℕ → KillRefusal
-kill_refusal seen a = option_map_or BadHandle (use_refusal seen a) (if nat_lt (kills_of seen a) MOST_KILLS then NoMemory else TooManyKills)
+abbrev pub kill_refusal : SessionView → ℕ → KillRefusal
+kill_refusal seen a = option_map_or BadHandle (use_refusal seen a)
+    (if nat_lt (kills_of seen a) MAX_KILLS then NoMemory else TooManyKills)
 
 -- it is the same caller, later: its limits are the same, and no answer is forgotten
-pub record IsLater (old new : Seen) : Type 0 where
+pub record IsLater (old new : SessionView) : Type 0 where
   pub limits : new.limits ≡ old.limits
   pub kept : KeptOn old.kept new.kept
 
 -- nothing is submitted, no handle changes, and no kill is asked
-pub record Hears (old new : Seen) : Type 0 where
+pub record OnlyHears (old new : SessionView) : Type 0 where
   pub calls : new.calls ≡ old.calls
   pub handles : new.handles ≡ old.handles
   pub kills : new.kills ≡ old.kills
 
 -- this call is submitted after the others, no handle is copied or let go, and no kill is asked
-pub record Submits (call : Submission) (old new : Seen) : Type 0 where
+pub record Submits (call : Submission) (old new : SessionView) : Type 0 where
   pub calls : new.calls ≡ old.calls ++ call ∷ []
   pub copies : (a : ℕ) → copies_in a new.handles ≡ copies_in a old.handles
   pub kills : new.kills ≡ old.kills
 
 -- a copy of the actor's handle is let go, nothing is submitted, and no kill is asked
-pub record LetsGo (a : ℕ) (old new : Seen) : Type 0 where
+pub record LetsGo (a : ℕ) (old new : SessionView) : Type 0 where
   pub calls : new.calls ≡ old.calls
   pub handles : new.handles ≡ without_copy a old.handles
   pub kills : new.kills ≡ old.kills
 
 -- one kill more is asked of the actor, nothing is submitted, and no handle changes
-pub record AsksKill (a : ℕ) (old new : Seen) : Type 0 where
+pub record AsksKill (a : ℕ) (old new : SessionView) : Type 0 where
   pub calls : new.calls ≡ old.calls
   pub handles : new.handles ≡ old.handles
   pub kills : (b : ℕ) → kills_of new b ≡ (if b == a then kills_of old b + 1 else kills_of old b)

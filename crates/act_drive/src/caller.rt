@@ -4,12 +4,12 @@ ghost use Rattle.std.specs.Prelude.{◌≡◌, ℕ, List, [], None, OnOk, All, t
 ghost use Rattle.act_rules.specs.Plans.{first_bad};
 ghost use Rattle.act_rules.specs.Submissions.{copies_held};
 ghost use Rattle.act_handles.specs.Handles.{actors_in, copies_in};
-ghost use Rattle.act_drive.specs.Driven.{IsCalling, Follows, Stays, Waits, Winds, IsFresh, HasDone, HasEnded, HasDriven};
+ghost use Rattle.act_drive.specs.Driven.{IsCalling, FollowsSteps, Stays, Waits, OnlyReleases, IsFreshCaller, HasDone, HasEndedAt, HasDriven};
 
-use crate::desk::{CallerLines, CallerPasses, Desk, NUMBERS};
+use crate::driver::{CallerLines, CallerPasses, Driver, NUMBERS};
+use act_mailbox::{NoNotes, Notes};
 use act_owner::Owner;
 use act_rules::Step;
-use act_seats::{NoNotes, Notes};
 use act_types::{ActorId, NoMemory};
 use std::alloc::Global;
 use std::sync::Wait;
@@ -35,7 +35,7 @@ fn submissions(plan: &[Step]) -> usize {
         .count()
 }
 
-impl Desk {
+impl Driver {
     /// Makes room for all calls of a plan at once, so that none of its submissions grows a table.
     fn reserve(&mut self, plan: &[Step]) -> Result<(), NoMemory>
         ensures { self.new ≡ self.old }
@@ -78,7 +78,7 @@ impl Desk {
         ensures calling { IsCalling lines.now self.new }
         ensures stays { Stays self.old self.new }
         ensures follows { OnOk result ((actors : List ℕ) → first_bad actors plan.items ≡ None →
-            Follows lines.now actors [] self.old → Follows lines.now actors plan.items self.new) }
+            FollowsSteps lines.now actors [] self.old → FollowsSteps lines.now actors plan.items self.new) }
     {
         let mut since = 0;
         for step in plan {
@@ -98,7 +98,7 @@ impl Desk {
     ) -> Result<(), NoMemory>
         requires calling { IsCalling lines.now self.old }
         ensures calling { IsCalling lines.now self.new }
-        ensures winds { Winds self.old self.new }
+        ensures only_releases { OnlyReleases self.old self.new }
         ensures none { OnOk result (copies_held (copies_in a self.new.owner.handles) ≡ 0) }
     {
         for _gone in 0..self.owner.holds(a) {
@@ -116,8 +116,9 @@ impl Desk {
     ) -> Result<(), NoMemory>
         requires calling { IsCalling lines.now self.old }
         ensures calling { IsCalling lines.now self.new }
-        ensures winds { Winds self.old self.new }
-        ensures none { OnOk result (All (λ mail. copies_held (copies_in mail.actor self.new.owner.handles) ≡ 0) lines.now.mails.now) }
+        ensures only_releases { OnlyReleases self.old self.new }
+        ensures none { OnOk result
+            (All (λ mail. copies_held (copies_in mail.actor self.new.owner.handles) ≡ 0) lines.now.mails.now) }
     {
         for mail in lines.mails {
             self.let_go(rt, lines, mail.actor(), notes)?;
@@ -138,7 +139,8 @@ impl Desk {
         ensures calling { IsCalling lines.now self.new }
         ensures stays { Stays self.old self.new }
         ensures done { OnOk result ((actors : List ℕ) → first_bad actors plan.items ≡ None →
-            Follows lines.now actors [] self.old → HasDone lines.now actors plan.items self.new.owner self.new.passes) }
+            FollowsSteps lines.now actors [] self.old →
+            HasDone lines.now actors plan.items self.new.owner self.new.passes) }
     {
         self.reserve(plan.as_slice())?;
         self.steps(rt, alloc, lines, plan, notes)?;
@@ -162,8 +164,10 @@ impl Desk {
         ensures calling { IsCalling lines.now self.new }
         ensures stays { Stays self.old self.new }
         ensures done { result ≡ false → (actors : List ℕ) → first_bad actors plan.items ≡ None →
-            Follows lines.now actors [] self.old → HasDone lines.now actors plan.items self.new.owner self.new.passes }
-        ensures ended { result ≡ true → All (HasEnded lines.now.controls.now self.new.owner self.new.passes) self.new.passes.kills.items }
+            FollowsSteps lines.now actors [] self.old →
+            HasDone lines.now actors plan.items self.new.owner self.new.passes }
+        ensures ended { result ≡ true →
+            All (HasEndedAt lines.now.controls.now self.new.owner self.new.passes) self.new.passes.kills.items }
     {
         match self.whole(rt, alloc, lines, plan, notes) {
             Ok(()) => false,
@@ -188,18 +192,18 @@ pub fn drive_noting<R: Wait, N: Notes>(
     passes: CallerPasses,
     notes: &mut N,
 ) -> Driven
-    requires fresh { IsFresh lines.now owner passes }
+    requires fresh { IsFreshCaller lines.now owner passes }
     requires fits { first_bad (actors_in owner.handles) plan.items ≡ None }
     ensures { HasDriven lines.now owner passes plan.items result }
 {
-    let mut desk = Desk {
+    let mut driver = Driver {
         owner,
         passes,
-        hand: None,
+        outbox: None,
         noted: [false; NUMBERS],
     };
-    let starved = desk.run(rt, alloc, lines, plan, notes);
-    let Desk { owner, passes, .. } = desk;
+    let starved = driver.run(rt, alloc, lines, plan, notes);
+    let Driver { owner, passes, .. } = driver;
     Driven {
         owner,
         starved,
@@ -216,7 +220,7 @@ pub fn drive<R: Wait>(
     lines: &CallerLines,
     passes: CallerPasses,
 ) -> Driven
-    requires fresh { IsFresh lines.now owner passes }
+    requires fresh { IsFreshCaller lines.now owner passes }
     requires fits { first_bad (actors_in owner.handles) plan.items ≡ None }
     ensures { HasDriven lines.now owner passes plan.items result }
 {

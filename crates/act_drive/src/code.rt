@@ -1,7 +1,7 @@
 //! A caller by code of its own.
 
 ghost use Rattle.std.specs.Prelude.{OnOk};
-ghost use Rattle.act_drive.specs.Sessions.{Seen};
+ghost use Rattle.act_drive.specs.Sessions.{SessionView};
 
 use crate::refusals::{KillRefusal, WaitRefusal};
 use crate::session::Session;
@@ -69,7 +69,7 @@ impl From<KillRefusal> for GaveUp {
 /// A caller's own code.
 pub trait Code: Drop {
     /// What the code concludes, of what it saw at first and at its end.
-    ghost tells: { Self → Seen → Seen → Type 0 };
+    ghost tells: { Self → SessionView → SessionView → Type 0 };
 
     /// About how many calls it will submit, for which room is made at once. It is a hint: code may
     /// submit more or fewer.

@@ -2,19 +2,19 @@
 
 ghost use Rattle.std.specs.Prelude.{◌≡◌, ℕ, List, [], All, OnOk, true, false};
 ghost use Rattle.act_rules.specs.declared.script.Step.{Step as AStep};
-ghost use Rattle.act_drive.specs.declared.desk.CallerLines.{CallerLines as SomeLines};
-ghost use Rattle.act_drive.specs.declared.desk.Desk.{Desk as ADesk};
-ghost use Rattle.act_drive.specs.Driven.{IsCalling, Follows, Stays, IsFresh, HasDone, HasEnded};
+ghost use Rattle.act_drive.specs.declared.driver.CallerLines.{CallerLines as SomeLines};
+ghost use Rattle.act_drive.specs.declared.driver.Driver.{Driver as ADriver};
+ghost use Rattle.act_drive.specs.Driven.{IsCalling, FollowsSteps, Stays, IsFreshCaller, HasDone, HasEndedAt};
 ghost use Rattle.act_drive.specs.Coded.{HasRunCode};
-ghost use Rattle.act_drive.specs.Lent.{HasWorked};
+ghost use Rattle.act_drive.specs.Lent.{HasDrivenCode};
 
 use crate::caller::Driven;
 use crate::code::Code;
-use crate::desk::{CallerLines, CallerPasses, Desk, NUMBERS};
+use crate::driver::{CallerLines, CallerPasses, Driver, NUMBERS};
 use crate::lent::{Lent, Opening};
+use act_mailbox::NoNotes;
 use act_owner::Owner;
-use act_seats::NoNotes;
-use act_types::{MOST_CALLS, NoMemory};
+use act_types::{MAX_CALLS, NoMemory};
 use std::alloc::Global;
 use std::marker::{Brand, PhantomData};
 use std::sync::Wait;
@@ -25,7 +25,7 @@ impl Opening for Brand {
     ghost began = { λ _ _. Unit {0} };
 }
 
-impl Desk {
+impl Driver {
     /// Lets all handles go, and goes on until all is answered.
     fn wind_up<R: Wait>(
         &mut self,
@@ -37,7 +37,8 @@ impl Desk {
         ensures calling { IsCalling lines.now self.new }
         ensures stays { Stays self.old self.new }
         ensures calls { OnOk result (self.new.owner.calls ≡ self.old.owner.calls) }
-        ensures done { OnOk result ((actors : List ℕ) (steps : List AStep) → Follows lines.now actors steps self.old →
+        ensures done { OnOk result
+            ((actors : List ℕ) (steps : List AStep) → FollowsSteps lines.now actors steps self.old →
             HasDone lines.now actors steps self.new.owner self.new.passes) }
     {
         // What is ready is posted before the notes of the last handles.
@@ -62,10 +63,10 @@ impl Desk {
         ensures given_up { result ≡ false → has_given_up ≡ false }
         ensures calls { result ≡ false → self.new.owner.calls ≡ self.old.owner.calls }
         ensures done { result ≡ false → (actors : List ℕ) (steps : List AStep) →
-            Follows lines.now actors steps self.old →
+            FollowsSteps lines.now actors steps self.old →
             HasDone lines.now actors steps self.new.owner self.new.passes }
         ensures ended { result ≡ true →
-            All (HasEnded lines.now.controls.now self.new.owner self.new.passes) self.new.passes.kills.items }
+            All (HasEndedAt lines.now.controls.now self.new.owner self.new.passes) self.new.passes.kills.items }
     {
         if !has_given_up && self.wind_up(rt, alloc, lines).is_ok() {
             return false;
@@ -75,34 +76,34 @@ impl Desk {
     }
 }
 
-/// Runs the code over a desk.
+/// Runs the code over a driver.
 fn work<R: Wait, O: Opening, C: Code>(
     rt: &R,
     alloc: Global,
-    desk: Desk,
+    driver: Driver,
     code: C,
     lines: &CallerLines,
 ) -> Driven
-    requires calling { IsCalling lines.now desk }
-    requires follows { Follows lines.now O.actors [] desk }
-    requires began { O.began lines.now desk }
-    requires only { (at : SomeLines) (other : ADesk) → O.began at other → (at ≡ lines.now) × (other ≡ desk) }
-    ensures { HasWorked lines.now O.actors desk (C.tells code) result }
+    requires calling { IsCalling lines.now driver }
+    requires follows { FollowsSteps lines.now O.actors [] driver }
+    requires began { O.began lines.now driver }
+    requires only { (at : SomeLines) (other : ADriver) → O.began at other → (at ≡ lines.now) × (other ≡ driver) }
+    ensures { HasDrivenCode lines.now O.actors driver (C.tells code) result }
 {
     let mut code = code;
     let mut lent: Lent<'_, R, O> = Lent {
         rt,
         alloc,
         lines,
-        desk,
+        driver,
         since: 0,
         kills: [0; NUMBERS],
         of: PhantomData,
     };
     let has_given_up = code.run(&mut lent).is_err();
-    let Lent { mut desk, .. } = lent;
-    let starved = desk.end_code(rt, alloc, lines, has_given_up);
-    let Desk { owner, passes, .. } = desk;
+    let Lent { mut driver, .. } = lent;
+    let starved = driver.end_code(rt, alloc, lines, has_given_up);
+    let Driver { owner, passes, .. } = driver;
     Driven {
         owner,
         starved,
@@ -115,7 +116,7 @@ fn work<R: Wait, O: Opening, C: Code>(
 fn make_room<C: Code>(owner: &mut Owner, code: &C)
     ensures { owner.new ≡ owner.old }
 {
-    let calls = code.calls().min(MOST_CALLS as usize);
+    let calls = code.calls().min(MAX_CALLS as usize);
     let _ = owner.reserve(calls);
 }
 
@@ -130,16 +131,16 @@ pub fn drive_code<R: Wait, C: Code>(
     lines: &CallerLines,
     passes: CallerPasses,
 ) -> Driven
-    requires fresh { IsFresh lines.now owner passes }
+    requires fresh { IsFreshCaller lines.now owner passes }
     ensures { HasRunCode lines.now owner passes (C.tells code) result }
 {
     let mut owner = owner;
     make_room(&mut owner, &code);
-    let desk = Desk {
+    let driver = Driver {
         owner,
         passes,
-        hand: None,
+        outbox: None,
         noted: [false; NUMBERS],
     };
-    work::<R, Brand, C>(rt, alloc, desk, code, lines)
+    work::<R, Brand, C>(rt, alloc, driver, code, lines)
 }

@@ -2,52 +2,52 @@
 
 ghost use Rattle.std.specs.Prelude.{◌≡◌, ◌≢◌, length, None, IfOk, OnOk, IfErr, OnErr, unwrap_or};
 ghost use Rattle.act_rules.specs.declared.outcome.SubmitRefusal.TheVariants.{NoMemory as NoRoom};
-ghost use Rattle.act_drive.specs.Sessions.{call_refusal, IsLater, Hears, Submits};
+ghost use Rattle.act_drive.specs.Sessions.{call_refusal, IsLater, OnlyHears, Submits};
 
-use crate::desk::{CallerLines, Desk, NUMBERS};
+use crate::driver::{CallerLines, Driver, NUMBERS};
 use crate::refusals::{KillRefusal, WaitRefusal};
-use crate::session::{MOST_KILLS, Session};
+use crate::session::{MAX_KILLS, Session};
 use act_handles::HandleRefusal;
+use act_mailbox::NoNotes;
 use act_rules::SubmitRefusal;
-use act_seats::NoNotes;
 use act_types::{ActorId, Answer, Arg, FutureId, ListOf, Method};
 use std::alloc::Global;
 use std::marker::{Model, PhantomData};
 use std::sync::Wait;
 
-/// From which desk a session began. It is known in proofs alone.
+/// From which driver a session began. It is known in proofs alone.
 pub(crate) trait Opening {
     ghost use Rattle.std.specs.Prelude.{ℕ, List};
-    ghost use Rattle.act_drive.specs.declared.desk.CallerLines.{CallerLines};
-    ghost use Rattle.act_drive.specs.declared.desk.Desk.{Desk};
+    ghost use Rattle.act_drive.specs.declared.driver.CallerLines.{CallerLines};
+    ghost use Rattle.act_drive.specs.declared.driver.Driver.{Driver};
 
     ghost actors: { List ℕ };
 
-    ghost began: { CallerLines → Desk → Type 0 };
+    ghost began: { CallerLines → Driver → Type 0 };
 }
 
-/// A desk that is lent to its caller's code. `since` counts the submissions from one turn to the next,
+/// A driver that is lent to its caller's code. `since` counts the submissions from one turn to the next,
 /// and `kills` the kills asked of each actor, by its number.
 #[derive(Drop)]
 pub(crate) struct Lent<'a, R, O: Opening> {
     pub(crate) rt: &'a R,
     pub(crate) alloc: Global,
     pub(crate) lines: &'a CallerLines<'a>,
-    pub(crate) desk: Desk,
+    pub(crate) driver: Driver,
     pub(crate) since: u32,
     pub(crate) kills: [u32; NUMBERS],
     pub(crate) of: PhantomData<O>,
 }
 
 impl<'a, R, O: Opening> Model for Lent<'a, R, O> {
-    ghost use Rattle.act_drive.specs.Sessions.{Seen, seen_of};
+    ghost use Rattle.act_drive.specs.Sessions.{SessionView, session_view};
     ghost use Rattle.act_drive.specs.Lent.{IsAtWork};
 
-    ghost Value = { Seen };
+    ghost Value = { SessionView };
 
-    ghost view = { λ s. record (seen_of s.desk.owner) { kills = s.kills } };
+    ghost view = { λ s. record (session_view s.driver.owner) { kills = s.kills } };
 
-    ghost invariant = { λ s. IsAtWork O.actors (O.began s.lines.now) s.lines.now s.desk s.kills };
+    ghost invariant = { λ s. IsAtWork O.actors (O.began s.lines.now) s.lines.now s.driver s.kills };
 }
 
 impl<'a, R: Wait, O: Opening> Lent<'a, R, O> {
@@ -64,21 +64,21 @@ impl<'a, R: Wait, O: Opening> Lent<'a, R, O> {
             Submits (record { actor = actor; method = method; args = args }) self.old self.new) }
         ensures refusal { IfErr result (λ refusal. refusal ≡ unwrap_or (call_refusal self.old actor args) NoRoom) }
         ensures refused { IfErr result (λ refusal. refusal ≢ NoRoom → self.new ≡ self.old) }
-        ensures hears { OnErr result (Hears self.old self.new) }
+        ensures hears { OnErr result (OnlyHears self.old self.new) }
         ensures on { IsLater self.old self.new }
     {
         let k = self
-            .desk
+            .driver
             .submit_told(self.rt, self.alloc, self.lines, actor, method, args)?;
         Ok(k)
     }
 
     /// A turn after each so many submissions. What it can't send for want of memory is sent later.
     fn turn_after(&mut self)
-        ensures hears { Hears self.old self.new }
+        ensures hears { OnlyHears self.old self.new }
         ensures on { IsLater self.old self.new }
     {
-        let _ = self.desk.turn_after(
+        let _ = self.driver.turn_after(
             self.rt,
             self.alloc,
             self.lines,
@@ -103,11 +103,11 @@ impl<'a, R: Wait, O: Opening> Session for Lent<'a, R, O> {
     }
 
     fn wait(&mut self, k: FutureId) -> Result<(), WaitRefusal> {
-        if k.number() >= self.desk.owner.count() {
+        if k.number() >= self.driver.owner.count() {
             return Err(WaitRefusal::NoFuture);
         }
         match self
-            .desk
+            .driver
             .wait_for(self.rt, self.alloc, self.lines, k, &mut NoNotes)
         {
             Ok(()) => Ok(()),
@@ -116,34 +116,37 @@ impl<'a, R: Wait, O: Opening> Session for Lent<'a, R, O> {
     }
 
     fn answer(&self, k: FutureId) -> Option<&Answer> {
-        self.desk.owner.answer(k)
+        self.driver.owner.answer(k)
     }
 
     fn copy(&mut self, actor: ActorId) -> Result<u32, HandleRefusal> {
-        let copies = self.desk.copy_told(actor)?;
+        let copies = self.driver.copy_told(actor)?;
         Ok(copies)
     }
 
     fn release(&mut self, actor: ActorId) -> Result<(), HandleRefusal> {
-        if let Some(refusal) = self.desk.use_refusal(actor) {
+        if let Some(refusal) = self.driver.use_refusal(actor) {
             return Err(refusal);
         }
-        let Ok(()) = self.desk.release(self.rt, self.lines, actor, &mut NoNotes) else {
+        let Ok(()) = self
+            .driver
+            .release(self.rt, self.lines, actor, &mut NoNotes)
+        else {
             unreachable!()
         };
         Ok(())
     }
 
     fn kill(&mut self, actor: ActorId) -> Result<(), KillRefusal> {
-        if let Some(refusal) = self.desk.use_refusal(actor) {
+        if let Some(refusal) = self.driver.use_refusal(actor) {
             return Err(KillRefusal::Handle(refusal));
         }
         let number = actor.number() as usize;
-        if self.kills[number] >= MOST_KILLS {
+        if self.kills[number] >= MAX_KILLS {
             return Err(KillRefusal::TooManyKills);
         }
         match self
-            .desk
+            .driver
             .kill(self.rt, self.alloc, self.lines, actor, &mut NoNotes)
         {
             Ok(()) => {
@@ -155,15 +158,15 @@ impl<'a, R: Wait, O: Opening> Session for Lent<'a, R, O> {
     }
 
     fn pending(&self, actor: ActorId) -> u32 {
-        self.desk.owner.pending(actor)
+        self.driver.owner.pending(actor)
     }
 
     fn limit(&self, actor: ActorId) -> Option<u32> {
-        self.desk.owner.limit(actor)
+        self.driver.owner.limit(actor)
     }
 
     fn holds(&self, actor: ActorId) -> u32 {
-        self.desk.owner.holds(actor)
+        self.driver.owner.holds(actor)
     }
 
     fn kills(&self, actor: ActorId) -> u32 {
@@ -171,7 +174,7 @@ impl<'a, R: Wait, O: Opening> Session for Lent<'a, R, O> {
     }
 
     fn count(&self) -> u32 {
-        self.desk.owner.count()
+        self.driver.owner.count()
     }
 
     fn alloc(&self) -> Global {

@@ -28,7 +28,7 @@ impl Error for WaitRefusal {}
 #[derive(Clone, Copy, Debug, PartialEq, Eq)]
 pub enum KillRefusal {
     Handle(HandleRefusal),
-    /// `MOST_KILLS` of the actor were asked.
+    /// `MAX_KILLS` of the actor were asked.
     TooManyKills,
     /// The actor's line was full, and meanwhile a call that is ready could not be sent. The kill may
     /// be asked again.

@@ -2,21 +2,21 @@
 
 ghost use Rattle.std.specs.Prelude.{◌≡◌, ◌≢◌, true, false, Some, OnOk};
 ghost use Rattle.act_rules.specs.declared.outcome.SubmitRefusal.TheVariants.{PendingLimit};
-ghost use Rattle.act_owner.specs.Owner.{submission_refusal};
+ghost use Rattle.act_owner.specs.Owner.{refusal_to_submit};
 ghost use Rattle.act_drive.specs.Driven.{IsCalling, Waits};
 
-use crate::desk::{CallerLines, Desk};
+use crate::driver::{CallerLines, Driver};
+use act_mailbox::{IdleBackoff, Notes};
 use act_rules::SubmitRefusal;
-use act_seats::{Notes, Patience};
 use act_types::{ActorId, Arg, ListOf, NoMemory};
 use std::alloc::Global;
 use std::sync::Wait;
 
-impl Desk {
+impl Driver {
     /// Whether the actor's limit doesn't refuse the call. It doesn't where something else does.
     pub(crate) fn has_room(&self, a: ActorId, args: &ListOf<Arg>) -> bool
-        ensures room { result ≡ true → submission_refusal self.now.owner a args.now ≢ Some PendingLimit }
-        ensures full { result ≡ false → submission_refusal self.now.owner a args.now ≡ Some PendingLimit }
+        ensures room { result ≡ true → refusal_to_submit self.now.owner a args.now ≢ Some PendingLimit }
+        ensures full { result ≡ false → refusal_to_submit self.now.owner a args.now ≡ Some PendingLimit }
     {
         // Without a limit the arguments need no look.
         if self.owner.limit(a).is_none() {
@@ -41,14 +41,14 @@ impl Desk {
         requires calling { IsCalling lines.now self.old }
         ensures calling { IsCalling lines.now self.new }
         ensures waits { Waits self.old self.new }
-        ensures room { OnOk result (submission_refusal self.new.owner a args.now ≢ Some PendingLimit) }
+        ensures room { OnOk result (refusal_to_submit self.new.owner a args.now ≢ Some PendingLimit) }
     {
-        let mut patience = Patience::new();
+        let mut idle_backoff = IdleBackoff::new();
         for _ in rt.forever() {
             if self.has_room(a, args) {
                 return Ok(());
             }
-            self.wait_turn(rt, alloc, lines, &mut patience, notes)?;
+            self.wait_turn(rt, alloc, lines, &mut idle_backoff, notes)?;
         }
         unreachable!()
     }

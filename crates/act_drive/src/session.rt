@@ -1,14 +1,14 @@
 //! What a caller's own code is lent: its caller, while it runs.
 
 ghost use Rattle.std.specs.Prelude.{◌≡◌, ◌≢◌, ◌⊎◌, ◌<◌, ◌≤◌, length, None, Ok, IfOk, OnOk, IfErr, OnErr, is_some, true, unwrap_or, nat_lt, if◌then◌else◌, option_copied};
-ghost use Rattle.act_types.specs.declared.limits.TheConstants.{MOST_CALLS};
+ghost use Rattle.act_types.specs.declared.limits.TheConstants.{MAX_CALLS};
 ghost use Rattle.act_rules.specs.Submissions.{kept_at, copies_held};
 ghost use Rattle.act_rules.specs.declared.outcome.SubmitRefusal.TheVariants.{NoMemory as NoRoom};
-ghost use Rattle.act_handles.specs.Handles.{copies_in, copied, with_copy, or_else};
+ghost use Rattle.act_handles.specs.Handles.{copies_in, copy_answer, with_copy, or_else};
 ghost use Rattle.act_drive.specs.declared.refusals.WaitRefusal.TheVariants.{NoFuture, NoMemory as NoRoomToWait};
 ghost use Rattle.act_drive.specs.declared.refusals.KillRefusal.TheVariants.{NoMemory as NoRoomToAsk};
-ghost use Rattle.act_drive.specs.declared.session.TheConstants.{MOST_KILLS};
-ghost use Rattle.act_drive.specs.Sessions.{Seen, pending_of, limit_of, kills_of, call_refusal, use_refusal, kill_refusal, IsLater, Hears, Submits, LetsGo, AsksKill};
+ghost use Rattle.act_drive.specs.declared.session.TheConstants.{MAX_KILLS};
+ghost use Rattle.act_drive.specs.Sessions.{SessionView, pending_of, session_limit, kills_of, call_refusal, use_refusal, kill_refusal, IsLater, OnlyHears, Submits, LetsGo, AsksKill};
 
 use crate::refusals::{KillRefusal, WaitRefusal};
 use act_handles::HandleRefusal;
@@ -17,13 +17,13 @@ use act_types::{ActorId, Answer, Arg, FutureId, ListOf, Method};
 use std::alloc::Global;
 
 /// How many kills of one actor a session asks at most.
-pub const MOST_KILLS: u32 = 65_536;
+pub const MAX_KILLS: u32 = 65_536;
 
 /// A caller, as its own code has it while it runs. What is ready is sent, and what comes is
 /// collected, in the calls that wait, and in others from time to time. A call that was refused memory
 /// may be made again.
 pub trait Session {
-    ghost seen: { Self → Seen };
+    ghost seen: { Self → SessionView };
 
     /// Submits a call, and gives its future. While as many calls of the actor have no answer as its
     /// limit allows, it waits, so that it is never refused by `PendingLimit`.
@@ -40,7 +40,7 @@ pub trait Session {
         ensures refusal { IfErr result (λ refusal.
             refusal ≡ unwrap_or (call_refusal (seen self.old) actor args) NoRoom) }
         ensures refused { IfErr result (λ refusal. refusal ≢ NoRoom → seen self.new ≡ seen self.old) }
-        ensures hears { OnErr result (Hears (seen self.old) (seen self.new)) }
+        ensures hears { OnErr result (OnlyHears (seen self.old) (seen self.new)) }
         ensures on { IsLater (seen self.old) (seen self.new) };
 
     /// Goes on when a future of this caller has an answer. It is not refused where the answer is
@@ -52,7 +52,7 @@ pub trait Session {
             refusal ≡ (if nat_lt k (length (seen self.old).calls) then NoRoomToWait else NoFuture)) }
         ensures refused { IfErr result (λ refusal. refusal ≢ NoRoomToWait → seen self.new ≡ seen self.old) }
         ensures kept { is_some (kept_at (seen self.old).kept k) ≡ true → result ≡ Ok tt }
-        ensures hears { Hears (seen self.old) (seen self.new) }
+        ensures hears { OnlyHears (seen self.old) (seen self.new) }
         ensures on { IsLater (seen self.old) (seen self.new) };
 
     /// Submits a call, waits for its answer, and gives its future. By `NoMemory` it may be that the
@@ -71,7 +71,7 @@ pub trait Session {
         ensures refusal { IfErr result (λ refusal.
             refusal ≡ unwrap_or (call_refusal (seen self.old) actor args) NoRoom) }
         ensures refused { IfErr result (λ refusal. refusal ≢ NoRoom → seen self.new ≡ seen self.old) }
-        ensures either { OnErr result (Hears (seen self.old) (seen self.new)
+        ensures either { OnErr result (OnlyHears (seen self.old) (seen self.new)
             ⊎ Submits (record { actor = actor; method = method; args = args }) (seen self.old) (seen self.new)) }
         ensures on { IsLater (seen self.old) (seen self.new) }
     {
@@ -88,7 +88,7 @@ pub trait Session {
 
     /// Adds a copy of the actor's handle and gives their number. An `Err` changes nothing.
     fn copy(&mut self, actor: ActorId) -> Result<u32, HandleRefusal>
-        ensures value { result ≡ copied actor (seen self.old).handles }
+        ensures value { result ≡ copy_answer actor (seen self.old).handles }
         ensures ok { OnOk result (seen self.new ≡
             record (seen self.old) { handles = with_copy actor (seen self.old).handles }) }
         ensures err { OnErr result (seen self.new ≡ seen self.old) }
@@ -105,11 +105,11 @@ pub trait Session {
     /// Asks for the actor's kill. Where its death is known the kill is counted, and nothing is sent.
     fn kill(&mut self, actor: ActorId) -> Result<(), KillRefusal>
         ensures accepted { OnOk result (use_refusal (seen self.old) actor ≡ None) }
-        ensures few { OnOk result (kills_of (seen self.old) actor < MOST_KILLS) }
+        ensures few { OnOk result (kills_of (seen self.old) actor < MAX_KILLS) }
         ensures asks { OnOk result (AsksKill actor (seen self.old) (seen self.new)) }
         ensures refusal { IfErr result (λ refusal. refusal ≡ kill_refusal (seen self.old) actor) }
         ensures refused { IfErr result (λ refusal. refusal ≢ NoRoomToAsk → seen self.new ≡ seen self.old) }
-        ensures hears { OnErr result (Hears (seen self.old) (seen self.new)) }
+        ensures hears { OnErr result (OnlyHears (seen self.old) (seen self.new)) }
         ensures on { IsLater (seen self.old) (seen self.new) };
 
     /// How many calls of the actor have no answer yet.
@@ -118,7 +118,7 @@ pub trait Session {
 
     /// How many calls of the actor may have no answer yet: none where nothing limits them.
     fn limit(&self, actor: ActorId) -> Option<u32>
-        ensures { result ≡ limit_of (seen self.now) actor };
+        ensures { result ≡ session_limit (seen self.now) actor };
 
     /// How many copies of the actor's handle are held.
     fn holds(&self, actor: ActorId) -> u32
@@ -131,7 +131,7 @@ pub trait Session {
     /// How many calls were submitted, which is the number of the next call's future.
     fn count(&self) -> u32
         ensures value { result ≡ length (seen self.now).calls }
-        ensures limit { result ≤ MOST_CALLS };
+        ensures limit { result ≤ MAX_CALLS };
 
     fn alloc(&self) -> Global;
 }

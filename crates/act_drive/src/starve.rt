@@ -1,22 +1,23 @@
 //! A caller that was refused memory: it asks for the end of its actors, and takes no more memory.
 
 ghost use Rattle.std.specs.Prelude.{◌≡◌, ℕ, ◌<◌, length, slice_index_or, true, All};
-ghost use Rattle.act_mailbox.specs.Passes.{PutterValue};
+ghost use Rattle.act_mailbox.specs.Passes.{PutterView};
 ghost use Rattle.act_mailbox.specs.declared.control.Asked.{Asked};
-ghost use Rattle.act_seats.specs.declared.seat.Seat.{Seat};
-ghost use Rattle.act_drive.specs.declared.desk.CallerLines.{CallerLines};
-ghost use Rattle.act_drive.specs.Driven.{IsCalling, IsAtKillSeat, Stays, IsThrough, HasEnded};
+ghost use Rattle.act_mailbox.specs.declared.endpoint.Endpoint.{Endpoint};
+ghost use Rattle.act_drive.specs.declared.driver.CallerLines.{CallerLines};
+ghost use Rattle.act_drive.specs.Driven.{IsCalling, IsAtKillEndpoint, Stays, IsThrough, HasEndedAt};
 
-use crate::desk::{CallerLines, Desk, NUMBERS, rest};
-use act_seats::{Notes, Patience};
+use crate::driver::{CallerLines, Driver, NUMBERS, rest};
+use act_mailbox::{IdleBackoff, Notes};
 use act_types::ActorId;
 use std::sync::Wait;
 
-impl Desk {
+impl Driver {
     /// Whether the caller is through with an actor: its death was collected, or its note was posted
     /// and all its calls are answered.
     fn is_through(&self, a: ActorId) -> bool
-        ensures { (lines : CallerLines) → IsCalling lines self.now → result ≡ true → IsThrough self.now.owner self.now.passes a }
+        ensures { (lines : CallerLines) → IsCalling lines self.now → result ≡ true →
+            IsThrough self.now.owner self.now.passes a }
     {
         if self.owner.is_dead(a) {
             return true;
@@ -35,7 +36,7 @@ impl Desk {
     )
         requires calling { IsCalling lines.now self.old }
         requires below { at < length self.old.passes.kills.items }
-        requires place { IsAtKillSeat lines.now.controls.now self.old.passes.kills.items at a }
+        requires place { IsAtKillEndpoint lines.now.controls.now self.old.passes.kills.items at a }
         ensures calling { IsCalling lines.now self.new }
         ensures stays { Stays self.old self.new }
     {
@@ -45,7 +46,7 @@ impl Desk {
         }
     }
 
-    /// Asks the kill of the actor at a place of the list of seats, if it wasn't asked, unless the
+    /// Asks the kill of the actor at a place of the list of endpoints, if it wasn't asked, unless the
     /// caller is through with it. Whether it is.
     fn end<R: Wait>(
         &mut self,
@@ -60,7 +61,9 @@ impl Desk {
         ensures stays { Stays self.old self.new }
         ensures same { result ≡ true → self.new ≡ self.old }
         ensures through { result ≡ true →
-            (s : Seat (PutterValue Asked ℕ)) → HasEnded lines.now.controls.now self.old.owner self.old.passes (slice_index_or self.old.passes.kills.items at s) }
+            (s : Endpoint (PutterView Asked ℕ)) →
+            HasEndedAt lines.now.controls.now self.old.owner self.old.passes
+            (slice_index_or self.old.passes.kills.items at s) }
     {
         let actor = lines.controls[self.passes.kills[at].place].actor();
         if self.is_through(actor) {
@@ -75,7 +78,8 @@ impl Desk {
         requires calling { IsCalling lines.now self.old }
         ensures calling { IsCalling lines.now self.new }
         ensures stays { Stays self.old self.new }
-        ensures through { result ≡ true → All (HasEnded lines.now.controls.now self.new.owner self.new.passes) self.new.passes.kills.items }
+        ensures through { result ≡ true →
+            All (HasEndedAt lines.now.controls.now self.new.owner self.new.passes) self.new.passes.kills.items }
     {
         let mut is_through = true;
         for at in 0..self.passes.kills.len() {
@@ -90,16 +94,16 @@ impl Desk {
         requires calling { IsCalling lines.now self.old }
         ensures calling { IsCalling lines.now self.new }
         ensures stays { Stays self.old self.new }
-        ensures through { All (HasEnded lines.now.controls.now self.new.owner self.new.passes) self.new.passes.kills.items }
+        ensures through { All (HasEndedAt lines.now.controls.now self.new.owner self.new.passes) self.new.passes.kills.items }
     {
-        let mut patience = Patience::new();
+        let mut idle_backoff = IdleBackoff::new();
         let mut asked = [false; NUMBERS];
         for _ in rt.forever() {
             if self.end_all(rt, lines, &mut asked) {
                 return;
             }
             let has_heard = self.collect(lines, notes);
-            rest(&mut patience, has_heard);
+            rest(&mut idle_backoff, has_heard);
         }
         unreachable!()
     }

@@ -5,36 +5,40 @@ ghost use Rattle.act_rules.specs.declared.script.Step.TheVariants.{Submit, Copy,
 ghost use Rattle.act_rules.specs.Submissions.{kept_at};
 ghost use Rattle.act_handles.specs.Handles.{copies_in, without_copy};
 ghost use Rattle.act_rules.specs.declared.outcome.SubmitRefusal.TheVariants.{PendingLimit};
-ghost use Rattle.act_owner.specs.Owner.{release_note, submission_refusal};
+ghost use Rattle.act_owner.specs.Owner.{release_note, refusal_to_submit};
 ghost use Rattle.act_mailbox.specs.declared.mail.Letter.TheVariants.{Note};
-ghost use Rattle.act_drive.specs.declared.desk.CallerLines.{CallerLines};
-ghost use Rattle.act_drive.specs.Driven.{IsCalling, FollowsBy, IsAtKillSeat, IsElsewhere, AsksMore, Stays, Waits, Winds};
+ghost use Rattle.act_drive.specs.declared.driver.CallerLines.{CallerLines};
+ghost use Rattle.act_drive.specs.Driven.{IsCalling, FollowsBy, IsAtKillEndpoint, IsElsewhere, AsksMore, Stays, Waits, OnlyReleases};
 ghost use Rattle.act_drive.specs.Parts.{IsAwaited};
-ghost use Rattle.act_drive.specs.Sessions.{seen_of, use_refusal, Hears};
+ghost use Rattle.act_drive.specs.Sessions.{session_view, use_refusal, OnlyHears};
 
-use crate::desk::{CallerLines as Lines, Desk};
-use act_mailbox::{Control, ControlCaller, Letter};
+use crate::driver::{CallerLines as Lines, Driver};
+use act_mailbox::{Control, ControlCaller, Endpoint, IdleBackoff, Letter, Mark, Notes};
 use act_rules::Step;
-use act_seats::{Mark, Notes, Patience, Seat};
 use act_types::{ActorId, Arg, FutureId, KillNote, ListOf, Method, NoMemory};
 use std::alloc::Global;
 use std::sync::Wait;
 
-/// The place in the list of the seat at the actor's control line.
-fn kill_seat(controls: &[Control], seats: &[Seat<ControlCaller>], actor: ActorId) -> Option<usize>
-    requires { All (λ seat. seat.place < length controls.now) seats.now }
-    ensures some { IfSome result (λ at. (at < length seats.now) × IsAtKillSeat controls.now seats.now at actor) }
-    ensures none { IfNone result (All (IsElsewhere controls.now actor) seats.now) }
+/// The place in the list of the endpoint at the actor's control line.
+fn kill_endpoint(
+    controls: &[Control],
+    endpoints: &[Endpoint<ControlCaller>],
+    actor: ActorId,
+) -> Option<usize>
+    requires { All (λ endpoint. endpoint.place < length controls.now) endpoints.now }
+    ensures some { IfSome result (λ at.
+        (at < length endpoints.now) × IsAtKillEndpoint controls.now endpoints.now at actor) }
+    ensures none { IfNone result (All (IsElsewhere controls.now actor) endpoints.now) }
 {
-    for at in 0..seats.len() {
-        if controls[seats[at].place].actor() == actor {
+    for at in 0..endpoints.len() {
+        if controls[endpoints[at].place].actor() == actor {
             return Some(at);
         }
     }
     None
 }
 
-impl Desk {
+impl Driver {
     /// Submits a call that no limit refuses. A refusal is a want of memory, where the plan fits.
     fn submit_in_room<N: Notes>(
         &mut self,
@@ -43,10 +47,11 @@ impl Desk {
         args: ListOf<Arg>,
         notes: &mut N,
     ) -> Result<(), NoMemory>
-        requires room { submission_refusal self.old.owner a args ≢ Some PendingLimit }
+        requires room { refusal_to_submit self.old.owner a args ≢ Some PendingLimit }
         ensures calling { (lines : CallerLines) → IsCalling lines self.old → IsCalling lines self.new }
         ensures stays { Stays self.old self.new }
-        ensures follows { OnOk result ((lines : CallerLines) → FollowsBy lines (Submit a method args) self.old self.new) }
+        ensures follows { OnOk result
+            ((lines : CallerLines) → FollowsBy lines (Submit a method args) self.old self.new) }
     {
         match self.owner.submit(a, method, args) {
             Ok(_) => {
@@ -92,7 +97,7 @@ impl Desk {
         }
     }
 
-    /// Lets a copy of a handle go, and takes the note in hand after the last one.
+    /// Lets a copy of a handle go, and takes the note in the outbox after the last one.
     pub(crate) fn release<R: Wait, N: Notes>(
         &mut self,
         rt: &R,
@@ -104,16 +109,16 @@ impl Desk {
         ensures calling { IsCalling lines.now self.new }
         ensures follows { OnOk result (FollowsBy lines.now (Release a) self.old self.new) }
         ensures noted { OnOk result (copies_in a self.old.owner.handles ≡ Some 1 →
-            self.new.hand ≡ Some (Note (release_note self.old.owner a))) }
-        ensures winds { Winds self.old self.new }
+            self.new.outbox ≡ Some (Note (release_note self.old.owner a))) }
+        ensures only_releases { OnlyReleases self.old self.new }
         ensures handles { OnOk result (self.new.owner.handles ≡ without_copy a self.old.owner.handles) }
-        ensures accepted { use_refusal (seen_of self.old.owner) a ≡ None → result ≡ Ok tt }
+        ensures accepted { use_refusal (session_view self.old.owner) a ≡ None → result ≡ Ok tt }
     {
         self.clear(rt, lines, notes);
         match self.owner.release(a) {
             Ok(Some(note)) => {
                 notes.note(Mark::LastRelease(a));
-                self.hand = Some(Letter::Note(note));
+                self.outbox = Some(Letter::Note(note));
                 Ok(())
             }
             Ok(None) => {
@@ -147,7 +152,7 @@ impl Desk {
     pub(crate) fn ask<R: Wait>(&mut self, rt: &R, lines: &Lines, at: usize, a: ActorId) -> bool
         requires calling { IsCalling lines.now self.old }
         requires below { at < length self.old.passes.kills.items }
-        requires place { IsAtKillSeat lines.now.controls.now self.old.passes.kills.items at a }
+        requires place { IsAtKillEndpoint lines.now.controls.now self.old.passes.kills.items at a }
         ensures calling { IsCalling lines.now self.new }
         ensures stays { Stays self.old self.new }
         ensures asked { result ≡ true → AsksMore lines.now.controls.now a self.old self.new }
@@ -157,14 +162,14 @@ impl Desk {
             caller: self.owner.id(),
             actor: a,
         };
-        let seat = &mut self.passes.kills[at];
-        match lines.controls[seat.place].ask(rt, &mut seat.pass, note) {
+        let endpoint = &mut self.passes.kills[at];
+        match lines.controls[endpoint.place].ask(rt, &mut endpoint.pass, note) {
             Ok(()) => true,
             Err(_) => false,
         }
     }
 
-    /// Goes on when the kill was asked at this seat, or its actor is known dead.
+    /// Goes on when the kill was asked at this endpoint, or its actor is known dead.
     fn ask_until<R: Wait, N: Notes>(
         &mut self,
         rt: &R,
@@ -176,14 +181,14 @@ impl Desk {
     ) -> Result<(), NoMemory>
         requires calling { IsCalling lines.now self.old }
         requires below { at < length self.old.passes.kills.items }
-        requires place { IsAtKillSeat lines.now.controls.now self.old.passes.kills.items at a }
+        requires place { IsAtKillEndpoint lines.now.controls.now self.old.passes.kills.items at a }
         ensures calling { IsCalling lines.now self.new }
         ensures stays { Stays self.old self.new }
         ensures follows { OnOk result (FollowsBy lines.now (Kill a) self.old self.new) }
-        ensures hears { Hears (seen_of self.old.owner) (seen_of self.new.owner) }
+        ensures hears { OnlyHears (session_view self.old.owner) (session_view self.new.owner) }
         ensures waits { OnErr result (Waits self.old self.new) }
     {
-        let mut patience = Patience::new();
+        let mut idle_backoff = IdleBackoff::new();
         for _ in rt.forever() {
             if self.owner.is_dead(a) {
                 return Ok(());
@@ -191,7 +196,7 @@ impl Desk {
             if self.ask(rt, lines, at, a) {
                 return Ok(());
             }
-            self.wait_turn(rt, alloc, lines, &mut patience, notes)?;
+            self.wait_turn(rt, alloc, lines, &mut idle_backoff, notes)?;
         }
         unreachable!()
     }
@@ -209,12 +214,12 @@ impl Desk {
         ensures calling { IsCalling lines.now self.new }
         ensures stays { Stays self.old self.new }
         ensures follows { OnOk result (FollowsBy lines.now (Kill a) self.old self.new) }
-        ensures hears { Hears (seen_of self.old.owner) (seen_of self.new.owner) }
+        ensures hears { OnlyHears (session_view self.old.owner) (session_view self.new.owner) }
         ensures waits { OnErr result (Waits self.old self.new) }
     {
         match self.owner.ask_kill(a) {
             Err(_) => Err(NoMemory),
-            Ok(_) => match kill_seat(lines.controls, self.passes.kills.as_slice(), a) {
+            Ok(_) => match kill_endpoint(lines.controls, self.passes.kills.as_slice(), a) {
                 None => Ok(()),
                 Some(at) => {
                     notes.note(Mark::AskKill(a));

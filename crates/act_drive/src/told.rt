@@ -3,22 +3,22 @@
 ghost use Rattle.std.specs.Prelude.{◌≡◌, ◌≢◌, ◌⊎◌, length, None, Some, IfOk, OnOk, IfErr, OnErr, unwrap_or};
 ghost use Rattle.act_rules.specs.declared.script.Step.TheVariants.{Submit, Copy};
 ghost use Rattle.act_rules.specs.declared.outcome.SubmitRefusal.TheVariants.{PendingLimit, NoMemory as NoRoom};
-ghost use Rattle.act_handles.specs.Handles.{copied, with_copy};
-ghost use Rattle.act_owner.specs.Owner.{submission_refusal, with_call, with_handles};
-ghost use Rattle.act_drive.specs.declared.desk.CallerLines.{CallerLines};
+ghost use Rattle.act_handles.specs.Handles.{copy_answer, with_copy};
+ghost use Rattle.act_owner.specs.Owner.{refusal_to_submit, with_submission, with_handles};
+ghost use Rattle.act_drive.specs.declared.driver.CallerLines.{CallerLines};
 ghost use Rattle.act_drive.specs.Driven.{IsCalling, Stays, Waits};
-ghost use Rattle.act_drive.specs.Sessions.{seen_of, call_refusal, use_refusal, Submits};
+ghost use Rattle.act_drive.specs.Sessions.{session_view, call_refusal, use_refusal, Submits};
 ghost use Rattle.act_drive.specs.Lent.{Does};
 
-use crate::desk::{CallerLines as Lines, Desk};
+use crate::driver::{CallerLines as Lines, Driver};
 use act_handles::HandleRefusal;
+use act_mailbox::NoNotes;
 use act_rules::SubmitRefusal;
-use act_seats::NoNotes;
 use act_types::{ActorId, Arg, FutureId, ListOf, Method, NoMemory};
 use std::alloc::Global;
 use std::sync::Wait;
 
-impl Desk {
+impl Driver {
     /// Submits a call.
     fn enter(
         &mut self,
@@ -30,10 +30,10 @@ impl Desk {
         ensures stays { Stays self.old self.new }
         ensures passes { self.new.passes ≡ self.old.passes }
         ensures future { IfOk result (λ k. k ≡ length self.old.owner.calls) }
-        ensures accepted { OnOk result (submission_refusal self.old.owner a args ≡ None) }
-        ensures ok { OnOk result (self.new.owner ≡ with_call self.old.owner a method args) }
+        ensures accepted { OnOk result (refusal_to_submit self.old.owner a args ≡ None) }
+        ensures ok { OnOk result (self.new.owner ≡ with_submission self.old.owner a method args) }
         ensures refusal { IfErr result (λ refusal.
-            refusal ≡ unwrap_or (submission_refusal self.old.owner a args) NoRoom) }
+            refusal ≡ unwrap_or (refusal_to_submit self.old.owner a args) NoRoom) }
         ensures err { OnErr result (self.new ≡ self.old) }
     {
         let k = self.owner.submit(a, method, args)?;
@@ -52,9 +52,9 @@ impl Desk {
         requires calling { IsCalling lines.now self.old }
         ensures calling { IsCalling lines.now self.new }
         ensures waits { Waits self.old self.new }
-        ensures room { OnOk result (submission_refusal self.new.owner a args.now ≢ Some PendingLimit) }
-        ensures full { OnErr result (call_refusal (seen_of self.old.owner) a args.now ≡ None) }
-        ensures same { (self.new ≡ self.old) ⊎ (call_refusal (seen_of self.old.owner) a args.now ≡ None) }
+        ensures room { OnOk result (refusal_to_submit self.new.owner a args.now ≢ Some PendingLimit) }
+        ensures full { OnErr result (call_refusal (session_view self.old.owner) a args.now ≡ None) }
+        ensures same { (self.new ≡ self.old) ⊎ (call_refusal (session_view self.old.owner) a args.now ≡ None) }
     {
         if self.has_room(a, args) {
             return Ok(());
@@ -79,11 +79,11 @@ impl Desk {
         ensures does { OnOk result (Does lines.now (Submit a method args) self.old self.new) }
         ensures waits { OnErr result (Waits self.old self.new) }
         ensures future { IfOk result (λ k. k ≡ length self.old.owner.calls) }
-        ensures accepted { OnOk result (call_refusal (seen_of self.old.owner) a args ≡ None) }
+        ensures accepted { OnOk result (call_refusal (session_view self.old.owner) a args ≡ None) }
         ensures submits { OnOk result (Submits (record { actor = a; method = method; args = args })
-            (seen_of self.old.owner) (seen_of self.new.owner)) }
+            (session_view self.old.owner) (session_view self.new.owner)) }
         ensures refusal { IfErr result (λ refusal.
-            refusal ≡ unwrap_or (call_refusal (seen_of self.old.owner) a args) NoRoom) }
+            refusal ≡ unwrap_or (call_refusal (session_view self.old.owner) a args) NoRoom) }
         ensures refused { IfErr result (λ refusal. refusal ≢ NoRoom → self.new ≡ self.old) }
     {
         self.wait_if_full(rt, alloc, lines, a, &args)?;
@@ -96,7 +96,7 @@ impl Desk {
         ensures calling { (lines : CallerLines) → IsCalling lines self.old → IsCalling lines self.new }
         ensures stays { Stays self.old self.new }
         ensures does { OnOk result ((lines : CallerLines) → Does lines (Copy a) self.old self.new) }
-        ensures value { result ≡ copied a self.old.owner.handles }
+        ensures value { result ≡ copy_answer a self.old.owner.handles }
         ensures ok { OnOk result (self.new.owner ≡ with_handles self.old.owner (with_copy a self.old.owner.handles)) }
         ensures err { OnErr result (self.new ≡ self.old) }
     {
@@ -106,7 +106,7 @@ impl Desk {
 
     /// Why a handle would not be let go, or a kill not be asked.
     pub(crate) fn use_refusal(&self, a: ActorId) -> Option<HandleRefusal>
-        ensures { result ≡ use_refusal (seen_of self.now.owner) a }
+        ensures { result ≡ use_refusal (session_view self.now.owner) a }
     {
         match self.owner.ask_kill(a) {
             Ok(_) => None,

@@ -5,16 +5,16 @@ use Rattle.std.specs.List.{list_any}
 use Rattle.std.proofs.lemmas.Bool.{ne_eqb, eqb-true, eq-eqb}
 use Rattle.std.proofs.lemmas.Option.{slice_get_within, get_or_from_slice_get}
 use Rattle.act_rules.specs.declared.script.Step.{Step}
-use Rattle.act_rules.specs.History.{Casting, actors_naming, contains}
-use Rattle.act_owner.specs.Owner.{OwnerValue}
-use Rattle.act_mailbox.specs.Mails.{MailValue}
-use Rattle.act_mailbox.specs.Controls.{ControlValue}
-use Rattle.act_mailbox.specs.Notices.{RepliesValue}
+use Rattle.act_rules.specs.History.{ActorSpec, actors_naming, contains}
+use Rattle.act_owner.specs.Owner.{OwnerView}
+use Rattle.act_mailbox.specs.Mails.{MailView}
+use Rattle.act_mailbox.specs.Controls.{ControlView}
+use Rattle.act_mailbox.specs.Notices.{RepliesView}
 use Rattle.act_drive.specs.declared.caller.Driven.{Driven}
-use Rattle.act_drive.specs.Sessions.{Seen}
-use Rattle.act_drive.specs.Coded.{IsTold}
-use Rattle.act_plans.specs.Runs.{plan_of, steps_of}
-use Rattle.act_executor.specs.Left.{ServedSeen, IsDriven, AreJoined}
+use Rattle.act_drive.specs.Sessions.{SessionView}
+use Rattle.act_drive.specs.Coded.{HasConcluded}
+use Rattle.act_plans.specs.Runs.{plan_of, steps_of_plan}
+use Rattle.act_executor.specs.Left.{ServedView, IsDriven, AreJoined}
 use Rattle.act_executor.specs.ByCode.{code_of, opened_of, HasTold, IsDrivenBy, AreJoinedBy, IsJoinedBy}
 use Rattle.act_executor.proofs.Elements.{all_in, all_by_places, found_is, finds, any_is, contains_is}
 use Rattle.act_executor.proofs.Found.{driven_named, one_of}
@@ -39,14 +39,14 @@ module _ (P : Driven → List Step → Type 0) (plans : List (ℕ × List Step))
   own (one ∷ ds) each differ zero d at =
       let is : one ≡ d = cc in
       let same : (one.owner.id == one.owner.id) ≡ true = search rules in
-      let first : P one (plan_of one.owner.id (made (one ∷ ds) each)) = subst (λ (b : Bool). P one (steps_of (if b then Some (one.owner.id, (each 0 one refl).steps) else find (λ (plan : ℕ × List Step). plan.0 == one.owner.id) (made ds (λ i e there. each (suc i) e there))))) (sym same) (each 0 one refl).is in
+      let first : P one (plan_of one.owner.id (made (one ∷ ds) each)) = subst (λ (b : Bool). P one (steps_of_plan (if b then Some (one.owner.id, (each 0 one refl).steps) else find (λ (plan : ℕ × List Step). plan.0 == one.owner.id) (made ds (λ i e there. each (suc i) e there))))) (sym same) (each 0 one refl).is in
       subst (λ (e : Driven). P e (plan_of e.owner.id (made (one ∷ ds) each))) is first
   own (one ∷ ds) each differ (suc i) d at =
       let below : i < length ds = slice_get_within ds i d at in
       let there : get_or ds i one ≡ d = get_or_from_slice_get ds i d one at in
       let apart : one.owner.id ≢ d.owner.id = subst (λ (e : Driven). one.owner.id ≢ e.owner.id) there (differ 0 (suc i) one (omega arith) (omega (arith, below))) in
       let rest : P d (plan_of d.owner.id (made ds (λ k e there. each (suc k) e there))) = own ds (λ k e there. each (suc k) e there) (λ a b e lt inside. differ (suc a) (suc b) e (omega (arith, lt)) (omega (arith, inside))) i d at in
-      subst (λ (b : Bool). P d (steps_of (if b then Some (one.owner.id, (each 0 one refl).steps) else find (λ (plan : ℕ × List Step). plan.0 == d.owner.id) (made ds (λ k e there. each (suc k) e there))))) (sym (ne_eqb one.owner.id d.owner.id apart)) rest
+      subst (λ (b : Bool). P d (steps_of_plan (if b then Some (one.owner.id, (each 0 one refl).steps) else find (λ (plan : ℕ × List Step). plan.0 == d.owner.id) (made ds (λ k e there. each (suc k) e there))))) (sym (ne_eqb one.owner.id d.owner.id apart)) rest
 
   -- the plan of a number that is no caller's is as it was
   others : (ds : List Driven) (each : (i : ℕ) (d : Driven) → slice_get ds i ≡ Some d → Did P d) (c : ℕ) → driven_of c ds ≡ None → plan_of c (made ds each) ≡ plan_of c plans
@@ -55,7 +55,7 @@ module _ (P : Driven → List Step → Type 0) (plans : List (ℕ × List Step))
   others (d ∷ ds) each c none = go (d.owner.id == c) none (others ds (λ i e at. each (suc i) e at) c)
     where
       go : (b : Bool) → (if b then Some d else driven_of c ds) ≡ None → (driven_of c ds ≡ None → plan_of c (made ds (λ i e at. each (suc i) e at)) ≡ plan_of c plans)
-          → steps_of (if b then Some (d.owner.id, (each 0 d refl).steps) else find (λ (plan : ℕ × List Step). plan.0 == c) (made ds (λ i e at. each (suc i) e at))) ≡ plan_of c plans
+          → steps_of_plan (if b then Some (d.owner.id, (each 0 d refl).steps) else find (λ (plan : ℕ × List Step). plan.0 == c) (made ds (λ i e at. each (suc i) e at))) ≡ plan_of c plans
       go true is rest = absurd (cc is)
       go false is rest = rest is
 
@@ -69,13 +69,13 @@ found_code {C = C} codes k given differ at =
 
 -- ---- a joined run
 
-module _ {C : Type 0} (tells : C → Seen → Seen → Type 0) (mails : List MailValue) (controls : List ControlValue) (replies : List RepliesValue) (casts : List Casting) (plans : List (ℕ × List Step)) (codes : List (ℕ × C))
-    (driven : List Driven) (served : List ServedSeen) (j : AreJoinedBy tells mails controls replies casts plans codes driven served) where
+module _ {C : Type 0} (tells : C → SessionView → SessionView → Type 0) (mails : List MailView) (controls : List ControlView) (replies : List RepliesView) (casts : List ActorSpec) (plans : List (ℕ × List Step)) (codes : List (ℕ × C))
+    (driven : List Driven) (served : List ServedView) (j : AreJoinedBy tells mails controls replies casts plans codes driven served) where
   -- a caller did these steps, and they are as it was given
   record DidBy (d : Driven) (steps : List Step) : Type 0 where
     did : IsDriven mails controls (actors_naming d.owner.id casts) steps d
     planned : code_of d.owner.id codes ≡ None → steps ≡ plan_of d.owner.id plans
-    told : (code : C) → code_of d.owner.id codes ≡ Some code → IsTold (tells code) steps (opened_of d.owner.id casts) d.owner
+    told : (code : C) → code_of d.owner.id codes ≡ Some code → HasConcluded (tells code) steps (opened_of d.owner.id casts) d.owner
 
   driver_at : (i : ℕ) (d : Driven) → slice_get driven i ≡ Some d → IsDrivenBy tells mails controls casts plans codes d
   driver_at i d at = all_in (IsDrivenBy tells mails controls casts plans codes) driven d j.all_driven (record { place = i; at = at })
@@ -114,12 +114,12 @@ module _ {C : Type 0} (tells : C → Seen → Seen → Type 0) (mails : List Mai
     fed = j.fed;
   }
 
-  abbrev owners : List OwnerValue
+  abbrev owners : List OwnerView
   owners = map (λ (d : Driven). d.owner) driven
 
   told : (k : ℕ) (given : ℕ × C) → slice_get codes k ≡ Some given → HasTold tells casts steps owners given
   told k given at =
-      let named = any_is (λ (cast : Casting). contains given.0 cast.callers) casts (all_in (λ (g : ℕ × C). list_any (λ (cast : Casting). contains g.0 cast.callers) casts ≡ true) codes given j.codes_named (record { place = k; at = at })) in
+      let named = any_is (λ (cast : ActorSpec). contains given.0 cast.callers) casts (all_in (λ (g : ℕ × C). list_any (λ (cast : ActorSpec). contains g.0 cast.callers) casts ≡ true) codes given j.codes_named (record { place = k; at = at })) in
       let found = driven_named are_joined named.0 given.0 named.1.inside (contains_is given.0 named.0.callers named.1.passes) in
       let d = found.one in
       let is = found_is (λ (x : Driven). x.owner.id == given.0) driven d found.is in
@@ -129,10 +129,10 @@ module _ {C : Type 0} (tells : C → Seen → Seen → Type 0) (mails : List Mai
       record {
         owner = d.owner;
         left = owner_is are_joined given.0 (Some d) found.is;
-        told = subst (λ (n : ℕ). IsTold (tells given.1) (plan_of n steps) (opened_of n casts) d.owner) id says;
+        told = subst (λ (n : ℕ). HasConcluded (tells given.1) (plan_of n steps) (opened_of n casts) d.owner) id says;
       }
 
-  pub is_joined_by : IsJoinedBy tells casts plans codes owners (map (λ (s : ServedSeen). s.end) served)
+  pub is_joined_by : IsJoinedBy tells casts plans codes owners (map (λ (s : ServedView). s.end) served)
   is_joined_by = record {
     steps = steps;
     joined = joined_is are_joined;

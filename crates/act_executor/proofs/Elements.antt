@@ -7,7 +7,7 @@ use Rattle.std.proofs.lemmas.Option.{slice_get_read, slice_get-get_or, slice_get
 use Rattle.std.proofs.lemmas.List.{append-nil}
 use Rattle.std.proofs.lemmas.List.Elements.{All-contains}
 use Rattle.std.proofs.lemmas.Map.Keys.{any_passes_from_place}
-use Rattle.act_rules.specs.Consistent.{IsFront}
+use Rattle.act_rules.specs.Consistent.{IsPrefix}
 use Rattle.act_rules.proofs.Lists.{slice_get-filter, slice_get_front}
 use Rattle.act_rules.specs.History.{contains}
 
@@ -30,7 +30,7 @@ pub in_filter : {A : Type 0} (p : A → Bool) (xs : List A) (x : A) → IsIn xs 
 in_filter p xs x i passes = record { place = _; at = slice_get-filter p xs i.place x i.at passes }
 
 -- what stands in a front stands in the whole
-pub in_front : {A : Type 0} (xs ys : List A) (x : A) → IsFront xs ys → IsIn xs x → IsIn ys x
+pub in_front : {A : Type 0} (xs ys : List A) (x : A) → IsPrefix xs ys → IsIn xs x → IsIn ys x
 in_front xs ys x f i = record { place = i.place; at = slice_get_front xs ys i.place x f i.at }
 
 pub all_from_places : {A : Type 0} (P : A → Type 0) (xs : List A) → ((k : ℕ) (x : A) → slice_get xs k ≡ Some x → P x) → AllByRecursion P xs
@@ -41,13 +41,13 @@ pub all_by_places : {A : Type 0} (P : A → Type 0) (xs : List A) → ((k : ℕ)
 all_by_places P xs f k d below = f k _ (slice_get-get_or xs k d below)
 
 -- a list whose elements stand at the same places of another is its front
-pub front_by_places : {A : Type 0} (xs ys : List A) → ((k : ℕ) (x : A) → slice_get xs k ≡ Some x → slice_get ys k ≡ Some x) → IsFront xs ys
+pub front_by_places : {A : Type 0} (xs ys : List A) → ((k : ℕ) (x : A) → slice_get xs k ≡ Some x → slice_get ys k ≡ Some x) → IsPrefix xs ys
 front_by_places [] ys f = (ys, refl)
 front_by_places (x ∷ xs) [] f = let bad : None ≡ Some x = f 0 x refl in cc
 front_by_places {A = A} (x ∷ xs) (y ∷ ys) f =
     let is : Some y ≡ Some x = f 0 x refl in
     let same : x ≡ y = cc in
-    let rest : IsFront xs ys = front_by_places xs ys (λ k z e. f (suc k) z e) in
+    let rest : IsPrefix xs ys = front_by_places xs ys (λ k z e. f (suc k) z e) in
     (rest.0, ap (λ (z : A). z ∷ xs ++ rest.0) same ∙ ap (λ (l : List A). y ∷ l) rest.1)
 
 pub range_at : (from n k m : ℕ) → slice_get (range_with_len from n) k ≡ Some m → m ≡ from + k
@@ -107,7 +107,7 @@ empty_by_places [] f = refl
 empty_by_places (x ∷ xs) f = absurd (f 0 x refl)
 
 -- a front that is as long is the whole
-pub whole_by_length : {A : Type 0} (xs ys : List A) → IsFront xs ys → length xs ≡ length ys → xs ≡ ys
+pub whole_by_length : {A : Type 0} (xs ys : List A) → IsPrefix xs ys → length xs ≡ length ys → xs ≡ ys
 whole_by_length {A = A} xs ys f same = go f.0 f.1
   where
     go : (rest : List A) → xs ++ rest ≡ ys → xs ≡ ys

@@ -2,7 +2,7 @@
 use Rattle.std.proofs.Common.{◌≡◌, ℕ, suc, ◌<◌, ◌≤◌, Bool, true, false, true≢false, cond, List, [], ◌∷◌, length, Some, None, inl, inr, refl, ap, sym, ◌∙◌, subst, arith}
 use Rattle.std.specs.Prelude.{Option, ◌==◌, ◌&&◌, map, slice_get, is_some, All, Contains}
 use Rattle.std.specs.Option.{option_or}
-use Rattle.std.proofs.lemmas.Bool.{eq-eqb, eqb-true, and_parts}
+use Rattle.std.proofs.lemmas.Bool.{eq-eqb, eqb-true, and_setups}
 use Rattle.std.proofs.lemmas.Simd.{map-map}
 use Rattle.std.proofs.lemmas.List.{length-map}
 use Rattle.std.proofs.lemmas.List.Elements.{All-map}
@@ -15,25 +15,25 @@ use Rattle.act_rules.specs.declared.script.Step.{Step}
 use Rattle.act_rules.specs.RunList.{items_of, has_terminated, NothingFollowsAnEnd}
 use Rattle.act_rules.specs.Submissions.{calls_to, kept_at}
 use Rattle.act_rules.specs.Plans.{planned, kills_to}
-use Rattle.act_rules.specs.History.{Casting, contains, actors_naming}
+use Rattle.act_rules.specs.History.{ActorSpec, contains, actors_naming}
 use Rattle.act_rules.proofs.AsSubmitted.{filter-slice_get, calls_to-at}
 use Rattle.act_rules.proofs.Order.{numbered, numbers}
 use Rattle.act_rules.proofs.Unique.{map-slice_get}
-use Rattle.act_owner.specs.Owner.{OwnerValue}
-use Rattle.act_mailbox.specs.Lines.{items_of as items_put}
-use Rattle.act_mailbox.specs.Mails.{MailValue, caller_of}
-use Rattle.act_mailbox.specs.Controls.{ControlValue, ControlExecValue, asker_of, starter}
-use Rattle.act_mailbox.specs.Notices.{RepliesValue}
+use Rattle.act_owner.specs.Owner.{OwnerView}
+use Rattle.act_mailbox.specs.Lines.{items_from as items_put}
+use Rattle.act_mailbox.specs.Mails.{MailView, caller_of}
+use Rattle.act_mailbox.specs.Controls.{ControlView, ControlExecView, asker_of, starter}
+use Rattle.act_mailbox.specs.Notices.{RepliesView}
 use Rattle.act_mailbox.specs.declared.control.Asked.{Asked}
 use Rattle.act_mailbox.specs.declared.mail.Letter.{Letter}
 use Rattle.act_mailbox.specs.declared.mail.Letter.TheVariants.{Call, Note}
-use Rattle.act_serve.specs.declared.seat.ExecPasses.{ExecPasses}
-use Rattle.act_serve.specs.Served.{EndSeen, Killed, Retired, Starved, id_of, log_of, IfRetired, note_in, first_note, IsTakenAt, KillsOfDead, KillsTaken}
+use Rattle.act_serve.specs.declared.endpoint.ExecPasses.{ExecPasses}
+use Rattle.act_serve.specs.Served.{EndView, Killed, Retired, Starved, end_id, end_log, IfRetired, note_in, first_note, IsTakenAt, KillsOfDead, KillsTaken}
 use Rattle.act_drive.specs.declared.caller.Driven.{Driven}
 use Rattle.act_drive.specs.Driven.{IsSent, AreAsked, HasAsked}
 use Rattle.act_plans.specs.Runs.{limits_naming, plan_of}
 use Rattle.act_executor.specs.Joined.{is_killed, is_starved, owner_of, calls_of_owner, kept_of_owner, log_of_end, is_killed_end, calls_in, kept_in, log_in, killed_in, RanAll, IsJoined}
-use Rattle.act_executor.specs.Left.{ServedSeen, AreJoined}
+use Rattle.act_executor.specs.Left.{ServedView, AreJoined}
 use Rattle.act_executor.proofs.Elements.{IsIn, in_from_contains, all_in, in_filter, in_front, all_by_places, is_contained, empty_by_places, whole_by_length, enumerated, in_none, in_first, some_long}
 use Rattle.act_executor.proofs.Found.{naming, same_cast, planned_known, planned_none, driven_named}
 use Rattle.act_executor.proofs.Fitting.{order_of, fits}
@@ -42,7 +42,7 @@ use Rattle.act_executor.proofs.Joint.{driven_of, served_of, owner_is, end_is, Th
 -- ---- notes and kills
 
 -- what a note that was sent tells
-sent_note : (owner : OwnerValue) (a c n : ℕ) (letter : Letter) → note_in a c letter ≡ Some n → IsSent owner a letter → n ≡ length (calls_to a owner.calls)
+sent_note : (owner : OwnerView) (a c n : ℕ) (letter : Letter) → note_in a c letter ≡ Some n → IsSent owner a letter → n ≡ length (calls_to a owner.calls)
 sent_note owner a c n (Call packet) e sent = cc
 sent_note owner a c n (Note note) e sent = go ((note.caller == c) && (note.actor == a)) e
   where
@@ -55,7 +55,7 @@ note_caller a c n (Call packet) e = cc
 note_caller a c n (Note note) e = go ((note.caller == c) && (note.actor == a)) refl e
   where
     go : (b : Bool) → ((note.caller == c) && (note.actor == a)) ≡ b → cond b (Some note.after) None ≡ Some n → note.caller ≡ c
-    go true is f = eqb-true note.caller c (and_parts (note.caller == c) (note.actor == a) is).0
+    go true is f = eqb-true note.caller c (and_setups (note.caller == c) (note.actor == a) is).0
     go false is f = cc
 
 -- the letter that the first note is
@@ -76,13 +76,13 @@ first_is a c n (letter ∷ letters) e = go (note_in a c letter) refl (first_is a
     go (Some m) is rest e = record { letter = letter; inside = record { place = 0; at = refl }; says = is ∙ e }
 
 -- a killed actor that did not terminate took a kill of an asker
-kill_taken : (control : ControlExecValue) (end : EndSeen) → is_killed end ≡ true → has_terminated (log_of end) ≡ false → KillsTaken control end → (kill : Asked) × (control.taken ≡ kill ∷ []) × Contains control.askers kill.asker
+kill_taken : (control : ControlExecView) (end : EndView) → is_killed end ≡ true → has_terminated (end_log end) ≡ false → KillsTaken control end → (kill : Asked) × (control.taken ≡ kill ∷ []) × Contains control.askers kill.asker
 kill_taken control (Killed dead) e on k = let at : IsTakenAt dead.log control = subst (λ (b : Bool). KillsOfDead b dead.log control) on k in (at.0, at.1, at.2)
 kill_taken control (Retired retired) e on k = cc
 kill_taken control (Starved dead) e on k = cc
 
 -- an actor that terminated is killed
-end_killed : (control : ControlExecValue) (end : EndSeen) → KillsTaken control end → has_terminated (log_of end) ≡ true → is_killed end ≡ true
+end_killed : (control : ControlExecView) (end : EndView) → KillsTaken control end → has_terminated (end_log end) ≡ true → is_killed end ≡ true
 end_killed control (Killed dead) k e = refl
 end_killed control (Retired retired) k e = absurd (true≢false (sym e ∙ k.1))
 end_killed control (Starved dead) k e = absurd (true≢false (sym e ∙ k.1))
@@ -92,12 +92,12 @@ no_more : (collected : List Notice) (a wanted asked : ℕ) → AreAsked collecte
 no_more collected a wanted asked (inl same) = omega (arith, same)
 no_more collected a wanted asked (inr few) = few.0
 
-module _ {mails : List MailValue} {controls : List ControlValue} {replies : List RepliesValue} {casts : List Casting} {plans : List (ℕ × List Step)} {driven : List Driven} {served : List ServedSeen} (j : AreJoined mails controls replies casts plans driven served) where
-  abbrev owners : List OwnerValue
+module _ {mails : List MailView} {controls : List ControlView} {replies : List RepliesView} {casts : List ActorSpec} {plans : List (ℕ × List Step)} {driven : List Driven} {served : List ServedView} (j : AreJoined mails controls replies casts plans driven served) where
+  abbrev owners : List OwnerView
   owners = map (λ (d : Driven). d.owner) driven
 
-  abbrev ends : List EndSeen
-  ends = map (λ (s : ServedSeen). s.end) served
+  abbrev ends : List EndView
+  ends = map (λ (s : ServedView). s.end) served
 
   -- ---- what was submitted
 
@@ -119,20 +119,20 @@ module _ {mails : List MailValue} {controls : List ControlValue} {replies : List
   answered c k below = go (driven_of c driven) refl
     where
       go : (o : Option Driven) → driven_of c driven ≡ o → is_some (kept_at (kept_in owners c) k) ≡ true
-      go None f = let bad : k < 0 = subst (λ (x : Option OwnerValue). k < length (calls_of_owner x)) (owner_is j c None f) below in absurd (omega arith)
+      go None f = let bad : k < 0 = subst (λ (x : Option OwnerView). k < length (calls_of_owner x)) (owner_is j c None f) below in absurd (omega arith)
       go (Some d) f =
           let is = owner_is j c (Some d) f in
-          let short : k < length d.owner.calls = subst (λ (x : Option OwnerValue). k < length (calls_of_owner x)) is below in
-          subst (λ (x : Option OwnerValue). is_some (kept_at (kept_of_owner x) k) ≡ true) (sym is) ((driver j c d f).driving.answered k short)
+          let short : k < length d.owner.calls = subst (λ (x : Option OwnerView). k < length (calls_of_owner x)) is below in
+          subst (λ (x : Option OwnerView). is_some (kept_at (kept_of_owner x) k) ≡ true) (sym is) ((driver j c d f).driving.answered k short)
 
   fed : All (λ end. is_starved end ≡ false) ends
-  fed = all_by_places (λ (end : EndSeen). is_starved end ≡ false) ends (λ k end at.
-      let found = map-slice_get (λ (s : ServedSeen). s.end) served k end at in
-      subst (λ (e : EndSeen). is_starved e ≡ false) found.2 (all_in (λ (s : ServedSeen). is_starved s.end ≡ false) served found.0 j.fed (record { place = k; at = found.1 })))
+  fed = all_by_places (λ (end : EndView). is_starved end ≡ false) ends (λ k end at.
+      let found = map-slice_get (λ (s : ServedView). s.end) served k end at in
+      subst (λ (e : EndView). is_starved e ≡ false) found.2 (all_in (λ (s : ServedView). is_starved s.end ≡ false) served found.0 j.fed (record { place = k; at = found.1 })))
 
   -- ---- kills
 
-  kill_planned : (a : ℕ) (s : ServedSeen) → Thread j a s → is_killed s.end ≡ true → has_terminated (log_of s.end) ≡ false → (c : ℕ) × (0 < kills_to a (plan_of c plans))
+  kill_planned : (a : ℕ) (s : ServedView) → Thread j a s → is_killed s.end ≡ true → has_terminated (end_log s.end) ≡ false → (c : ℕ) × (0 < kills_to a (plan_of c plans))
   kill_planned a s t e on =
       let taken = s.passes.kills.taken in
       let k = kill_taken s.passes.kills s.end e on t.serving.kills in
@@ -142,7 +142,7 @@ module _ {mails : List MailValue} {controls : List ControlValue} {replies : List
       elim (in_first starter kill.asker t.cast.cast.callers asker.place asker.at) [
         | inl is ↦
             let mine = in_filter (λ (x : Asked). asker_of x == starter) taken kill there (eq-eqb kill.asker starter (sym is)) in
-            let none = all_in (λ (x : ServedSeen). items_put asker_of starter x.passes.kills.taken ≡ []) served s j.starter t.inside in
+            let none = all_in (λ (x : ServedView). items_put asker_of starter x.passes.kills.taken ≡ []) served s j.starter t.inside in
             absurd (in_none kill (subst (λ (l : List Asked). IsIn l kill) none mine))
         | inr names ↦
             let c = kill.asker in
@@ -150,13 +150,13 @@ module _ {mails : List MailValue} {controls : List ControlValue} {replies : List
             let d = found.one in
             let audit = (audit_of j a c s d t names found.is).kills in
             let mine = in_filter (λ (x : Asked). asker_of x == c) taken kill there (eq-eqb c c refl) in
-            let put = in_front (items_put asker_of c taken) audit.seat.pass.put kill audit.front mine in
-            let some : 0 < length audit.seat.pass.put = some_long audit.seat.pass.put kill put in
-            let line : ControlValue = record { line = audit.seat.pass.line; actor = a } in
+            let put = in_front (items_put asker_of c taken) audit.endpoint.pass.put kill audit.front mine in
+            let some : 0 < length audit.endpoint.pass.put = some_long audit.endpoint.pass.put kill put in
+            let line : ControlView = record { line = audit.endpoint.pass.line; actor = a } in
             let plan = plan_of c plans in
-            let asked = all_in (HasAsked controls plan d.passes.collects.taken) d.passes.kills.items audit.seat (driver j c d found.is).driving.kills (in_from_contains d.passes.kills.items audit.seat audit.sits) line in
-            let mine_asked = subst (λ (b : ℕ). AreAsked d.passes.collects.taken b (kills_to b plan) (length audit.seat.pass.put)) (audit.line line) asked in
-            let few : length audit.seat.pass.put ≤ kills_to a plan = no_more d.passes.collects.taken a (kills_to a plan) (length audit.seat.pass.put) mine_asked in
+            let asked = all_in (HasAsked controls plan d.passes.collects.taken) d.passes.kills.items audit.endpoint (driver j c d found.is).driving.kills (in_from_contains d.passes.kills.items audit.endpoint audit.sits) line in
+            let mine_asked = subst (λ (b : ℕ). AreAsked d.passes.collects.taken b (kills_to b plan) (length audit.endpoint.pass.put)) (audit.line line) asked in
+            let few : length audit.endpoint.pass.put ≤ kills_to a plan = no_more d.passes.collects.taken a (kills_to a plan) (length audit.endpoint.pass.put) mine_asked in
             let asks : 0 < kills_to a plan = omega arith in
             (c, asks)
       ]
@@ -164,51 +164,51 @@ module _ {mails : List MailValue} {controls : List ControlValue} {replies : List
   killed : (a : ℕ) → killed_in ends a ≡ true → has_terminated (log_in ends a) ≡ false → (c : ℕ) × (0 < kills_to a (plan_of c plans))
   killed a e on = go (served_of a served) refl
     where
-      go : (o : Option ServedSeen) → served_of a served ≡ o → (c : ℕ) × (0 < kills_to a (plan_of c plans))
-      go None f = let bad : false ≡ true = subst (λ (x : Option EndSeen). is_killed_end x ≡ true) (end_is j a None f) e in cc
+      go : (o : Option ServedView) → served_of a served ≡ o → (c : ℕ) × (0 < kills_to a (plan_of c plans))
+      go None f = let bad : false ≡ true = subst (λ (x : Option EndView). is_killed_end x ≡ true) (end_is j a None f) e in cc
       go (Some s) f =
-          kill_planned a s (thread j a s f) (subst (λ (x : Option EndSeen). is_killed_end x ≡ true) (end_is j a (Some s) f) e)
-          (subst (λ (x : Option EndSeen). has_terminated (log_of_end x) ≡ false) (end_is j a (Some s) f) on)
+          kill_planned a s (thread j a s f) (subst (λ (x : Option EndView). is_killed_end x ≡ true) (end_is j a (Some s) f) e)
+          (subst (λ (x : Option EndView). has_terminated (log_of_end x) ≡ false) (end_is j a (Some s) f) on)
 
   -- ---- a terminate
 
   terminated : (a : ℕ) → has_terminated (log_in ends a) ≡ true → killed_in ends a ≡ true
   terminated a e = go (served_of a served) refl
     where
-      go : (o : Option ServedSeen) → served_of a served ≡ o → killed_in ends a ≡ true
-      go None f = let bad : false ≡ true = subst (λ (x : Option EndSeen). has_terminated (log_of_end x) ≡ true) (end_is j a None f) e in cc
+      go : (o : Option ServedView) → served_of a served ≡ o → killed_in ends a ≡ true
+      go None f = let bad : false ≡ true = subst (λ (x : Option EndView). has_terminated (log_of_end x) ≡ true) (end_is j a None f) e in cc
       go (Some s) f =
           ap is_killed_end (end_is j a (Some s) f)
-          ∙ end_killed s.passes.kills s.end (thread j a s f).serving.kills (subst (λ (x : Option EndSeen). has_terminated (log_of_end x) ≡ true) (end_is j a (Some s) f) e)
+          ∙ end_killed s.passes.kills s.end (thread j a s f).serving.kills (subst (λ (x : Option EndView). has_terminated (log_of_end x) ≡ true) (end_is j a (Some s) f) e)
 
   last : (a : ℕ) → NothingFollowsAnEnd (log_in ends a)
   last a = go (served_of a served) refl
     where
-      go : (o : Option ServedSeen) → served_of a served ≡ o → NothingFollowsAnEnd (log_in ends a)
-      go None f = subst (λ (x : Option EndSeen). NothingFollowsAnEnd (log_of_end x)) (sym (end_is j a None f)) (λ place ends. cc)
-      go (Some s) f = subst (λ (x : Option EndSeen). NothingFollowsAnEnd (log_of_end x)) (sym (end_is j a (Some s) f)) (thread j a s f).serving.last
+      go : (o : Option ServedView) → served_of a served ≡ o → NothingFollowsAnEnd (log_in ends a)
+      go None f = subst (λ (x : Option EndView). NothingFollowsAnEnd (log_of_end x)) (sym (end_is j a None f)) (λ place ends. cc)
+      go (Some s) f = subst (λ (x : Option EndView). NothingFollowsAnEnd (log_of_end x)) (sym (end_is j a (Some s) f)) (thread j a s f).serving.last
 
   -- ---- a retired actor
 
   -- a caller that the thread doesn't list has no items and no calls
-  strange_items : (a c : ℕ) (s : ServedSeen) → (t : Thread j a s) → contains c t.serving.callers ≡ false → items_of c (log_of s.end) ≡ []
-  strange_items a c s t unnamed = empty_by_places (items_of c (log_of s.end)) (λ k item at.
-      let from = filter-slice_get (λ (i : RunItem). i.caller == c) (log_of s.end) k item at in
-      let listed = all_in (λ (i : RunItem). contains i.caller t.serving.callers ≡ true) (log_of s.end) item t.serving.log.listed (record { place = from.place; at = from.at }) in
+  strange_items : (a c : ℕ) (s : ServedView) → (t : Thread j a s) → contains c t.serving.callers ≡ false → items_of c (end_log s.end) ≡ []
+  strange_items a c s t unnamed = empty_by_places (items_of c (end_log s.end)) (λ k item at.
+      let from = filter-slice_get (λ (i : RunItem). i.caller == c) (end_log s.end) k item at in
+      let listed = all_in (λ (i : RunItem). contains i.caller t.serving.callers ≡ true) (end_log s.end) item t.serving.log.listed (record { place = from.place; at = from.at }) in
       let yes : contains c t.serving.callers ≡ true = subst (λ (n : ℕ). contains n t.serving.callers ≡ true) (eqb-true item.caller c from.passes) listed in
       cc)
 
-  strange_calls : (a c : ℕ) (s : ServedSeen) → (t : Thread j a s) → contains c t.serving.callers ≡ false → calls_to a (calls_in owners c) ≡ []
+  strange_calls : (a c : ℕ) (s : ServedView) → (t : Thread j a s) → contains c t.serving.callers ≡ false → calls_to a (calls_in owners c) ≡ []
   strange_calls a c s t unnamed = empty_by_places (calls_to a (calls_in owners c)) (λ k call at.
       let is = calls_to-at a (calls_in owners c) k call at in
       let known = planned_known (actors_naming c casts) (plan_of c plans) call.0 call.1 (subst (λ (calls : List Submission). slice_get calls call.0 ≡ Some call.1) (submitted c) is.at) in
       let n = naming casts c a j.casts_are (subst (IsIn (actors_naming c casts)) is.actor known) in
-      let names : contains c t.cast.cast.callers ≡ true = is_contained c t.cast.cast.callers (subst (λ (x : Casting). IsIn x.callers c) (same_cast casts a n.cast t.cast n.at) n.names) in
+      let names : contains c t.cast.cast.callers ≡ true = is_contained c t.cast.cast.callers (subst (λ (x : ActorSpec). IsIn x.callers c) (same_cast casts a n.cast t.cast n.at) n.names) in
       let yes : contains c t.serving.callers ≡ true = t.serving.same_callers c ∙ names in
       cc)
 
   -- the note of a caller of the cast tells the number of its calls
-  noted : (a c n : ℕ) (s : ServedSeen) → (t : Thread j a s) → IsIn t.cast.cast.callers c → first_note a c s.passes.letters.taken ≡ Some n → n ≡ length (calls_to a (calls_in owners c))
+  noted : (a c n : ℕ) (s : ServedView) → (t : Thread j a s) → IsIn t.cast.cast.callers c → first_note a c s.passes.letters.taken ≡ Some n → n ≡ length (calls_to a (calls_in owners c))
   noted a c n s t names e =
       let found = driven_named j t.cast.cast c t.cast.inside names in
       let d = found.one in
@@ -216,31 +216,31 @@ module _ {mails : List MailValue} {controls : List ControlValue} {replies : List
       let mine : caller_of first.letter ≡ c = note_caller a c n first.letter first.says in
       let sent = letter_sent j a s d first.letter t (subst (IsIn t.cast.cast.callers) (sym mine) names) (subst (λ (m : ℕ). driven_of m driven ≡ Some d) (sym mine) found.is) first.inside in
       let owner : owner_of c owners ≡ Some d.owner = owner_is j c (Some d) found.is in
-      subst (λ (o : Option OwnerValue). n ≡ length (calls_to a (calls_of_owner o))) (sym owner) (sent_note d.owner a c n first.letter first.says sent)
+      subst (λ (o : Option OwnerView). n ≡ length (calls_to a (calls_of_owner o))) (sym owner) (sent_note d.owner a c n first.letter first.says sent)
 
   -- as many items as calls are all of them
-  whole : (a c : ℕ) (s : ServedSeen) → Thread j a s → length (items_of c (log_of s.end)) ≡ length (calls_to a (calls_in owners c)) → map (λ item. item.future) (items_of c (log_of s.end)) ≡ map (λ call. call.0) (calls_to a (calls_in owners c))
+  whole : (a c : ℕ) (s : ServedView) → Thread j a s → length (items_of c (end_log s.end)) ≡ length (calls_to a (calls_in owners c)) → map (λ item. item.future) (items_of c (end_log s.end)) ≡ map (λ call. call.0) (calls_to a (calls_in owners c))
   whole a c s t same =
-      let items = items_of c (log_of s.end) in
+      let items = items_of c (end_log s.end) in
       let calls = calls_to a (calls_in owners c) in
-      let front = order_of (λ x. None) (calls_in owners) (log_in ends) (kept_in owners) (killed_in ends) a (log_of s.end) c (λ p item at. item_sent j a p item s t at) (t.serving.log.numbered c) in
+      let front = order_of (λ x. None) (calls_in owners) (log_in ends) (kept_in owners) (killed_in ends) a (end_log s.end) c (λ p item at. item_sent j a p item s t at) (t.serving.log.numbered c) in
       let long : length (map numbered items) ≡ length (numbers a (calls_in owners c)) =
       length-map items numbered ∙ same ∙ sym (length-map calls (λ (call : ℕ × Submission). call.0)) ∙ sym (length-enumerate_from 0 (map (λ (call : ℕ × Submission). call.0) calls)) in
       let all = whole_by_length (map numbered items) (numbers a (calls_in owners c)) front long in
       sym (map-map (λ (pair : ℕ × ℕ). pair.1) numbered items) ∙ ap (map (λ (pair : ℕ × ℕ). pair.1)) all ∙ enumerated 0 (map (λ (call : ℕ × Submission). call.0) calls)
 
-  ran_all : (a : ℕ) (s : ServedSeen) → (t : Thread j a s) → ((c : ℕ) → contains c t.serving.callers ≡ true → first_note a c s.passes.letters.taken ≡ Some (length (items_of c (log_of s.end)))) → (c : ℕ) → map (λ item. item.future) (items_of c (log_of s.end)) ≡ map (λ call. call.0) (calls_to a (calls_in owners c))
+  ran_all : (a : ℕ) (s : ServedView) → (t : Thread j a s) → ((c : ℕ) → contains c t.serving.callers ≡ true → first_note a c s.passes.letters.taken ≡ Some (length (items_of c (end_log s.end)))) → (c : ℕ) → map (λ item. item.future) (items_of c (end_log s.end)) ≡ map (λ call. call.0) (calls_to a (calls_in owners c))
   ran_all a s t notes c = go (contains c t.serving.callers) refl
     where
-      go : (b : Bool) → contains c t.serving.callers ≡ b → map (λ (item : RunItem). item.future) (items_of c (log_of s.end)) ≡ map (λ (call : ℕ × Submission). call.0) (calls_to a (calls_in owners c))
-      go true is = whole a c s t (noted a c (length (items_of c (log_of s.end))) s t (listed_named j a c s t is) (notes c is))
+      go : (b : Bool) → contains c t.serving.callers ≡ b → map (λ (item : RunItem). item.future) (items_of c (end_log s.end)) ≡ map (λ (call : ℕ × Submission). call.0) (calls_to a (calls_in owners c))
+      go true is = whole a c s t (noted a c (length (items_of c (end_log s.end))) s t (listed_named j a c s t is) (notes c is))
       go false is = ap (map (λ (item : RunItem). item.future)) (strange_items a c s t is) ∙ sym (ap (map (λ (call : ℕ × Submission). call.0)) (strange_calls a c s t is))
 
-  retired_end : (end : EndSeen) (passes : ExecPasses) → IsIn served (record { end = end; passes = passes }) → IfRetired end (RanAll casts owners)
+  retired_end : (end : EndView) (passes : ExecPasses) → IsIn served (record { end = end; passes = passes }) → IfRetired end (RanAll casts owners)
   retired_end (Killed dead) passes i = tt
   retired_end (Starved dead) passes i = tt
   retired_end (Retired retired) passes i =
-      let s : ServedSeen = record { end = Retired retired; passes = passes } in
+      let s : ServedView = record { end = Retired retired; passes = passes } in
       let t = thread_in j retired.id s i refl in
       record {
         calls = ran_all retired.id s t t.serving.drained.notes;
@@ -250,21 +250,21 @@ module _ {mails : List MailValue} {controls : List ControlValue} {replies : List
       }
 
   retired : All (λ end. IfRetired end (RanAll casts owners)) ends
-  retired = all_by_places (λ (end : EndSeen). IfRetired end (RanAll casts owners)) ends (λ k end at.
-      let found = map-slice_get (λ (s : ServedSeen). s.end) served k end at in
-      subst (λ (e : EndSeen). IfRetired e (RanAll casts owners)) found.2 (retired_end found.0.end found.0.passes (record { place = k; at = found.1 })))
+  retired = all_by_places (λ (end : EndView). IfRetired end (RanAll casts owners)) ends (λ k end at.
+      let found = map-slice_get (λ (s : ServedView). s.end) served k end at in
+      subst (λ (e : EndView). IfRetired e (RanAll casts owners)) found.2 (retired_end found.0.end found.0.passes (record { place = k; at = found.1 })))
 
   -- ---- the limits
 
-  limits : All (λ (owner : OwnerValue). owner.limits ≡ limits_naming owner.id casts) owners
-  limits = All-map (λ (owner : OwnerValue). owner.limits ≡ limits_naming owner.id casts) (λ (d : Driven). d.owner) driven j.limits
+  limits : All (λ (owner : OwnerView). owner.limits ≡ limits_naming owner.id casts) owners
+  limits = All-map (λ (owner : OwnerView). owner.limits ≡ limits_naming owner.id casts) (λ (d : Driven). d.owner) driven j.limits
 
   -- ---- the whole
 
   pub joined : IsJoined casts plans owners ends
   joined = record {
-    callers = map-map (λ (owner : OwnerValue). owner.id) (λ (d : Driven). d.owner) driven ∙ j.callers;
-    actors = map-map id_of (λ (s : ServedSeen). s.end) served ∙ j.actors;
+    callers = map-map (λ (owner : OwnerView). owner.id) (λ (d : Driven). d.owner) driven ∙ j.callers;
+    actors = map-map end_id (λ (s : ServedView). s.end) served ∙ j.actors;
     limits = limits;
     submitted = submitted;
     answered = answered;

@@ -6,7 +6,7 @@ use Rattle.std.specs.Global.{Vec, Global}
 use denote.RawPtr.{Ptr}
 use Rattle.atomic_table.specs.Seated.{TableId}
 use Rattle.act_types.specs.KindState.{CounterAt}
-use Rattle.act_types.specs.declared.limits.TheConstants.{MOST_ACTORS, MOST_CALLERS}
+use Rattle.act_types.specs.declared.limits.TheConstants.{MAX_ACTORS, MAX_CALLERS}
 use Rattle.act_types.specs.declared.value.Value.TheVariants as value
 use Rattle.act_types.specs.declared.call.Method.TheVariants as method
 use Rattle.act_types.specs.declared.message.Notice.{Notice}
@@ -18,25 +18,25 @@ use Rattle.act_rules.specs.declared.script.Step.TheVariants as step
 use Rattle.act_rules.specs.RunList.{Answer, items_of, NothingFollowsAnEnd}
 use Rattle.act_rules.specs.Submissions.{kept_at}
 use Rattle.act_rules.specs.Report.{one_to}
-use Rattle.act_rules.specs.History.{Casting, contains, actors_naming}
+use Rattle.act_rules.specs.History.{ActorSpec, contains, actors_naming}
 use Rattle.act_rules.proofs.Lists.{All-two}
-use Rattle.act_owner.specs.Owner.{OwnerValue, is_death}
+use Rattle.act_owner.specs.Owner.{OwnerView, is_death}
 use Rattle.act_owner.specs.Life.{IsToldBy}
-use Rattle.act_mailbox.specs.Lines.{items_of as items_put}
-use Rattle.act_mailbox.specs.Mails.{MailValue}
-use Rattle.act_mailbox.specs.Controls.{ControlValue, asker_of, starter}
-use Rattle.act_mailbox.specs.Notices.{RepliesValue, ReplyExecValue}
-use Rattle.act_mailbox.specs.Passes.{PutterValue}
+use Rattle.act_mailbox.specs.Lines.{items_from as items_put}
+use Rattle.act_mailbox.specs.Mails.{MailView}
+use Rattle.act_mailbox.specs.Controls.{ControlView, asker_of, starter}
+use Rattle.act_mailbox.specs.Notices.{RepliesView, ReplyExecView}
+use Rattle.act_mailbox.specs.Passes.{PutterView}
 use Rattle.act_mailbox.specs.declared.control.Asked.{Asked}
 use Rattle.act_mailbox.specs.declared.mail.Letter.{Letter}
 use Rattle.act_mailbox.specs.declared.mail.Letter.TheVariants.{Call, Note}
-use Rattle.act_seats.specs.declared.seat.Seat.{Seat}
-use Rattle.act_serve.specs.Served.{Retired, id_of, packet_of, first_note, replies_to, deaths, caller_at}
+use Rattle.act_mailbox.specs.declared.endpoint.Endpoint.{Endpoint}
+use Rattle.act_serve.specs.Served.{Retired, end_id, packet_of_item, first_note, replies_to, deaths, caller_at}
 use Rattle.act_drive.specs.declared.caller.Driven.{Driven}
 use Rattle.act_drive.specs.Driven.{HasPosted, HasAsked, IsSent}
 use Rattle.act_plans.specs.Runs.{limits_naming, cast_at, plan_of}
 use Rattle.act_executor.specs.Joined.{is_starved}
-use Rattle.act_executor.specs.Left.{ServedSeen, IsServed, IsDriven, AreAudited, AreCasts, AreJoined}
+use Rattle.act_executor.specs.Left.{ServedView, IsServed, IsDriven, AreAudited, AreCasts, AreJoined}
 use Rattle.act_executor.proofs.Elements.{all_by_places, contains_is}
 
 -- ---- lists of one
@@ -61,34 +61,34 @@ only ptr alloc x = record { ptr = ptr; len = 1; cap = 1; alloc = alloc; items = 
 
 -- ---- the cast and the lines
 
-abbrev pub casts : List Casting
+abbrev pub casts : List ActorSpec
 casts = record { actor = 1; callers = 1 ∷ []; opening = CounterAt (pos 0); pending = Some 2 } ∷ []
 
 pub casts_are : AreCasts casts
 casts_are = record {
-  differ = pairs_one (λ (one other : Casting). one.actor ≢ other.actor) _;
-  actors = all_one (λ (cast : Casting). Contains (one_to MOST_ACTORS) cast.actor) _ (0, omega arith, refl);
-  callers = all_one (λ (cast : Casting). All (λ c. Contains (one_to MOST_CALLERS) c) cast.callers) _ (all_one (λ (c : ℕ). Contains (one_to MOST_CALLERS) c) 1 (0, omega arith, refl));
+  differ = pairs_one (λ (one other : ActorSpec). one.actor ≢ other.actor) _;
+  actors = all_one (λ (cast : ActorSpec). Contains (one_to MAX_ACTORS) cast.actor) _ (0, omega arith, refl);
+  callers = all_one (λ (cast : ActorSpec). All (λ c. Contains (one_to MAX_CALLERS) c) cast.callers) _ (all_one (λ (c : ℕ). Contains (one_to MAX_CALLERS) c) 1 (0, omega arith, refl));
 }
 
-abbrev pub mails : TableId → List MailValue
+abbrev pub mails : TableId → List MailView
 mails line = record { line = line; actor = 1 } ∷ []
 
-abbrev pub controls : TableId → List ControlValue
+abbrev pub controls : TableId → List ControlView
 controls line = record { line = line; actor = 1 } ∷ []
 
-abbrev pub replies : TableId → List RepliesValue
+abbrev pub replies : TableId → List RepliesView
 replies line = record { line = line; caller = 1 } ∷ []
 
 -- the passes of the caller and of the actor
-abbrev pub letter_seat : TableId → List Letter → Seat (PutterValue Letter Unit)
-letter_seat line letters = record { place = 0; pass = record { line = line; number = 1; put = letters; note = [] } }
+abbrev pub letter_endpoint : TableId → List Letter → Endpoint (PutterView Letter Unit)
+letter_endpoint line letters = record { place = 0; pass = record { line = line; number = 1; put = letters; note = [] } }
 
-abbrev pub kill_seat : TableId → List Asked → Seat (PutterValue Asked ℕ)
-kill_seat line kills = record { place = 0; pass = record { line = line; number = 1; put = kills; note = [] } }
+abbrev pub kill_endpoint : TableId → List Asked → Endpoint (PutterView Asked ℕ)
+kill_endpoint line kills = record { place = 0; pass = record { line = line; number = 1; put = kills; note = [] } }
 
-abbrev pub notice_seat : TableId → List RunItem → List Notice → Seat ReplyExecValue
-notice_seat line log notices = record { place = 0; pass = record { line = line; actor = 1; given = notices; seen = log } }
+abbrev pub notice_endpoint : TableId → List RunItem → List Notice → Endpoint ReplyExecView
+notice_endpoint line log notices = record { place = 0; pass = record { line = line; actor = 1; given = notices; seen = log } }
 
 abbrev pub call : Submission
 call = record { actor = 1; method = method.Get; args = [] }
@@ -99,7 +99,7 @@ item = record { caller = 1; number = 0; future = 0; method = method.Get; args = 
 -- ---- what was done
 
 abbrev letters : List Letter
-letters = Call (packet_of 1 item) ∷ Note (record { caller = 1; actor = 1; after = 1 }) ∷ []
+letters = Call (packet_of_item 1 item) ∷ Note (record { caller = 1; actor = 1; after = 1 }) ∷ []
 
 abbrev answer : Answer
 answer = Ok (value.Int (pos 0))
@@ -107,7 +107,7 @@ answer = Ok (value.Int (pos 0))
 abbrev notices : List Notice
 notices = Answered (record { actor = 1; caller = 1; future = 0; place = 0; answer = answer }) ∷ []
 
-abbrev owner : OwnerValue
+abbrev owner : OwnerView
 owner = record { id = 1; handles = record { actor = 1; copies = 0; given = 1 } ∷ []; calls = call ∷ []; sent = true ∷ []; kept = Some answer ∷ []; dead = []; limits = (1, Some 2) ∷ [] }
 
 abbrev plan : List Step
@@ -125,33 +125,33 @@ module _ (mail control reply : TableId) (ptr : Ptr) (alloc : Global) where
     owner = owner;
     starved = false;
     passes = record {
-      letters = only ptr alloc (letter_seat mail letters);
-      kills = only ptr alloc (kill_seat control []);
+      letters = only ptr alloc (letter_endpoint mail letters);
+      kills = only ptr alloc (kill_endpoint control []);
       collects = record { line = reply; putters = 1 ∷ []; taken = notices; note = [] };
     };
   }
 
-  abbrev s : ServedSeen
+  abbrev s : ServedView
   s = record {
     end = Retired (record { id = 1; log = log; state = CounterAt (pos 0) });
     passes = record {
       letters = record { line = mail; putters = 1 ∷ []; taken = letters; note = [] };
       kills = record { line = control; actor = 1; askers = starter ∷ 1 ∷ []; taken = []; lengths = []; looked = 1 };
-      notices = only ptr alloc (notice_seat reply log notices);
+      notices = only ptr alloc (notice_endpoint reply log notices);
     };
   }
 
-  serves : (cast : Casting) → cast_at 1 casts ≡ Some cast → IsServed (replies reply) cast s
-  serves cast e = subst (λ (x : Casting). IsServed (replies reply) x s) (one_at _ cast 0 e) (record {
+  serves : (cast : ActorSpec) → cast_at 1 casts ≡ Some cast → IsServed (replies reply) cast s
+  serves cast e = subst (λ (x : ActorSpec). IsServed (replies reply) x s) (one_at _ cast 0 e) (record {
     callers = 1 ∷ [];
     same_callers = λ c. refl;
     log = record {
-      taken = all_one (λ (i : RunItem). Contains letters (Call (packet_of 1 i))) item (0, omega arith, refl);
+      taken = all_one (λ (i : RunItem). Contains letters (Call (packet_of_item 1 i))) item (0, omega arith, refl);
       listed = all_one (λ (i : RunItem). contains i.caller (1 ∷ []) ≡ true) item refl;
       numbered = λ c. turn (1 == c);
     };
     last = last;
-    given = all_one (λ (seat : Seat ReplyExecValue). seat.pass.given ≡ replies_to (CounterAt (pos 0)) 1 log (caller_at (replies reply) seat.place) ++ deaths 1 s.end) _ refl;
+    given = all_one (λ (endpoint : Endpoint ReplyExecView). endpoint.pass.given ≡ replies_to (CounterAt (pos 0)) 1 log (caller_at (replies reply) endpoint.place) ++ deaths 1 s.end) _ refl;
     kills = ((refl, refl), refl);
     askers = refl;
     drained = record { state = refl; notes = notes };
@@ -196,9 +196,9 @@ module _ (mail control reply : TableId) (ptr : Ptr) (alloc : Global) where
 
   audits : AreAudited (mails mail) (controls control) (replies reply) 1 1 d s
   audits = record {
-    letters = record { seat = letter_seat mail letters; sits = (0, omega arith, refl); line = λ m. refl; front = ([], refl) };
-    kills = record { seat = kill_seat control []; sits = (0, omega arith, refl); line = λ k. refl; front = ([], refl) };
-    notices = record { seat = notice_seat reply log notices; sits = (0, omega arith, refl); line = refl; front = ([], refl) };
+    letters = record { endpoint = letter_endpoint mail letters; sits = (0, omega arith, refl); line = λ m. refl; front = ([], refl) };
+    kills = record { endpoint = kill_endpoint control []; sits = (0, omega arith, refl); line = λ k. refl; front = ([], refl) };
+    notices = record { endpoint = notice_endpoint reply log notices; sits = (0, omega arith, refl); line = refl; front = ([], refl) };
   }
 
   pub example : AreJoined (mails mail) (controls control) (replies reply) casts plans (d ∷ []) (s ∷ [])
@@ -206,11 +206,11 @@ module _ (mail control reply : TableId) (ptr : Ptr) (alloc : Global) where
     casts_are = casts_are;
     callers = refl;
     actors = refl;
-    all_served = all_one (λ (x : ServedSeen). (cast : Casting) → cast_at (id_of x.end) casts ≡ Some cast → IsServed (replies reply) cast x) s serves;
+    all_served = all_one (λ (x : ServedView). (cast : ActorSpec) → cast_at (end_id x.end) casts ≡ Some cast → IsServed (replies reply) cast x) s serves;
     all_driven = all_one (λ (x : Driven). IsDriven (mails mail) (controls control) (actors_naming x.owner.id casts) (plan_of x.owner.id plans) x) d drives;
     limits = all_one (λ (x : Driven). x.owner.limits ≡ limits_naming x.owner.id casts) d refl;
-    audited = λ i k x y cast at at' of names. subst (λ (z : Driven). AreAudited (mails mail) (controls control) (replies reply) (id_of y.end) z.owner.id z y) (one_at d x i at)
-        (subst (λ (z : ServedSeen). AreAudited (mails mail) (controls control) (replies reply) (id_of z.end) 1 d z) (one_at s y k at') audits);
-    starter = all_one (λ (x : ServedSeen). items_put asker_of starter x.passes.kills.taken ≡ []) s refl;
-    fed = all_one (λ (x : ServedSeen). is_starved x.end ≡ false) s refl;
+    audited = λ i k x y cast at at' of names. subst (λ (z : Driven). AreAudited (mails mail) (controls control) (replies reply) (end_id y.end) z.owner.id z y) (one_at d x i at)
+        (subst (λ (z : ServedView). AreAudited (mails mail) (controls control) (replies reply) (end_id z.end) 1 d z) (one_at s y k at') audits);
+    starter = all_one (λ (x : ServedView). items_put asker_of starter x.passes.kills.taken ≡ []) s refl;
+    fed = all_one (λ (x : ServedView). is_starved x.end ≡ false) s refl;
   }

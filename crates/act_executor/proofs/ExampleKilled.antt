@@ -15,26 +15,26 @@ use Rattle.act_rules.specs.declared.script.Step.{Step}
 use Rattle.act_rules.specs.declared.script.Step.TheVariants as step
 use Rattle.act_rules.specs.RunList.{Answer}
 use Rattle.act_rules.specs.Submissions.{kept_at}
-use Rattle.act_rules.specs.History.{Casting, contains, actors_naming}
-use Rattle.act_owner.specs.Owner.{OwnerValue, is_death, is_dead}
+use Rattle.act_rules.specs.History.{ActorSpec, contains, actors_naming}
+use Rattle.act_owner.specs.Owner.{OwnerView, is_death, is_known_dead}
 use Rattle.act_owner.specs.Life.{IsToldBy}
-use Rattle.act_mailbox.specs.Lines.{items_of as items_put}
+use Rattle.act_mailbox.specs.Lines.{items_from as items_put}
 use Rattle.act_mailbox.specs.Controls.{asker_of, starter}
-use Rattle.act_mailbox.specs.Notices.{ReplyExecValue}
+use Rattle.act_mailbox.specs.Notices.{ReplyExecView}
 use Rattle.act_mailbox.specs.declared.control.Asked.{Asked}
 use Rattle.act_mailbox.specs.declared.mail.Letter.{Letter}
 use Rattle.act_mailbox.specs.declared.mail.Letter.TheVariants.{Call}
-use Rattle.act_seats.specs.declared.seat.Seat.{Seat}
-use Rattle.act_serve.specs.Served.{Killed, id_of, packet_of, replies_to, deaths, caller_at}
+use Rattle.act_mailbox.specs.declared.endpoint.Endpoint.{Endpoint}
+use Rattle.act_serve.specs.Served.{Killed, end_id, packet_of_item, replies_to, deaths, caller_at}
 use Rattle.act_drive.specs.declared.caller.Driven.{Driven}
 use Rattle.act_drive.specs.Driven.{HasPosted, HasAsked, IsSent}
 use Rattle.act_plans.specs.Runs.{limits_naming, cast_at, plan_of}
 use Rattle.act_executor.specs.Joined.{is_starved}
-use Rattle.act_executor.specs.Left.{ServedSeen, IsServed, IsDriven, AreAudited, AreJoined}
-use Rattle.act_executor.proofs.Example.{one_at, all_one, pairs_one, only, casts, casts_are, mails, controls, replies, letter_seat, kill_seat, notice_seat, call, item}
+use Rattle.act_executor.specs.Left.{ServedView, IsServed, IsDriven, AreAudited, AreJoined}
+use Rattle.act_executor.proofs.Example.{one_at, all_one, pairs_one, only, casts, casts_are, mails, controls, replies, letter_endpoint, kill_endpoint, notice_endpoint, call, item}
 
 abbrev letters : List Letter
-letters = Call (packet_of 1 item) ∷ []
+letters = Call (packet_of_item 1 item) ∷ []
 
 abbrev notices : List Notice
 notices = Death 1 ∷ []
@@ -42,7 +42,7 @@ notices = Death 1 ∷ []
 abbrev kills : List Asked
 kills = record { asker = 1; note = record { caller = 1; actor = 1 } } ∷ []
 
-abbrev owner : OwnerValue
+abbrev owner : OwnerView
 owner = record { id = 1; handles = record { actor = 1; copies = 1; given = 1 } ∷ []; calls = call ∷ []; sent = true ∷ []; kept = Some (Err ActorDied) ∷ []; dead = false ∷ true ∷ []; limits = (1, Some 2) ∷ [] }
 
 abbrev plan : List Step
@@ -57,33 +57,33 @@ module _ (mail control reply : TableId) (ptr : Ptr) (alloc : Global) where
     owner = owner;
     starved = false;
     passes = record {
-      letters = only ptr alloc (letter_seat mail letters);
-      kills = only ptr alloc (kill_seat control kills);
+      letters = only ptr alloc (letter_endpoint mail letters);
+      kills = only ptr alloc (kill_endpoint control kills);
       collects = record { line = reply; putters = 1 ∷ []; taken = notices; note = [] };
     };
   }
 
-  abbrev s : ServedSeen
+  abbrev s : ServedView
   s = record {
     end = Killed (record { id = 1; log = [] });
     passes = record {
       letters = record { line = mail; putters = 1 ∷ []; taken = []; note = [] };
       kills = record { line = control; actor = 1; askers = starter ∷ 1 ∷ []; taken = kills; lengths = 0 ∷ []; looked = 1 };
-      notices = only ptr alloc (notice_seat reply [] notices);
+      notices = only ptr alloc (notice_endpoint reply [] notices);
     };
   }
 
-  serves : (cast : Casting) → cast_at 1 casts ≡ Some cast → IsServed (replies reply) cast s
-  serves cast e = subst (λ (x : Casting). IsServed (replies reply) x s) (one_at _ cast 0 e) (record {
+  serves : (cast : ActorSpec) → cast_at 1 casts ≡ Some cast → IsServed (replies reply) cast s
+  serves cast e = subst (λ (x : ActorSpec). IsServed (replies reply) x s) (one_at _ cast 0 e) (record {
     callers = 1 ∷ [];
     same_callers = λ c. refl;
     log = record {
-      taken = All-nil (λ (i : RunItem). Contains {X = Letter} [] (Call (packet_of 1 i)));
+      taken = All-nil (λ (i : RunItem). Contains {X = Letter} [] (Call (packet_of_item 1 i)));
       listed = All-nil (λ (i : RunItem). contains i.caller (1 ∷ []) ≡ true);
       numbered = λ c. refl;
     };
     last = λ place ends. cc;
-    given = all_one (λ (seat : Seat ReplyExecValue). seat.pass.given ≡ replies_to (CounterAt (pos 0)) 1 [] (caller_at (replies reply) seat.place) ++ deaths 1 s.end) _ refl;
+    given = all_one (λ (endpoint : Endpoint ReplyExecView). endpoint.pass.given ≡ replies_to (CounterAt (pos 0)) 1 [] (caller_at (replies reply) endpoint.place) ++ deaths 1 s.end) _ refl;
     kills = (_, refl, (1, omega arith, refl), refl);
     askers = refl;
     drained = tt;
@@ -104,7 +104,7 @@ module _ (mail control reply : TableId) (ptr : Ptr) (alloc : Global) where
           subst (λ (y : Answer). IsToldBy (is_death y) owner notices 0 y) same (record { actor = 1; heard = (0, omega arith, refl); to = refl })
       answers (suc k) x e = cc
 
-      dies : (a : ℕ) → is_dead owner a ≡ true → Contains notices (Death a)
+      dies : (a : ℕ) → is_known_dead owner a ≡ true → Contains notices (Death a)
       dies zero e = cc
       dies (suc zero) e = (0, omega arith, refl)
       dies (suc (suc a)) e = cc
@@ -115,9 +115,9 @@ module _ (mail control reply : TableId) (ptr : Ptr) (alloc : Global) where
 
   audits : AreAudited (mails mail) (controls control) (replies reply) 1 1 d s
   audits = record {
-    letters = record { seat = letter_seat mail letters; sits = (0, omega arith, refl); line = λ m. refl; front = (letters, refl) };
-    kills = record { seat = kill_seat control kills; sits = (0, omega arith, refl); line = λ k. refl; front = ([], refl) };
-    notices = record { seat = notice_seat reply [] notices; sits = (0, omega arith, refl); line = refl; front = ([], refl) };
+    letters = record { endpoint = letter_endpoint mail letters; sits = (0, omega arith, refl); line = λ m. refl; front = (letters, refl) };
+    kills = record { endpoint = kill_endpoint control kills; sits = (0, omega arith, refl); line = λ k. refl; front = ([], refl) };
+    notices = record { endpoint = notice_endpoint reply [] notices; sits = (0, omega arith, refl); line = refl; front = ([], refl) };
   }
 
   pub example : AreJoined (mails mail) (controls control) (replies reply) casts plans (d ∷ []) (s ∷ [])
@@ -125,11 +125,11 @@ module _ (mail control reply : TableId) (ptr : Ptr) (alloc : Global) where
     casts_are = casts_are;
     callers = refl;
     actors = refl;
-    all_served = all_one (λ (x : ServedSeen). (cast : Casting) → cast_at (id_of x.end) casts ≡ Some cast → IsServed (replies reply) cast x) s serves;
+    all_served = all_one (λ (x : ServedView). (cast : ActorSpec) → cast_at (end_id x.end) casts ≡ Some cast → IsServed (replies reply) cast x) s serves;
     all_driven = all_one (λ (x : Driven). IsDriven (mails mail) (controls control) (actors_naming x.owner.id casts) (plan_of x.owner.id plans) x) d drives;
     limits = all_one (λ (x : Driven). x.owner.limits ≡ limits_naming x.owner.id casts) d refl;
-    audited = λ i k x y cast at at' of names. subst (λ (z : Driven). AreAudited (mails mail) (controls control) (replies reply) (id_of y.end) z.owner.id z y) (one_at d x i at)
-        (subst (λ (z : ServedSeen). AreAudited (mails mail) (controls control) (replies reply) (id_of z.end) 1 d z) (one_at s y k at') audits);
-    starter = all_one (λ (x : ServedSeen). items_put asker_of starter x.passes.kills.taken ≡ []) s refl;
-    fed = all_one (λ (x : ServedSeen). is_starved x.end ≡ false) s refl;
+    audited = λ i k x y cast at at' of names. subst (λ (z : Driven). AreAudited (mails mail) (controls control) (replies reply) (end_id y.end) z.owner.id z y) (one_at d x i at)
+        (subst (λ (z : ServedView). AreAudited (mails mail) (controls control) (replies reply) (end_id z.end) 1 d z) (one_at s y k at') audits);
+    starter = all_one (λ (x : ServedView). items_put asker_of starter x.passes.kills.taken ≡ []) s refl;
+    fed = all_one (λ (x : ServedView). is_starved x.end ≡ false) s refl;
   }

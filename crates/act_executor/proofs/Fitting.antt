@@ -9,8 +9,8 @@ use Rattle.act_types.specs.KindState.{KindState}
 use Rattle.act_rules.specs.declared.history.RunItem.{RunItem}
 use Rattle.act_rules.specs.declared.history.Submission.{Submission}
 use Rattle.act_rules.specs.RunList.{Answer, answer_at, items_of}
-use Rattle.act_rules.specs.Submissions.{calls_to, number_of, kept_at, is_known, settled}
-use Rattle.act_rules.specs.Consistent.{IsFront, IsAsSubmitted, IsCallToDead, Consistent}
+use Rattle.act_rules.specs.Submissions.{calls_to, number_of, kept_at, is_known, settle}
+use Rattle.act_rules.specs.Consistent.{IsPrefix, IsAsSubmitted, IsCallToDead, Consistent}
 use Rattle.act_rules.proofs.Lists.{slice_get-filter, slice_get-enumerate_from}
 use Rattle.act_rules.proofs.AsSubmitted.{filter-slice_get}
 use Rattle.act_rules.proofs.Letters.{calls_to-number}
@@ -26,7 +26,7 @@ pub record IsSentItem (calls : ℕ → List Submission) (kept : ℕ → List (Op
   pub number : item.number ≡ number_of a item.future (calls item.caller)
   pub method : item.method ≡ call.method
   pub known : IsTrue (list_all (is_known (kept item.caller)) call.args)
-  pub args : item.args ≡ map (settled (kept item.caller)) call.args
+  pub args : item.args ≡ map (settle (kept item.caller)) call.args
 
 -- the answer is that of a place of a run list which holds the caller's call k
 pub record IsRunAnswer (opening : ℕ → Option KindState) (runs : ℕ → List RunItem) (c k : ℕ) (answer : Answer) : Type 0 where
@@ -53,8 +53,8 @@ number_at_place items m item in_turn at =
 
 module _ (opening : ℕ → Option KindState) (calls : ℕ → List Submission) (runs : ℕ → List RunItem) (kept : ℕ → List (Option Answer)) (is_dead : ℕ → Bool) where
   -- a sent item stands among the caller's calls to its actor at its number
-  stands : (a : ℕ) (item : RunItem) → IsSentItem calls kept a item → slice_get (numbers a (calls item.caller)) item.number ≡ Some (numbered item)
-  stands a item s =
+  reached : (a : ℕ) (item : RunItem) → IsSentItem calls kept a item → slice_get (numbers a (calls item.caller)) item.number ≡ Some (numbered item)
+  reached a item s =
       let n = number_of a item.future (calls item.caller) in
       let to = calls_to a (calls item.caller) in
       let found : slice_get to n ≡ Some (item.future, s.call) = calls_to-number a (calls item.caller) item.future s.call s.at (eq-eqb s.call.actor a s.actor) in
@@ -68,8 +68,8 @@ module _ (opening : ℕ → Option KindState) (calls : ℕ → List Submission) 
   ranked : IsFit opening calls runs kept is_dead → (a p : ℕ) (item : RunItem) → slice_get (runs a) p ≡ Some item → item.number ≡ length (filter (λ (i : RunItem). i.caller == item.caller) (take p (runs a)))
   ranked fit a p item at = number_at_place (items_of item.caller (runs a)) _ item (fit.in_turn a item.caller) (slice_get-filter (λ (i : RunItem). i.caller == item.caller) (runs a) p item at (eq-eqb item.caller item.caller refl))
 
-  -- what an actor ran of a caller's calls is a front of the caller's calls to it
-  pub order_of : (a : ℕ) (log : List RunItem) (c : ℕ) → ((p : ℕ) (item : RunItem) → slice_get log p ≡ Some item → IsSentItem calls kept a item) → map (λ item. item.number) (items_of c log) ≡ range_with_len 0 (length (items_of c log)) → IsFront (map numbered (items_of c log)) (numbers a (calls c))
+  -- what an actor ran of a caller's calls is a prefix of the caller's calls to it
+  pub order_of : (a : ℕ) (log : List RunItem) (c : ℕ) → ((p : ℕ) (item : RunItem) → slice_get log p ≡ Some item → IsSentItem calls kept a item) → map (λ item. item.number) (items_of c log) ≡ range_with_len 0 (length (items_of c log)) → IsPrefix (map numbered (items_of c log)) (numbers a (calls c))
   order_of a log c sent in_turn = front_by_places _ _ go
     where
       go : (k : ℕ) (pair : ℕ × ℕ) → slice_get (map numbered (items_of c log)) k ≡ Some pair → slice_get (numbers a (calls c)) k ≡ Some pair
@@ -79,7 +79,7 @@ module _ (opening : ℕ → Option KindState) (calls : ℕ → List Submission) 
           let where_from = filter-slice_get (λ (i : RunItem). i.caller == c) log k item found.1 in
           let mine : item.caller ≡ c = eqb-true item.caller c where_from.passes in
           let number : item.number ≡ k = number_at_place (items_of c log) k item in_turn found.1 in
-          let there : slice_get (numbers a (calls item.caller)) item.number ≡ Some (numbered item) = stands a item (sent where_from.place item where_from.at) in
+          let there : slice_get (numbers a (calls item.caller)) item.number ≡ Some (numbered item) = reached a item (sent where_from.place item where_from.at) in
           subst (λ (m : ℕ). slice_get (numbers a (calls c)) m ≡ Some pair) number
           (subst (λ (q : ℕ × ℕ). slice_get (numbers a (calls c)) item.number ≡ Some q) found.2
           (subst (λ (d : ℕ). slice_get (numbers a (calls d)) item.number ≡ Some (numbered item)) mine there))

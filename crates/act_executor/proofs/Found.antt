@@ -6,25 +6,25 @@ use Rattle.std.proofs.lemmas.Bool.{eq-eqb, eqb-true}
 use Rattle.std.proofs.lemmas.Bool.Decides.{leb_tells}
 use Rattle.std.proofs.lemmas.Option.{slice_get_within, get_or_from_slice_get, slice_get-map}
 use Rattle.std.proofs.lemmas.Map.Keys.{any_passes_from_place}
-use Rattle.act_types.specs.declared.limits.TheConstants.{MOST_ACTORS, MOST_CALLERS}
+use Rattle.act_types.specs.declared.limits.TheConstants.{MAX_ACTORS, MAX_CALLERS}
 use Rattle.act_types.specs.declared.call.Arg.{Arg}
 use Rattle.act_rules.specs.declared.history.Submission.{Submission}
 use Rattle.act_rules.specs.declared.script.Step.{Step}
 use Rattle.act_rules.specs.declared.script.Step.TheVariants as step
 use Rattle.act_rules.specs.Submissions.{submit_refusal}
-use Rattle.act_rules.specs.Plans.{Progress, nothing_done, occurrences, holds, is_refused, stepped, done_by, planned}
+use Rattle.act_rules.specs.Plans.{Progress, nothing_done, occurrences, holds, is_refused, do_step, done_by, planned}
 use Rattle.act_rules.specs.Report.{one_to}
-use Rattle.act_rules.specs.History.{Casting, contains, actors_naming}
+use Rattle.act_rules.specs.History.{ActorSpec, contains, actors_naming}
 use Rattle.act_rules.proofs.Lists.{All_more, All_at}
 use Rattle.act_rules.proofs.AsSubmitted.{filter-slice_get}
 use Rattle.act_rules.proofs.Unique.{map-slice_get}
-use Rattle.act_serve.specs.Served.{id_of}
+use Rattle.act_serve.specs.Served.{end_id}
 use Rattle.act_drive.specs.declared.caller.Driven.{Driven}
-use Rattle.act_mailbox.specs.Mails.{MailValue}
-use Rattle.act_mailbox.specs.Controls.{ControlValue}
-use Rattle.act_mailbox.specs.Notices.{RepliesValue}
+use Rattle.act_mailbox.specs.Mails.{MailView}
+use Rattle.act_mailbox.specs.Controls.{ControlView}
+use Rattle.act_mailbox.specs.Notices.{RepliesView}
 use Rattle.act_plans.specs.Runs.{cast_at}
-use Rattle.act_executor.specs.Left.{ServedSeen, AreCasts, AreJoined}
+use Rattle.act_executor.specs.Left.{ServedView, AreCasts, AreJoined}
 use Rattle.act_executor.proofs.Elements.{IsIn, in_from_contains, all_in, in_filter, found_is, Finds, finds, any_is, contains_is, is_contained}
 
 -- where no number stands twice, two elements of one number are one
@@ -55,7 +55,7 @@ holder actors p a args accepted = go (list_any (λ b. b == a) actors) refl accep
     go true is e = is
     go false is e = cc
 
-known_step : (actors : List ℕ) (p : Progress) (s : Step) → AllByRecursion (IsKnownCall actors) p.submitted → is_refused actors p s ≡ false → AllByRecursion (IsKnownCall actors) (stepped p s).submitted
+known_step : (actors : List ℕ) (p : Progress) (s : Step) → AllByRecursion (IsKnownCall actors) p.submitted → is_refused actors p s ≡ false → AllByRecursion (IsKnownCall actors) (do_step p s).submitted
 known_step actors p (step.Submit a method args) all accepted = All_more (IsKnownCall actors) p.submitted (record { actor = a; method = method; args = args }) all (holder actors p a args accepted)
 known_step actors p (step.Copy a) all accepted = all
 known_step actors p (step.Release a) all accepted = all
@@ -66,9 +66,9 @@ known_done : (actors : List ℕ) (p : Progress) (plan : List Step) → AllByRecu
 known_done actors p [] all = all
 known_done actors p (s ∷ steps) all = go (is_refused actors p s) refl (λ (q : Progress). known_done actors q steps)
   where
-    go : (b : Bool) → is_refused actors p s ≡ b → ((q : Progress) → AllByRecursion (IsKnownCall actors) q.submitted → AllByRecursion (IsKnownCall actors) (done_by actors q steps).submitted) → AllByRecursion (IsKnownCall actors) (done_by actors (cond b p (stepped p s)) steps).submitted
+    go : (b : Bool) → is_refused actors p s ≡ b → ((q : Progress) → AllByRecursion (IsKnownCall actors) q.submitted → AllByRecursion (IsKnownCall actors) (done_by actors q steps).submitted) → AllByRecursion (IsKnownCall actors) (done_by actors (cond b p (do_step p s)) steps).submitted
     go true is rest = rest p all
-    go false is rest = rest (stepped p s) (known_step actors p s all is)
+    go false is rest = rest (do_step p s) (known_step actors p s all is)
 
 -- each call of a plan goes to an actor that knows the caller
 pub planned_known : (actors : List ℕ) (plan : List Step) (k : ℕ) (call : Submission) → slice_get (planned actors plan) k ≡ Some call → IsIn actors call.actor
@@ -93,69 +93,69 @@ planned_none plan = ap (λ (p : Progress). p.submitted) (none_done nothing_done 
 -- ---- casts
 
 -- an actor that names a caller: its cast is found, and names it
-pub record IsNaming (casts : List Casting) (c a : ℕ) : Type 0 where
-  pub cast : Casting
+pub record IsNaming (casts : List ActorSpec) (c a : ℕ) : Type 0 where
+  pub cast : ActorSpec
   pub at : cast_at a casts ≡ Some cast
   pub inside : IsIn casts cast
   pub actor : cast.actor ≡ a
   pub names : IsIn cast.callers c
 
-pub naming : (casts : List Casting) (c a : ℕ) → AreCasts casts → IsIn (actors_naming c casts) a → IsNaming casts c a
+pub naming : (casts : List ActorSpec) (c a : ℕ) → AreCasts casts → IsIn (actors_naming c casts) a → IsNaming casts c a
 naming casts c a fitting i =
-    let mapped = map-slice_get (λ (cast : Casting). cast.actor) (filter (λ (cast : Casting). contains c cast.callers) casts) i.place a i.at in
-    let kept = filter-slice_get (λ (cast : Casting). contains c cast.callers) casts i.place mapped.0 mapped.1 in
-    let found = finds (λ (cast : Casting). cast.actor == a) casts kept.place mapped.0 kept.at (eq-eqb mapped.0.actor a mapped.2) in
-    let is = found_is (λ (cast : Casting). cast.actor == a) casts found.one found.is in
+    let mapped = map-slice_get (λ (cast : ActorSpec). cast.actor) (filter (λ (cast : ActorSpec). contains c cast.callers) casts) i.place a i.at in
+    let kept = filter-slice_get (λ (cast : ActorSpec). contains c cast.callers) casts i.place mapped.0 mapped.1 in
+    let found = finds (λ (cast : ActorSpec). cast.actor == a) casts kept.place mapped.0 kept.at (eq-eqb mapped.0.actor a mapped.2) in
+    let is = found_is (λ (cast : ActorSpec). cast.actor == a) casts found.one found.is in
     let actor : found.one.actor ≡ a = eqb-true found.one.actor a is.passes in
-    let same : mapped.0 ≡ found.one = one_of (λ (cast : Casting). cast.actor) casts kept.place is.inside.place mapped.0 found.one fitting.differ kept.at is.inside.at (mapped.2 ∙ sym actor) in
+    let same : mapped.0 ≡ found.one = one_of (λ (cast : ActorSpec). cast.actor) casts kept.place is.inside.place mapped.0 found.one fitting.differ kept.at is.inside.at (mapped.2 ∙ sym actor) in
     record {
       cast = found.one;
       at = found.is;
       inside = is.inside;
       actor = actor;
-      names = subst (λ (cast : Casting). IsIn cast.callers c) same (contains_is c mapped.0.callers kept.passes);
+      names = subst (λ (cast : ActorSpec). IsIn cast.callers c) same (contains_is c mapped.0.callers kept.passes);
     }
 
 -- the cast that is found for an actor
-pub record IsCast (casts : List Casting) (a : ℕ) : Type 0 where
-  pub cast : Casting
+pub record IsCast (casts : List ActorSpec) (a : ℕ) : Type 0 where
+  pub cast : ActorSpec
   pub at : cast_at a casts ≡ Some cast
   pub inside : IsIn casts cast
   pub actor : cast.actor ≡ a
 
 -- an actor has one cast
-pub same_cast : (casts : List Casting) (a : ℕ) (cast : Casting) (is : IsCast casts a) → cast_at a casts ≡ Some cast → cast ≡ is.cast
+pub same_cast : (casts : List ActorSpec) (a : ℕ) (cast : ActorSpec) (is : IsCast casts a) → cast_at a casts ≡ Some cast → cast ≡ is.cast
 same_cast casts a cast is at = let same : Some cast ≡ Some is.cast = sym at ∙ is.at in cc
 
 -- ---- threads
 
-module _ {mails : List MailValue} {controls : List ControlValue} {replies : List RepliesValue} {casts : List Casting} {plans : List (ℕ × List Step)} {driven : List Driven} {served : List ServedSeen} (j : AreJoined mails controls replies casts plans driven served) where
+module _ {mails : List MailView} {controls : List ControlView} {replies : List RepliesView} {casts : List ActorSpec} {plans : List (ℕ × List Step)} {driven : List Driven} {served : List ServedView} (j : AreJoined mails controls replies casts plans driven served) where
   -- a caller that a cast names was driven
-  pub driven_named : (cast : Casting) (c : ℕ) → IsIn casts cast → IsIn cast.callers c → Finds (λ (d : Driven). d.owner.id == c) driven
+  pub driven_named : (cast : ActorSpec) (c : ℕ) → IsIn casts cast → IsIn cast.callers c → Finds (λ (d : Driven). d.owner.id == c) driven
   driven_named cast c i names =
-      let valid = in_from_contains (one_to MOST_CALLERS) c (all_in (λ (n : ℕ). Contains (one_to MOST_CALLERS) n) cast.callers c (all_in (λ (x : Casting). All (λ (n : ℕ). Contains (one_to MOST_CALLERS) n) x.callers) casts cast j.casts_are.callers i) names) in
-      let named = any_passes_from_place (λ (x : Casting). contains c x.callers) casts i.place cast i.at (is_contained c cast.callers names) in
-      let listed = in_filter (λ (n : ℕ). list_any (λ (x : Casting). contains n x.callers) casts) (one_to MOST_CALLERS) c valid named in
+      let valid = in_from_contains (one_to MAX_CALLERS) c (all_in (λ (n : ℕ). Contains (one_to MAX_CALLERS) n) cast.callers c (all_in (λ (x : ActorSpec). All (λ (n : ℕ). Contains (one_to MAX_CALLERS) n) x.callers) casts cast j.casts_are.callers i) names) in
+      let named = any_passes_from_place (λ (x : ActorSpec). contains c x.callers) casts i.place cast i.at (is_contained c cast.callers names) in
+      let listed = in_filter (λ (n : ℕ). list_any (λ (x : ActorSpec). contains n x.callers) casts) (one_to MAX_CALLERS) c valid named in
       let there : slice_get (map (λ (d : Driven). d.owner.id) driven) listed.place ≡ Some c = rw (j.callers) listed.at in
       let mapped = map-slice_get (λ (d : Driven). d.owner.id) driven listed.place c there in
       finds (λ (d : Driven). d.owner.id == c) driven listed.place mapped.0 mapped.1 (eq-eqb mapped.0.owner.id c mapped.2)
 
   -- an actor of a cast was served
-  pub served_cast : (cast : Casting) (a : ℕ) → IsIn casts cast → cast.actor ≡ a → Finds (λ (s : ServedSeen). id_of s.end == a) served
+  pub served_cast : (cast : ActorSpec) (a : ℕ) → IsIn casts cast → cast.actor ≡ a → Finds (λ (s : ServedView). end_id s.end == a) served
   served_cast cast a i actor =
-      let valid = in_from_contains (one_to MOST_ACTORS) a (subst (λ (n : ℕ). Contains (one_to MOST_ACTORS) n) actor (all_in (λ (x : Casting). Contains (one_to MOST_ACTORS) x.actor) casts cast j.casts_are.actors i)) in
-      let named = any_passes_from_place (λ (x : Casting). x.actor == a) casts i.place cast i.at (eq-eqb cast.actor a actor) in
-      let listed = in_filter (λ (n : ℕ). list_any (λ (x : Casting). x.actor == n) casts) (one_to MOST_ACTORS) a valid named in
-      let there : slice_get (map (λ (s : ServedSeen). id_of s.end) served) listed.place ≡ Some a = rw (j.actors) listed.at in
-      let mapped = map-slice_get (λ (s : ServedSeen). id_of s.end) served listed.place a there in
-      finds (λ (s : ServedSeen). id_of s.end == a) served listed.place mapped.0 mapped.1 (eq-eqb (id_of mapped.0.end) a mapped.2)
+      let valid = in_from_contains (one_to MAX_ACTORS) a (subst (λ (n : ℕ). Contains (one_to MAX_ACTORS) n) actor (all_in (λ (x : ActorSpec). Contains (one_to MAX_ACTORS) x.actor) casts cast j.casts_are.actors i)) in
+      let named = any_passes_from_place (λ (x : ActorSpec). x.actor == a) casts i.place cast i.at (eq-eqb cast.actor a actor) in
+      let listed = in_filter (λ (n : ℕ). list_any (λ (x : ActorSpec). x.actor == n) casts) (one_to MAX_ACTORS) a valid named in
+      let there : slice_get (map (λ (s : ServedView). end_id s.end) served) listed.place ≡ Some a = rw (j.actors) listed.at in
+      let mapped = map-slice_get (λ (s : ServedView). end_id s.end) served listed.place a there in
+      finds (λ (s : ServedView). end_id s.end == a) served listed.place mapped.0 mapped.1 (eq-eqb (end_id mapped.0.end) a mapped.2)
 
   -- an actor that was served has a cast
-  pub cast_served : (a k : ℕ) (s : ServedSeen) → slice_get served k ≡ Some s → id_of s.end ≡ a → IsCast casts a
+  pub cast_served : (a k : ℕ) (s : ServedView) → slice_get served k ≡ Some s → end_id s.end ≡ a → IsCast casts a
   cast_served a k s at id =
-      let there : slice_get (map (λ (x : ServedSeen). id_of x.end) served) k ≡ Some a = slice_get-map (λ (x : ServedSeen). id_of x.end) served k ∙ ap (option_map (λ (x : ServedSeen). id_of x.end)) at ∙ ap (λ (n : ℕ). Some n) id in
-      let kept = filter-slice_get (λ (n : ℕ). list_any (λ (x : Casting). x.actor == n) casts) (one_to MOST_ACTORS) k a (subst (λ (ns : List ℕ). slice_get ns k ≡ Some a) j.actors there) in
-      let any = any_is (λ (x : Casting). x.actor == a) casts kept.passes in
-      let found = finds (λ (x : Casting). x.actor == a) casts any.1.inside.place any.0 any.1.inside.at any.1.passes in
-      let is = found_is (λ (x : Casting). x.actor == a) casts found.one found.is in
+      let there : slice_get (map (λ (x : ServedView). end_id x.end) served) k ≡ Some a = slice_get-map (λ (x : ServedView). end_id x.end) served k ∙ ap (option_map (λ (x : ServedView). end_id x.end)) at ∙ ap (λ (n : ℕ). Some n) id in
+      let kept = filter-slice_get (λ (n : ℕ). list_any (λ (x : ActorSpec). x.actor == n) casts) (one_to MAX_ACTORS) k a (subst (λ (ns : List ℕ). slice_get ns k ≡ Some a) j.actors there) in
+      let any = any_is (λ (x : ActorSpec). x.actor == a) casts kept.passes in
+      let found = finds (λ (x : ActorSpec). x.actor == a) casts any.1.inside.place any.0 any.1.inside.at any.1.passes in
+      let is = found_is (λ (x : ActorSpec). x.actor == a) casts found.one found.is in
       record { cast = found.one; at = found.is; inside = is.inside; actor = eqb-true found.one.actor a is.passes }

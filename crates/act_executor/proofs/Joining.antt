@@ -10,62 +10,62 @@ use Rattle.std.proofs.lemmas.List.FromFn.{length-range_with_len}
 use Rattle.std.proofs.lemmas.Option.{slice_get_within, slice_get-map, get_or_from_slice_get}
 use Rattle.act_types.specs.KindState.{KindState}
 use Rattle.act_rules.specs.declared.script.Step.{Step}
-use Rattle.act_rules.specs.Consistent.{IsFront}
-use Rattle.act_rules.specs.History.{Casting, contains, actors_naming}
-use Rattle.act_types.specs.declared.limits.TheConstants.{MOST_ACTORS, MOST_CALLERS}
+use Rattle.act_rules.specs.Consistent.{IsPrefix}
+use Rattle.act_rules.specs.History.{ActorSpec, contains, actors_naming}
+use Rattle.act_types.specs.declared.limits.TheConstants.{MAX_ACTORS, MAX_CALLERS}
 use Rattle.act_rules.specs.Report.{one_to}
 use Rattle.act_rules.proofs.Unique.{map-slice_get}
 use Rattle.act_rules.proofs.Lists.{element, AllPairs-map, list_any-map}
-use Rattle.act_owner.specs.Owner.{OwnerValue, opened_under}
+use Rattle.act_owner.specs.Owner.{OwnerView, opened_under}
 use Rattle.act_actor.specs.declared.cast.Cast.{Cast}
 use Rattle.act_actor.specs.Cast.{IsFitting}
-use Rattle.act_actor.specs.Casts.{casting}
+use Rattle.act_actor.specs.Casts.{actor_spec}
 use Rattle.act_mailbox.specs.declared.control.Asked.{Asked}
-use Rattle.act_mailbox.specs.Lines.{items_of}
-use Rattle.act_mailbox.specs.Passes.{PutterValue}
-use Rattle.act_mailbox.specs.Mails.{MailValue}
-use Rattle.act_mailbox.specs.Controls.{ControlValue, asker_of, starter}
-use Rattle.act_mailbox.specs.Notices.{RepliesValue}
-use Rattle.act_seats.specs.declared.seat.Seat.{Seat}
-use Rattle.act_serve.specs.declared.seat.Finished.{Finished}
-use Rattle.act_serve.specs.Served.{EndSeen, end_seen, id_of, caller_at}
+use Rattle.act_mailbox.specs.Lines.{items_from}
+use Rattle.act_mailbox.specs.Passes.{PutterView}
+use Rattle.act_mailbox.specs.Mails.{MailView}
+use Rattle.act_mailbox.specs.Controls.{ControlView, asker_of, starter}
+use Rattle.act_mailbox.specs.Notices.{RepliesView}
+use Rattle.act_mailbox.specs.declared.endpoint.Endpoint.{Endpoint}
+use Rattle.act_serve.specs.declared.endpoint.Finished.{Finished}
+use Rattle.act_serve.specs.Served.{EndView, end_view, end_id, caller_at}
 use Rattle.act_drive.specs.declared.caller.Driven.{Driven}
-use Rattle.act_plans.specs.declared.part.Part.{Part}
+use Rattle.act_plans.specs.declared.setup.CallerSetup.{CallerSetup}
 use Rattle.act_plans.specs.declared.rising.Prepared.{Prepared}
-use Rattle.act_drive.specs.Sessions.{Seen}
+use Rattle.act_drive.specs.Sessions.{SessionView}
 use Rattle.act_plans.specs.Prepared.{by_rising_actor}
-use Rattle.act_plans.specs.Runs.{limits_naming, callers_of, actors_of, cast_at, plan_of}
-use Rattle.act_plans.proofs.Castings.{parts_seen, plans_are, actors_are, limits_are, actors_seen, each_cast_seen}
+use Rattle.act_plans.specs.Runs.{limits_naming, callers_of_casts, actors_of_casts, cast_at, plan_of}
+use Rattle.act_plans.proofs.ActorSpecs.{setups_view, plans_are, actors_are, limits_are, actors_view, each_cast_view}
 use Rattle.act_plans.proofs.Keys.{pairs_of_map}
 use Rattle.act_executor.proofs.Places.{as_long, at_other, all_at}
 use Rattle.act_executor.specs.Joined.{IsJoined, is_starved}
-use Rattle.act_executor.specs.Left.{ServedSeen, IsServed, IsDriven, AreAudited, AreCasts, AreJoined}
+use Rattle.act_executor.specs.Left.{ServedView, IsServed, IsDriven, AreAudited, AreCasts, AreJoined}
 use Rattle.act_executor.specs.ByCode.{code_of, opened_of, IsDrivenBy, AreJoinedBy, IsJoinedBy}
 use Rattle.act_executor.proofs.Elements.{all_by_places, range_at}
 use Rattle.act_executor.proofs.Ends.{joined as joined_is}
 use Rattle.act_executor.proofs.ByCode.{is_joined_by as joined_by_is}
 use Rattle.act_executor.specs.declared.joined.Joined.{Joined}
-use Rattle.act_executor.specs.Audits.{KillTold, CallerTold, NoticeTold, Left, left_of}
+use Rattle.act_executor.specs.Audits.{KillTold, CallerTold, NoticeTold, ActorLeft, left_of}
 use Rattle.act_executor.specs.Work.{IsUnusedStarter}
 use Rattle.act_executor.specs.Joins.{ended_starved}
 use Rattle.act_executor.specs.Conducts.{Doing, does_code, CodesFit}
-use Rattle.act_executor.specs.Runs.{HasRun, IsPrepared, plan_seen}
+use Rattle.act_executor.specs.Runs.{HasRunPlans, IsPrepared, plan_view}
 use Rattle.act_executor.proofs.Settled.{seen_through}
-use Rattle.act_executor.proofs.Actors.{served_seen, is_served, notices_audited, same_id, not_starved}
+use Rattle.act_executor.proofs.Actors.{served_view, is_served, notices_audited, same_id, not_starved}
 use Rattle.act_executor.proofs.Callers.{caller_is, is_driven, letters_audited, kills_audited}
 use Rattle.act_executor.proofs.Prepared.{maps_agree, ActorAt, actor_at, CallerAt, caller_at as caller_there}
 
-front_none : {X : Type 0} (xs : List X) → IsFront xs [] → xs ≡ []
+front_none : {X : Type 0} (xs : List X) → IsPrefix xs [] → xs ≡ []
 front_none [] front = refl
 front_none (x ∷ xs) front = let none : length (x ∷ xs ++ front.0) ≡ 0 = ap length front.1 in absurd (omega (arith, none))
 
-abbrev KillSeat : Type 0
-KillSeat = Seat (PutterValue Asked ℕ)
+abbrev KillEndpoint : Type 0
+KillEndpoint = Endpoint (PutterView Asked ℕ)
 
 module _ {K : Type 0} (state : K → KindState) (does : ℕ → Doing) (casts : List (Cast K)) (plans : List (ℕ × Vec Step)) (prepared : Prepared K) (joined : Joined K)
-    (fit : IsFitting casts) (is : IsPrepared state casts plans prepared) (run : HasRun state does prepared joined) where
-  abbrev seen : List Casting
-  seen = map (casting state) casts
+    (fit : IsFitting casts) (is : IsPrepared state casts plans prepared) (run : HasRunPlans state does prepared joined) where
+  abbrev seen : List ActorSpec
+  seen = map (actor_spec state) casts
 
   abbrev lines : Rattle.act_executor.specs.declared.opened.Lines.Lines
   lines = run.opened.lines
@@ -73,8 +73,8 @@ module _ {K : Type 0} (state : K → KindState) (does : ℕ → Doing) (casts : 
   abbrev now : List (Cast K)
   now = prepared.casts.items
 
-  abbrev parts : List Part
-  parts = prepared.parts.items
+  abbrev setups : List CallerSetup
+  setups = prepared.setups.items
 
   abbrev actors : List (Finished K)
   actors = run.ends.actors.items
@@ -85,11 +85,11 @@ module _ {K : Type 0} (state : K → KindState) (does : ℕ → Doing) (casts : 
   abbrev callers : List Driven
   callers = run.ends.callers.items
 
-  abbrev at_actor : (j : ℕ) (a : Finished K) → slice_get actors j ≡ Some a → ActorAt state now parts run.opened run.opening actors run.served j a
-  at_actor j a at = actor_at state now parts run.opened run.opening actors run.served j a at
+  abbrev at_actor : (j : ℕ) (a : Finished K) → slice_get actors j ≡ Some a → ActorAt state now setups run.opened run.opening actors run.served j a
+  at_actor j a at = actor_at state now setups run.opened run.opening actors run.served j a at
 
-  abbrev at_caller : (i : ℕ) (d : Driven) → slice_get callers i ≡ Some d → CallerAt state now parts run.opened run.opening does callers run.driven i d
-  at_caller i d at = caller_there state now parts run.opened run.opening does callers run.driven i d at
+  abbrev at_caller : (i : ℕ) (d : Driven) → slice_get callers i ≡ Some d → CallerAt state now setups run.opened run.opening does callers run.driven i d
+  at_caller i d at = caller_there state now setups run.opened run.opening does callers run.driven i d at
 
   -- the actor before the comparison
   before : (j : ℕ) (f : Finished K) → slice_get last j ≡ Some f → (a : Finished K) × (slice_get actors j ≡ Some a) × (left_of f ≡ left_of a)
@@ -97,89 +97,89 @@ module _ {K : Type 0} (state : K → KindState) (does : ℕ → Doing) (casts : 
 
   casts_are : AreCasts seen
   casts_are = record {
-    differ = AllPairs-map (λ (one other : Casting). one.actor ≢ other.actor) (casting state) casts fit.actors;
-    actors = All-map (λ (cast : Casting). Contains (one_to MOST_ACTORS) cast.actor) (casting state) casts (λ k d lt. (is.numbers k d lt).actor);
-    callers = All-map (λ (cast : Casting). All (λ (c : ℕ). Contains (one_to MOST_CALLERS) c) cast.callers) (casting state) casts (λ k d lt. (is.numbers k d lt).callers);
+    differ = AllPairs-map (λ (one other : ActorSpec). one.actor ≢ other.actor) (actor_spec state) casts fit.actors;
+    actors = All-map (λ (cast : ActorSpec). Contains (one_to MAX_ACTORS) cast.actor) (actor_spec state) casts (λ k d lt. (is.numbers k d lt).actor);
+    callers = All-map (λ (cast : ActorSpec). All (λ (c : ℕ). Contains (one_to MAX_CALLERS) c) cast.callers) (actor_spec state) casts (λ k d lt. (is.numbers k d lt).callers);
   }
 
-  owners_are : map (λ (d : Driven). d.owner.id) callers ≡ callers_of seen
-  owners_are = maps_agree (λ (d : Driven). d.owner.id) (λ (part : Part). part.caller) callers parts run.driven.long (λ i d part at there.
+  owners_are : map (λ (d : Driven). d.owner.id) callers ≡ callers_of_casts seen
+  owners_are = maps_agree (λ (d : Driven). d.owner.id) (λ (setup : CallerSetup). setup.caller) callers setups run.driven.long (λ i d setup at there.
       let one = at_caller i d at in
-      let both : Some one.part ≡ Some part = sym one.at_part ∙ there in
-      let same : one.part ≡ part = cc in
-      caller_is lines (does one.part.caller) one.part one.caller d one.is (run.driven.each i one.part one.caller d one.at_part one.at_caller at) ∙ ap (λ (p : Part). p.caller) same)
-      ∙ parts_seen state casts plans parts is.parts_are
+      let both : Some one.setup ≡ Some setup = sym one.at_setup ∙ there in
+      let same : one.setup ≡ setup = cc in
+      caller_is lines (does one.setup.caller) one.setup one.caller d one.is (run.driven.each i one.setup one.caller d one.at_setup one.at_caller at) ∙ ap (λ (p : CallerSetup). p.caller) same)
+      ∙ setups_view state casts plans setups is.setups_are
 
-  actors_are_now : map (λ (a : Finished K). id_of (end_seen state a.ended)) actors ≡ map (λ (cast : Cast K). cast.actor) now
-  actors_are_now = maps_agree (λ (a : Finished K). id_of (end_seen state a.ended)) (λ (cast : Cast K). cast.actor) actors now run.served.long (λ j a cast at there.
+  actors_are_now : map (λ (a : Finished K). end_id (end_view state a.ended)) actors ≡ map (λ (cast : Cast K). cast.actor) now
+  actors_are_now = maps_agree (λ (a : Finished K). end_id (end_view state a.ended)) (λ (cast : Cast K). cast.actor) actors now run.served.long (λ j a cast at there.
       let one = at_actor j a at in
       let both : Some one.cast ≡ Some cast = sym one.at_cast ∙ there in
       let same : one.cast ≡ cast = cc in
       (run.served.each j one.cast one.exec a one.at_cast one.at_exec at).id ∙ ap (λ (c : Cast K). c.actor) same)
 
-  ends_are : map (λ (s : ServedSeen). id_of s.end) (map (served_seen state) last) ≡ actors_of seen
-  ends_are = map-map (λ (s : ServedSeen). id_of s.end) (served_seen state) last
-      ∙ seen_through (λ (l : Left K). id_of (end_seen state l.ended)) last actors run.compared.same ∙ actors_are_now
-      ∙ ap (map (λ (cast : Cast K). cast.actor)) is.rising ∙ actors_seen state casts
+  ends_are : map (λ (s : ServedView). end_id s.end) (map (served_view state) last) ≡ actors_of_casts seen
+  ends_are = map-map (λ (s : ServedView). end_id s.end) (served_view state) last
+      ∙ seen_through (λ (l : ActorLeft K). end_id (end_view state l.ended)) last actors run.compared.same ∙ actors_are_now
+      ∙ ap (map (λ (cast : Cast K). cast.actor)) is.rising ∙ actors_view state casts
 
   -- the cast of an actor is the one that was given for it
-  cast_is : (j : ℕ) (cast : Cast K) → slice_get now j ≡ Some cast → cast_at cast.actor seen ≡ Some (casting state cast)
-  cast_is j cast at = all_at (λ (c : Cast K). cast_at c.actor seen ≡ Some (casting state c)) (by_rising_actor casts) j cast (each_cast_seen state casts) (ap (λ (l : List (Cast K)). slice_get l j) (sym is.rising) ∙ at)
+  cast_is : (j : ℕ) (cast : Cast K) → slice_get now j ≡ Some cast → cast_at cast.actor seen ≡ Some (actor_spec state cast)
+  cast_is j cast at = all_at (λ (c : Cast K). cast_at c.actor seen ≡ Some (actor_spec state c)) (by_rising_actor casts) j cast (each_cast_view state casts) (ap (λ (l : List (Cast K)). slice_get l j) (sym is.rising) ∙ at)
 
   -- an actor at its end: the thread's, and what was compared
-  record End (j : ℕ) (s : ServedSeen) : Type 0 where
+  record End (j : ℕ) (s : ServedView) : Type 0 where
     f : Finished K
-    s_is : s ≡ served_seen state f
+    s_is : s ≡ served_view state f
     at_f : slice_get last j ≡ Some f
     a : Finished K
     at_a : slice_get actors j ≡ Some a
     same : left_of f ≡ left_of a
-    there : ActorAt state now parts run.opened run.opening actors run.served j a
+    there : ActorAt state now setups run.opened run.opening actors run.served j a
 
-  end_at : (j : ℕ) (s : ServedSeen) → slice_get (map (served_seen state) last) j ≡ Some s → End j s
+  end_at : (j : ℕ) (s : ServedView) → slice_get (map (served_view state) last) j ≡ Some s → End j s
   end_at j s at =
-      let m = map-slice_get (served_seen state) last j s at in
+      let m = map-slice_get (served_view state) last j s at in
       let b = before j m.0 m.1 in
       record { f = m.0; s_is = sym m.2; at_f = m.1; a = b.0; at_a = b.1; same = b.2; there = at_actor j b.0 b.1 }
 
   -- its name, and its cast
-  named : (j : ℕ) (s : ServedSeen) → (e : End j s) → id_of s.end ≡ e.there.cast.actor
-  named j s e = ap (λ (x : ServedSeen). id_of x.end) e.s_is ∙ same_id state lines e.there.cast e.there.exec e.a e.there.is (run.served.each j e.there.cast e.there.exec e.a e.there.at_cast e.there.at_exec e.at_a) e.f e.same
+  named : (j : ℕ) (s : ServedView) → (e : End j s) → end_id s.end ≡ e.there.cast.actor
+  named j s e = ap (λ (x : ServedView). end_id x.end) e.s_is ∙ same_id state lines e.there.cast e.there.exec e.a e.there.is (run.served.each j e.there.cast e.there.exec e.a e.there.at_cast e.there.at_exec e.at_a) e.f e.same
 
-  own_cast : (j : ℕ) (s : ServedSeen) (cast : Casting) → (e : End j s) → cast_at (id_of s.end) seen ≡ Some cast → casting state e.there.cast ≡ cast
+  own_cast : (j : ℕ) (s : ServedView) (cast : ActorSpec) → (e : End j s) → cast_at (end_id s.end) seen ≡ Some cast → actor_spec state e.there.cast ≡ cast
   own_cast j s cast e at =
-      let both : Some (casting state e.there.cast) ≡ Some cast = sym (cast_is j e.there.cast e.there.at_cast) ∙ ap (λ (n : ℕ). cast_at n seen) (sym (named j s e)) ∙ at in
+      let both : Some (actor_spec state e.there.cast) ≡ Some cast = sym (cast_is j e.there.cast e.there.at_cast) ∙ ap (λ (n : ℕ). cast_at n seen) (sym (named j s e)) ∙ at in
       cc
 
-  all_served : All (λ (s : ServedSeen). (cast : Casting) → cast_at (id_of s.end) seen ≡ Some cast → IsServed lines.replies.items cast s) (map (served_seen state) last)
-  all_served = all_by_places (λ (s : ServedSeen). (cast : Casting) → cast_at (id_of s.end) seen ≡ Some cast → IsServed lines.replies.items cast s) (map (served_seen state) last) (λ j s at cast of.
+  all_served : All (λ (s : ServedView). (cast : ActorSpec) → cast_at (end_id s.end) seen ≡ Some cast → IsServed lines.replies.items cast s) (map (served_view state) last)
+  all_served = all_by_places (λ (s : ServedView). (cast : ActorSpec) → cast_at (end_id s.end) seen ≡ Some cast → IsServed lines.replies.items cast s) (map (served_view state) last) (λ j s at cast of.
       let e = end_at j s at in
       let is = is_served state lines e.there.cast e.there.exec e.a e.there.is (run.served.each j e.there.cast e.there.exec e.a e.there.at_cast e.there.at_exec e.at_a) e.f e.same in
-      subst (λ (x : ServedSeen). IsServed lines.replies.items cast x) (sym e.s_is) (subst (λ (c : Casting). IsServed lines.replies.items c (served_seen state e.f)) (own_cast j s cast e of) is))
+      subst (λ (x : ServedView). IsServed lines.replies.items cast x) (sym e.s_is) (subst (λ (c : ActorSpec). IsServed lines.replies.items c (served_view state e.f)) (own_cast j s cast e of) is))
 
   -- a caller did some steps to the end, and they are what was to be done
   pub record Did (d : Driven) : Type 0 where
     pub steps : List Step
     pub did : IsDriven lines.mails.items lines.controls.items (actors_naming d.owner.id seen) steps d
-    pub does_so : does d.owner.id (plan_of d.owner.id (map plan_seen plans)) steps (opened_of d.owner.id seen) d.owner
+    pub does_so : does d.owner.id (plan_of d.owner.id (map plan_view plans)) steps (opened_of d.owner.id seen) d.owner
 
   did_at : (i : ℕ) (d : Driven) → slice_get callers i ≡ Some d → Did d
   did_at i d at =
       let one = at_caller i d at in
-      let drove = run.driven.each i one.part one.caller d one.at_part one.at_caller at in
-      let id : d.owner.id ≡ one.part.caller = caller_is lines (does one.part.caller) one.part one.caller d one.is drove in
-      let known = all_at (λ (part : Part). part.actors.items ≡ actors_naming part.caller seen) parts i one.part (actors_are state casts plans parts is.parts_are) one.at_part in
-      let limited = all_at (λ (part : Part). part.limits.items ≡ limits_naming part.caller seen) parts i one.part (limits_are state casts plans parts is.parts_are) one.at_part in
-      let planned = all_at (λ (part : Part). part.plan.items ≡ plan_of part.caller (map plan_seen plans)) parts i one.part (plans_are state casts plans parts is.parts_are) one.at_part in
+      let drove = run.driven.each i one.setup one.caller d one.at_setup one.at_caller at in
+      let id : d.owner.id ≡ one.setup.caller = caller_is lines (does one.setup.caller) one.setup one.caller d one.is drove in
+      let known = all_at (λ (setup : CallerSetup). setup.actors.items ≡ actors_naming setup.caller seen) setups i one.setup (actors_are state casts plans setups is.setups_are) one.at_setup in
+      let limited = all_at (λ (setup : CallerSetup). setup.limits.items ≡ limits_naming setup.caller seen) setups i one.setup (limits_are state casts plans setups is.setups_are) one.at_setup in
+      let planned = all_at (λ (setup : CallerSetup). setup.plan.items ≡ plan_of setup.caller (map plan_view plans)) setups i one.setup (plans_are state casts plans setups is.setups_are) one.at_setup in
       let fed = all_at (λ (c : Driven). c.starved ≡ false) callers i d run.compared.fed_callers at in
-      let actors : one.part.actors.items ≡ actors_naming d.owner.id seen = known ∙ ap (λ (n : ℕ). actors_naming n seen) (sym id) in
-      let limits : one.part.limits.items ≡ limits_naming d.owner.id seen = limited ∙ ap (λ (n : ℕ). limits_naming n seen) (sym id) in
-      let plan : one.part.plan.items ≡ plan_of d.owner.id (map plan_seen plans) = planned ∙ ap (λ (n : ℕ). plan_of n (map plan_seen plans)) (sym id) in
+      let actors : one.setup.actors.items ≡ actors_naming d.owner.id seen = known ∙ ap (λ (n : ℕ). actors_naming n seen) (sym id) in
+      let limits : one.setup.limits.items ≡ limits_naming d.owner.id seen = limited ∙ ap (λ (n : ℕ). limits_naming n seen) (sym id) in
+      let plan : one.setup.plan.items ≡ plan_of d.owner.id (map plan_view plans) = planned ∙ ap (λ (n : ℕ). plan_of n (map plan_view plans)) (sym id) in
       let steps = drove.driven_is.steps in
-      let At : ℕ × List Step × OwnerValue → Type 0 = λ x. does x.0 x.1 steps x.2 d.owner in
+      let At : ℕ × List Step × OwnerView → Type 0 = λ x. does x.0 x.1 steps x.2 d.owner in
       record {
         steps = steps;
-        did = is_driven lines (does one.part.caller) one.part one.caller d one.is drove (actors_naming d.owner.id seen) actors fed;
+        did = is_driven lines (does one.setup.caller) one.setup one.caller d one.is drove (actors_naming d.owner.id seen) actors fed;
         does_so = subst At (λ k. (sym id k, plan k, opened_under (limits k) (sym id k) (actors k))) (drove.driven_is.does_so fed);
       }
 
@@ -187,110 +187,110 @@ module _ {K : Type 0} (state : K → KindState) (does : ℕ → Doing) (casts : 
   limits : All (λ (d : Driven). d.owner.limits ≡ limits_naming d.owner.id seen) callers
   limits = all_by_places (λ (d : Driven). d.owner.limits ≡ limits_naming d.owner.id seen) callers (λ i d at.
       let one = at_caller i d at in
-      let drove = run.driven.each i one.part one.caller d one.at_part one.at_caller at in
-      let known = all_at (λ (part : Part). part.limits.items ≡ limits_naming part.caller seen) parts i one.part (limits_are state casts plans parts is.parts_are) one.at_part in
-      drove.driven_is.driven_is.limits ∙ known ∙ ap (λ (n : ℕ). limits_naming n seen) (sym (caller_is lines (does one.part.caller) one.part one.caller d one.is drove)))
+      let drove = run.driven.each i one.setup one.caller d one.at_setup one.at_caller at in
+      let known = all_at (λ (setup : CallerSetup). setup.limits.items ≡ limits_naming setup.caller seen) setups i one.setup (limits_are state casts plans setups is.setups_are) one.at_setup in
+      drove.driven_is.driven_is.limits ∙ known ∙ ap (λ (n : ℕ). limits_naming n seen) (sym (caller_is lines (does one.setup.caller) one.setup one.caller d one.is drove)))
 
   -- ---- the audits
 
-  mail_of : (j : ℕ) (cast : Cast K) → slice_get now j ≡ Some cast → (m : MailValue) → (get_or lines.mails.items j m).actor ≡ cast.actor
+  mail_of : (j : ℕ) (cast : Cast K) → slice_get now j ≡ Some cast → (m : MailView) → (get_or lines.mails.items j m).actor ≡ cast.actor
   mail_of j cast at m =
-      let o = at_other (λ (x : MailValue). x.actor) (λ (c : Cast K). c.actor) lines.mails.items now run.opening.lines.mails j cast at in
-      ap (λ (x : MailValue). x.actor) (get_or_from_slice_get lines.mails.items j o.0 m o.1) ∙ o.2
+      let o = at_other (λ (x : MailView). x.actor) (λ (c : Cast K). c.actor) lines.mails.items now run.opening.lines.mails j cast at in
+      ap (λ (x : MailView). x.actor) (get_or_from_slice_get lines.mails.items j o.0 m o.1) ∙ o.2
 
-  control_of : (j : ℕ) (cast : Cast K) → slice_get now j ≡ Some cast → (k : ControlValue) → (get_or lines.controls.items j k).actor ≡ cast.actor
+  control_of : (j : ℕ) (cast : Cast K) → slice_get now j ≡ Some cast → (k : ControlView) → (get_or lines.controls.items j k).actor ≡ cast.actor
   control_of j cast at k =
-      let o = at_other (λ (x : ControlValue). x.actor) (λ (c : Cast K). c.actor) lines.controls.items now run.opening.lines.controls j cast at in
-      ap (λ (x : ControlValue). x.actor) (get_or_from_slice_get lines.controls.items j o.0 k o.1) ∙ o.2
+      let o = at_other (λ (x : ControlView). x.actor) (λ (c : Cast K). c.actor) lines.controls.items now run.opening.lines.controls j cast at in
+      ap (λ (x : ControlView). x.actor) (get_or_from_slice_get lines.controls.items j o.0 k o.1) ∙ o.2
 
-  line_of : (i : ℕ) (part : Part) → slice_get parts i ≡ Some part → caller_at lines.replies.items i ≡ part.caller
-  line_of i part at =
-      let o = at_other (λ (x : RepliesValue). x.caller) (λ (p : Part). p.caller) lines.replies.items parts run.opening.lines.replies i part at in
-      let here : slice_get (map (λ (x : RepliesValue). x.caller) lines.replies.items) i ≡ Some o.0.caller = slice_get-map (λ (x : RepliesValue). x.caller) lines.replies.items i ∙ ap (option_map (λ (x : RepliesValue). x.caller)) o.1 in
-      get_or_from_slice_get (map (λ (x : RepliesValue). x.caller) lines.replies.items) i o.0.caller 0 here ∙ o.2
+  line_of : (i : ℕ) (setup : CallerSetup) → slice_get setups i ≡ Some setup → caller_at lines.replies.items i ≡ setup.caller
+  line_of i setup at =
+      let o = at_other (λ (x : RepliesView). x.caller) (λ (p : CallerSetup). p.caller) lines.replies.items setups run.opening.lines.replies i setup at in
+      let here : slice_get (map (λ (x : RepliesView). x.caller) lines.replies.items) i ≡ Some o.0.caller = slice_get-map (λ (x : RepliesView). x.caller) lines.replies.items i ∙ ap (option_map (λ (x : RepliesView). x.caller)) o.1 in
+      get_or_from_slice_get (map (λ (x : RepliesView). x.caller) lines.replies.items) i o.0.caller 0 here ∙ o.2
 
-  audited : (i j : ℕ) (d : Driven) (s : ServedSeen) (cast : Casting) → slice_get callers i ≡ Some d → slice_get (map (served_seen state) last) j ≡ Some s → cast_at (id_of s.end) seen ≡ Some cast →
-      contains d.owner.id cast.callers ≡ true → AreAudited lines.mails.items lines.controls.items lines.replies.items (id_of s.end) d.owner.id d s
+  audited : (i j : ℕ) (d : Driven) (s : ServedView) (cast : ActorSpec) → slice_get callers i ≡ Some d → slice_get (map (served_view state) last) j ≡ Some s → cast_at (end_id s.end) seen ≡ Some cast →
+      contains d.owner.id cast.callers ≡ true → AreAudited lines.mails.items lines.controls.items lines.replies.items (end_id s.end) d.owner.id d s
   audited i j d s cast at_d at_s of names =
       let e = end_at j s at_s in
       let one = at_caller i d at_d in
-      let drove = run.driven.each i one.part one.caller d one.at_part one.at_caller at_d in
+      let drove = run.driven.each i one.setup one.caller d one.at_setup one.at_caller at_d in
       let served = run.served.each j e.there.cast e.there.exec e.a e.there.at_cast e.there.at_exec e.at_a in
-      let id : d.owner.id ≡ one.part.caller = caller_is lines (does one.part.caller) one.part one.caller d one.is drove in
-      let name : id_of s.end ≡ e.there.cast.actor = named j s e in
-      let listed : contains one.part.caller e.there.cast.callers ≡ true = ap (λ (n : ℕ). contains n e.there.cast.callers) (sym id) ∙ ap (λ (c : Casting). contains d.owner.id c.callers) (own_cast j s cast e of) ∙ names in
-      let pair = run.opening.paired i j e.there.cast one.part e.there.exec one.caller e.there.at_cast one.at_part e.there.at_exec one.at_caller listed in
+      let id : d.owner.id ≡ one.setup.caller = caller_is lines (does one.setup.caller) one.setup one.caller d one.is drove in
+      let name : end_id s.end ≡ e.there.cast.actor = named j s e in
+      let listed : contains one.setup.caller e.there.cast.callers ≡ true = ap (λ (n : ℕ). contains n e.there.cast.callers) (sym id) ∙ ap (λ (c : ActorSpec). contains d.owner.id c.callers) (own_cast j s cast e of) ∙ names in
+      let pair = run.opening.paired i j e.there.cast one.setup e.there.exec one.caller e.there.at_cast one.at_setup e.there.at_exec one.at_caller listed in
       let told = all_at (CallerTold last) callers i d run.compared.callers at_d in
       let notices = all_at (λ (x : Finished K). All (NoticeTold callers) x.passes.notices.items) actors j e.a run.compared.notices e.at_a in
-      let both : AreAudited lines.mails.items lines.controls.items lines.replies.items e.there.cast.actor one.part.caller d (served_seen state e.f) = record {
-        letters = letters_audited lines (does one.part.caller) one.part one.caller d one.is drove state j e.there.cast.actor last e.f e.at_f pair.letters (mail_of j e.there.cast e.there.at_cast) told.letters;
-        kills = kills_audited lines (does one.part.caller) one.part one.caller d one.is drove state j e.there.cast.actor last e.f e.at_f pair.kills (control_of j e.there.cast e.there.at_cast) told.kills;
-        notices = notices_audited state lines e.there.cast e.there.exec e.a e.there.is served i one.part.caller callers d e.f e.same pair.notices (line_of i one.part one.at_part) at_d notices;
+      let both : AreAudited lines.mails.items lines.controls.items lines.replies.items e.there.cast.actor one.setup.caller d (served_view state e.f) = record {
+        letters = letters_audited lines (does one.setup.caller) one.setup one.caller d one.is drove state j e.there.cast.actor last e.f e.at_f pair.letters (mail_of j e.there.cast e.there.at_cast) told.letters;
+        kills = kills_audited lines (does one.setup.caller) one.setup one.caller d one.is drove state j e.there.cast.actor last e.f e.at_f pair.kills (control_of j e.there.cast e.there.at_cast) told.kills;
+        notices = notices_audited state lines e.there.cast e.there.exec e.a e.there.is served i one.setup.caller callers d e.f e.same pair.notices (line_of i one.setup one.at_setup) at_d notices;
       } in
-      let At : ℕ × ℕ × ServedSeen → Type 0 = λ x. AreAudited lines.mails.items lines.controls.items lines.replies.items x.0 x.1 d x.2 in
+      let At : ℕ × ℕ × ServedView → Type 0 = λ x. AreAudited lines.mails.items lines.controls.items lines.replies.items x.0 x.1 d x.2 in
       subst At (λ k. (sym name k, sym id k, sym e.s_is k)) both
 
   -- ---- the starter
 
-  unasked : All (λ (s : ServedSeen). items_of asker_of starter s.passes.kills.taken ≡ []) (map (served_seen state) last)
-  unasked = all_by_places (λ (s : ServedSeen). items_of asker_of starter s.passes.kills.taken ≡ []) (map (served_seen state) last) (λ j s at.
+  unasked : All (λ (s : ServedView). items_from asker_of starter s.passes.kills.taken ≡ []) (map (served_view state) last)
+  unasked = all_by_places (λ (s : ServedView). items_from asker_of starter s.passes.kills.taken ≡ []) (map (served_view state) last) (λ j s at.
       let e = end_at j s at in
-      let seats = run.ends.starters.items in
+      let endpoints = run.ends.starters.items in
       let places = run.starters.places in
       let controls = lines.controls.items in
-      let long : length seats ≡ length controls = sym (length-map seats (λ (x : KillSeat). x.place)) ∙ ap length places ∙ length-range_with_len 0 (length controls) in
-      let lines_long = as_long (λ (x : ControlValue). x.actor) (λ (c : Cast K). c.actor) controls now run.opening.lines.controls in
+      let long : length endpoints ≡ length controls = sym (length-map endpoints (λ (x : KillEndpoint). x.place)) ∙ ap length places ∙ length-range_with_len 0 (length controls) in
+      let lines_long = as_long (λ (x : ControlView). x.actor) (λ (c : Cast K). c.actor) controls now run.opening.lines.controls in
       let below = slice_get_within now j e.there.cast e.there.at_cast in
-      let one = element seats j (omega (arith, long, lines_long, below)) in
-      let seat = one.0 in
-      let in_range : slice_get (range_with_len 0 (length controls)) j ≡ Some seat.place = ap (λ (l : List ℕ). slice_get l j) (sym places) ∙ slice_get-map (λ (x : KillSeat). x.place) seats j ∙ ap (option_map (λ (x : KillSeat). x.place)) one.1 in
+      let one = element endpoints j (omega (arith, long, lines_long, below)) in
+      let endpoint = one.0 in
+      let in_range : slice_get (range_with_len 0 (length controls)) j ≡ Some endpoint.place = ap (λ (l : List ℕ). slice_get l j) (sym places) ∙ slice_get-map (λ (x : KillEndpoint). x.place) endpoints j ∙ ap (option_map (λ (x : KillEndpoint). x.place)) one.1 in
       let plus : 0 + j ≡ j = omega arith in
-      let place : seat.place ≡ j = range_at 0 (length controls) j seat.place in_range ∙ plus in
-      let unused = (all_at (IsUnusedStarter controls) seats j seat run.starters.unused one.1).new (record { line = seat.pass.line; actor = 0 }) in
-      let told = all_at (KillTold last) seats j seat run.compared.starters one.1 e.f in
-      let At : ℕ × ℕ × List Asked → Type 0 = λ x. IsFront (items_of asker_of x.0 (get_or last x.1 e.f).passes.kills.taken) x.2 in
-      let front : IsFront (items_of asker_of starter (get_or last j e.f).passes.kills.taken) [] = subst At (λ k. (ap (λ (p : PutterValue Asked ℕ). p.number) unused k, place k, ap (λ (p : PutterValue Asked ℕ). p.put) unused k)) told in
-      ap (λ (x : ServedSeen). items_of asker_of starter x.passes.kills.taken) e.s_is ∙ ap (λ (x : Finished K). items_of asker_of starter x.passes.kills.taken) (sym (get_or_from_slice_get last j e.f e.f e.at_f)) ∙ front_none _ front)
+      let place : endpoint.place ≡ j = range_at 0 (length controls) j endpoint.place in_range ∙ plus in
+      let unused = (all_at (IsUnusedStarter controls) endpoints j endpoint run.starters.unused one.1).new (record { line = endpoint.pass.line; actor = 0 }) in
+      let told = all_at (KillTold last) endpoints j endpoint run.compared.starters one.1 e.f in
+      let At : ℕ × ℕ × List Asked → Type 0 = λ x. IsPrefix (items_from asker_of x.0 (get_or last x.1 e.f).passes.kills.taken) x.2 in
+      let front : IsPrefix (items_from asker_of starter (get_or last j e.f).passes.kills.taken) [] = subst At (λ k. (ap (λ (p : PutterView Asked ℕ). p.number) unused k, place k, ap (λ (p : PutterView Asked ℕ). p.put) unused k)) told in
+      ap (λ (x : ServedView). items_from asker_of starter x.passes.kills.taken) e.s_is ∙ ap (λ (x : Finished K). items_from asker_of starter x.passes.kills.taken) (sym (get_or_from_slice_get last j e.f e.f e.at_f)) ∙ front_none _ front)
 
-  fed : All (λ (s : ServedSeen). is_starved s.end ≡ false) (map (served_seen state) last)
-  fed = all_by_places (λ (s : ServedSeen). is_starved s.end ≡ false) (map (served_seen state) last) (λ j s at.
+  fed : All (λ (s : ServedView). is_starved s.end ≡ false) (map (served_view state) last)
+  fed = all_by_places (λ (s : ServedView). is_starved s.end ≡ false) (map (served_view state) last) (λ j s at.
       let e = end_at j s at in
       let no_want = all_at (λ (x : Finished K). ended_starved x.ended ≡ false) actors j e.a run.compared.fed e.at_a in
-      ap (λ (x : ServedSeen). is_starved x.end) e.s_is ∙ ap (λ (l : Left K). is_starved (end_seen state l.ended)) e.same ∙ not_starved state e.a.ended no_want)
+      ap (λ (x : ServedView). is_starved x.end) e.s_is ∙ ap (λ (l : ActorLeft K). is_starved (end_view state l.ended)) e.same ∙ not_starved state e.a.ended no_want)
 
   -- no two of them are one caller
   differ : AllPairs (λ (one other : Driven). one.owner.id ≢ other.owner.id) callers
   differ =
-      let ids : map (λ (d : Driven). d.owner.id) callers ≡ map (λ (part : Part). part.caller) parts = owners_are ∙ sym (parts_seen state casts plans parts is.parts_are) in
-      let apart : AllPairs (λ (one other : ℕ). one ≢ other) (map (λ (part : Part). part.caller) parts) = AllPairs-map (λ (one other : ℕ). one ≢ other) (λ (part : Part). part.caller) parts run.matched.parts_differ in
+      let ids : map (λ (d : Driven). d.owner.id) callers ≡ map (λ (setup : CallerSetup). setup.caller) setups = owners_are ∙ sym (setups_view state casts plans setups is.setups_are) in
+      let apart : AllPairs (λ (one other : ℕ). one ≢ other) (map (λ (setup : CallerSetup). setup.caller) setups) = AllPairs-map (λ (one other : ℕ). one ≢ other) (λ (setup : CallerSetup). setup.caller) setups run.matched.setups_differ in
       pairs_of_map (λ (d : Driven). d.owner.id) callers (subst (AllPairs (λ (one other : ℕ). one ≢ other)) (sym ids) apart)
 
-  abbrev ends : List EndSeen
-  ends = map (λ (f : Finished K). end_seen state f.ended) last
+  abbrev ends : List EndView
+  ends = map (λ (f : Finished K). end_view state f.ended) last
 
   -- where each did its plan
-  module _ (by_plan : (c : ℕ) (plan steps : List Step) (before later : OwnerValue) → does c plan steps before later → steps ≡ plan) where
-    all_driven : All (λ (d : Driven). IsDriven lines.mails.items lines.controls.items (actors_naming d.owner.id seen) (plan_of d.owner.id (map plan_seen plans)) d) callers
-    all_driven = all_by_places (λ (d : Driven). IsDriven lines.mails.items lines.controls.items (actors_naming d.owner.id seen) (plan_of d.owner.id (map plan_seen plans)) d) callers (λ i d at.
+  module _ (by_plan : (c : ℕ) (plan steps : List Step) (before later : OwnerView) → does c plan steps before later → steps ≡ plan) where
+    all_driven : All (λ (d : Driven). IsDriven lines.mails.items lines.controls.items (actors_naming d.owner.id seen) (plan_of d.owner.id (map plan_view plans)) d) callers
+    all_driven = all_by_places (λ (d : Driven). IsDriven lines.mails.items lines.controls.items (actors_naming d.owner.id seen) (plan_of d.owner.id (map plan_view plans)) d) callers (λ i d at.
         let one = did_at i d at in
-        subst (λ (plan : List Step). IsDriven lines.mails.items lines.controls.items (actors_naming d.owner.id seen) plan d) (by_plan d.owner.id (plan_of d.owner.id (map plan_seen plans)) one.steps (opened_of d.owner.id seen) d.owner one.does_so) one.did)
+        subst (λ (plan : List Step). IsDriven lines.mails.items lines.controls.items (actors_naming d.owner.id seen) plan d) (by_plan d.owner.id (plan_of d.owner.id (map plan_view plans)) one.steps (opened_of d.owner.id seen) d.owner one.does_so) one.did)
 
-    are_joined : AreJoined lines.mails.items lines.controls.items lines.replies.items seen (map plan_seen plans) callers (map (served_seen state) last)
+    are_joined : AreJoined lines.mails.items lines.controls.items lines.replies.items seen (map plan_view plans) callers (map (served_view state) last)
     are_joined = record { casts_are = casts_are; callers = owners_are; actors = ends_are; all_served = all_served; all_driven = all_driven; limits = limits; audited = audited; starter = unasked; fed = fed }
 
-    pub is_joined : IsJoined seen (map plan_seen plans) joined.owners.items ends
+    pub is_joined : IsJoined seen (map plan_view plans) joined.owners.items ends
     is_joined =
         let whole = joined_is are_joined in
-        let At : List OwnerValue × List EndSeen → Type 0 = λ p. IsJoined seen (map plan_seen plans) p.0 p.1 in
-        subst At (λ k. (sym run.compared.owners k, map-map (λ (s : ServedSeen). s.end) (served_seen state) last k)) whole
+        let At : List OwnerView × List EndView → Type 0 = λ p. IsJoined seen (map plan_view plans) p.0 p.1 in
+        subst At (λ k. (sym run.compared.owners k, map-map (λ (s : ServedView). s.end) (served_view state) last k)) whole
 
   -- where some did what their code decided
-  module _ {C : Type 0} (tells : C → Seen → Seen → Type 0) (codes : List (ℕ × C)) (fits : CodesFit casts plans codes)
-      (by_code : (c : ℕ) (plan steps : List Step) (before later : OwnerValue) → does c plan steps before later → does_code tells (code_of c codes) plan steps before later) where
-    all_driven_by : All (IsDrivenBy tells lines.mails.items lines.controls.items seen (map plan_seen plans) codes) callers
-    all_driven_by = all_by_places (IsDrivenBy tells lines.mails.items lines.controls.items seen (map plan_seen plans) codes) callers (λ i d at.
+  module _ {C : Type 0} (tells : C → SessionView → SessionView → Type 0) (codes : List (ℕ × C)) (fits : CodesFit casts plans codes)
+      (by_code : (c : ℕ) (plan steps : List Step) (before later : OwnerView) → does c plan steps before later → does_code tells (code_of c codes) plan steps before later) where
+    all_driven_by : All (IsDrivenBy tells lines.mails.items lines.controls.items seen (map plan_view plans) codes) callers
+    all_driven_by = all_by_places (IsDrivenBy tells lines.mails.items lines.controls.items seen (map plan_view plans) codes) callers (λ i d at.
         let one = did_at i d at in
-        let plan = plan_of d.owner.id (map plan_seen plans) in
+        let plan = plan_of d.owner.id (map plan_view plans) in
         let before = opened_of d.owner.id seen in
         let so = by_code d.owner.id plan one.steps before d.owner one.does_so in
         record {
@@ -300,10 +300,10 @@ module _ {K : Type 0} (state : K → KindState) (does : ℕ → Doing) (casts : 
           told = λ code some. subst (λ (o : Option C). does_code tells o plan one.steps before d.owner) some so;
         })
 
-    codes_named : All (λ (given : ℕ × C). list_any (λ (cast : Casting). contains given.0 cast.callers) seen ≡ true) codes
-    codes_named k d below = list_any-map (λ (cast : Casting). contains (get_or codes k d).0 cast.callers) (casting state) casts ∙ fits.named k d below
+    codes_named : All (λ (given : ℕ × C). list_any (λ (cast : ActorSpec). contains given.0 cast.callers) seen ≡ true) codes
+    codes_named k d below = list_any-map (λ (cast : ActorSpec). contains (get_or codes k d).0 cast.callers) (actor_spec state) casts ∙ fits.named k d below
 
-    are_joined_by : AreJoinedBy tells lines.mails.items lines.controls.items lines.replies.items seen (map plan_seen plans) codes callers (map (served_seen state) last)
+    are_joined_by : AreJoinedBy tells lines.mails.items lines.controls.items lines.replies.items seen (map plan_view plans) codes callers (map (served_view state) last)
     are_joined_by = record {
       casts_are = casts_are;
       callers = owners_are;
@@ -319,8 +319,8 @@ module _ {K : Type 0} (state : K → KindState) (does : ℕ → Doing) (casts : 
       codes_named = codes_named;
     }
 
-    pub is_joined_by : IsJoinedBy tells seen (map plan_seen plans) codes joined.owners.items ends
+    pub is_joined_by : IsJoinedBy tells seen (map plan_view plans) codes joined.owners.items ends
     is_joined_by =
-        let whole = joined_by_is tells lines.mails.items lines.controls.items lines.replies.items seen (map plan_seen plans) codes callers (map (served_seen state) last) are_joined_by in
-        let At : List OwnerValue × List EndSeen → Type 0 = λ p. IsJoinedBy tells seen (map plan_seen plans) codes p.0 p.1 in
-        subst At (λ k. (sym run.compared.owners k, map-map (λ (s : ServedSeen). s.end) (served_seen state) last k)) whole
+        let whole = joined_by_is tells lines.mails.items lines.controls.items lines.replies.items seen (map plan_view plans) codes callers (map (served_view state) last) are_joined_by in
+        let At : List OwnerView × List EndView → Type 0 = λ p. IsJoinedBy tells seen (map plan_view plans) codes p.0 p.1 in
+        subst At (λ k. (sym run.compared.owners k, map-map (λ (s : ServedView). s.end) (served_view state) last k)) whole

@@ -1,4 +1,4 @@
-pub mod Seats
+pub mod Endpoints
 pub mod Pairs
 pub mod Places
 pub mod Gathered

@@ -8,8 +8,8 @@ use Rattle.act_rules.specs.History.{contains}
 use Rattle.act_rules.proofs.Lists.{All-two}
 use Rattle.act_actor.specs.Cast.{CallersDiffer}
 use Rattle.act_actor.specs.declared.cast.Cast.{Cast}
-use Rattle.act_plans.specs.declared.part.Part.{Part}
-use Rattle.act_plans.specs.Parts.{AreMatched}
+use Rattle.act_plans.specs.declared.setup.CallerSetup.{CallerSetup}
+use Rattle.act_plans.specs.Setups.{AreMatched}
 
 module _ {X : Type 0} (R : X → X → Type 0) where
   one_alone : (x : X) → AllPairs R (x ∷ [])
@@ -29,42 +29,42 @@ pub record IsCast {K : Type 0} (a c d : ℕ) (cast : Cast K) : Type 0 where
   pub actor : cast.actor ≡ a
   pub callers : cast.callers ≡ c ∷ d ∷ []
 
-pub record IsPart (c : ℕ) (actors : List ℕ) (part : Part) : Type 0 where
-  pub caller : part.caller ≡ c
-  pub actors_are : part.actors.items ≡ actors
+pub record IsPart (c : ℕ) (actors : List ℕ) (setup : CallerSetup) : Type 0 where
+  pub caller : setup.caller ≡ c
+  pub actors_are : setup.actors.items ≡ actors
 
-module _ {K : Type 0} (one two : Cast K) (is_one : IsCast 5 2 7 one) (is_two : IsCast 3 7 1 two) (both last first : Part) (is_both : IsPart 7 (5 ∷ 3 ∷ []) both) (is_last : IsPart 1 (3 ∷ []) last) (is_first : IsPart 2 (5 ∷ []) first) where
+module _ {K : Type 0} (one two : Cast K) (is_one : IsCast 5 2 7 one) (is_two : IsCast 3 7 1 two) (both last first : CallerSetup) (is_both : IsPart 7 (5 ∷ 3 ∷ []) both) (is_last : IsPart 1 (3 ∷ []) last) (is_first : IsPart 2 (5 ∷ []) first) where
   abbrev casts : List (Cast K)
   casts = one ∷ two ∷ []
 
-  abbrev parts : List Part
-  parts = both ∷ last ∷ first ∷ []
+  abbrev setups : List CallerSetup
+  setups = both ∷ last ∷ first ∷ []
 
   -- what a part is to know
   abbrev Knows : ℕ → List ℕ → Type 0
   Knows c actors = (a : ℕ) → contains a actors ≡ list_any (λ cast. (cast.actor == a) && contains c cast.callers) casts
 
-  known_by : (part : Part) (c : ℕ) (actors : List ℕ) → IsPart c actors part → ((a : ℕ) → contains a actors ≡ list_any (λ (cast : ℕ × List ℕ). (cast.0 == a) && contains c cast.1) ((5, 2 ∷ 7 ∷ []) ∷ (3, 7 ∷ 1 ∷ []) ∷ [])) → Knows part.caller part.actors.items
-  known_by part c actors is known a = rw (is.caller, is.actors_are, is_one.actor, is_one.callers, is_two.actor, is_two.callers) (known a)
+  known_by : (setup : CallerSetup) (c : ℕ) (actors : List ℕ) → IsPart c actors setup → ((a : ℕ) → contains a actors ≡ list_any (λ (cast : ℕ × List ℕ). (cast.0 == a) && contains c cast.1) ((5, 2 ∷ 7 ∷ []) ∷ (3, 7 ∷ 1 ∷ []) ∷ [])) → Knows setup.caller setup.actors.items
+  known_by setup c actors is known a = rw (is.caller, is.actors_are, is_one.actor, is_one.callers, is_two.actor, is_two.callers) (known a)
 
-  pub are_matched : AreMatched casts parts
+  pub are_matched : AreMatched casts setups
   are_matched = record {
     actors_differ = two_apart (λ (x y : Cast K). x.actor ≢ y.actor) one two (λ same. let bad : 5 ≡ 3 = sym is_one.actor ∙ same ∙ is_two.actor in absurd (omega arith));
     callers_differ = All-two (λ (cast : Cast K). CallersDiffer cast.callers) one two
         (subst CallersDiffer (sym is_one.callers) (two_apart (λ m n. m ≢ n) 2 7 (λ same. absurd (omega arith))))
         (subst CallersDiffer (sym is_two.callers) (two_apart (λ m n. m ≢ n) 7 1 (λ same. absurd (omega arith))));
-    parts_differ = three_apart (λ (x y : Part). x.caller ≢ y.caller) both last first
+    setups_differ = three_apart (λ (x y : CallerSetup). x.caller ≢ y.caller) both last first
         (λ same. let bad : 7 ≡ 1 = sym is_both.caller ∙ same ∙ is_last.caller in absurd (omega arith))
         (λ same. let bad : 7 ≡ 2 = sym is_both.caller ∙ same ∙ is_first.caller in absurd (omega arith))
         (λ same. let bad : 1 ≡ 2 = sym is_last.caller ∙ same ∙ is_first.caller in absurd (omega arith));
-    taking_part = All-two (λ (cast : Cast K). All (Contains (map (λ (part : Part). part.caller) parts)) cast.callers) one two
-        (subst (λ (l : List ℕ). All (Contains (map (λ (part : Part). part.caller) parts)) l) (sym is_one.callers) (All-two (Contains (map (λ (part : Part). part.caller) parts)) 2 7 (2, omega arith, is_first.caller) (0, omega arith, is_both.caller)))
-        (subst (λ (l : List ℕ). All (Contains (map (λ (part : Part). part.caller) parts)) l) (sym is_two.callers) (All-two (Contains (map (λ (part : Part). part.caller) parts)) 7 1 (0, omega arith, is_both.caller) (1, omega arith, is_last.caller)));
-    own_differ = all_three (λ (part : Part). CallersDiffer part.actors.items) both last first
+    taking_setup = All-two (λ (cast : Cast K). All (Contains (map (λ (setup : CallerSetup). setup.caller) setups)) cast.callers) one two
+        (subst (λ (l : List ℕ). All (Contains (map (λ (setup : CallerSetup). setup.caller) setups)) l) (sym is_one.callers) (All-two (Contains (map (λ (setup : CallerSetup). setup.caller) setups)) 2 7 (2, omega arith, is_first.caller) (0, omega arith, is_both.caller)))
+        (subst (λ (l : List ℕ). All (Contains (map (λ (setup : CallerSetup). setup.caller) setups)) l) (sym is_two.callers) (All-two (Contains (map (λ (setup : CallerSetup). setup.caller) setups)) 7 1 (0, omega arith, is_both.caller) (1, omega arith, is_last.caller)));
+    own_differ = all_three (λ (setup : CallerSetup). CallersDiffer setup.actors.items) both last first
         (subst CallersDiffer (sym is_both.actors_are) (two_apart (λ m n. m ≢ n) 5 3 (λ same. absurd (omega arith))))
         (subst CallersDiffer (sym is_last.actors_are) (one_alone (λ m n. m ≢ n) 3))
         (subst CallersDiffer (sym is_first.actors_are) (one_alone (λ m n. m ≢ n) 5));
-    known = all_three (λ (part : Part). Knows part.caller part.actors.items) both last first
+    known = all_three (λ (setup : CallerSetup). Knows setup.caller setup.actors.items) both last first
         (known_by both 7 (5 ∷ 3 ∷ []) is_both (λ a. elim (5 == a) as (λ x. (x || ((3 == a) || false)) ≡ ((x && true) || (((3 == a) && true) || false))) [
           | true ↦ refl
           | false ↦ elim (3 == a) as (λ y. (y || false) ≡ ((y && true) || false)) [ true ↦ refl | false ↦ refl ]

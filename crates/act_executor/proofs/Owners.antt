@@ -4,28 +4,28 @@ use Rattle.act_rules.specs.declared.script.Step.{Step}
 use Rattle.act_rules.specs.Plans.{first_bad}
 use Rattle.act_handles.specs.Handles.{actors_in}
 use Rattle.act_handles.proofs.Places.{actors_opened}
-use Rattle.act_owner.specs.Owner.{OwnerValue, opened_under, opened_with}
-use Rattle.act_drive.specs.declared.desk.CallerLines.{CallerLines}
-use Rattle.act_drive.specs.declared.desk.CallerPasses.{CallerPasses}
-use Rattle.act_drive.specs.Driven.{IsUnused, IsFresh}
-use Rattle.act_plans.specs.declared.part.Part.{Part}
-use Rattle.act_plans.specs.Parts.{HasLimits}
+use Rattle.act_owner.specs.Owner.{OwnerView, opened_under, opened_with}
+use Rattle.act_drive.specs.declared.driver.CallerLines.{CallerLines}
+use Rattle.act_drive.specs.declared.driver.CallerPasses.{CallerPasses}
+use Rattle.act_drive.specs.Driven.{IsUnusedCaller, IsFreshCaller}
+use Rattle.act_plans.specs.declared.setup.CallerSetup.{CallerSetup}
+use Rattle.act_plans.specs.Setups.{HasLimits}
 use Rattle.act_plans.proofs.Keys.{pairs_of_map}
 
 pub own_actors : (limits : List (ℕ × Option ℕ)) (id : ℕ) (actors : List ℕ) → actors_in (opened_under limits id actors).handles ≡ actors
 own_actors limits id actors = actors_opened actors
 
 -- an owner that is opened with the limits of a part has the part's actors
-pub opened_for_part : (part : Part) → HasLimits part → opened_with part.caller part.limits.items ≡ opened_under part.limits.items part.caller part.actors.items
-opened_for_part part has = ap (opened_under part.limits.items part.caller) has.names
+pub opened_for_setup : (setup : CallerSetup) → HasLimits setup → opened_with setup.caller setup.limits.items ≡ opened_under setup.limits.items setup.caller setup.actors.items
+opened_for_setup setup has = ap (opened_under setup.limits.items setup.caller) has.names
 
-pub limits_differ : (part : Part) → HasLimits part → AllPairs (λ (one other : ℕ). one ≢ other) part.actors.items → AllPairs (λ (one other : ℕ × Option ℕ). one.0 ≢ other.0) part.limits.items
-limits_differ part has differ = pairs_of_map (λ (limit : ℕ × Option ℕ). limit.0) part.limits.items (subst (AllPairs (λ (one other : ℕ). one ≢ other)) (sym has.names) differ)
+pub limits_differ : (setup : CallerSetup) → HasLimits setup → AllPairs (λ (one other : ℕ). one ≢ other) setup.actors.items → AllPairs (λ (one other : ℕ × Option ℕ). one.0 ≢ other.0) setup.limits.items
+limits_differ setup has differ = pairs_of_map (λ (limit : ℕ × Option ℕ). limit.0) setup.limits.items (subst (AllPairs (λ (one other : ℕ). one ≢ other)) (sym has.names) differ)
 
 -- an owner that was opened may drive a plan whose steps are good
-pub can_drive : (lines : CallerLines) (owner : OwnerValue) (limits : List (ℕ × Option ℕ)) (id : ℕ) (actors : List ℕ) (passes : CallerPasses) (plan : List Step) → owner ≡ opened_under limits id actors →
-    IsUnused lines.mails.now lines.controls.now lines.replies.now id passes → first_bad actors plan ≡ None → IsFresh lines owner passes × (first_bad (actors_in owner.handles) plan ≡ None)
+pub can_drive : (lines : CallerLines) (owner : OwnerView) (limits : List (ℕ × Option ℕ)) (id : ℕ) (actors : List ℕ) (passes : CallerPasses) (plan : List Step) → owner ≡ opened_under limits id actors →
+    IsUnusedCaller lines.mails.now lines.controls.now lines.replies.now id passes → first_bad actors plan ≡ None → IsFreshCaller lines owner passes × (first_bad (actors_in owner.handles) plan ≡ None)
 can_drive lines owner limits id actors passes plan is unused fits =
     let known = own_actors limits id actors in
-    let fresh : IsFresh lines (opened_under limits id actors) passes = record { owner_is = ap (opened_under limits id) (sym known); unused = unused } in
-    subst (λ (o : OwnerValue). IsFresh lines o passes × (first_bad (actors_in o.handles) plan ≡ None)) (sym is) (fresh, ap (λ (l : List ℕ). first_bad l plan) known ∙ fits)
+    let fresh : IsFreshCaller lines (opened_under limits id actors) passes = record { owner_is = ap (opened_under limits id) (sym known); unused = unused } in
+    subst (λ (o : OwnerView). IsFreshCaller lines o passes × (first_bad (actors_in o.handles) plan ≡ None)) (sym is) (fresh, ap (λ (l : List ℕ). first_bad l plan) known ∙ fits)

@@ -5,7 +5,7 @@ use Rattle.std.specs.List.{range_with_len}
 use Rattle.std.proofs.lemmas.List.{map-append}
 use Rattle.std.proofs.lemmas.Simd.{map-map}
 use Rattle.std.proofs.lemmas.Slice.Zip.{length-zip, firsts-zip, seconds-zip}
-use Rattle.act_seats.specs.declared.seat.Seat.{Seat}
+use Rattle.act_mailbox.specs.declared.endpoint.Endpoint.{Endpoint}
 use Rattle.act_rules.proofs.Lists.{range_push}
 
 -- what three lists of one length are, zipped
@@ -36,15 +36,15 @@ one_done {X} {Y} {Z} f g done after y left rest x whole were pushed stepped same
     ∙ ap (λ (l : List X). map f done ++ map g l) (sym stepped)
     ∙ were
 
--- a seat is pushed at its place
-pub placed : {P : Type 0} (done after : List (Seat P)) (seat : Seat P) → map (λ (s : Seat P). s.place) done ≡ range_with_len 0 (length done) → after ≡ done ++ seat ∷ [] → seat.place ≡ length done
-    → map (λ (s : Seat P). s.place) after ≡ range_with_len 0 (length after)
-placed {P} done after seat were pushed at =
-    let long : suc (length done) ≡ length (done ++ seat ∷ []) = omega (arith, length-append done (seat ∷ [])) in
-    let here : seat.place ≡ 0 + length done = omega arith in
-    ap (map (λ (s : Seat P). s.place)) pushed
-    ∙ map-append (λ (s : Seat P). s.place) done (seat ∷ [])
-    ∙ ap (λ (l : List ℕ). l ++ seat.place ∷ []) were
+-- an endpoint is pushed at its place
+pub placed : {P : Type 0} (done after : List (Endpoint P)) (endpoint : Endpoint P) → map (λ (s : Endpoint P). s.place) done ≡ range_with_len 0 (length done) → after ≡ done ++ endpoint ∷ [] → endpoint.place ≡ length done
+    → map (λ (s : Endpoint P). s.place) after ≡ range_with_len 0 (length after)
+placed {P} done after endpoint were pushed at =
+    let long : suc (length done) ≡ length (done ++ endpoint ∷ []) = omega (arith, length-append done (endpoint ∷ [])) in
+    let here : endpoint.place ≡ 0 + length done = omega arith in
+    ap (map (λ (s : Endpoint P). s.place)) pushed
+    ∙ map-append (λ (s : Endpoint P). s.place) done (endpoint ∷ [])
+    ∙ ap (λ (l : List ℕ). l ++ endpoint.place ∷ []) were
     ∙ ap (λ (n : ℕ). range_with_len 0 (length done) ++ n ∷ []) here
     ∙ sym (range_push 0 (length done))
     ∙ ap (range_with_len 0) (long ∙ sym (ap length pushed))

@@ -2,11 +2,11 @@
 use Rattle.std.proofs.Common.{◌≡◌, zero, suc, Bool, true, false, ◌||◌, List, [], ◌∷◌, map, sym, ap, ◌∙◌, refl, arith, All}
 use Rattle.std.specs.List.{list_any}
 use Rattle.std.proofs.lemmas.Simd.{map-map}
-use Rattle.act_serve.specs.declared.seat.Finished.{Finished}
-use Rattle.act_executor.specs.Audits.{Left, left_of}
+use Rattle.act_serve.specs.declared.endpoint.Finished.{Finished}
+use Rattle.act_executor.specs.Audits.{ActorLeft, left_of}
 
 -- what shows of actors without the place of their lists is the same
-pub seen_through : {K Z : Type 0} (f : Left K → Z) (new old : List (Finished K)) → map left_of new ≡ map left_of old → map (λ (a : Finished K). f (left_of a)) new ≡ map (λ (a : Finished K). f (left_of a)) old
+pub seen_through : {K Z : Type 0} (f : ActorLeft K → Z) (new old : List (Finished K)) → map left_of new ≡ map left_of old → map (λ (a : Finished K). f (left_of a)) new ≡ map (λ (a : Finished K). f (left_of a)) old
 seen_through f new old same = sym (map-map f left_of new) ∙ ap (map f) same ∙ map-map f left_of old
 
 pub none_any : {X : Type 0} (p : X → Bool) (xs : List X) → list_any p xs ≡ false → All (λ x. p x ≡ false) xs

@@ -3,19 +3,19 @@ use Rattle.std.proofs.Common.{◌≡◌, ℕ, ◌+◌, ◌<◌, ◌≤◌, zero,
 use Rattle.std.specs.List.{range_with_len}
 use Rattle.std.proofs.lemmas.List.{get_or-map, length-map}
 use Rattle.act_mailbox.specs.declared.control.Asked.{Asked}
-use Rattle.act_mailbox.specs.Passes.{PutterValue, new_putter}
-use Rattle.act_mailbox.specs.Controls.{ControlValue, starter}
-use Rattle.act_seats.specs.declared.seat.Seat.{Seat}
+use Rattle.act_mailbox.specs.Passes.{PutterView, new_putter}
+use Rattle.act_mailbox.specs.Controls.{ControlView, starter}
+use Rattle.act_mailbox.specs.declared.endpoint.Endpoint.{Endpoint}
 use Rattle.act_executor.specs.Work.{IsUnusedStarter}
 use Rattle.act_executor.proofs.Lists.{drop_next}
 
-abbrev pass_on : ControlValue → PutterValue Asked ℕ
+abbrev pass_on : ControlView → PutterView Asked ℕ
 pass_on control = new_putter control.line starter
 
 -- the pass that the list goes on with is that of its line
-pub next_seat : (controls : List ControlValue) (n : ℕ) (pass : PutterValue Asked ℕ) (rest : List (PutterValue Asked ℕ)) → drop n (map pass_on controls) ≡ pass ∷ rest →
+pub next_endpoint : (controls : List ControlView) (n : ℕ) (pass : PutterView Asked ℕ) (rest : List (PutterView Asked ℕ)) → drop n (map pass_on controls) ≡ pass ∷ rest →
     (drop (suc n) (map pass_on controls) ≡ rest) × ((place : ℕ) → place ≡ n → IsUnusedStarter controls (record { place = place; pass = pass })) × (n < length controls)
-next_seat controls n pass rest left =
+next_endpoint controls n pass rest left =
     let next = drop_next n (map pass_on controls) pass rest left in
     let lt : n < length controls = omega (arith, next.1, length-map controls pass_on) in (
       next.0,
@@ -27,16 +27,16 @@ range_more : (from n : ℕ) → range_with_len from n ++ (from + n) ∷ [] ≡ r
 range_more from zero = let same : from + 0 ≡ from = omega arith in ap (λ (k : ℕ). k ∷ []) same
 range_more from (suc n) = let same : from + suc n ≡ from + 1 + n = omega arith in ap (λ (l : List ℕ). from ∷ l) (ap (λ (k : ℕ). range_with_len (from + 1) n ++ k ∷ []) same ∙ range_more (from + 1) n)
 
-places_push : (before : List (Seat (PutterValue Asked ℕ))) (seat : Seat (PutterValue Asked ℕ)) → map (λ (s : Seat (PutterValue Asked ℕ)). s.place) (before ++ seat ∷ []) ≡ map (λ (s : Seat (PutterValue Asked ℕ)). s.place) before ++ seat.place ∷ []
-places_push [] seat = refl
-places_push (s ∷ before) seat = ap (λ (l : List ℕ). s.place ∷ l) (places_push before seat)
+places_push : (before : List (Endpoint (PutterView Asked ℕ))) (endpoint : Endpoint (PutterView Asked ℕ)) → map (λ (s : Endpoint (PutterView Asked ℕ)). s.place) (before ++ endpoint ∷ []) ≡ map (λ (s : Endpoint (PutterView Asked ℕ)). s.place) before ++ endpoint.place ∷ []
+places_push [] endpoint = refl
+places_push (s ∷ before) endpoint = ap (λ (l : List ℕ). s.place ∷ l) (places_push before endpoint)
 
 -- the places go on by one
-pub range_push : (before : List (Seat (PutterValue Asked ℕ))) (seat : Seat (PutterValue Asked ℕ)) → map (λ (s : Seat (PutterValue Asked ℕ)). s.place) before ≡ range_with_len 0 (length before) → seat.place ≡ length before →
-    map (λ (s : Seat (PutterValue Asked ℕ)). s.place) (before ++ seat ∷ []) ≡ range_with_len 0 (suc (length before))
-range_push before seat places at =
+pub range_push : (before : List (Endpoint (PutterView Asked ℕ))) (endpoint : Endpoint (PutterView Asked ℕ)) → map (λ (s : Endpoint (PutterView Asked ℕ)). s.place) before ≡ range_with_len 0 (length before) → endpoint.place ≡ length before →
+    map (λ (s : Endpoint (PutterView Asked ℕ)). s.place) (before ++ endpoint ∷ []) ≡ range_with_len 0 (suc (length before))
+range_push before endpoint places at =
     let plus : 0 + length before ≡ length before = omega arith in
-    places_push before seat ∙ (λ i. places i ++ (at ∙ sym plus) i ∷ []) ∙ range_more 0 (length before)
+    places_push before endpoint ∙ (λ i. places i ++ (at ∙ sym plus) i ∷ []) ∙ range_more 0 (length before)
 
 nothing_left : {X : Type 0} (n : ℕ) (xs : List X) → drop n xs ≡ [] → length xs ≤ n
 nothing_left zero [] none = omega arith
@@ -45,5 +45,5 @@ nothing_left (suc n) [] none = omega arith
 nothing_left (suc n) (x ∷ xs) none = let more = nothing_left n xs none in omega (arith, more)
 
 -- all lines have their pass where none is left
-pub all_seated : (controls : List ControlValue) (n : ℕ) → drop n (map pass_on controls) ≡ [] → n ≤ length controls → n ≡ length controls
-all_seated controls n none short = let past = nothing_left n (map pass_on controls) none in omega (arith, past, short, length-map controls pass_on)
+pub all_at_endpoints : (controls : List ControlView) (n : ℕ) → drop n (map pass_on controls) ≡ [] → n ≤ length controls → n ≡ length controls
+all_at_endpoints controls n none short = let past = nothing_left n (map pass_on controls) none in omega (arith, past, short, length-map controls pass_on)

@@ -5,18 +5,18 @@ use Rattle.std.proofs.lemmas.List.{length-map}
 use Rattle.act_types.specs.KindState.{KindState}
 use Rattle.act_actor.specs.declared.cast.Cast.{Cast}
 use Rattle.act_tasks.specs.Each.{Each}
-use Rattle.act_seats.specs.declared.seat.Seat.{Seat}
-use Rattle.act_serve.specs.declared.seat.ExecPasses.{ExecPasses}
-use Rattle.act_serve.specs.declared.seat.Finished.{Finished}
-use Rattle.act_serve.specs.Served.{HasServed, end_seen}
-use Rattle.act_drive.specs.declared.desk.CallerPasses.{CallerPasses}
+use Rattle.act_mailbox.specs.declared.endpoint.Endpoint.{Endpoint}
+use Rattle.act_serve.specs.declared.endpoint.ExecPasses.{ExecPasses}
+use Rattle.act_serve.specs.declared.endpoint.Finished.{Finished}
+use Rattle.act_serve.specs.Served.{HasServed, end_view}
+use Rattle.act_drive.specs.declared.driver.CallerPasses.{CallerPasses}
 use Rattle.act_drive.specs.declared.caller.Driven.{Driven}
-use Rattle.act_plans.specs.declared.part.Part.{Part}
+use Rattle.act_plans.specs.declared.setup.CallerSetup.{CallerSetup}
 use Rattle.act_executor.specs.declared.opened.Lines.{Lines}
 use Rattle.act_executor.specs.declared.work.Serving.{Serving}
 use Rattle.act_executor.specs.declared.work.Driving.{Driving}
 use Rattle.act_executor.specs.Conducts.{Doing, HasConducted}
-use Rattle.act_executor.specs.Work.{IsServedBy, IsDrivenBy, ActorStart, serving_start, cast_start, CallerStart, driving_start, part_start}
+use Rattle.act_executor.specs.Work.{IsServedBy, IsDrivenTo, ActorStart, serving_start, cast_start, CallerStart, driving_start, setup_start}
 use Rattle.act_executor.specs.Joins.{AreServed, AreDriven}
 use Rattle.act_rules.proofs.Lists.{element, length-zip_same}
 
@@ -41,7 +41,7 @@ each_at D ts xs i t x each at_t at_x = subst (λ y. D t y) (get_or_from_slice_ge
 tasks_long : {X A B Z : Type 0} (f : X → Z) (g : A × B → Z) (xs : List X) (ls : List A) (ms : List B) → map f xs ≡ map g (zip ls ms) → length ms ≡ length ls → length xs ≡ length ls
 tasks_long f g xs ls ms same long = sym (length-map xs f) ∙ ap length same ∙ length-map (zip ls ms) g ∙ length-zip_same ls ms long
 
-pub all_served : {K G N : Type 0} (state : K → KindState) (lines : Lines) (casts : List (Cast K)) (execs : List (Seat ExecPasses)) (servings : List (Serving K G N)) (actors : List (Finished K)) →
+pub all_served : {K G N : Type 0} (state : K → KindState) (lines : Lines) (casts : List (Cast K)) (execs : List (Endpoint ExecPasses)) (servings : List (Serving K G N)) (actors : List (Finished K)) →
     length execs ≡ length casts → map (serving_start state) servings ≡ map (cast_start state lines.replies.items) (zip casts execs) → Each (IsServedBy state) servings actors → AreServed state lines casts execs actors
 all_served state lines casts execs servings actors long starts each = record {
   long = each.0 ∙ tasks_long (serving_start state) (cast_start state lines.replies.items) servings casts execs starts long;
@@ -49,24 +49,24 @@ all_served state lines casts execs servings actors long starts each = record {
       let below = slice_get_within actors j actor at_actor in
       let serving = element servings j (omega (arith, below, each.0)) in
       let start = starts_at (serving_start state) (cast_start state lines.replies.items) servings casts execs j serving.0 cast exec starts serving.1 at_cast at_exec in
-      let P : ActorStart → Type 0 = λ s. HasServed s.state s.id s.replies s.passes (end_seen state actor.ended) actor.passes in
+      let P : ActorStart → Type 0 = λ s. HasServed s.state s.id s.replies s.passes (end_view state actor.ended) actor.passes in
       subst P start (each_at (IsServedBy state) servings actors j serving.0 actor each serving.1 at_actor);
 }
 
-pub all_driven : {D N : Type 0} (does : D → Doing) (lines : Lines) (conduct_of : ℕ → D) (parts : List Part) (callers : List (Seat CallerPasses)) (drivings : List (Driving D N)) (driven : List Driven) →
-    length callers ≡ length parts → map driving_start drivings ≡ map (part_start lines conduct_of) (zip parts callers) → Each (IsDrivenBy does) drivings driven → AreDriven lines (λ c. does (conduct_of c)) parts callers driven
-all_driven {D = D} does lines conduct_of parts callers drivings driven long starts each = record {
-  long = each.0 ∙ tasks_long driving_start (part_start lines conduct_of) drivings parts callers starts long;
-  each = λ i part caller d at_part at_caller at_d.
+pub all_driven : {D N : Type 0} (does : D → Doing) (lines : Lines) (conduct_of : ℕ → D) (setups : List CallerSetup) (callers : List (Endpoint CallerPasses)) (drivings : List (Driving D N)) (driven : List Driven) →
+    length callers ≡ length setups → map driving_start drivings ≡ map (setup_start lines conduct_of) (zip setups callers) → Each (IsDrivenTo does) drivings driven → AreDriven lines (λ c. does (conduct_of c)) setups callers driven
+all_driven {D = D} does lines conduct_of setups callers drivings driven long starts each = record {
+  long = each.0 ∙ tasks_long driving_start (setup_start lines conduct_of) drivings setups callers starts long;
+  each = λ i setup caller d at_setup at_caller at_d.
       let below = slice_get_within driven i d at_d in
       let driving = element drivings i (omega (arith, below, each.0)) in
-      let start = starts_at driving_start (part_start lines conduct_of) drivings parts callers i driving.0 part caller starts driving.1 at_part at_caller in
+      let start = starts_at driving_start (setup_start lines conduct_of) drivings setups callers i driving.0 setup caller starts driving.1 at_setup at_caller in
       let P : CallerStart D → Type 0 = λ s. HasConducted driving.0.lines s.owner s.passes (does s.conduct s.plan) d in
       record {
         at = driving.0.lines;
         mails = ap (λ (s : CallerStart D). s.mails) start;
         controls = ap (λ (s : CallerStart D). s.controls) start;
-        driven_is = subst P start (each_at (IsDrivenBy does) drivings driven i driving.0 d each driving.1 at_d);
+        driven_is = subst P start (each_at (IsDrivenTo does) drivings driven i driving.0 d each driving.1 at_d);
       };
 }
 

@@ -1,56 +1,70 @@
 -- What the audits of the lines tell.
 use Rattle.std.specs.Prelude.{◌≡◌, ℕ, ◌<◌, List, length, slice_index_or, All}
-use Rattle.act_rules.specs.Consistent.{IsFront}
+use Rattle.act_rules.specs.Consistent.{IsPrefix}
 use Rattle.act_mailbox.specs.declared.mail.Letter.{Letter}
 use Rattle.act_mailbox.specs.declared.control.Asked.{Asked}
-use Rattle.act_mailbox.specs.Lines.{items_of}
-use Rattle.act_mailbox.specs.Passes.{PutterValue, TakerValue}
-use Rattle.act_mailbox.specs.Mails.{MailValue, caller_of}
-use Rattle.act_mailbox.specs.Controls.{ControlValue, ControlExecValue, asker_of}
-use Rattle.act_mailbox.specs.Notices.{RepliesValue, ReplyExecValue, actor_of}
-use Rattle.act_seats.specs.declared.seat.Seat.{Seat}
-use Rattle.act_serve.specs.declared.seat.Ended.{Ended}
-use Rattle.act_serve.specs.declared.seat.Finished.{Finished}
+use Rattle.act_mailbox.specs.Lines.{items_from}
+use Rattle.act_mailbox.specs.Passes.{PutterView, TakerView}
+use Rattle.act_mailbox.specs.Mails.{MailView, caller_of}
+use Rattle.act_mailbox.specs.Controls.{ControlView, ControlExecView, asker_of}
+use Rattle.act_mailbox.specs.Notices.{RepliesView, ReplyExecView, notice_actor}
+use Rattle.act_mailbox.specs.declared.endpoint.Endpoint.{Endpoint}
+use Rattle.act_serve.specs.declared.endpoint.Ended.{Ended}
+use Rattle.act_serve.specs.declared.endpoint.Finished.{Finished}
 use Rattle.act_drive.specs.declared.caller.Driven.{Driven}
 use Rattle.act_executor.specs.declared.opened.Lines.{Lines}
 
 -- a pass is of the line at its place
-abbrev pub SitsAtMail : List MailValue → Seat (PutterValue Letter Unit) → Type 0
-SitsAtMail mails seat = (seat.place < length mails) × ((m : MailValue) → (slice_index_or mails seat.place m).line ≡ seat.pass.line)
+abbrev pub SitsAtMail : List MailView → Endpoint (PutterView Letter Unit) → Type 0
+SitsAtMail mails endpoint = (endpoint.place < length mails)
+    × ((m : MailView) → (slice_index_or mails endpoint.place m).line ≡ endpoint.pass.line)
 
-abbrev pub SitsAtControl : List ControlValue → Seat (PutterValue Asked ℕ) → Type 0
-SitsAtControl controls seat = (seat.place < length controls) × ((k : ControlValue) → (slice_index_or controls seat.place k).line ≡ seat.pass.line)
+abbrev pub SitsAtControl : List ControlView → Endpoint (PutterView Asked ℕ) → Type 0
+SitsAtControl controls endpoint = (endpoint.place < length controls)
+    × ((k : ControlView) → (slice_index_or controls endpoint.place k).line ≡ endpoint.pass.line)
 
-abbrev pub SitsAtReplies : List RepliesValue → Seat ReplyExecValue → Type 0
-SitsAtReplies replies seat = (seat.place < length replies) × ((r : RepliesValue) → (slice_index_or replies seat.place r).line ≡ seat.pass.line)
+abbrev pub SitsAtReplies : List RepliesView → Endpoint ReplyExecView → Type 0
+SitsAtReplies replies endpoint = (endpoint.place < length replies)
+    × ((r : RepliesView) → (slice_index_or replies endpoint.place r).line ≡ endpoint.pass.line)
 
--- what the actor at the pass's place took of its caller is a front of what was put there
-abbrev pub LetterTold : {K : Type 0} → List (Finished K) → Seat (PutterValue Letter Unit) → Type 0
-LetterTold {K} actors seat = (f : Finished K) → IsFront (items_of caller_of seat.pass.number (slice_index_or actors seat.place f).passes.letters.taken) seat.pass.put
+-- what the actor at the pass's place took of its caller is a prefix of what was put there
+abbrev pub LetterTold : {K : Type 0} → List (Finished K) → Endpoint (PutterView Letter Unit) → Type 0
+LetterTold {K} actors endpoint = (f : Finished K) →
+    IsPrefix (items_from caller_of endpoint.pass.number
+    (slice_index_or actors endpoint.place f).passes.letters.taken) endpoint.pass.put
 
-abbrev pub KillTold : {K : Type 0} → List (Finished K) → Seat (PutterValue Asked ℕ) → Type 0
-KillTold {K} actors seat = (f : Finished K) → IsFront (items_of asker_of seat.pass.number (slice_index_or actors seat.place f).passes.kills.taken) seat.pass.put
+abbrev pub KillTold : {K : Type 0} → List (Finished K) → Endpoint (PutterView Asked ℕ) → Type 0
+KillTold {K} actors endpoint = (f : Finished K) →
+    IsPrefix (items_from asker_of endpoint.pass.number
+    (slice_index_or actors endpoint.place f).passes.kills.taken) endpoint.pass.put
 
--- what the caller at the pass's place collected of the actor is a front of what was given there
-abbrev pub NoticeTold : List Driven → Seat ReplyExecValue → Type 0
-NoticeTold callers seat = (d : Driven) → IsFront (items_of actor_of seat.pass.actor (slice_index_or callers seat.place d).passes.collects.taken) seat.pass.given
+-- what the caller at the pass's place collected of the actor is a prefix of what was given there
+abbrev pub NoticeTold : List Driven → Endpoint ReplyExecView → Type 0
+NoticeTold callers endpoint = (d : Driven) →
+    IsPrefix (items_from notice_actor endpoint.pass.actor
+    (slice_index_or callers endpoint.place d).passes.collects.taken) endpoint.pass.given
 
 -- a caller's passes are of the lines at their places
-pub record HasSeats (lines : Lines) (caller : Driven) : Type 0 where
+pub record HasEndpoints (lines : Lines) (caller : Driven) : Type 0 where
   pub letters : All (SitsAtMail lines.mails.items) caller.passes.letters.items
   pub kills : All (SitsAtControl lines.controls.items) caller.passes.kills.items
 
--- what the actors took of a caller are fronts of what it put
+-- what the actors took of a caller are prefixes of what it put
 pub record CallerTold {K : Type 0} (actors : List (Finished K)) (caller : Driven) : Type 0 where
   pub letters : All (LetterTold actors) caller.passes.letters.items
   pub kills : All (KillTold actors) caller.passes.kills.items
 
 -- what is left of an actor, without where its list of passes stands
-pub record Left (K : Type 0) : Type 0 where
+pub record ActorLeft (K : Type 0) : Type 0 where
   pub ended : Ended K
-  pub letters : TakerValue Letter Unit
-  pub kills : ControlExecValue
-  pub notices : List (Seat ReplyExecValue)
+  pub letters : TakerView Letter Unit
+  pub kills : ControlExecView
+  pub notices : List (Endpoint ReplyExecView)
 
-abbrev pub left_of : {K : Type 0} → Finished K → Left K
-left_of finished = record { ended = finished.ended; letters = finished.passes.letters; kills = finished.passes.kills; notices = finished.passes.notices.items }
+abbrev pub left_of : {K : Type 0} → Finished K → ActorLeft K
+left_of finished = record {
+  ended = finished.ended;
+  letters = finished.passes.letters;
+  kills = finished.passes.kills;
+  notices = finished.passes.notices.items;
+}

@@ -2,23 +2,24 @@
 use Rattle.std.specs.Prelude.{ℕ, ◌+◌, ◌==◌, List, [], ◌∷◌, ◌++◌, Vec, map, filter}
 use Rattle.std.specs.declared.alloc.Global.{Global}
 use Rattle.atomic_table.specs.Seated.{TableId}
-use Rattle.act_seats.specs.declared.seat.Seat.{Seat}
+use Rattle.act_mailbox.specs.declared.endpoint.Endpoint.{Endpoint}
 
 -- the items of a vector
-abbrev pub items_of : {X : Type 0} → Vec X Global → List X
-items_of list = list.items
+abbrev pub items_of_vec : {X : Type 0} → Vec X Global → List X
+items_of_vec list = list.items
 
 module _ {P : Type 0} where
   -- a pass at a place
-  abbrev pub seat_at : ℕ → P → Seat P
-  seat_at place pass = record { place = place; pass = pass }
+  abbrev pub endpoint_at : ℕ → P → Endpoint P
+  endpoint_at place pass = record { place = place; pass = pass }
 
-  -- the seats of the passes with a number, in order
-  abbrev pub group_of : (P → ℕ) → ℕ → List (Seat P) → List (Seat P)
-  group_of number c seats = filter (λ seat. number seat.pass == c) seats
+  -- the endpoints of the passes with a number, in order
+  abbrev pub group_of : (P → ℕ) → ℕ → List (Endpoint P) → List (Endpoint P)
+  group_of number c endpoints = filter (λ endpoint. number endpoint.pass == c) endpoints
 
   -- a new pass for each name on each line, where the first line stands at a place
-  abbrev pub seats_from : (TableId → ℕ → P) → ℕ → List TableId → List (List ℕ) → List (Seat P)
-  seats_from new place [] names = []
-  seats_from new place (line ∷ lines) [] = []
-  seats_from new place (line ∷ lines) (here ∷ names) = map (λ c. seat_at place (new line c)) here ++ seats_from new (place + 1) lines names
+  abbrev pub endpoints_from : (TableId → ℕ → P) → ℕ → List TableId → List (List ℕ) → List (Endpoint P)
+  endpoints_from new place [] names = []
+  endpoints_from new place (line ∷ lines) [] = []
+  endpoints_from new place (line ∷ lines) (here ∷ names) = map (λ c. endpoint_at place (new line c)) here
+      ++ endpoints_from new (place + 1) lines names

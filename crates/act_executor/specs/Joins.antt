@@ -5,19 +5,19 @@ use Rattle.act_types.specs.KindState.{KindState}
 use Rattle.act_owner.specs.Owner.{opened_under}
 use Rattle.act_actor.specs.declared.cast.Cast.{Cast}
 use Rattle.act_mailbox.specs.declared.control.Asked.{Asked}
-use Rattle.act_mailbox.specs.Passes.{PutterValue}
-use Rattle.act_mailbox.specs.Controls.{ControlValue}
-use Rattle.act_seats.specs.declared.seat.Seat.{Seat}
-use Rattle.act_serve.specs.declared.seat.Ended.{Ended}
-use Rattle.act_serve.specs.declared.seat.Ended.TheVariants.{Killed, Retired, Starved}
-use Rattle.act_serve.specs.declared.seat.ExecPasses.{ExecPasses}
-use Rattle.act_serve.specs.declared.seat.Finished.{Finished}
-use Rattle.act_serve.specs.Served.{HasServed, end_seen}
-use Rattle.act_drive.specs.declared.desk.CallerLines.{CallerLines}
-use Rattle.act_drive.specs.declared.desk.CallerPasses.{CallerPasses}
+use Rattle.act_mailbox.specs.Passes.{PutterView}
+use Rattle.act_mailbox.specs.Controls.{ControlView}
+use Rattle.act_mailbox.specs.declared.endpoint.Endpoint.{Endpoint}
+use Rattle.act_serve.specs.declared.endpoint.Ended.{Ended}
+use Rattle.act_serve.specs.declared.endpoint.Ended.TheVariants.{Killed, Retired, Starved}
+use Rattle.act_serve.specs.declared.endpoint.ExecPasses.{ExecPasses}
+use Rattle.act_serve.specs.declared.endpoint.Finished.{Finished}
+use Rattle.act_serve.specs.Served.{HasServed, end_view}
+use Rattle.act_drive.specs.declared.driver.CallerLines.{CallerLines}
+use Rattle.act_drive.specs.declared.driver.CallerPasses.{CallerPasses}
 use Rattle.act_drive.specs.declared.caller.Driven.{Driven}
 use Rattle.act_executor.specs.Conducts.{Doing, HasConducted}
-use Rattle.act_plans.specs.declared.part.Part.{Part}
+use Rattle.act_plans.specs.declared.setup.CallerSetup.{CallerSetup}
 use Rattle.act_executor.specs.declared.opened.Lines.{Lines}
 use Rattle.act_executor.specs.declared.joined.Ends.{Ends}
 use Rattle.act_executor.specs.declared.joined.Joined.{Joined}
@@ -31,29 +31,36 @@ ended_starved (Retired retired) = false
 ended_starved (Starved dead) = true
 
 -- each cast's actor was served to its end, with its passes
-pub record AreServed {K : Type 0} (state : K → KindState) (lines : Lines) (casts : List (Cast K)) (execs : List (Seat ExecPasses)) (actors : List (Finished K)) : Type 0 where
+pub record AreServed {K : Type 0} (state : K → KindState) (lines : Lines) (casts : List (Cast K))
+    (execs : List (Endpoint ExecPasses)) (actors : List (Finished K)) : Type 0 where
   pub long : length actors ≡ length casts
-  pub each : (j : ℕ) (cast : Cast K) (exec : Seat ExecPasses) (actor : Finished K) → slice_get casts j ≡ Some cast → slice_get execs j ≡ Some exec → slice_get actors j ≡ Some actor →
-      HasServed (state cast.kind) cast.actor lines.replies.items exec.pass (end_seen state actor.ended) actor.passes
+  pub each : (j : ℕ) (cast : Cast K) (exec : Endpoint ExecPasses) (actor : Finished K) →
+      slice_get casts j ≡ Some cast → slice_get execs j ≡ Some exec → slice_get actors j ≡ Some actor →
+      HasServed (state cast.kind) cast.actor lines.replies.items exec.pass (end_view state actor.ended) actor.passes
 
 -- the caller of a part was driven, at these lines
-pub record IsDrivenAt (lines : Lines) (does : Doing) (part : Part) (caller : Seat CallerPasses) (driven : Driven) : Type 0 where
+pub record IsDrivenAt (lines : Lines) (does : Doing) (setup : CallerSetup) (caller : Endpoint CallerPasses)
+    (driven : Driven) : Type 0 where
   pub at : CallerLines
   pub mails : at.mails.now ≡ lines.mails.items
   pub controls : at.controls.now ≡ lines.controls.items
-  pub driven_is : HasConducted at (opened_under part.limits.items part.caller part.actors.items) caller.pass (does part.plan.items) driven
+  pub driven_is : HasConducted at (opened_under setup.limits.items setup.caller setup.actors.items) caller.pass
+      (does setup.plan.items) driven
 
 -- each part's caller was driven, with its passes
-pub record AreDriven (lines : Lines) (does : ℕ → Doing) (parts : List Part) (callers : List (Seat CallerPasses)) (driven : List Driven) : Type 0 where
-  pub long : length driven ≡ length parts
-  pub each : (i : ℕ) (part : Part) (caller : Seat CallerPasses) (d : Driven) → slice_get parts i ≡ Some part → slice_get callers i ≡ Some caller → slice_get driven i ≡ Some d → IsDrivenAt lines (does part.caller) part caller d
+pub record AreDriven (lines : Lines) (does : ℕ → Doing) (setups : List CallerSetup)
+    (callers : List (Endpoint CallerPasses)) (driven : List Driven) : Type 0 where
+  pub long : length driven ≡ length setups
+  pub each : (i : ℕ) (setup : CallerSetup) (caller : Endpoint CallerPasses) (d : Driven) →
+      slice_get setups i ≡ Some setup → slice_get callers i ≡ Some caller → slice_get driven i ≡ Some d →
+      IsDrivenAt lines (does setup.caller) setup caller d
 
 -- the starter has a pass on each control line, and asked nothing
-pub record AreStarters (controls : List ControlValue) (seats : List (Seat (PutterValue Asked ℕ))) : Type 0 where
-  pub unused : All (IsUnusedStarter controls) seats
-  pub places : map (λ seat. seat.place) seats ≡ range_with_len 0 (length controls)
+pub record AreStarters (controls : List ControlView) (endpoints : List (Endpoint (PutterView Asked ℕ))) : Type 0 where
+  pub unused : All (IsUnusedStarter controls) endpoints
+  pub places : map (λ endpoint. endpoint.place) endpoints ≡ range_with_len 0 (length controls)
 
--- nobody was refused memory, and what each side of a line took is a front of what the other put
+-- nobody was refused memory, and what each side of a line took is a prefix of what the other put
 pub record AreCompared {K : Type 0} (ends : Ends K) (joined : Joined K) : Type 0 where
   pub fed : All (λ actor. ended_starved actor.ended ≡ false) ends.actors.items
   pub fed_callers : All (λ caller. caller.starved ≡ false) ends.callers.items

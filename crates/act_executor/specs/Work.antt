@@ -6,23 +6,23 @@ use Rattle.act_types.specs.KindState.{KindState}
 use Rattle.act_rules.specs.declared.script.Step.{Step}
 use Rattle.act_rules.specs.Plans.{first_bad}
 use Rattle.act_handles.specs.Handles.{actors_in}
-use Rattle.act_owner.specs.Owner.{OwnerValue, opened_under}
-use Rattle.act_actor.specs.StateViews.{live_seen}
+use Rattle.act_owner.specs.Owner.{OwnerView, opened_under}
+use Rattle.act_actor.specs.StateViews.{live_view}
 use Rattle.act_actor.specs.declared.cast.Cast.{Cast}
 use Rattle.act_mailbox.specs.declared.control.Asked.{Asked}
-use Rattle.act_mailbox.specs.Passes.{PutterValue, new_putter}
-use Rattle.act_mailbox.specs.Mails.{MailValue}
-use Rattle.act_mailbox.specs.Controls.{ControlValue, starter, asked}
-use Rattle.act_mailbox.specs.Notices.{RepliesValue}
-use Rattle.act_seats.specs.declared.seat.Seat.{Seat}
-use Rattle.act_serve.specs.declared.seat.ExecPasses.{ExecPasses}
-use Rattle.act_serve.specs.declared.seat.Finished.{Finished}
-use Rattle.act_serve.specs.Served.{HasServed, end_seen}
-use Rattle.act_serve.specs.Turns.{PassesOf, IsFresh}
-use Rattle.act_drive.specs.declared.desk.CallerPasses.{CallerPasses}
+use Rattle.act_mailbox.specs.Passes.{PutterView, new_putter}
+use Rattle.act_mailbox.specs.Mails.{MailView}
+use Rattle.act_mailbox.specs.Controls.{ControlView, starter, kill_by}
+use Rattle.act_mailbox.specs.Notices.{RepliesView}
+use Rattle.act_mailbox.specs.declared.endpoint.Endpoint.{Endpoint}
+use Rattle.act_serve.specs.declared.endpoint.ExecPasses.{ExecPasses}
+use Rattle.act_serve.specs.declared.endpoint.Finished.{Finished}
+use Rattle.act_serve.specs.Served.{HasServed, end_view}
+use Rattle.act_serve.specs.Turns.{PassesOf, IsFreshExec}
+use Rattle.act_drive.specs.declared.driver.CallerPasses.{CallerPasses}
 use Rattle.act_drive.specs.declared.caller.Driven.{Driven}
-use Rattle.act_drive.specs.Driven.{IsFresh as IsFreshCaller}
-use Rattle.act_plans.specs.declared.part.Part.{Part}
+use Rattle.act_drive.specs.Driven.{IsFreshCaller as IsFreshCaller}
+use Rattle.act_plans.specs.declared.setup.CallerSetup.{CallerSetup}
 use Rattle.act_executor.specs.declared.opened.Lines.{Lines}
 use Rattle.act_tasks.specs.Each.{Each}
 use Rattle.act_executor.specs.Audits.{SitsAtControl}
@@ -32,65 +32,92 @@ use Rattle.act_executor.specs.declared.work.Serving.{Serving}
 use Rattle.act_executor.specs.declared.work.Driving.{Driving}
 
 -- an actor's thread may run
-abbrev pub IsReady : {K G N : Type 0} → (K → KindState) → Serving K G N → Type 0
-IsReady state serving = let now = live_seen state serving.live in PassesOf serving.lines now.id now.log serving.passes × IsFresh serving.lines.replies.now now serving.passes
+abbrev pub CanServe : {K G N : Type 0} → (K → KindState) → Serving K G N → Type 0
+CanServe state serving = let now = live_view state serving.live in
+    PassesOf serving.lines now.id now.log serving.passes × IsFreshExec serving.lines.replies.now now serving.passes
 
 -- what it leaves
 abbrev pub IsServedBy : {K G N : Type 0} → (K → KindState) → Serving K G N → Finished K → Type 0
-IsServedBy state serving finished = let now = live_seen state serving.live in HasServed now.state now.id serving.lines.replies.now serving.passes (end_seen state finished.ended) finished.passes
+IsServedBy state serving finished = let now = live_view state serving.live in
+    HasServed now.state now.id serving.lines.replies.now serving.passes (end_view state finished.ended) finished.passes
 
 -- a caller's thread may run
 abbrev pub CanDrive : {D N : Type 0} → Driving D N → Type 0
-CanDrive driving = IsFreshCaller driving.lines driving.owner driving.passes × (first_bad (actors_in driving.owner.handles) driving.plan.items ≡ None)
+CanDrive driving = IsFreshCaller driving.lines driving.owner driving.passes
+    × (first_bad (actors_in driving.owner.handles) driving.plan.items ≡ None)
 
 -- what it leaves
-abbrev pub IsDrivenBy : {D N : Type 0} → (D → Doing) → Driving D N → Driven → Type 0
-IsDrivenBy does driving driven = HasConducted driving.lines driving.owner driving.passes (does driving.conduct driving.plan.items) driven
+abbrev pub IsDrivenTo : {D N : Type 0} → (D → Doing) → Driving D N → Driven → Type 0
+IsDrivenTo does driving driven = HasConducted driving.lines driving.owner driving.passes
+    (does driving.conduct driving.plan.items) driven
 
 -- how an actor begins
 pub record ActorStart : Type 0 where
   pub id : ℕ
   pub state : KindState
   pub passes : ExecPasses
-  pub replies : List RepliesValue
+  pub replies : List RepliesView
 
 abbrev pub serving_start : {K G N : Type 0} → (K → KindState) → Serving K G N → ActorStart
-serving_start state serving = let now = live_seen state serving.live in record { id = now.id; state = now.state; passes = serving.passes; replies = serving.lines.replies.now }
+serving_start state serving = let now = live_view state serving.live in
+    record { id = now.id; state = now.state; passes = serving.passes; replies = serving.lines.replies.now }
 
-abbrev pub cast_start : {K : Type 0} → (K → KindState) → List RepliesValue → Cast K × Seat ExecPasses → ActorStart
-cast_start state replies given = record { id = given.0.actor; state = state given.0.kind; passes = given.1.pass; replies = replies }
+abbrev pub cast_start : {K : Type 0} → (K → KindState) → List RepliesView → Cast K × Endpoint ExecPasses → ActorStart
+cast_start state replies given = record {
+  id = given.0.actor;
+  state = state given.0.kind;
+  passes = given.1.pass;
+  replies = replies;
+}
 
 -- how a caller begins
 pub record CallerStart (D : Type 0) : Type 0 where
-  pub owner : OwnerValue
+  pub owner : OwnerView
   pub plan : List Step
   pub conduct : D
   pub passes : CallerPasses
-  pub mails : List MailValue
-  pub controls : List ControlValue
+  pub mails : List MailView
+  pub controls : List ControlView
 
 abbrev pub driving_start : {D N : Type 0} → Driving D N → CallerStart D
-driving_start driving = record { owner = driving.owner; plan = driving.plan.items; conduct = driving.conduct; passes = driving.passes; mails = driving.lines.mails.now; controls = driving.lines.controls.now }
+driving_start driving = record {
+  owner = driving.owner;
+  plan = driving.plan.items;
+  conduct = driving.conduct;
+  passes = driving.passes;
+  mails = driving.lines.mails.now;
+  controls = driving.lines.controls.now;
+}
 
-abbrev pub part_start : {D : Type 0} → Lines → (ℕ → D) → Part × Seat CallerPasses → CallerStart D
-part_start lines conduct_of given = record { owner = opened_under given.0.limits.items given.0.caller given.0.actors.items; plan = given.0.plan.items; conduct = conduct_of given.0.caller; passes = given.1.pass; mails = lines.mails.items; controls = lines.controls.items }
+abbrev pub setup_start : {D : Type 0} → Lines → (ℕ → D) → CallerSetup × Endpoint CallerPasses → CallerStart D
+setup_start lines conduct_of given = record { owner = opened_under given.0.limits.items given.0.caller given.0.actors.items; plan = given.0.plan.items; conduct = conduct_of given.0.caller; passes = given.1.pass; mails = lines.mails.items; controls = lines.controls.items }
 
 -- the starter's pass at its place of the control lines, with which nothing was asked
-pub record IsUnusedStarter (controls : List ControlValue) (seat : Seat (PutterValue Asked ℕ)) : Type 0 where
-  pub below : seat.place < length controls
-  pub new : (k : ControlValue) → seat.pass ≡ new_putter (slice_index_or controls seat.place k).line starter
+pub record IsUnusedStarter (controls : List ControlView) (endpoint : Endpoint (PutterView Asked ℕ)) : Type 0 where
+  pub below : endpoint.place < length controls
+  pub new : (k : ControlView) → endpoint.pass ≡ new_putter (slice_index_or controls endpoint.place k).line starter
 
--- a kill more was asked at the line of a pass, of its actor and in the name of the first caller, or the line handed that back
-abbrev pub IsAsked : List ControlValue → Seat (PutterValue Asked ℕ) → Result (Seat (PutterValue Asked ℕ)) KillNote → Type 0
-IsAsked controls seat (Ok after) = (k : ControlValue) → after ≡ record seat { pass = record seat.pass { put = seat.pass.put ++ asked seat.pass.number (record { caller = 1; actor = (slice_index_or controls seat.place k).actor }) ∷ [] } }
-IsAsked controls seat (Err back) = (k : ControlValue) → back ≡ record { caller = 1; actor = (slice_index_or controls seat.place k).actor }
+-- a kill more was asked at the line of a pass, of its actor and in the name of the first caller, or the line handed
+-- that back
+abbrev pub IsAsked : List ControlView → Endpoint (PutterView Asked ℕ) →
+    Result (Endpoint (PutterView Asked ℕ)) KillNote → Type 0
+IsAsked controls endpoint (Ok after) = (k : ControlView) →
+    after ≡ record endpoint {
+      pass = record endpoint.pass {
+        put = endpoint.pass.put
+            ++ kill_by endpoint.pass.number (record { caller = 1; actor = (slice_index_or controls endpoint.place k).actor }) ∷
+            [];
+      };
+    }
+IsAsked controls endpoint (Err back) = (k : ControlView) →
+    back ≡ record { caller = 1; actor = (slice_index_or controls endpoint.place k).actor }
 
 -- the starter may ask for kills: its passes are of the lines at their places, and what comes of them finds room
 pub record CanStop (starter : Starter) : Type 0 where
-  pub sit : All (SitsAtControl starter.controls.now) starter.seats.items
+  pub sit : All (SitsAtControl starter.controls.now) starter.endpoints.items
   pub empty : starter.asked.items ≡ []
-  pub room : vec_len starter.seats ≤ vec_capacity starter.asked
+  pub room : vec_len starter.endpoints ≤ vec_capacity starter.asked
 
 -- it asked for a kill at each line
-abbrev pub HasStopped : Starter → Vec (Result (Seat (PutterValue Asked ℕ)) KillNote) Global → Type 0
-HasStopped starter asked = Each (IsAsked starter.controls.now) starter.seats.items asked.items
+abbrev pub HasAskedAll : Starter → Vec (Result (Endpoint (PutterView Asked ℕ)) KillNote) Global → Type 0
+HasAskedAll starter asked = Each (IsAsked starter.controls.now) starter.endpoints.items kill_by.items

@@ -1,13 +1,12 @@
 //! After the joins the two sides of each line are compared.
 
 ghost use Rattle.std.specs.Prelude.{◌≡◌, map, All, IfOk, OnOk};
-ghost use Rattle.act_executor.specs.Audits.{SitsAtMail, SitsAtControl, SitsAtReplies, LetterTold, KillTold, NoticeTold, CallerTold, HasSeats, left_of};
+ghost use Rattle.act_executor.specs.Audits.{SitsAtMail, SitsAtControl, SitsAtReplies, LetterTold, KillTold, NoticeTold, CallerTold, HasEndpoints, left_of};
 
-use act_drive::{CallerPasses, Driven};
 use crate::opened::Lines;
-use act_mailbox::{Control, ControlCaller, Mail, MailCaller, Replies, ReplyExec};
+use act_drive::{CallerPasses, Driven};
+use act_mailbox::{Control, ControlCaller, Endpoint, Mail, MailCaller, Replies, ReplyExec};
 use act_owner::Owner;
-use act_seats::Seat;
 use act_serve::Finished;
 use act_types::NoMemory;
 use std::alloc::Global;
@@ -16,15 +15,15 @@ use std::sync::Wait;
 fn audit_letter<K, R: Wait>(
     rt: &R,
     mails: &[Mail],
-    seat: Seat<MailCaller>,
+    endpoint: Endpoint<MailCaller>,
     actors: &mut Vec<Finished<K>>,
 )
     requires lines { map (λ mail. mail.line) mails.now ≡ map (λ actor. actor.passes.letters.line) actors.old.items }
-    requires sits { SitsAtMail mails.now seat }
+    requires sits { SitsAtMail mails.now endpoint }
     ensures same { actors.new.items ≡ actors.old.items }
-    ensures told { LetterTold actors.old.items seat }
+    ensures told { LetterTold actors.old.items endpoint }
 {
-    let Seat { place, mut pass } = seat;
+    let Endpoint { place, mut pass } = endpoint;
     mails[place].audit(rt, &mut pass, &mut actors[place].passes.letters);
 }
 
@@ -32,31 +31,32 @@ fn audit_letter<K, R: Wait>(
 pub(crate) fn audit_letters<K, R: Wait>(
     rt: &R,
     mails: &[Mail],
-    seats: Vec<Seat<MailCaller>>,
+    endpoints: Vec<Endpoint<MailCaller>>,
     actors: &mut Vec<Finished<K>>,
 )
     requires lines { map (λ mail. mail.line) mails.now ≡ map (λ actor. actor.passes.letters.line) actors.old.items }
-    requires sit { All (SitsAtMail mails.now) seats.items }
+    requires sit { All (SitsAtMail mails.now) endpoints.items }
     ensures same { actors.new.items ≡ actors.old.items }
-    ensures told { All (LetterTold actors.old.items) seats.items }
+    ensures told { All (LetterTold actors.old.items) endpoints.items }
 {
-    for seat in seats {
-        audit_letter(rt, mails, seat, actors);
+    for endpoint in endpoints {
+        audit_letter(rt, mails, endpoint, actors);
     }
 }
 
 fn audit_kill<K, R: Wait>(
     rt: &R,
     controls: &[Control],
-    seat: Seat<ControlCaller>,
+    endpoint: Endpoint<ControlCaller>,
     actors: &mut Vec<Finished<K>>,
 )
-    requires lines { map (λ control. control.line) controls.now ≡ map (λ actor. actor.passes.kills.line) actors.old.items }
-    requires sits { SitsAtControl controls.now seat }
+    requires lines { map (λ control. control.line) controls.now
+        ≡ map (λ actor. actor.passes.kills.line) actors.old.items }
+    requires sits { SitsAtControl controls.now endpoint }
     ensures same { actors.new.items ≡ actors.old.items }
-    ensures told { KillTold actors.old.items seat }
+    ensures told { KillTold actors.old.items endpoint }
 {
-    let Seat { place, mut pass } = seat;
+    let Endpoint { place, mut pass } = endpoint;
     controls[place].audit(rt, &mut pass, &mut actors[place].passes.kills);
 }
 
@@ -64,50 +64,53 @@ fn audit_kill<K, R: Wait>(
 pub(crate) fn audit_kills<K, R: Wait>(
     rt: &R,
     controls: &[Control],
-    seats: Vec<Seat<ControlCaller>>,
+    endpoints: Vec<Endpoint<ControlCaller>>,
     actors: &mut Vec<Finished<K>>,
 )
-    requires lines { map (λ control. control.line) controls.now ≡ map (λ actor. actor.passes.kills.line) actors.old.items }
-    requires sit { All (SitsAtControl controls.now) seats.items }
+    requires lines { map (λ control. control.line) controls.now
+        ≡ map (λ actor. actor.passes.kills.line) actors.old.items }
+    requires sit { All (SitsAtControl controls.now) endpoints.items }
     ensures same { actors.new.items ≡ actors.old.items }
-    ensures told { All (KillTold actors.old.items) seats.items }
+    ensures told { All (KillTold actors.old.items) endpoints.items }
 {
-    for seat in seats {
-        audit_kill(rt, controls, seat, actors);
+    for endpoint in endpoints {
+        audit_kill(rt, controls, endpoint, actors);
     }
 }
 
 fn audit_notice<R: Wait>(
     rt: &R,
     replies: &[Replies],
-    seat: &mut Seat<ReplyExec>,
+    endpoint: &mut Endpoint<ReplyExec>,
     callers: &mut Vec<Driven>,
 )
-    requires lines { map (λ line. line.line) replies.now ≡ map (λ caller. caller.passes.collects.line) callers.old.items }
-    requires sits { SitsAtReplies replies.now seat.old }
-    ensures same_seat { seat.new ≡ seat.old }
+    requires lines { map (λ line. line.line) replies.now
+        ≡ map (λ caller. caller.passes.collects.line) callers.old.items }
+    requires sits { SitsAtReplies replies.now endpoint.old }
+    ensures same_endpoint { endpoint.new ≡ endpoint.old }
     ensures same { callers.new.items ≡ callers.old.items }
-    ensures told { NoticeTold callers.old.items seat.old }
+    ensures told { NoticeTold callers.old.items endpoint.old }
 {
-    let place = seat.place;
-    replies[place].audit(rt, &mut seat.pass, &mut callers[place].passes.collects);
+    let place = endpoint.place;
+    replies[place].audit(rt, &mut endpoint.pass, &mut callers[place].passes.collects);
 }
 
 /// Compares what an actor gave with what was collected.
 fn audit_notices<R: Wait>(
     rt: &R,
     replies: &[Replies],
-    seats: &mut Vec<Seat<ReplyExec>>,
+    endpoints: &mut Vec<Endpoint<ReplyExec>>,
     callers: &mut Vec<Driven>,
 )
-    requires lines { map (λ line. line.line) replies.now ≡ map (λ caller. caller.passes.collects.line) callers.old.items }
-    requires sit { All (SitsAtReplies replies.now) seats.old.items }
-    ensures same_seats { seats.new.items ≡ seats.old.items }
+    requires lines { map (λ line. line.line) replies.now
+        ≡ map (λ caller. caller.passes.collects.line) callers.old.items }
+    requires sit { All (SitsAtReplies replies.now) endpoints.old.items }
+    ensures same_endpoints { endpoints.new.items ≡ endpoints.old.items }
     ensures same { callers.new.items ≡ callers.old.items }
-    ensures told { All (NoticeTold callers.old.items) seats.old.items }
+    ensures told { All (NoticeTold callers.old.items) endpoints.old.items }
 {
-    for at in 0..seats.len() {
-        audit_notice(rt, replies, &mut seats[at], callers);
+    for at in 0..endpoints.len() {
+        audit_notice(rt, replies, &mut endpoints[at], callers);
     }
 }
 
@@ -118,7 +121,8 @@ pub(crate) fn audit_actors<K, R: Wait>(
     actors: &mut Vec<Finished<K>>,
     callers: &mut Vec<Driven>,
 )
-    requires lines { map (λ line. line.line) replies.now ≡ map (λ caller. caller.passes.collects.line) callers.old.items }
+    requires lines { map (λ line. line.line) replies.now
+        ≡ map (λ caller. caller.passes.collects.line) callers.old.items }
     requires sit { All (λ actor. All (SitsAtReplies replies.now) actor.passes.notices.items) actors.old.items }
     ensures same_actors { map left_of actors.new.items ≡ map left_of actors.old.items }
     ensures same { callers.new.items ≡ callers.old.items }
@@ -138,9 +142,11 @@ pub(crate) fn audit_callers<K, R: Wait>(
     callers: Vec<Driven>,
     actors: &mut Vec<Finished<K>>,
 ) -> Result<Vec<Owner>, NoMemory>
-    requires mails { map (λ mail. mail.line) lines.now.mails.items ≡ map (λ actor. actor.passes.letters.line) actors.old.items }
-    requires controls { map (λ control. control.line) lines.now.controls.items ≡ map (λ actor. actor.passes.kills.line) actors.old.items }
-    requires sit { All (HasSeats lines.now) callers.items }
+    requires mails { map (λ mail. mail.line) lines.now.mails.items
+        ≡ map (λ actor. actor.passes.letters.line) actors.old.items }
+    requires controls { map (λ control. control.line) lines.now.controls.items
+        ≡ map (λ actor. actor.passes.kills.line) actors.old.items }
+    requires sit { All (HasEndpoints lines.now) callers.items }
     ensures same { actors.new.items ≡ actors.old.items }
     ensures told { OnOk result (All (CallerTold actors.old.items) callers.items) }
     ensures owners { IfOk result (λ owners. owners.items ≡ map (λ caller. caller.owner) callers.items) }

@@ -2,13 +2,13 @@
 
 ghost use Rattle.std.specs.Prelude.{◌≡◌, map, None, IfOk, IfErr};
 ghost use Rattle.act_actor.specs.Cast.{IsFitting};
-ghost use Rattle.act_actor.specs.Casts.{casting};
-ghost use Rattle.act_serve.specs.Served.{end_seen};
-ghost use Rattle.act_plans.specs.Parts.{PlansFit};
+ghost use Rattle.act_actor.specs.Casts.{actor_spec};
+ghost use Rattle.act_serve.specs.Served.{end_view};
+ghost use Rattle.act_plans.specs.Setups.{PlansFit};
 ghost use Rattle.act_plans.specs.Runs.{first_bad_plan};
 ghost use Rattle.act_executor.specs.ByCode.{IsJoinedBy};
 ghost use Rattle.act_executor.specs.Conducts.{CodesFit};
-ghost use Rattle.act_executor.specs.Runs.{plan_seen, IsFault};
+ghost use Rattle.act_executor.specs.Runs.{plan_view, IsFault};
 
 use crate::conduct::ByCode;
 use crate::joined::Joined;
@@ -16,8 +16,8 @@ use crate::run::{RunFault, prepare_good, run_prepared};
 use act_actor::Cast;
 use act_drive::Code;
 use act_kinds::Actor;
+use act_mailbox::NoNotes;
 use act_plans::Plan;
-use act_seats::NoNotes;
 use act_serve::Gate;
 use act_types::CallerId;
 use std::alloc::Global;
@@ -40,11 +40,11 @@ pub fn run_callers<R: Threads + Wait + Sync, K: Actor + Send, C: Code + Send, G:
     requires plans { PlansFit casts.items plans.items }
     requires codes { CodesFit casts.items plans.items codes.items }
     ensures joined { IfOk result (λ joined.
-        IsJoinedBy C.tells (map (casting K.state) casts.items) (map plan_seen plans.items) codes.items
-        joined.owners.items (map (λ actor. end_seen K.state actor.ended) joined.actors.items)) }
+        IsJoinedBy C.tells (map (actor_spec K.state) casts.items) (map plan_view plans.items) codes.items
+        joined.owners.items (map (λ actor. end_view K.state actor.ended) joined.actors.items)) }
     ensures good { IfOk result (λ _.
-        first_bad_plan (map (casting K.state) casts.items) (map plan_seen plans.items) ≡ None) }
-    ensures fault { IfErr result (IsFault (map (casting K.state) casts.items) (map plan_seen plans.items)) }
+        first_bad_plan (map (actor_spec K.state) casts.items) (map plan_view plans.items) ≡ None) }
+    ensures fault { IfErr result (IsFault (map (actor_spec K.state) casts.items) (map plan_view plans.items)) }
 {
     let prepared = prepare_good(alloc, casts, plans)?;
     let codes = ByCode { codes };

@@ -3,13 +3,13 @@
 ghost use Rattle.std.specs.Prelude.{◌≡◌, ◌≢◌, ◌==◌, ℕ, None, Option, position};
 ghost use Rattle.act_rules.specs.Plans.{first_bad};
 ghost use Rattle.act_handles.specs.Handles.{actors_in};
-ghost use Rattle.act_drive.specs.Driven.{IsFresh};
+ghost use Rattle.act_drive.specs.Driven.{IsFreshCaller};
 ghost use Rattle.act_executor.specs.ByCode.{code_of};
 ghost use Rattle.act_executor.specs.Conducts.{Doing, does_plan, does_code, HasConducted};
 
 use act_drive::{CallerLines, CallerPasses, Code, Driven, Plan, drive_code, drive_noting};
+use act_mailbox::Notes;
 use act_owner::Owner;
-use act_seats::Notes;
 use act_types::CallerId;
 use std::alloc::Global;
 use std::sync::Wait;
@@ -28,7 +28,7 @@ pub(crate) trait Conduct: Drop {
         passes: CallerPasses,
         notes: &mut N,
     ) -> Driven
-        requires fresh { IsFresh lines.now owner passes }
+        requires fresh { IsFreshCaller lines.now owner passes }
         requires fits { first_bad (actors_in owner.handles) plan.items ≡ None }
         ensures { HasConducted lines.now owner passes (does self plan.items) result };
 }

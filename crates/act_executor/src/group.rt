@@ -1,10 +1,9 @@
 //! Passes of several lines, grouped by whose they are.
 
 ghost use Rattle.std.specs.Prelude.{◌≡◌, ◌≢◌, ℕ, ◌++◌, map, zip, AllPairs, IfOk};
-ghost use Rattle.act_executor.specs.Groups.{seat_at, items_of, group_of};
+ghost use Rattle.act_executor.specs.Groups.{endpoint_at, items_of_vec, group_of};
 
-use act_mailbox::{Putter, ReplyExec};
-use act_seats::Seat;
+use act_mailbox::{Endpoint, Putter, ReplyExec};
 use act_types::NoMemory;
 use std::alloc::Global;
 
@@ -34,36 +33,37 @@ impl Numbered for ReplyExec {
     }
 }
 
-/// The seats, and those of the passes on the line at this place.
-pub(crate) fn seat_all<P: Drop>(
-    mut seats: Vec<Seat<P>>,
+/// The endpoints, and those of the passes on the line at this place.
+pub(crate) fn endpoint_all<P: Drop>(
+    mut endpoints: Vec<Endpoint<P>>,
     place: usize,
     passes: Vec<P>,
-) -> Result<Vec<Seat<P>>, NoMemory>
-    ensures { IfOk result (λ all. all.items ≡ seats.items ++ map (seat_at place) passes.items) }
+) -> Result<Vec<Endpoint<P>>, NoMemory>
+    ensures { IfOk result (λ all. all.items ≡ endpoints.items ++ map (endpoint_at place) passes.items) }
 {
     for pass in passes {
-        seats.push(Seat { place, pass })?;
+        endpoints.push(Endpoint { place, pass })?;
     }
-    Ok(seats)
+    Ok(endpoints)
 }
 
 /// Parts the passes of a number from the others.
-fn part<P: Numbered + Drop>(
+fn setup<P: Numbered + Drop>(
     alloc: Global,
     number: u8,
-    seats: Vec<Seat<P>>,
-) -> Result<(Vec<Seat<P>>, Vec<Seat<P>>), NoMemory>
-    ensures mine { IfOk result (λ parts. parts.0.items ≡ group_of P.number number seats.items) }
-    ensures others { IfOk result (λ parts. (c : ℕ) → c ≢ number → group_of P.number c parts.1.items ≡ group_of P.number c seats.items) }
+    endpoints: Vec<Endpoint<P>>,
+) -> Result<(Vec<Endpoint<P>>, Vec<Endpoint<P>>), NoMemory>
+    ensures mine { IfOk result (λ setups. setups.0.items ≡ group_of P.number number endpoints.items) }
+    ensures others { IfOk result (λ setups. (c : ℕ) → c ≢ number →
+        group_of P.number c setups.1.items ≡ group_of P.number c endpoints.items) }
 {
     let mut mine = Vec::new(alloc);
     let mut others = Vec::new(alloc);
-    for seat in seats {
-        if seat.pass.number() == number {
-            mine.push(seat)?;
+    for endpoint in endpoints {
+        if endpoint.pass.number() == number {
+            mine.push(endpoint)?;
         } else {
-            others.push(seat)?;
+            others.push(endpoint)?;
         }
     }
     Ok((mine, others))
@@ -73,15 +73,16 @@ fn part<P: Numbered + Drop>(
 pub(crate) fn group<P: Numbered + Drop>(
     alloc: Global,
     numbers: &[u8],
-    mut seats: Vec<Seat<P>>,
-) -> Result<Vec<Vec<Seat<P>>>, NoMemory>
+    mut endpoints: Vec<Endpoint<P>>,
+) -> Result<Vec<Vec<Endpoint<P>>>, NoMemory>
     requires { AllPairs (λ one other. one ≢ other) numbers.now }
-    ensures { IfOk result (λ groups. map items_of groups.items ≡ map (λ c. group_of P.number c seats.items) numbers.now) }
+    ensures { IfOk result (λ groups.
+        map items_of_vec groups.items ≡ map (λ c. group_of P.number c endpoints.items) numbers.now) }
 {
     let mut groups = Vec::new(alloc);
     for number in numbers {
-        let (mine, others) = part(alloc, *number, seats)?;
-        seats = others;
+        let (mine, others) = setup(alloc, *number, endpoints)?;
+        endpoints = others;
         groups.push(mine)?;
     }
     Ok(groups)

@@ -2,16 +2,15 @@
 
 ghost use Rattle.std.specs.Prelude.{◌≡◌, map, All, IfOk, false};
 ghost use Rattle.std.specs.List.{list_any};
-ghost use Rattle.act_executor.specs.Audits.{SitsAtControl, SitsAtReplies, HasSeats};
+ghost use Rattle.act_executor.specs.Audits.{SitsAtControl, SitsAtReplies, HasEndpoints};
 ghost use Rattle.act_executor.specs.Joins.{ended_starved, AreCompared};
 
 use crate::audits::{audit_actors, audit_callers, audit_kills};
+use crate::opened::Lines;
 use act_drive::Driven;
 use act_kinds::Boxed;
-use crate::opened::Lines;
-use act_mailbox::ControlCaller;
+use act_mailbox::{ControlCaller, Endpoint};
 use act_owner::Owner;
-use act_seats::Seat;
 use act_serve::{Ended, Finished};
 use act_types::NoMemory;
 use std::alloc::Global;
@@ -29,7 +28,7 @@ pub struct Joined<K = Boxed> {
 pub(crate) struct Ends<K> {
     pub(crate) actors: Vec<Finished<K>>,
     pub(crate) callers: Vec<Driven>,
-    pub(crate) starters: Vec<Seat<ControlCaller>>,
+    pub(crate) starters: Vec<Endpoint<ControlCaller>>,
 }
 
 fn is_starved<K>(ended: &Ended<K>) -> bool
@@ -62,11 +61,15 @@ pub(crate) fn settle<K: Drop, R: Wait>(
     lines: &Lines,
     ends: Ends<K>,
 ) -> Result<Joined<K>, NoMemory>
-    requires mails { map (λ mail. mail.line) lines.now.mails.items ≡ map (λ actor. actor.passes.letters.line) ends.actors.items }
-    requires controls { map (λ control. control.line) lines.now.controls.items ≡ map (λ actor. actor.passes.kills.line) ends.actors.items }
-    requires replies { map (λ line. line.line) lines.now.replies.items ≡ map (λ caller. caller.passes.collects.line) ends.callers.items }
-    requires actors { All (λ actor. All (SitsAtReplies lines.now.replies.items) actor.passes.notices.items) ends.actors.items }
-    requires callers { All (HasSeats lines.now) ends.callers.items }
+    requires mails { map (λ mail. mail.line) lines.now.mails.items
+        ≡ map (λ actor. actor.passes.letters.line) ends.actors.items }
+    requires controls { map (λ control. control.line) lines.now.controls.items
+        ≡ map (λ actor. actor.passes.kills.line) ends.actors.items }
+    requires replies { map (λ line. line.line) lines.now.replies.items
+        ≡ map (λ caller. caller.passes.collects.line) ends.callers.items }
+    requires actors { All (λ actor.
+        All (SitsAtReplies lines.now.replies.items) actor.passes.notices.items) ends.actors.items }
+    requires callers { All (HasEndpoints lines.now) ends.callers.items }
     requires starters { All (SitsAtControl lines.now.controls.items) ends.starters.items }
     ensures { IfOk result (λ joined. AreCompared ends joined) }
 {

@@ -15,11 +15,11 @@ mod starter;
 mod work;
 
 pub use act_drive::{
-    CallerLines, CallerPasses, Code, Driven, GaveUp, KillRefusal, MOST_KILLS, Session, WaitRefusal,
+    CallerLines, CallerPasses, Code, Driven, GaveUp, KillRefusal, MAX_KILLS, Session, WaitRefusal,
     drive, drive_code,
 };
+pub use act_mailbox::{Mark, NoNotes, Notes, Page};
 pub use act_plans::{Plan, plans_fit};
-pub use act_seats::{Mark, NoNotes, Notes, Page};
 pub use act_serve::{Ended, ExecLines, ExecPasses, Finished, Gate, NoGate, serve};
 pub use by_code::run_callers;
 pub use fitting::codes_fit;

@@ -6,20 +6,19 @@ ghost use Rattle.act_actor.specs.Cast.{CallersDiffer};
 ghost use Rattle.act_mailbox.specs.Controls.{starter};
 ghost use Rattle.act_mailbox.specs.Passes.{new_putter};
 ghost use Rattle.act_mailbox.specs.Notices.{new_exec};
-ghost use Rattle.act_plans.specs.Parts.{AreMatched};
-ghost use Rattle.act_executor.specs.Groups.{items_of, group_of, seats_from};
+ghost use Rattle.act_plans.specs.Setups.{AreMatched};
+ghost use Rattle.act_executor.specs.Groups.{items_of_vec, group_of, endpoints_from};
 ghost use Rattle.act_executor.specs.Opened.{AreOpened};
 
-use crate::group::{group, pair, seat_all};
+use crate::group::{endpoint_all, group, pair};
 use crate::opened::{Lines, Opened};
 use act_actor::Cast;
 use act_drive::CallerPasses;
 use act_mailbox::{
-    Control, ControlCaller, ControlExec, Mail, MailCaller, MailExec, Replies, ReplyCaller,
-    ReplyExec,
+    Control, ControlCaller, ControlExec, Endpoint, Mail, MailCaller, MailExec, Replies,
+    ReplyCaller, ReplyExec,
 };
-use act_plans::Part;
-use act_seats::Seat;
+use act_plans::CallerSetup;
 use act_serve::ExecPasses;
 use act_types::NoMemory;
 use std::alloc::Global;
@@ -29,7 +28,7 @@ use std::alloc::Global;
 struct Mails {
     lines: Vec<Mail>,
     execs: Vec<MailExec>,
-    seats: Vec<Seat<MailCaller>>,
+    endpoints: Vec<Endpoint<MailCaller>>,
 }
 
 /// The same of control lines, and the starter's passes.
@@ -37,7 +36,7 @@ struct Mails {
 struct Controls {
     lines: Vec<Control>,
     execs: Vec<ControlExec>,
-    seats: Vec<Seat<ControlCaller>>,
+    endpoints: Vec<Endpoint<ControlCaller>>,
     starters: Vec<ControlCaller>,
 }
 
@@ -46,52 +45,60 @@ struct Controls {
 struct AllReplies {
     lines: Vec<Replies>,
     callers: Vec<ReplyCaller>,
-    seats: Vec<Seat<ReplyExec>>,
+    endpoints: Vec<Endpoint<ReplyExec>>,
 }
 
 /// Opens a mail line for each cast.
 fn open_mails<K>(alloc: Global, casts: &[Cast<K>]) -> Result<Mails, NoMemory>
     requires differ { All (λ cast. CallersDiffer cast.callers) casts.now }
-    ensures actors { IfOk result (λ opened. map (λ mail. mail.actor) opened.lines.items ≡ map (λ cast. cast.actor) casts.now) }
-    ensures lines { IfOk result (λ opened. map (λ exec. exec.line) opened.execs.items ≡ map (λ mail. mail.line) opened.lines.items) }
+    ensures actors { IfOk result (λ opened.
+        map (λ mail. mail.actor) opened.lines.items ≡ map (λ cast. cast.actor) casts.now) }
+    ensures lines { IfOk result (λ opened.
+        map (λ exec. exec.line) opened.execs.items ≡ map (λ mail. mail.line) opened.lines.items) }
     ensures unused { IfOk result (λ opened. All (λ exec. exec.taken ≡ []) opened.execs.items) }
-    ensures seats { IfOk result (λ opened.
-        opened.seats.items ≡
-        seats_from new_putter 0 (map (λ mail. mail.line) opened.lines.items) (map (λ cast. cast.callers) casts.now)) }
+    ensures endpoints { IfOk result (λ opened.
+        opened.endpoints.items ≡
+        endpoints_from new_putter 0 (map (λ mail. mail.line) opened.lines.items)
+        (map (λ cast. cast.callers) casts.now)) }
 {
     let mut lines = Vec::new(alloc);
     let mut execs = Vec::new(alloc);
-    let mut seats = Vec::new(alloc);
+    let mut endpoints = Vec::new(alloc);
     for (place, cast) in casts.iter().enumerate() {
         let (line, passes, exec) = Mail::open(alloc, cast.actor, cast.callers.as_slice())?;
         lines.push(line)?;
         execs.push(exec)?;
-        seats = seat_all(seats, place, passes)?;
+        endpoints = endpoint_all(endpoints, place, passes)?;
     }
     Ok(Mails {
         lines,
         execs,
-        seats,
+        endpoints,
     })
 }
 
 /// Opens a control line for each cast.
 fn open_controls<K>(alloc: Global, casts: &[Cast<K>]) -> Result<Controls, NoMemory>
     requires differ { All (λ cast. CallersDiffer cast.callers) casts.now }
-    ensures actors { IfOk result (λ opened. map (λ control. control.actor) opened.lines.items ≡ map (λ cast. cast.actor) casts.now) }
-    ensures lines { IfOk result (λ opened. map (λ exec. exec.line) opened.execs.items ≡ map (λ control. control.line) opened.lines.items) }
-    ensures execs { IfOk result (λ opened. map (λ exec. exec.actor) opened.execs.items ≡ map (λ cast. cast.actor) casts.now) }
-    ensures askers { IfOk result (λ opened. map (λ exec. exec.askers) opened.execs.items ≡ map (λ cast. starter ∷ cast.callers) casts.now) }
+    ensures actors { IfOk result (λ opened.
+        map (λ control. control.actor) opened.lines.items ≡ map (λ cast. cast.actor) casts.now) }
+    ensures lines { IfOk result (λ opened.
+        map (λ exec. exec.line) opened.execs.items ≡ map (λ control. control.line) opened.lines.items) }
+    ensures execs { IfOk result (λ opened.
+        map (λ exec. exec.actor) opened.execs.items ≡ map (λ cast. cast.actor) casts.now) }
+    ensures askers { IfOk result (λ opened.
+        map (λ exec. exec.askers) opened.execs.items ≡ map (λ cast. starter ∷ cast.callers) casts.now) }
     ensures unused { IfOk result (λ opened. All (λ exec. (exec.taken ≡ []) × (exec.lengths ≡ [])) opened.execs.items) }
-    ensures starters { IfOk result (λ opened. opened.starters.items ≡ map (λ control. new_putter control.line starter) opened.lines.items) }
-    ensures seats { IfOk result (λ opened.
-        opened.seats.items ≡
-        seats_from new_putter 0 (map (λ control. control.line) opened.lines.items)
+    ensures starters { IfOk result (λ opened.
+        opened.starters.items ≡ map (λ control. new_putter control.line starter) opened.lines.items) }
+    ensures endpoints { IfOk result (λ opened.
+        opened.endpoints.items ≡
+        endpoints_from new_putter 0 (map (λ control. control.line) opened.lines.items)
         (map (λ cast. cast.callers) casts.now)) }
 {
     let mut lines = Vec::new(alloc);
     let mut execs = Vec::new(alloc);
-    let mut seats = Vec::new(alloc);
+    let mut endpoints = Vec::new(alloc);
     let mut starters = Vec::new(alloc);
     for (place, cast) in casts.iter().enumerate() {
         let (line, passes, starter, exec) = Control::open(
@@ -102,40 +109,42 @@ fn open_controls<K>(alloc: Global, casts: &[Cast<K>]) -> Result<Controls, NoMemo
         lines.push(line)?;
         execs.push(exec)?;
         starters.push(starter)?;
-        seats = seat_all(seats, place, passes)?;
+        endpoints = endpoint_all(endpoints, place, passes)?;
     }
     Ok(Controls {
         lines,
         execs,
-        seats,
+        endpoints,
         starters,
     })
 }
 
 /// Opens a reply line for each part.
-fn open_replies(alloc: Global, parts: &[Part]) -> Result<AllReplies, NoMemory>
-    requires differ { All (λ part. CallersDiffer part.actors.items) parts.now }
-    ensures names { IfOk result (λ opened. map (λ line. line.caller) opened.lines.items ≡ map (λ part. part.caller) parts.now) }
-    ensures lines { IfOk result (λ opened. map (λ caller. caller.line) opened.callers.items ≡ map (λ line. line.line) opened.lines.items) }
+fn open_replies(alloc: Global, setups: &[CallerSetup]) -> Result<AllReplies, NoMemory>
+    requires differ { All (λ setup. CallersDiffer setup.actors.items) setups.now }
+    ensures names { IfOk result (λ opened.
+        map (λ line. line.caller) opened.lines.items ≡ map (λ setup. setup.caller) setups.now) }
+    ensures lines { IfOk result (λ opened.
+        map (λ caller. caller.line) opened.callers.items ≡ map (λ line. line.line) opened.lines.items) }
     ensures unused { IfOk result (λ opened. All (λ caller. caller.taken ≡ []) opened.callers.items) }
-    ensures seats { IfOk result (λ opened.
-        opened.seats.items ≡
-        seats_from new_exec 0 (map (λ line. line.line) opened.lines.items)
-        (map (λ part. part.actors.items) parts.now)) }
+    ensures endpoints { IfOk result (λ opened.
+        opened.endpoints.items ≡
+        endpoints_from new_exec 0 (map (λ line. line.line) opened.lines.items)
+        (map (λ setup. setup.actors.items) setups.now)) }
 {
     let mut lines = Vec::new(alloc);
     let mut callers = Vec::new(alloc);
-    let mut seats = Vec::new(alloc);
-    for (place, part) in parts.iter().enumerate() {
-        let (line, passes, caller) = Replies::open(alloc, part.caller, part.actors.as_slice())?;
+    let mut endpoints = Vec::new(alloc);
+    for (place, setup) in setups.iter().enumerate() {
+        let (line, passes, caller) = Replies::open(alloc, setup.caller, setup.actors.as_slice())?;
         lines.push(line)?;
         callers.push(caller)?;
-        seats = seat_all(seats, place, passes)?;
+        endpoints = endpoint_all(endpoints, place, passes)?;
     }
     Ok(AllReplies {
         lines,
         callers,
-        seats,
+        endpoints,
     })
 }
 
@@ -144,13 +153,15 @@ fn exec_passes(
     alloc: Global,
     letters: Vec<MailExec>,
     kills: Vec<ControlExec>,
-    notices: Vec<Vec<Seat<ReplyExec>>>,
-) -> Result<Vec<Seat<ExecPasses>>, NoMemory>
+    notices: Vec<Vec<Endpoint<ReplyExec>>>,
+) -> Result<Vec<Endpoint<ExecPasses>>, NoMemory>
     requires long { (length kills.items ≡ length letters.items) × (length notices.items ≡ length letters.items) }
-    ensures places { IfOk result (λ execs. map (λ exec. exec.place) execs.items ≡ range_with_len 0 (length execs.items)) }
+    ensures places { IfOk result (λ execs.
+        map (λ exec. exec.place) execs.items ≡ range_with_len 0 (length execs.items)) }
     ensures letters { IfOk result (λ execs. map (λ exec. exec.pass.letters) execs.items ≡ letters.items) }
     ensures kills { IfOk result (λ execs. map (λ exec. exec.pass.kills) execs.items ≡ kills.items) }
-    ensures notices { IfOk result (λ execs. map (λ exec. exec.pass.notices.items) execs.items ≡ map items_of notices.items) }
+    ensures notices { IfOk result (λ execs.
+        map (λ exec. exec.pass.notices.items) execs.items ≡ map items_of_vec notices.items) }
 {
     let passes = pair(alloc, pair(alloc, letters, kills)?, notices)?;
     let mut execs = Vec::new(alloc);
@@ -161,7 +172,7 @@ fn exec_passes(
             kills,
             notices,
         };
-        execs.push(Seat { place, pass })?;
+        execs.push(Endpoint { place, pass })?;
     }
     Ok(execs)
 }
@@ -169,14 +180,17 @@ fn exec_passes(
 /// The callers' passes, one by one.
 fn caller_passes(
     alloc: Global,
-    letters: Vec<Vec<Seat<MailCaller>>>,
-    kills: Vec<Vec<Seat<ControlCaller>>>,
+    letters: Vec<Vec<Endpoint<MailCaller>>>,
+    kills: Vec<Vec<Endpoint<ControlCaller>>>,
     collects: Vec<ReplyCaller>,
-) -> Result<Vec<Seat<CallerPasses>>, NoMemory>
+) -> Result<Vec<Endpoint<CallerPasses>>, NoMemory>
     requires long { (length kills.items ≡ length letters.items) × (length collects.items ≡ length letters.items) }
-    ensures places { IfOk result (λ callers. map (λ caller. caller.place) callers.items ≡ range_with_len 0 (length callers.items)) }
-    ensures letters { IfOk result (λ callers. map (λ caller. caller.pass.letters.items) callers.items ≡ map items_of letters.items) }
-    ensures kills { IfOk result (λ callers. map (λ caller. caller.pass.kills.items) callers.items ≡ map items_of kills.items) }
+    ensures places { IfOk result (λ callers.
+        map (λ caller. caller.place) callers.items ≡ range_with_len 0 (length callers.items)) }
+    ensures letters { IfOk result (λ callers.
+        map (λ caller. caller.pass.letters.items) callers.items ≡ map items_of_vec letters.items) }
+    ensures kills { IfOk result (λ callers.
+        map (λ caller. caller.pass.kills.items) callers.items ≡ map items_of_vec kills.items) }
     ensures collects { IfOk result (λ callers. map (λ caller. caller.pass.collects) callers.items ≡ collects.items) }
 {
     let passes = pair(alloc, pair(alloc, letters, kills)?, collects)?;
@@ -188,7 +202,7 @@ fn caller_passes(
             kills,
             collects,
         };
-        callers.push(Seat { place, pass })?;
+        callers.push(Endpoint { place, pass })?;
     }
     Ok(callers)
 }
@@ -202,12 +216,12 @@ fn actor_numbers<K>(alloc: Global, casts: &[Cast<K>]) -> Result<Vec<u8>, NoMemor
 }
 
 /// The callers' numbers.
-fn caller_numbers(alloc: Global, parts: &[Part]) -> Result<Vec<u8>, NoMemory>
-    ensures { IfOk result (λ numbers. numbers.items ≡ map (λ part. part.caller) parts.now) }
+fn caller_numbers(alloc: Global, setups: &[CallerSetup]) -> Result<Vec<u8>, NoMemory>
+    ensures { IfOk result (λ numbers. numbers.items ≡ map (λ setup. setup.caller) setups.now) }
 {
-    let numbers = parts
+    let numbers = setups
         .iter()
-        .map(|part| part.caller.number())
+        .map(|setup| setup.caller.number())
         .collect(alloc)?;
     Ok(numbers)
 }
@@ -218,19 +232,20 @@ fn deal_execs<K>(
     casts: &[Cast<K>],
     letters: Vec<MailExec>,
     kills: Vec<ControlExec>,
-    seats: Vec<Seat<ReplyExec>>,
-) -> Result<Vec<Seat<ExecPasses>>, NoMemory>
+    endpoints: Vec<Endpoint<ReplyExec>>,
+) -> Result<Vec<Endpoint<ExecPasses>>, NoMemory>
     requires differ { AllPairs (λ one other. one.actor ≢ other.actor) casts.now }
     requires long { (length letters.items ≡ length casts.now) × (length kills.items ≡ length casts.now) }
-    ensures places { IfOk result (λ execs. map (λ exec. exec.place) execs.items ≡ range_with_len 0 (length execs.items)) }
+    ensures places { IfOk result (λ execs.
+        map (λ exec. exec.place) execs.items ≡ range_with_len 0 (length execs.items)) }
     ensures letters { IfOk result (λ execs. map (λ exec. exec.pass.letters) execs.items ≡ letters.items) }
     ensures kills { IfOk result (λ execs. map (λ exec. exec.pass.kills) execs.items ≡ kills.items) }
     ensures notices { IfOk result (λ execs.
         map (λ exec. exec.pass.notices.items) execs.items ≡
-        map (λ cast. group_of (λ pass. pass.actor) cast.actor seats.items) casts.now) }
+        map (λ cast. group_of (λ pass. pass.actor) cast.actor endpoints.items) casts.now) }
 {
     let actors = actor_numbers(alloc, casts)?;
-    let notices = group(alloc, actors.as_slice(), seats)?;
+    let notices = group(alloc, actors.as_slice(), endpoints)?;
     let execs = exec_passes(alloc, letters, kills, notices)?;
     Ok(execs)
 }
@@ -238,23 +253,24 @@ fn deal_execs<K>(
 /// The callers' passes, of which those on the actors' lines are each caller's own.
 fn deal_callers(
     alloc: Global,
-    parts: &[Part],
-    letters: Vec<Seat<MailCaller>>,
-    kills: Vec<Seat<ControlCaller>>,
+    setups: &[CallerSetup],
+    letters: Vec<Endpoint<MailCaller>>,
+    kills: Vec<Endpoint<ControlCaller>>,
     collects: Vec<ReplyCaller>,
-) -> Result<Vec<Seat<CallerPasses>>, NoMemory>
-    requires differ { AllPairs (λ one other. one.caller ≢ other.caller) parts.now }
-    requires long { length collects.items ≡ length parts.now }
-    ensures places { IfOk result (λ callers. map (λ caller. caller.place) callers.items ≡ range_with_len 0 (length callers.items)) }
+) -> Result<Vec<Endpoint<CallerPasses>>, NoMemory>
+    requires differ { AllPairs (λ one other. one.caller ≢ other.caller) setups.now }
+    requires long { length collects.items ≡ length setups.now }
+    ensures places { IfOk result (λ callers.
+        map (λ caller. caller.place) callers.items ≡ range_with_len 0 (length callers.items)) }
     ensures letters { IfOk result (λ callers.
         map (λ caller. caller.pass.letters.items) callers.items ≡
-        map (λ part. group_of (λ pass. pass.number) part.caller letters.items) parts.now) }
+        map (λ setup. group_of (λ pass. pass.number) setup.caller letters.items) setups.now) }
     ensures kills { IfOk result (λ callers.
         map (λ caller. caller.pass.kills.items) callers.items ≡
-        map (λ part. group_of (λ pass. pass.number) part.caller kills.items) parts.now) }
+        map (λ setup. group_of (λ pass. pass.number) setup.caller kills.items) setups.now) }
     ensures collects { IfOk result (λ callers. map (λ caller. caller.pass.collects) callers.items ≡ collects.items) }
 {
-    let callers = caller_numbers(alloc, parts)?;
+    let callers = caller_numbers(alloc, setups)?;
     let letters = group(alloc, callers.as_slice(), letters)?;
     let kills = group(alloc, callers.as_slice(), kills)?;
     let callers = caller_passes(alloc, letters, kills, collects)?;
@@ -262,15 +278,25 @@ fn deal_callers(
 }
 
 /// Opens all lines of a run, with the passes of each executor, of each caller and of the starter.
-pub fn open_lines<K>(alloc: Global, casts: &[Cast<K>], parts: &[Part]) -> Result<Opened, NoMemory>
-    requires matched { AreMatched casts.now parts.now }
-    ensures { IfOk result (λ opened. AreOpened casts.now parts.now opened) }
+pub fn open_lines<K>(
+    alloc: Global,
+    casts: &[Cast<K>],
+    setups: &[CallerSetup],
+) -> Result<Opened, NoMemory>
+    requires matched { AreMatched casts.now setups.now }
+    ensures { IfOk result (λ opened. AreOpened casts.now setups.now opened) }
 {
     let mails = open_mails(alloc, casts)?;
     let controls = open_controls(alloc, casts)?;
-    let replies = open_replies(alloc, parts)?;
-    let execs = deal_execs(alloc, casts, mails.execs, controls.execs, replies.seats)?;
-    let callers = deal_callers(alloc, parts, mails.seats, controls.seats, replies.callers)?;
+    let replies = open_replies(alloc, setups)?;
+    let execs = deal_execs(alloc, casts, mails.execs, controls.execs, replies.endpoints)?;
+    let callers = deal_callers(
+        alloc,
+        setups,
+        mails.endpoints,
+        controls.endpoints,
+        replies.callers,
+    )?;
     let lines = Lines {
         mails: mails.lines,
         controls: controls.lines,

@@ -1,8 +1,7 @@
 //! The lines of all actors and callers, and who has which passes.
 
 use act_drive::CallerPasses;
-use act_mailbox::{Control, ControlCaller, Mail, Replies};
-use act_seats::Seat;
+use act_mailbox::{Control, ControlCaller, Endpoint, Mail, Replies};
 use act_serve::ExecPasses;
 
 /// The mail and control lines stand by the places of the casts, the reply lines by those of the parts.
@@ -18,7 +17,7 @@ pub struct Lines {
 #[derive(Drop)]
 pub struct Opened {
     pub lines: Lines,
-    pub execs: Vec<Seat<ExecPasses>>,
-    pub callers: Vec<Seat<CallerPasses>>,
+    pub execs: Vec<Endpoint<ExecPasses>>,
+    pub callers: Vec<Endpoint<CallerPasses>>,
     pub starters: Vec<ControlCaller>,
 }

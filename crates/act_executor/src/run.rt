@@ -3,31 +3,30 @@
 ghost use Rattle.std.specs.Prelude.{◌≡◌, ◌<◌, length, map, All, None, IfOk, IfErr};
 ghost use Rattle.act_rules.specs.Plans.{first_bad};
 ghost use Rattle.act_actor.specs.Cast.{IsFitting, CallersDiffer};
-ghost use Rattle.act_actor.specs.Casts.{casting};
+ghost use Rattle.act_actor.specs.Casts.{actor_spec};
 ghost use Rattle.act_mailbox.specs.Passes.{new_putter};
 ghost use Rattle.act_mailbox.specs.Controls.{starter};
 ghost use Rattle.act_tasks.specs.Each.{Each, EachReady};
-ghost use Rattle.act_serve.specs.Served.{end_seen};
-ghost use Rattle.act_plans.specs.Parts.{PlansFit, AreMatched, HasLimits};
+ghost use Rattle.act_serve.specs.Served.{end_view};
+ghost use Rattle.act_plans.specs.Setups.{PlansFit, AreMatched, HasLimits};
 ghost use Rattle.act_plans.specs.Runs.{first_bad_plan};
 ghost use Rattle.act_executor.specs.Opened.{IsExec, IsCaller};
 ghost use Rattle.act_executor.specs.Joined.{IsJoined};
 ghost use Rattle.act_executor.specs.Joins.{AreServed, AreDriven, AreStarters};
-ghost use Rattle.act_executor.specs.Work.{IsReady, IsServedBy, CanDrive, IsDrivenBy, CanStop};
-ghost use Rattle.act_executor.specs.Runs.{plan_seen, HasRun, IsPrepared, IsFault, IsThreadFault, fault_of};
+ghost use Rattle.act_executor.specs.Work.{CanServe, IsServedBy, CanDrive, IsDrivenTo, CanStop};
+ghost use Rattle.act_executor.specs.Runs.{plan_view, HasRunPlans, IsPrepared, IsFault, IsThreadFault, fault_of};
 
 use crate::conduct::{ByPlan, Conduct, Conducts};
 use crate::joined::{Ends, Joined, settle};
+use crate::open::open_lines;
+use crate::opened::{Lines, Opened};
 use crate::starter::{Starter, starter_at};
 use crate::work::{Driving, Serving, drivings, servings};
 use act_actor::Cast;
 use act_drive::{CallerPasses, Driven};
 use act_kinds::Actor;
-use crate::open::open_lines;
-use crate::opened::{Lines, Opened};
-use act_mailbox::ControlCaller;
-use act_plans::{Part, Plan, Prepared, first_bad_part, prepare};
-use act_seats::{NoNotes, Notes, Seat};
+use act_mailbox::{ControlCaller, Endpoint, NoNotes, Notes};
+use act_plans::{CallerSetup, Plan, Prepared, first_bad_setup, prepare};
 use act_serve::{ExecPasses, Finished, Gate};
 use act_tasks::{Refusal, run_both};
 use act_types::{CallerId, NoMemory};
@@ -122,14 +121,14 @@ pub struct Pages<N> {
 /// The passes of the executors, of the callers and of the starter.
 #[derive(Drop)]
 struct Passes {
-    execs: Vec<Seat<ExecPasses>>,
-    callers: Vec<Seat<CallerPasses>>,
+    execs: Vec<Endpoint<ExecPasses>>,
+    callers: Vec<Endpoint<CallerPasses>>,
     starters: Vec<ControlCaller>,
 }
 
 /// The firsts and the seconds of pairs.
 fn parted<X: Drop, Y: Drop>(alloc: Global, pairs: Vec<(X, Y)>) -> Result<(Vec<X>, Vec<Y>), NoMemory>
-    ensures { IfOk result (λ parts. parts.0.items ≡ map (λ pair. pair.0) pairs.items) }
+    ensures { IfOk result (λ setups. setups.0.items ≡ map (λ pair. pair.0) pairs.items) }
 {
     let mut firsts = Vec::new(alloc);
     let mut seconds = Vec::new(alloc);
@@ -155,22 +154,22 @@ fn run_tasks<
     drivings: Vec<Driving<D, N>>,
     starter: Starter,
 ) -> Result<(Ends<K>, Pages<N>), RunFault>
-    requires servings { All (IsReady K.state) servings.items }
+    requires servings { All (CanServe K.state) servings.items }
     requires drivings { All CanDrive drivings.items }
     requires starter { CanStop starter }
     ensures actors { IfOk result (λ ran. Each (IsServedBy K.state) servings.entry.items ran.0.actors.items) }
-    ensures callers { IfOk result (λ ran. Each (IsDrivenBy D.does) drivings.entry.items ran.0.callers.items) }
-    ensures starters { IfOk result (λ ran. ran.0.starters.items ≡ starter.entry.seats.items) }
+    ensures callers { IfOk result (λ ran. Each (IsDrivenTo D.does) drivings.entry.items ran.0.callers.items) }
+    ensures starters { IfOk result (λ ran. ran.0.starters.items ≡ starter.entry.endpoints.items) }
     ensures fault { IfErr result IsThreadFault }
 {
     let (served, driven, starter) = run_both(rt, alloc, servings, drivings, starter)?;
-    let Starter { seats, .. } = starter;
+    let Starter { endpoints, .. } = starter;
     let (actors, of_actors) = parted(alloc, served)?;
     let (callers, of_callers) = parted(alloc, driven)?;
     let ends = Ends {
         actors,
         callers,
-        starters: seats,
+        starters: endpoints,
     };
     let pages = Pages {
         of_callers,
@@ -195,28 +194,32 @@ fn run_threads<
     passes: Passes,
     gate: &G,
 ) -> Result<(Ends<K>, Pages<N>), RunFault>
-    requires matched { AreMatched prepared.casts.items prepared.parts.items }
-    requires limits { All HasLimits prepared.parts.items }
-    requires fits { All (λ part. first_bad part.actors.items part.plan.items ≡ None) prepared.parts.items }
+    requires matched { AreMatched prepared.casts.items prepared.setups.items }
+    requires limits { All HasLimits prepared.setups.items }
+    requires fits { All (λ setup. first_bad setup.actors.items setup.plan.items ≡ None) prepared.setups.items }
     requires exec_places { All (λ exec. (exec.place < length lines.now.mails.items) ×
         (exec.place < length lines.now.controls.items)) passes.execs.items }
     requires execs { Each (IsExec lines.now) prepared.casts.items passes.execs.items }
     requires caller_places { All (λ caller. caller.place < length lines.now.replies.items) passes.callers.items }
-    requires callers { Each (IsCaller lines.now) prepared.parts.items passes.callers.items }
-    requires starters { passes.starters.items ≡ map (λ control. new_putter control.line starter) lines.now.controls.items }
-    ensures actors { IfOk result (λ ran. AreServed K.state lines.now prepared.casts.items passes.execs.items ran.0.actors.items) }
-    ensures callers { IfOk result (λ ran. AreDriven lines.now (λ c. D.One.does (D.of conducts c)) prepared.parts.items passes.callers.items ran.0.callers.items) }
+    requires callers { Each (IsCaller lines.now) prepared.setups.items passes.callers.items }
+    requires starters { passes.starters.items
+        ≡ map (λ control. new_putter control.line starter) lines.now.controls.items }
+    ensures actors { IfOk result (λ ran.
+        AreServed K.state lines.now prepared.casts.items passes.execs.items ran.0.actors.items) }
+    ensures callers { IfOk result (λ ran.
+        AreDriven lines.now (λ c.
+        D.One.does (D.of conducts c)) prepared.setups.items passes.callers.items ran.0.callers.items) }
     ensures starters { IfOk result (λ ran. AreStarters lines.now.controls.items ran.0.starters.items) }
     ensures fault { IfErr result IsThreadFault }
 {
-    let Prepared { casts, parts } = prepared;
+    let Prepared { casts, setups } = prepared;
     let Passes {
         execs,
         callers,
         starters,
     } = passes;
     let servings = servings(alloc, casts, lines, execs, gate)?;
-    let drivings = drivings(alloc, parts, conducts, lines, callers)?;
+    let drivings = drivings(alloc, setups, conducts, lines, callers)?;
     let starter = starter_at(alloc, lines.controls.as_slice(), starters)?;
     let ran = run_tasks(rt, alloc, servings, drivings, starter)?;
     Ok(ran)
@@ -236,13 +239,13 @@ pub(crate) fn run_prepared<
     conducts: D,
     gate: &G,
 ) -> Result<(Joined<K>, Pages<N>), RunFault>
-    requires matched { AreMatched prepared.casts.items prepared.parts.items }
-    requires limits { All HasLimits prepared.parts.items }
-    requires fits { All (λ part. first_bad part.actors.items part.plan.items ≡ None) prepared.parts.items }
-    ensures joined { IfOk result (λ ran. HasRun K.state (λ c. D.One.does (D.of conducts c)) prepared ran.0) }
+    requires matched { AreMatched prepared.casts.items prepared.setups.items }
+    requires limits { All HasLimits prepared.setups.items }
+    requires fits { All (λ setup. first_bad setup.actors.items setup.plan.items ≡ None) prepared.setups.items }
+    ensures joined { IfOk result (λ ran. HasRunPlans K.state (λ c. D.One.does (D.of conducts c)) prepared ran.0) }
     ensures fault { IfErr result IsThreadFault }
 {
-    let opened = open_lines(alloc, prepared.casts.as_slice(), prepared.parts.as_slice())?;
+    let opened = open_lines(alloc, prepared.casts.as_slice(), prepared.setups.as_slice())?;
     let Opened {
         lines,
         execs,
@@ -269,10 +272,10 @@ pub(crate) fn prepare_good<K: Actor>(
     requires fit { IsFitting casts.items }
     requires plans { PlansFit casts.items plans.items }
     ensures prepared { IfOk result (IsPrepared K.state casts.items plans.items) }
-    ensures fault { IfErr result (IsFault (map (casting K.state) casts.items) (map plan_seen plans.items)) }
+    ensures fault { IfErr result (IsFault (map (actor_spec K.state) casts.items) (map plan_view plans.items)) }
 {
     let prepared = prepare(alloc, casts, plans)?;
-    if let Some(bad) = first_bad_part(alloc, prepared.parts.as_slice())? {
+    if let Some(bad) = first_bad_setup(alloc, prepared.setups.as_slice())? {
         return Err(RunFault::BadPlan(bad.0, bad.1));
     }
     Ok(prepared)
@@ -291,10 +294,11 @@ pub fn run_plans_noting<R: Threads + Wait + Sync, K: Actor + Send, G: Gate, N: N
     requires fit { IsFitting casts.items }
     requires plans { PlansFit casts.items plans.items }
     ensures joined { IfOk result (λ ran.
-        IsJoined (map (casting K.state) casts.items) (map plan_seen plans.items) ran.0.owners.items
-        (map (λ actor. end_seen K.state actor.ended) ran.0.actors.items)) }
-    ensures good { IfOk result (λ _. first_bad_plan (map (casting K.state) casts.items) (map plan_seen plans.items) ≡ None) }
-    ensures fault { IfErr result (IsFault (map (casting K.state) casts.items) (map plan_seen plans.items)) }
+        IsJoined (map (actor_spec K.state) casts.items) (map plan_view plans.items) ran.0.owners.items
+        (map (λ actor. end_view K.state actor.ended) ran.0.actors.items)) }
+    ensures good { IfOk result (λ _.
+        first_bad_plan (map (actor_spec K.state) casts.items) (map plan_view plans.items) ≡ None) }
+    ensures fault { IfErr result (IsFault (map (actor_spec K.state) casts.items) (map plan_view plans.items)) }
 {
     let prepared = prepare_good(alloc, casts, plans)?;
     let ran = run_prepared(rt, alloc, prepared, ByPlan, gate)?;
@@ -312,10 +316,11 @@ pub fn run_plans<R: Threads + Wait + Sync, K: Actor + Send, G: Gate>(
     requires fit { IsFitting casts.items }
     requires plans { PlansFit casts.items plans.items }
     ensures joined { IfOk result (λ joined.
-        IsJoined (map (casting K.state) casts.items) (map plan_seen plans.items) joined.owners.items
-        (map (λ actor. end_seen K.state actor.ended) joined.actors.items)) }
-    ensures good { IfOk result (λ _. first_bad_plan (map (casting K.state) casts.items) (map plan_seen plans.items) ≡ None) }
-    ensures fault { IfErr result (IsFault (map (casting K.state) casts.items) (map plan_seen plans.items)) }
+        IsJoined (map (actor_spec K.state) casts.items) (map plan_view plans.items) joined.owners.items
+        (map (λ actor. end_view K.state actor.ended) joined.actors.items)) }
+    ensures good { IfOk result (λ _.
+        first_bad_plan (map (actor_spec K.state) casts.items) (map plan_view plans.items) ≡ None) }
+    ensures fault { IfErr result (IsFault (map (actor_spec K.state) casts.items) (map plan_view plans.items)) }
 {
     let ran = run_plans_noting::<R, K, G, NoNotes>(rt, alloc, casts, plans, gate)?;
     let (joined, _pages) = ran;

@@ -6,10 +6,9 @@ ghost use Rattle.act_mailbox.specs.Passes.{new_putter};
 ghost use Rattle.act_mailbox.specs.Controls.{starter};
 ghost use Rattle.act_executor.specs.Audits.{SitsAtControl};
 ghost use Rattle.act_executor.specs.Joins.{AreStarters};
-ghost use Rattle.act_executor.specs.Work.{IsUnusedStarter, IsAsked, CanStop, HasStopped};
+ghost use Rattle.act_executor.specs.Work.{IsUnusedStarter, IsAsked, CanStop, HasAskedAll};
 
-use act_mailbox::{Control, ControlCaller};
-use act_seats::Seat;
+use act_mailbox::{Control, ControlCaller, Endpoint};
 use act_tasks::Stop;
 use act_types::{CallerId, KillNote, NoMemory};
 use std::alloc::Global;
@@ -17,29 +16,29 @@ use std::sync::Wait;
 
 /// What came of a kill that the starter asked: its pass has it, or the line handed it back. Such a
 /// line is full, and has kills enough.
-pub(crate) type Asking = Result<Seat<ControlCaller>, KillNote>;
+pub(crate) type Asking = Result<Endpoint<ControlCaller>, KillNote>;
 
 /// The starter's passes on all control lines, and room for what comes of its kills.
 #[derive(Drop)]
 pub(crate) struct Starter<'a> {
     pub(crate) controls: &'a [Control],
-    pub(crate) seats: Vec<Seat<ControlCaller>>,
+    pub(crate) endpoints: Vec<Endpoint<ControlCaller>>,
     pub(crate) asked: Vec<Asking>,
 }
 
 /// Asks for a kill, in the name of the first caller.
-fn ask<R: Wait>(rt: &R, controls: &[Control], seat: Seat<ControlCaller>) -> Asking
-    requires { SitsAtControl controls.now seat }
-    ensures { IsAsked controls.now seat result }
+fn ask<R: Wait>(rt: &R, controls: &[Control], endpoint: Endpoint<ControlCaller>) -> Asking
+    requires { SitsAtControl controls.now endpoint }
+    ensures { IsAsked controls.now endpoint result }
 {
-    let Seat { place, mut pass } = seat;
+    let Endpoint { place, mut pass } = endpoint;
     let control = &controls[place];
     let kill = KillNote {
         caller: CallerId::new(1).unwrap(),
         actor: control.actor(),
     };
     match control.ask(rt, &mut pass, kill) {
-        Ok(()) => Ok(Seat { place, pass }),
+        Ok(()) => Ok(Endpoint { place, pass }),
         Err(back) => Err(back),
     }
 }
@@ -49,37 +48,38 @@ impl<'a> Stop for Starter<'a> {
 
     ghost can_stop = { CanStop };
 
-    ghost has_stopped = { HasStopped };
+    ghost has_stopped = { HasAskedAll };
 
     fn stop<R: Wait>(self, rt: &R) -> Vec<Asking> {
         let Starter {
             controls,
-            seats,
+            endpoints,
             mut asked,
         } = self;
-        for seat in seats {
-            asked.push_reserved(ask(rt, controls, seat));
+        for endpoint in endpoints {
+            asked.push_reserved(ask(rt, controls, endpoint));
         }
         asked
     }
 }
 
 /// The starter's passes with their places.
-pub(crate) fn seated(
+pub(crate) fn endpoints_at(
     alloc: Global,
     controls: &[Control],
     passes: Vec<ControlCaller>,
-) -> Result<Vec<Seat<ControlCaller>>, NoMemory>
+) -> Result<Vec<Endpoint<ControlCaller>>, NoMemory>
     requires { passes.items ≡ map (λ control. new_putter control.line starter) controls.now }
-    ensures sit { IfOk result (λ seats. All (IsUnusedStarter controls.now) seats.items) }
-    ensures places { IfOk result (λ seats. map (λ seat. seat.place) seats.items ≡ range_with_len 0 (length controls.now)) }
+    ensures sit { IfOk result (λ endpoints. All (IsUnusedStarter controls.now) endpoints.items) }
+    ensures places { IfOk result (λ endpoints.
+        map (λ endpoint. endpoint.place) endpoints.items ≡ range_with_len 0 (length controls.now)) }
 {
-    let mut seats = Vec::new(alloc);
+    let mut endpoints = Vec::new(alloc);
     for pass in passes {
-        let place = seats.len();
-        seats.push(Seat { place, pass })?;
+        let place = endpoints.len();
+        endpoints.push(Endpoint { place, pass })?;
     }
-    Ok(seats)
+    Ok(endpoints)
 }
 
 /// The starter at these lines, with room for what comes of its kills.
@@ -90,14 +90,14 @@ pub(crate) fn starter_at(
 ) -> Result<Starter, NoMemory>
     requires { passes.items ≡ map (λ control. new_putter control.line starter) controls.now }
     ensures controls { IfOk result (λ it. it.controls.now ≡ controls.now) }
-    ensures starters { IfOk result (λ it. AreStarters controls.now it.seats.items) }
+    ensures starters { IfOk result (λ it. AreStarters controls.now it.endpoints.items) }
     ensures ready { IfOk result CanStop }
 {
-    let seats = seated(alloc, controls, passes)?;
-    let asked = Vec::with_capacity(alloc, seats.len())?;
+    let endpoints = endpoints_at(alloc, controls, passes)?;
+    let asked = Vec::with_capacity(alloc, endpoints.len())?;
     Ok(Starter {
         controls,
-        seats,
+        endpoints,
         asked,
     })
 }

@@ -4,18 +4,18 @@ ghost use Rattle.std.specs.Prelude.{◌≡◌, ◌≢◌, ◌<◌, length, map, 
 ghost use Rattle.act_rules.specs.Plans.{first_bad};
 ghost use Rattle.act_actor.specs.Cast.{CallersDiffer};
 ghost use Rattle.act_tasks.specs.Each.{Each, EachReady};
-ghost use Rattle.act_plans.specs.Parts.{HasLimits};
+ghost use Rattle.act_plans.specs.Setups.{HasLimits};
 ghost use Rattle.act_executor.specs.Opened.{IsExec, IsCaller};
-ghost use Rattle.act_executor.specs.Work.{IsReady, IsServedBy, CanDrive, IsDrivenBy, serving_start, cast_start, driving_start, part_start};
+ghost use Rattle.act_executor.specs.Work.{CanServe, IsServedBy, CanDrive, IsDrivenTo, serving_start, cast_start, driving_start, setup_start};
 
 use crate::conduct::{Conduct, Conducts};
+use crate::opened::Lines;
 use act_actor::{Cast, Live};
 use act_drive::{CallerLines, CallerPasses, Driven, Plan};
 use act_kinds::Actor;
-use crate::opened::Lines;
+use act_mailbox::{Endpoint, Notes};
 use act_owner::Owner;
-use act_plans::Part;
-use act_seats::{Notes, Seat};
+use act_plans::CallerSetup;
 use act_serve::{ExecLines, ExecPasses, Finished, Gate, serve_by};
 use act_tasks::Task;
 use act_types::NoMemory;
@@ -35,7 +35,7 @@ pub(crate) struct Serving<'a, K, G, N> {
 impl<'a, K: Actor + Send, G: Gate, N: Notes + Send + Drop> Task for Serving<'a, K, G, N> {
     type Output = (Finished<K>, N);
 
-    ghost ready = { IsReady K.state };
+    ghost ready = { CanServe K.state };
 
     ghost done = { λ serving served. IsServedBy K.state serving served.0 };
 
@@ -76,7 +76,7 @@ impl<'a, D: Conduct + Send, N: Notes + Send + Drop> Task for Driving<'a, D, N> {
 
     ghost ready = { CanDrive };
 
-    ghost done = { λ driving driven. IsDrivenBy D.does driving driven.0 };
+    ghost done = { λ driving driven. IsDrivenTo D.does driving driven.0 };
 
     fn run<R: Wait>(self, rt: &R) -> (Driven, N) {
         let Driving {
@@ -98,15 +98,16 @@ fn one_serving<'a, K: Actor, G, N: Notes + Drop>(
     alloc: Global,
     cast: Cast<K>,
     lines: &'a Lines,
-    exec: Seat<ExecPasses>,
+    exec: Endpoint<ExecPasses>,
     gate: &'a G,
     notes: N,
 ) -> Result<Serving<'a, K, G, N>, NoMemory>
     requires callers { CallersDiffer cast.callers }
     requires place { (exec.place < length lines.now.mails.items) × (exec.place < length lines.now.controls.items) }
     requires exec { IsExec lines.now cast exec }
-    ensures ready { IfOk result (IsReady K.state) }
-    ensures start { IfOk result (λ serving. serving_start K.state serving ≡ cast_start K.state lines.now.replies.items (cast, exec)) }
+    ensures ready { IfOk result (CanServe K.state) }
+    ensures start { IfOk result (λ serving.
+        serving_start K.state serving ≡ cast_start K.state lines.now.replies.items (cast, exec)) }
 {
     let Cast {
         actor,
@@ -114,7 +115,7 @@ fn one_serving<'a, K: Actor, G, N: Notes + Drop>(
         kind,
         ..
     } = cast;
-    let Seat { place, pass } = exec;
+    let Endpoint { place, pass } = exec;
     let live = Live::open(alloc, actor, callers.as_slice(), kind)?;
     let lines = ExecLines {
         mail: &lines.mails[place],
@@ -135,14 +136,14 @@ pub(crate) fn servings<'a, K: Actor, G, N: Notes + Drop>(
     alloc: Global,
     casts: Vec<Cast<K>>,
     lines: &'a Lines,
-    execs: Vec<Seat<ExecPasses>>,
+    execs: Vec<Endpoint<ExecPasses>>,
     gate: &'a G,
 ) -> Result<Vec<Serving<'a, K, G, N>>, NoMemory>
     requires callers { All (λ cast. CallersDiffer cast.callers) casts.items }
     requires places { All (λ exec. (exec.place < length lines.now.mails.items) ×
         (exec.place < length lines.now.controls.items)) execs.items }
     requires execs { Each (IsExec lines.now) casts.items execs.items }
-    ensures ready { IfOk result (λ servings. All (IsReady K.state) servings.items) }
+    ensures ready { IfOk result (λ servings. All (CanServe K.state) servings.items) }
     ensures starts { IfOk result (λ servings.
         map (serving_start K.state) servings.items ≡
         map (cast_start K.state lines.now.replies.items) (zip casts.items execs.items)) }
@@ -158,27 +159,28 @@ pub(crate) fn servings<'a, K: Actor, G, N: Notes + Drop>(
 /// What one caller's thread is given.
 fn one_driving<'a, D: Conduct, N: Notes + Drop>(
     alloc: Global,
-    part: Part,
+    setup: CallerSetup,
     conduct: D,
     lines: &'a Lines,
-    caller: Seat<CallerPasses>,
+    caller: Endpoint<CallerPasses>,
     notes: N,
 ) -> Result<Driving<'a, D, N>, NoMemory>
-    requires actors { CallersDiffer part.actors.items }
-    requires limits { HasLimits part }
+    requires actors { CallersDiffer setup.actors.items }
+    requires limits { HasLimits setup }
     requires place { caller.place < length lines.now.replies.items }
-    requires caller { IsCaller lines.now part caller }
-    requires fits { first_bad part.actors.items part.plan.items ≡ None }
+    requires caller { IsCaller lines.now setup caller }
+    requires fits { first_bad setup.actors.items setup.plan.items ≡ None }
     ensures ready { IfOk result CanDrive }
-    ensures start { IfOk result (λ driving. driving_start driving ≡ part_start lines.now (λ _. conduct) (part, caller)) }
+    ensures start { IfOk result (λ driving.
+        driving_start driving ≡ setup_start lines.now (λ _. conduct) (setup, caller)) }
 {
-    let Part {
+    let CallerSetup {
         caller: id,
         limits,
         plan,
         ..
-    } = part;
-    let Seat { place, pass } = caller;
+    } = setup;
+    let Endpoint { place, pass } = caller;
     let owner = Owner::open_with(alloc, id, limits.as_slice())?;
     let lines = CallerLines {
         mails: lines.mails.as_slice(),
@@ -199,27 +201,28 @@ fn one_driving<'a, D: Conduct, N: Notes + Drop>(
 /// What the callers' threads are given.
 pub(crate) fn drivings<'a, D: Conducts, N: Notes + Drop>(
     alloc: Global,
-    parts: Vec<Part>,
+    setups: Vec<CallerSetup>,
     conducts: D,
     lines: &'a Lines,
-    callers: Vec<Seat<CallerPasses>>,
+    callers: Vec<Endpoint<CallerPasses>>,
 ) -> Result<Vec<Driving<'a, D::One, N>>, NoMemory>
-    requires actors { All (λ part. CallersDiffer part.actors.items) parts.items }
-    requires limits { All HasLimits parts.items }
-    requires differ { AllPairs (λ one other. one.caller ≢ other.caller) parts.items }
+    requires actors { All (λ setup. CallersDiffer setup.actors.items) setups.items }
+    requires limits { All HasLimits setups.items }
+    requires differ { AllPairs (λ one other. one.caller ≢ other.caller) setups.items }
     requires places { All (λ caller. caller.place < length lines.now.replies.items) callers.items }
-    requires callers { Each (IsCaller lines.now) parts.items callers.items }
-    requires fits { All (λ part. first_bad part.actors.items part.plan.items ≡ None) parts.items }
+    requires callers { Each (IsCaller lines.now) setups.items callers.items }
+    requires fits { All (λ setup. first_bad setup.actors.items setup.plan.items ≡ None) setups.items }
     ensures ready { IfOk result (λ drivings. All CanDrive drivings.items) }
     ensures starts { IfOk result (λ drivings.
-        map driving_start drivings.items ≡ map (part_start lines.now (D.of conducts)) (zip parts.items callers.items)) }
+        map driving_start drivings.items
+        ≡ map (setup_start lines.now (D.of conducts)) (zip setups.items callers.items)) }
 {
     let mut conducts = conducts;
     let mut drivings = Vec::new(alloc);
-    for (part, caller) in parts.into_iter().zip(callers) {
-        let conduct = conducts.take(part.caller);
+    for (setup, caller) in setups.into_iter().zip(callers) {
+        let conduct = conducts.take(setup.caller);
         let notes = N::open(alloc);
-        drivings.push(one_driving(alloc, part, conduct, lines, caller, notes)?)?;
+        drivings.push(one_driving(alloc, setup, conduct, lines, caller, notes)?)?;
     }
     Ok(drivings)
 }

@@ -6,7 +6,7 @@ use Rattle.std.proofs.lemmas.Bool.{ne_eqb}
 use Rattle.std.proofs.lemmas.Bool.Decides.{eqb_tells}
 use Rattle.std.proofs.lemmas.List.Elements.{filter-append}
 use Rattle.act_rules.specs.declared.script.Step.TheVariants.{Copy, Release}
-use Rattle.act_rules.specs.Plans.{Progress, holds, occurrences, stepped}
+use Rattle.act_rules.specs.Plans.{Progress, holds, occurrences, do_step}
 use Rattle.act_rules.specs.Submissions.{copies_held, copy_refusal}
 use Rattle.act_rules.proofs.Ended.{needs-none}
 use Rattle.act_handles.specs.declared.handles.Handle.{Handle}
@@ -37,18 +37,18 @@ release_count : (listed : Bool) (c r r2 : ℕ) → r2 ≡ r + 1 → option_map (
 release_count true c r r2 more = ap Some (omega (arith, more))
 release_count false c r r2 more = refl
 
-pub copy_copies : (handles : List Handle) (a b : ℕ) (actors : List ℕ) (p : Progress) → ((c : ℕ) → copies_in c handles ≡ holds c actors p) → copy_refusal (holds a actors p) ≡ None → copies_in b (with_copy a handles) ≡ holds b actors (stepped p (Copy a))
+pub copy_copies : (handles : List Handle) (a b : ℕ) (actors : List ℕ) (p : Progress) → ((c : ℕ) → copies_in c handles ≡ holds c actors p) → copy_refusal (holds a actors p) ≡ None → copies_in b (with_copy a handles) ≡ holds b actors (do_step p (Copy a))
 copy_copies handles a b actors p same fine =
     elim (eqb_tells a b) [
-      | inl t ↦ subst (λ (n : ℕ). copies_in n (with_copy a handles) ≡ holds n actors (stepped p (Copy a))) t.1
+      | inl t ↦ subst (λ (n : ℕ). copies_in n (with_copy a handles) ≡ holds n actors (do_step p (Copy a))) t.1
           (copies-with_copy a handles ∙ ap (option_map (λ n. n + 1)) (same a) ∙ copy_count (list_any (λ c. c == a) actors) (occurrences a p.copied) (occurrences a p.released) (occurrences a (p.copied ++ a ∷ [])) (occurs_more a p.copied) (copy_holds (holds a actors p) fine))
       | inr f ↦ copies-with_copy-other a b handles f.1 ∙ same b ∙ ap (λ (n : ℕ). if list_any (λ c. c == b) actors then Some ((1 + n) - occurrences b p.released) else None) (sym (occurs_other a b p.copied f.1))
     ]
 
-pub release_copies : (handles : List Handle) (a b : ℕ) (actors : List ℕ) (p : Progress) → ((c : ℕ) → copies_in c handles ≡ holds c actors p) → copies_in b (without_copy a handles) ≡ holds b actors (stepped p (Release a))
+pub release_copies : (handles : List Handle) (a b : ℕ) (actors : List ℕ) (p : Progress) → ((c : ℕ) → copies_in c handles ≡ holds c actors p) → copies_in b (without_copy a handles) ≡ holds b actors (do_step p (Release a))
 release_copies handles a b actors p same =
     elim (eqb_tells a b) [
-      | inl t ↦ subst (λ (n : ℕ). copies_in n (without_copy a handles) ≡ holds n actors (stepped p (Release a))) t.1
+      | inl t ↦ subst (λ (n : ℕ). copies_in n (without_copy a handles) ≡ holds n actors (do_step p (Release a))) t.1
           (copies-without_copy a handles ∙ ap (option_map (λ n. n - 1)) (same a) ∙ release_count (list_any (λ c. c == a) actors) (occurrences a p.copied) (occurrences a p.released) (occurrences a (p.released ++ a ∷ [])) (occurs_more a p.released))
       | inr f ↦ copies-without_copy-other a b handles f.1 ∙ same b ∙ ap (λ (n : ℕ). if list_any (λ c. c == b) actors then Some ((1 + occurrences b p.copied) - n) else None) (sym (occurs_other a b p.released f.1))
     ]

@@ -6,10 +6,10 @@ use Rattle.std.specs.Option.{option_map, option_map_or, unwrap_or}
 use Rattle.std.proofs.lemmas.Bool.{ne_eqb}
 use Rattle.std.proofs.lemmas.Bool.Decides.{eqb_tells}
 use Rattle.act_handles.specs.declared.handles.Handle.{Handle}
-use Rattle.act_handles.specs.Handles.{is_of, copies_in, given_in, given_of_all, changed, opened, with_copy, with_number, without_copy}
+use Rattle.act_handles.specs.Handles.{is_of, copies_in, given_in, given_of_all, change_handle, new_handle, with_copy, with_number, without_copy}
 
 -- the changed handle itself
-pub find-changed-same : (a : ℕ) (change : Handle → Handle) → ((handle : Handle) → (change handle).actor ≡ handle.actor) → (handles : List Handle) → find (is_of a) (changed a change handles) ≡ option_map change (find (is_of a) handles)
+pub find-changed-same : (a : ℕ) (change : Handle → Handle) → ((handle : Handle) → (change handle).actor ≡ handle.actor) → (handles : List Handle) → find (is_of a) (change_handle a change handles) ≡ option_map change (find (is_of a) handles)
 find-changed-same a change keeps [] = refl
 find-changed-same a change keeps (handle ∷ handles) =
     elim (eqb_tells handle.actor a) [
@@ -18,7 +18,7 @@ find-changed-same a change keeps (handle ∷ handles) =
     ]
 
 -- all others
-pub find-changed-other : (a b : ℕ) (change : Handle → Handle) → a ≢ b → ((handle : Handle) → (change handle).actor ≡ handle.actor) → (handles : List Handle) → find (is_of b) (changed a change handles) ≡ find (is_of b) handles
+pub find-changed-other : (a b : ℕ) (change : Handle → Handle) → a ≢ b → ((handle : Handle) → (change handle).actor ≡ handle.actor) → (handles : List Handle) → find (is_of b) (change_handle a change handles) ≡ find (is_of b) handles
 find-changed-other a b change apart keeps [] = refl
 find-changed-other a b change apart keeps (handle ∷ handles) =
     elim (eqb_tells handle.actor a) [
@@ -49,7 +49,7 @@ copies-without_copy-other a b handles apart =
     ap (option_map (λ (handle : Handle). handle.copies)) (find-changed-other a b (λ (handle : Handle). record handle { copies = handle.copies - 1 }) apart (λ _. refl) handles)
 
 -- what is read of a handle and isn't changed stays
-read_same : {X : Type 0} (a b : ℕ) (change : Handle → Handle) (read : Handle → X) → ((handle : Handle) → (change handle).actor ≡ handle.actor) → ((handle : Handle) → read (change handle) ≡ read handle) → (handles : List Handle) → option_map read (find (is_of b) (changed a change handles)) ≡ option_map read (find (is_of b) handles)
+read_same : {X : Type 0} (a b : ℕ) (change : Handle → Handle) (read : Handle → X) → ((handle : Handle) → (change handle).actor ≡ handle.actor) → ((handle : Handle) → read (change handle) ≡ read handle) → (handles : List Handle) → option_map read (find (is_of b) (change_handle a change handles)) ≡ option_map read (find (is_of b) handles)
 read_same a b change read keeps same [] = refl
 read_same a b change read keeps same (handle ∷ handles) =
     let actor : is_of b (change handle) ≡ is_of b handle = ap (λ n. n == b) (keeps handle) in
@@ -93,7 +93,7 @@ given-with_number-other a b handles apart =
     ap (λ found. option_map_or (λ (handle : Handle). handle.given) found 0) (find-changed-other a b (λ (handle : Handle). record handle { given = handle.given + 1 }) apart (λ _. refl) handles)
 
 -- at the opening
-pub copies-opened : (a : ℕ) (actors : List ℕ) → copies_in a (map opened actors) ≡ (if list_any (λ actor. actor == a) actors then Some 1 else None)
+pub copies-opened : (a : ℕ) (actors : List ℕ) → copies_in a (map new_handle actors) ≡ (if list_any (λ actor. actor == a) actors then Some 1 else None)
 copies-opened a [] = refl
 copies-opened a (actor ∷ actors) =
     elim (eqb_tells actor a) [
@@ -101,7 +101,7 @@ copies-opened a (actor ∷ actors) =
       | inr f ↦ rw f.0 (copies-opened a actors)
     ]
 
-pub given-opened : (a : ℕ) (actors : List ℕ) → given_in a (map opened actors) ≡ 0
+pub given-opened : (a : ℕ) (actors : List ℕ) → given_in a (map new_handle actors) ≡ 0
 given-opened a [] = refl
 given-opened a (actor ∷ actors) =
     elim (eqb_tells actor a) [
@@ -109,6 +109,6 @@ given-opened a (actor ∷ actors) =
       | inr f ↦ rw f.0 (given-opened a actors)
     ]
 
-pub given_of_all-opened : (actors : List ℕ) → given_of_all (map opened actors) ≡ 0
+pub given_of_all-opened : (actors : List ℕ) → given_of_all (map new_handle actors) ≡ 0
 given_of_all-opened [] = refl
 given_of_all-opened (actor ∷ actors) = given_of_all-opened actors

@@ -11,7 +11,7 @@ use Rattle.std.proofs.lemmas.Option.{slice_get-get_or, slice_get_past}
 use Rattle.std.proofs.Math.Seq.{map-set_same}
 use Rattle.act_handles.proofs.Lookups.{given_of_all-opened}
 use Rattle.act_handles.specs.declared.handles.Handle.{Handle}
-use Rattle.act_handles.specs.Handles.{is_of, changed, opened, actors_in, given_of_all, IsHandles, IsAt}
+use Rattle.act_handles.specs.Handles.{is_of, change_handle, new_handle, actors_in, given_of_all, IsHandles, IsAt}
 
 if_same : {A : Type 0} (a b : ℕ) (x y : A) → a ≡ b → (if a == b then x else y) ≡ x
 if_same a b x y e = rw (eq-eqb a b e) refl
@@ -28,14 +28,14 @@ rest_other a handle handles apart here k d lt same =
     apart 0 (suc k) d.actor (omega arith) (omega (arith, length-map handles (λ (h : Handle). h.actor))) (here ∙ sym same ∙ sym (get_or-map (λ (h : Handle). h.actor) handles k d d.actor lt))
 
 -- a change of an actor that isn't there
-unchanged : (a : ℕ) (change : Handle → Handle) (handles : List Handle) → ((k : ℕ) (d : Handle) → k < length handles → (get_or handles k d).actor ≢ a) → changed a change handles ≡ handles
+unchanged : (a : ℕ) (change : Handle → Handle) (handles : List Handle) → ((k : ℕ) (d : Handle) → k < length handles → (get_or handles k d).actor ≢ a) → change_handle a change handles ≡ handles
 unchanged a change [] other = refl
 unchanged a change (handle ∷ handles) other =
     rw (if_other handle.actor a (change handle) handle (other 0 handle (omega arith)))
     (ap (λ (rest : List Handle). handle ∷ rest) (unchanged a change handles (λ k d lt. other (suc k) d (omega arith))))
 
 -- a change of an actor's handle is a write at its place
-pub changed_at : (a : ℕ) (change : Handle → Handle) (handles : List Handle) (place : ℕ) (d : Handle) → AllPairs (λ one other. one ≢ other) (actors_in handles) → place < length handles → (get_or handles place d).actor ≡ a → changed a change handles ≡ slice_set handles place (change (get_or handles place d))
+pub changed_at : (a : ℕ) (change : Handle → Handle) (handles : List Handle) (place : ℕ) (d : Handle) → AllPairs (λ one other. one ≢ other) (actors_in handles) → place < length handles → (get_or handles place d).actor ≡ a → change_handle a change handles ≡ slice_set handles place (change (get_or handles place d))
 changed_at a change [] place d apart below here = absurd (omega arith)
 changed_at a change (handle ∷ handles) zero d apart below here =
     rw (if_same handle.actor a (change handle) handle here)
@@ -44,12 +44,12 @@ changed_at a change (handle ∷ handles) (suc place) d apart below here =
     rw (if_other handle.actor a (change handle) handle (λ same. rest_other a handle handles apart same place d (omega arith) here))
     (ap (λ (rest : List Handle). handle ∷ rest) (changed_at a change handles place d (tail_apart handle.actor (actors_in handles) apart) (omega arith) here))
 
-pub actors_opened : (actors : List ℕ) → actors_in (map opened actors) ≡ actors
+pub actors_opened : (actors : List ℕ) → actors_in (map new_handle actors) ≡ actors
 actors_opened [] = refl
 actors_opened (a ∷ actors) = ap (λ (rest : List ℕ). a ∷ rest) (actors_opened actors)
 
 -- the handles at the opening
-pub opened_fine : (actors : List ℕ) → AllPairs (λ one other. one ≢ other) actors → IsHandles (map opened actors)
+pub opened_fine : (actors : List ℕ) → AllPairs (λ one other. one ≢ other) actors → IsHandles (map new_handle actors)
 opened_fine actors apart = (rw (actors_opened actors) apart, omega (arith, given_of_all-opened actors))
 
 -- the first handle of the actor stands where it is found
@@ -83,7 +83,7 @@ change_fine a seen handles place now new same fine at is actor few =
     put_fine handles place now new fine (subst (λ (l : List Handle). place < length l) (sym same) at.below) (actor ∙ ap (λ (h : Handle). h.actor) is) (omega (arith, ap (λ (h : Handle). h.given) is))
 
 -- a change that was written at the place found
-pub change_is : (a : ℕ) (change : Handle → Handle) (seen handles : List Handle) (place : ℕ) (now : Handle) → handles ≡ seen → IsAt a seen place → now ≡ get_or handles place now → slice_set handles place (change now) ≡ changed a change seen
+pub change_is : (a : ℕ) (change : Handle → Handle) (seen handles : List Handle) (place : ℕ) (now : Handle) → handles ≡ seen → IsAt a seen place → now ≡ get_or handles place now → slice_set handles place (change now) ≡ change_handle a change seen
 change_is a change seen handles place now same at is =
     rw same (sym (at.changes now change ∙ ap (λ (h : Handle). slice_set seen place (change h)) (sym (subst (λ (l : List Handle). now ≡ get_or l place now) same is))))
 

@@ -2,10 +2,10 @@
 
 ghost use Rattle.std.specs.Prelude.{◌≡◌, ◌≢◌, ℕ, ◌+◌, map, AllPairs, position, find, Some, None, MatchOption, IfOk, OnOk, IfErr, OnErr};
 ghost use Rattle.act_rules.specs.Submissions.{copies_held, handle_refusal};
-ghost use Rattle.act_handles.specs.Handles.{is_of, copies_in, given_of_all, IsAt, opened, with_copy, with_number, without_copy, copied, numbered, released};
+ghost use Rattle.act_handles.specs.Handles.{is_of, copies_in, given_of_all, IsAt, new_handle, with_copy, with_number, without_copy, copy_answer, number_answer, release_answer};
 
 use act_rules::HandleRefusal;
-use act_types::{ActorId, MOST_CALLS, MOST_COPIES, NoMemory};
+use act_types::{ActorId, MAX_CALLS, MAX_COPIES, NoMemory};
 use std::alloc::Global;
 use std::marker::Model;
 
@@ -38,7 +38,7 @@ impl Model for Handles {
 
 /// A handle of each actor, of which one copy is held.
 fn opened(alloc: Global, actors: &[ActorId]) -> Result<Vec<Handle>, NoMemory>
-    ensures { IfOk result (λ handles. handles.items ≡ map opened actors.now) }
+    ensures { IfOk result (λ handles. handles.items ≡ map new_handle actors.now) }
 {
     let handles = actors
         .iter()
@@ -62,7 +62,7 @@ impl Handles {
     /// One copy of the handle of each actor, and no numbers given.
     pub fn open(alloc: Global, actors: &[ActorId]) -> Result<Handles, NoMemory>
         requires distinct { AllPairs (λ one other. one ≢ other) actors.now }
-        ensures { IfOk result (λ handles. handles ≡ map opened actors.now) }
+        ensures { IfOk result (λ handles. handles ≡ map new_handle actors.now) }
     {
         let handles = opened(alloc, actors)?;
         Ok(Handles { handles })
@@ -116,13 +116,13 @@ impl Handles {
 
     /// Adds a copy and gives their number. An `Err` changes nothing.
     pub fn copy(&mut self, actor: ActorId) -> Result<u32, HandleRefusal>
-        ensures value { result ≡ copied actor self.old }
+        ensures value { result ≡ copy_answer actor self.old }
         ensures ok { OnOk result (self.new ≡ with_copy actor self.old) }
         ensures err { OnErr result (self.new ≡ self.old) }
     {
         let place = self.held(actor)?;
         let handle = &mut self.handles[place];
-        if handle.copies >= MOST_COPIES {
+        if handle.copies >= MAX_COPIES {
             return Err(HandleRefusal::TooManyCopies);
         }
         handle.copies += 1;
@@ -131,13 +131,13 @@ impl Handles {
 
     /// Gives a call to the actor its number and counts it. An `Err` changes nothing.
     pub fn number(&mut self, actor: ActorId) -> Result<u32, HandleRefusal>
-        ensures value { result ≡ numbered actor self.old }
+        ensures value { result ≡ number_answer actor self.old }
         ensures ok { OnOk result (self.new ≡ with_number actor self.old) }
         ensures counted { OnOk result (given_of_all self.new ≡ given_of_all self.old + 1) }
         ensures err { OnErr result (self.new ≡ self.old) }
     {
         let place = self.held(actor)?;
-        if self.given() >= MOST_CALLS {
+        if self.given() >= MAX_CALLS {
             return Err(HandleRefusal::TooManyCalls);
         }
         let handle = &mut self.handles[place];
@@ -149,7 +149,7 @@ impl Handles {
     /// Lets a copy go. After the last one it gives the number of calls to the actor. An `Err`
     /// changes nothing.
     pub fn release(&mut self, actor: ActorId) -> Result<Option<u32>, HandleRefusal>
-        ensures value { result ≡ released actor self.old }
+        ensures value { result ≡ release_answer actor self.old }
         ensures ok { OnOk result (self.new ≡ without_copy actor self.old) }
         ensures err { OnErr result (self.new ≡ self.old) }
     {

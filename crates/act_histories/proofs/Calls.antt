@@ -12,7 +12,7 @@ use Rattle.act_rules.specs.declared.script.Step.{Step}
 use Rattle.act_rules.specs.declared.script.Step.TheVariants as step
 use Rattle.act_owner.specs.declared.owner.Call.{Call}
 use Rattle.act_owner.specs.Owner.{call_at, numbered_call}
-use Rattle.act_histories.specs.Play.{call_of, submitted, IsFront, IsNext}
+use Rattle.act_histories.specs.Play.{call_of, calls_of_steps, BeginsWith, IsNext}
 
 -- ---- one item more of which something holds
 
@@ -47,11 +47,11 @@ next_is calls k call actor method args at one two three = go (slice_get_cases ca
 -- ---- what steps told so far
 
 -- nothing more
-pub front_same : (calls : List Submission) (told : ℕ) (more : List Submission) → told ≤ length calls → more ≡ [] → IsFront told (take told calls ++ more) calls
+pub front_same : (calls : List Submission) (told : ℕ) (more : List Submission) → told ≤ length calls → more ≡ [] → BeginsWith told (take told calls ++ more) calls
 front_same calls told more within none = record { within = within; same = sym (ap (λ (back : List Submission). take told calls ++ back) none ∙ append-nil (take told calls)) }
 
 -- one call more
-pub front_more : (calls : List Submission) (told actor : ℕ) (method : Method) (args : List Arg) (more : List Submission) → IsNext told actor method args calls → more ≡ record { actor = actor; method = method; args = args } ∷ [] → IsFront (told + 1) (take told calls ++ more) calls
+pub front_more : (calls : List Submission) (told actor : ℕ) (method : Method) (args : List Arg) (more : List Submission) → IsNext told actor method args calls → more ≡ record { actor = actor; method = method; args = args } ∷ [] → BeginsWith (told + 1) (take told calls ++ more) calls
 front_more calls told actor method args more next is = let call : Submission = record { actor = actor; method = method; args = args } in let within = next.within in record {
   within = omega arith;
   same =
@@ -73,35 +73,35 @@ pub of_own : (c d line actor : ℕ) (method : Method) (args : List Arg) → (d =
 of_own c d line actor method args own = ap (λ (b : Bool). if b then record { actor = actor; method = method; args = args } ∷ [] else []) own
 
 -- one step more
-pub steps_more : (c : ℕ) (steps : List (ℕ × Step × ℕ)) (i : ℕ) (s : ℕ × Step × ℕ) → i < length steps → s ≡ get_or steps i s → submitted c (take (i + 1) steps) ≡ submitted c (take i steps) ++ call_of c s
+pub steps_more : (c : ℕ) (steps : List (ℕ × Step × ℕ)) (i : ℕ) (s : ℕ × Step × ℕ) → i < length steps → s ≡ get_or steps i s → calls_of_steps c (take (i + 1) steps) ≡ calls_of_steps c (take i steps) ++ call_of c s
 steps_more c steps i s within is =
-    ap (submitted c) (take_more steps i s within)
+    ap (calls_of_steps c) (take_more steps i s within)
     ∙ flat_map-append (call_of c) (take i steps) (get_or steps i s ∷ [])
-    ∙ ap (λ (back : List Submission). submitted c (take i steps) ++ back) (append-nil (call_of c (get_or steps i s)))
-    ∙ ap (λ (s : ℕ × Step × ℕ). submitted c (take i steps) ++ call_of c s) (sym is)
+    ∙ ap (λ (back : List Submission). calls_of_steps c (take i steps) ++ back) (append-nil (call_of c (get_or steps i s)))
+    ∙ ap (λ (s : ℕ × Step × ℕ). calls_of_steps c (take i steps) ++ call_of c s) (sym is)
 
 -- the calls so far are those of the steps so far
-pub front_goes_on : (c : ℕ) (steps : List (ℕ × Step × ℕ)) (i told next : ℕ) (s : ℕ × Step × ℕ) (calls : List Submission) → i < length steps → s ≡ get_or steps i s → IsFront next (take told calls ++ call_of c s) calls → IsFront told (submitted c (take i steps)) calls → IsFront next (submitted c (take (i + 1) steps)) calls
+pub front_goes_on : (c : ℕ) (steps : List (ℕ × Step × ℕ)) (i told next : ℕ) (s : ℕ × Step × ℕ) (calls : List Submission) → i < length steps → s ≡ get_or steps i s → BeginsWith next (take told calls ++ call_of c s) calls → BeginsWith told (calls_of_steps c (take i steps)) calls → BeginsWith next (calls_of_steps c (take (i + 1) steps)) calls
 front_goes_on c steps i told next s calls within is one so_far = record {
   within = one.within;
   same = one.same ∙ ap (λ (front : List Submission). front ++ call_of c s) so_far.same ∙ sym (steps_more c steps i s within is);
 }
 
 -- none is told
-pub none_told : (c : ℕ) (steps : List (ℕ × Step × ℕ)) (i told : ℕ) (calls : List Submission) → length steps ≤ i → IsFront told (submitted c (take i steps)) calls → told ≡ 0 → submitted c steps ≡ []
+pub none_told : (c : ℕ) (steps : List (ℕ × Step × ℕ)) (i told : ℕ) (calls : List Submission) → length steps ≤ i → BeginsWith told (calls_of_steps c (take i steps)) calls → told ≡ 0 → calls_of_steps c steps ≡ []
 none_told c steps i told calls whole so_far none =
-    sym (ap (submitted c) (take_all i steps whole)) ∙ sym so_far.same ∙ ap (λ (n : ℕ). take n calls) none
+    sym (ap (calls_of_steps c) (take_all i steps whole)) ∙ sym so_far.same ∙ ap (λ (n : ℕ). take n calls) none
 
 -- all are told
-pub all_told : (c : ℕ) (steps : List (ℕ × Step × ℕ)) (i told : ℕ) (calls : List Submission) → length steps ≤ i → IsFront told (submitted c (take i steps)) calls → told ≡ length calls → calls ≡ submitted c steps
+pub all_told : (c : ℕ) (steps : List (ℕ × Step × ℕ)) (i told : ℕ) (calls : List Submission) → length steps ≤ i → BeginsWith told (calls_of_steps c (take i steps)) calls → told ≡ length calls → calls ≡ calls_of_steps c steps
 all_told c steps i told calls whole so_far all =
-    sym (take_all told calls (omega arith)) ∙ so_far.same ∙ ap (submitted c) (take_all i steps whole)
+    sym (take_all told calls (omega arith)) ∙ so_far.same ∙ ap (calls_of_steps c) (take_all i steps whole)
 
 -- still nothing
-pub still_none : (c : ℕ) (steps : List (ℕ × Step × ℕ)) (i : ℕ) (s : ℕ × Step × ℕ) → i < length steps → s ≡ get_or steps i s → call_of c s ≡ [] → submitted c (take i steps) ≡ [] → submitted c (take (i + 1) steps) ≡ []
+pub still_none : (c : ℕ) (steps : List (ℕ × Step × ℕ)) (i : ℕ) (s : ℕ × Step × ℕ) → i < length steps → s ≡ get_or steps i s → call_of c s ≡ [] → calls_of_steps c (take i steps) ≡ [] → calls_of_steps c (take (i + 1) steps) ≡ []
 still_none c steps i s within is none so_far =
     steps_more c steps i s within is ∙ ap (λ (front : List Submission). front ++ call_of c s) so_far ∙ none
 
 -- nothing at all
-pub none_at_all : (c : ℕ) (steps : List (ℕ × Step × ℕ)) (i : ℕ) → length steps ≤ i → submitted c (take i steps) ≡ [] → submitted c steps ≡ []
-none_at_all c steps i whole so_far = sym (ap (submitted c) (take_all i steps whole)) ∙ so_far
+pub none_at_all : (c : ℕ) (steps : List (ℕ × Step × ℕ)) (i : ℕ) → length steps ≤ i → calls_of_steps c (take i steps) ≡ [] → calls_of_steps c steps ≡ []
+none_at_all c steps i whole so_far = sym (ap (calls_of_steps c) (take_all i steps whole)) ∙ so_far

@@ -1,15 +1,15 @@
 -- What a world shows, beside the lines of a history.
 use Rattle.std.proofs.Common.{◌≡◌, ℕ, List, [], ◌++◌, sym, ap, ◌∙◌}
 use Rattle.act_rules.specs.declared.event.Event.{Event}
-use Rattle.act_rules.specs.History.{Casting}
+use Rattle.act_rules.specs.History.{ActorSpec}
 use Rattle.act_rules.specs.Laws.{history}
 use Rattle.act_rules.specs.Report.{summary}
-use Rattle.act_world.specs.View.{WorldSeen}
-use Rattle.act_world.specs.Stands.{Stands}
+use Rattle.act_world.specs.View.{WorldView}
+use Rattle.act_world.specs.IsReachedBy.{IsReachedBy}
 use Rattle.act_console.specs.Parts.{world_report}
 use Rattle.act_console.proofs.Shown.{summary_is}
 
 -- the report of no events is the summary
-pub shown : (casts : List Casting) (events : List Event) (world : WorldSeen) (empty text lines : List ℕ) → Stands casts events world → empty ≡ [] → text ≡ empty ++ world_report [] world → text ≡ lines → summary (history casts events) ≡ lines
-shown casts events world empty text lines stands none is same =
-    sym (summary_is casts events world stands) ∙ sym (ap (λ (front : List ℕ). front ++ world_report [] world) none) ∙ sym is ∙ same
+pub shown : (casts : List ActorSpec) (events : List Event) (world : WorldView) (empty text lines : List ℕ) → IsReachedBy casts events world → empty ≡ [] → text ≡ empty ++ world_report [] world → text ≡ lines → summary (history casts events) ≡ lines
+shown casts events world empty text lines reached none is same =
+    sym (summary_is casts events world reached) ∙ sym (ap (λ (front : List ℕ). front ++ world_report [] world) none) ∙ sym is ∙ same

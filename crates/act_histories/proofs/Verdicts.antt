@@ -2,14 +2,14 @@
 use Rattle.std.proofs.Common.{◌≡◌, ℕ, ◌+◌, ◌<◌, List, [], ◌++◌, length, map, Option, Some, None, Result, Ok, Err, refl, sym, ap, ◌∙◌, subst, arith}
 use Rattle.std.specs.Prelude.{string_bytes}
 use Rattle.std.specs.Io.KnownBytes.{Keeps}
-use Rattle.act_types.specs.declared.limits.TheConstants.{MOST_SCRIPT_BYTES}
+use Rattle.act_types.specs.declared.limits.TheConstants.{MAX_SCRIPT_BYTES}
 use Rattle.act_rules.specs.declared.event.Event.{Event}
 use Rattle.act_rules.specs.declared.script.Role.{Role}
 use Rattle.act_rules.specs.declared.script.Step.{Step}
 use Rattle.act_rules.specs.declared.script.Mode.TheVariants.{Play, Threads}
-use Rattle.act_rules.specs.History.{Casting}
+use Rattle.act_rules.specs.History.{ActorSpec}
 use Rattle.act_rules.specs.Grammar.{Script, spelled}
-use Rattle.act_rules.specs.Scripts.{role_casting}
+use Rattle.act_rules.specs.Scripts.{actor_spec_of}
 use Rattle.act_console.specs.Input.{IsWholeInput}
 use Rattle.act_console.specs.Plans.{script_of}
 use Rattle.act_histories.specs.declared.fault.CheckFault.{CheckFault}
@@ -18,15 +18,15 @@ use Rattle.act_histories.specs.declared.check.Verdict.{Verdict}
 use Rattle.act_histories.specs.declared.check.Verdict.TheVariants as verdicts
 use Rattle.act_histories.specs.Lines.{told_lines}
 use Rattle.act_histories.specs.Play.{EndsSo, IsPlayScript, IsPlayText}
-use Rattle.act_histories.specs.Checked.{IsVerdict, IsVerdictOf, IsBeforeWriting, Wrote, Checked}
+use Rattle.act_histories.specs.Checked.{IsVerdict, IsVerdictOf, IsBeforeVerdict, WroteVerdict, Checked}
 
 -- ---- a play
 
 -- events with the same roles
-pub is_script : (roles casts : List Role) (steps : List (ℕ × Step × ℕ)) (events : List Event) (rest : List ℕ) → roles ≡ casts → EndsSo (map role_casting casts) steps events (told_lines rest)
+pub is_script : (roles casts : List Role) (steps : List (ℕ × Step × ℕ)) (events : List Event) (rest : List ℕ) → roles ≡ casts → EndsSo (map actor_spec_of casts) steps events (told_lines rest)
     → IsPlayScript (script_of roles steps) rest (record { roles = casts; events = events; steps = [] })
 is_script roles casts steps events rest same ends = record {
-  ends = subst (λ (roles : List Role). EndsSo (map role_casting roles) steps events (told_lines rest)) (sym same) ends;
+  ends = subst (λ (roles : List Role). EndsSo (map actor_spec_of roles) steps events (told_lines rest)) (sym same) ends;
   same = λ i. record { roles = sym same i; events = events; steps = [] };
 }
 
@@ -35,7 +35,7 @@ pub is_text : (script play : Script) (rest text : List ℕ) → spelled Play tex
 is_text script play rest text read is = record { events = play.events; ends = is.ends; written = λ _. read ∙ ap Ok is.same }
 
 -- a text that is too long to be read
-pub is_long : (script : Script) (events : List Event) (rest text : List ℕ) → MOST_SCRIPT_BYTES < length text → EndsSo (map role_casting script.roles) script.steps events (told_lines rest) → IsPlayText script rest text
+pub is_long : (script : Script) (events : List Event) (rest text : List ℕ) → MAX_SCRIPT_BYTES < length text → EndsSo (map actor_spec_of script.roles) script.steps events (told_lines rest) → IsPlayText script rest text
 is_long script events rest text long ends = record { events = events; ends = ends; written = λ short. absurd (omega arith) }
 
 -- ---- a verdict
@@ -48,8 +48,8 @@ of_parts bytes front rest script (verdicts.Mistake text) parts read is = tt
 
 -- ---- what was written
 
-module _ (had left old new : Option (List ℕ)) (bytes : List ℕ) (whole : IsWholeInput (MOST_SCRIPT_BYTES + 1) had left bytes) where
-  pub written : (verdict : Verdict) (result : Result (Unit {0}) CheckFault) → IsVerdict bytes verdict → Wrote old new verdict result → Checked had left old new result
+module _ (had left old new : Option (List ℕ)) (bytes : List ℕ) (whole : IsWholeInput (MAX_SCRIPT_BYTES + 1) had left bytes) where
+  pub written : (verdict : Verdict) (result : Result (Unit {0}) CheckFault) → IsVerdict bytes verdict → WroteVerdict old new verdict result → Checked had left old new result
   written (verdicts.Play text) (Ok done) is wrote = (bytes, whole, string_bytes text, is, wrote)
   written (verdicts.Play text) (Err faults.Writing) is wrote = (string_bytes text, wrote)
   written (verdicts.Play text) (Err faults.Mistake) is wrote = absurd wrote
@@ -74,7 +74,7 @@ keeps_itself None = tt
 keeps_itself (Some bytes) = refl
 
 -- nothing was written
-pub unwritten : (had left old : Option (List ℕ)) (fault : CheckFault) → IsBeforeWriting fault → Checked had left old old (Err fault)
+pub unwritten : (had left old : Option (List ℕ)) (fault : CheckFault) → IsBeforeVerdict fault → Checked had left old old (Err fault)
 unwritten had left old faults.Memory is = keeps_itself old
 unwritten had left old faults.Reading is = keeps_itself old
 unwritten had left old faults.Mistake is = absurd is
@@ -84,6 +84,6 @@ unwritten had left old faults.Writing is = absurd is
 -- ---- what ends so
 
 -- what is said of casts and lines is said of others that are the same
-pub ends_same : (casts same_casts : List Casting) (steps : List (ℕ × Step × ℕ)) (events : List Event) (lines shown same_lines : List ℕ) → casts ≡ same_casts → lines ≡ shown → shown ≡ same_lines → EndsSo casts steps events lines → EndsSo same_casts steps events same_lines
+pub ends_same : (casts same_casts : List ActorSpec) (steps : List (ℕ × Step × ℕ)) (events : List Event) (lines shown same_lines : List ℕ) → casts ≡ same_casts → lines ≡ shown → shown ≡ same_lines → EndsSo casts steps events lines → EndsSo same_casts steps events same_lines
 ends_same casts same_casts steps events lines shown same_lines one two three ends =
-    subst (λ (casts : List Casting). EndsSo casts steps events same_lines) one (subst (λ (lines : List ℕ). EndsSo casts steps events lines) (two ∙ three) ends)
+    subst (λ (casts : List ActorSpec). EndsSo casts steps events same_lines) one (subst (λ (lines : List ℕ). EndsSo casts steps events lines) (two ∙ three) ends)

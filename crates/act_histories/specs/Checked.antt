@@ -1,19 +1,20 @@
 -- What a check of a history reads and writes.
 use Rattle.std.specs.Prelude.{◌≡◌, ℕ, ◌+◌, List, ◌++◌, Option, Result, Ok, Err, string_bytes}
 use Rattle.std.specs.Io.KnownBytes.{Keeps, Appends}
-use Rattle.act_types.specs.declared.limits.TheConstants.{MOST_SCRIPT_BYTES}
+use Rattle.act_types.specs.declared.limits.TheConstants.{MAX_SCRIPT_BYTES}
 use Rattle.act_rules.specs.declared.script.Mode.TheVariants.{Threads}
 use Rattle.act_rules.specs.Grammar.{Script, spelled}
 use Rattle.act_console.specs.Input.{IsWholeInput}
-use Rattle.act_console.specs.Output.{AppendsFront}
+use Rattle.act_console.specs.Output.{AppendsPrefix}
 use Rattle.act_histories.specs.declared.fault.CheckFault.{CheckFault}
 use Rattle.act_histories.specs.declared.fault.CheckFault.TheVariants as faults
 use Rattle.act_histories.specs.declared.check.Verdict.{Verdict}
 use Rattle.act_histories.specs.declared.check.Verdict.TheVariants as verdicts
 use Rattle.act_histories.specs.Play.{IsPlayText}
 
--- the first lines of the history spell a script for threads, and the text is a play that ends as it and the other lines tell
-pub record IsPlayOf (bytes text : List ℕ) : Type 0 where
+-- the first lines of the history spell a script for threads, and the text is a play that ends as it and the other lines
+-- tell
+pub record IsPlayOfHistory (bytes text : List ℕ) : Type 0 where
   pub front : List ℕ
   pub rest : List ℕ
   pub parts : bytes ≡ front ++ rest
@@ -23,7 +24,7 @@ pub record IsPlayOf (bytes text : List ℕ) : Type 0 where
 
 -- what is to be written of a history: of a play, that it is one
 abbrev pub IsVerdict : List ℕ → Verdict → Type 0
-IsVerdict bytes (verdicts.Play text) = IsPlayOf bytes (string_bytes text)
+IsVerdict bytes (verdicts.Play text) = IsPlayOfHistory bytes (string_bytes text)
 IsVerdict bytes (verdicts.Refused text) = Unit {0}
 IsVerdict bytes (verdicts.Mistake text) = Unit {0}
 
@@ -34,40 +35,42 @@ IsVerdictOf script rest (verdicts.Refused text) = Unit {0}
 IsVerdictOf script rest (verdicts.Mistake text) = Unit {0}
 
 -- the fault comes before anything is written
-abbrev pub IsBeforeWriting : CheckFault → Type 0
-IsBeforeWriting faults.Mistake = ⊥
-IsBeforeWriting faults.Refused = ⊥
-IsBeforeWriting faults.Memory = Unit {0}
-IsBeforeWriting faults.Reading = Unit {0}
-IsBeforeWriting faults.Writing = ⊥
+abbrev pub IsBeforeVerdict : CheckFault → Type 0
+IsBeforeVerdict faults.Mistake = ⊥
+IsBeforeVerdict faults.Refused = ⊥
+IsBeforeVerdict faults.Memory = Unit {0}
+IsBeforeVerdict faults.Reading = Unit {0}
+IsBeforeVerdict faults.Writing = ⊥
 
--- what was written of a verdict, by the answer: its text whole, or a front of it
-abbrev pub Wrote : Option (List ℕ) → Option (List ℕ) → Verdict → Result (Unit {0}) CheckFault → Type 0
-Wrote old new (verdicts.Play text) (Ok done) = Appends old new (string_bytes text)
-Wrote old new (verdicts.Play text) (Err faults.Writing) = AppendsFront old new (string_bytes text)
-Wrote old new (verdicts.Play text) (Err faults.Mistake) = ⊥
-Wrote old new (verdicts.Play text) (Err faults.Refused) = ⊥
-Wrote old new (verdicts.Play text) (Err faults.Memory) = ⊥
-Wrote old new (verdicts.Play text) (Err faults.Reading) = ⊥
-Wrote old new (verdicts.Refused text) (Ok done) = ⊥
-Wrote old new (verdicts.Refused text) (Err faults.Refused) = Appends old new (string_bytes text)
-Wrote old new (verdicts.Refused text) (Err faults.Writing) = AppendsFront old new (string_bytes text)
-Wrote old new (verdicts.Refused text) (Err faults.Mistake) = ⊥
-Wrote old new (verdicts.Refused text) (Err faults.Memory) = ⊥
-Wrote old new (verdicts.Refused text) (Err faults.Reading) = ⊥
-Wrote old new (verdicts.Mistake text) (Ok done) = ⊥
-Wrote old new (verdicts.Mistake text) (Err faults.Mistake) = Appends old new (string_bytes text)
-Wrote old new (verdicts.Mistake text) (Err faults.Writing) = AppendsFront old new (string_bytes text)
-Wrote old new (verdicts.Mistake text) (Err faults.Refused) = ⊥
-Wrote old new (verdicts.Mistake text) (Err faults.Memory) = ⊥
-Wrote old new (verdicts.Mistake text) (Err faults.Reading) = ⊥
+-- what was written of a verdict, by the answer: its text whole, or a prefix of it
+abbrev pub WroteVerdict : Option (List ℕ) → Option (List ℕ) → Verdict → Result (Unit {0}) CheckFault → Type 0
+WroteVerdict old new (verdicts.Play text) (Ok done) = Appends old new (string_bytes text)
+WroteVerdict old new (verdicts.Play text) (Err faults.Writing) = AppendsPrefix old new (string_bytes text)
+WroteVerdict old new (verdicts.Play text) (Err faults.Mistake) = ⊥
+WroteVerdict old new (verdicts.Play text) (Err faults.Refused) = ⊥
+WroteVerdict old new (verdicts.Play text) (Err faults.Memory) = ⊥
+WroteVerdict old new (verdicts.Play text) (Err faults.Reading) = ⊥
+WroteVerdict old new (verdicts.Refused text) (Ok done) = ⊥
+WroteVerdict old new (verdicts.Refused text) (Err faults.Refused) = Appends old new (string_bytes text)
+WroteVerdict old new (verdicts.Refused text) (Err faults.Writing) = AppendsPrefix old new (string_bytes text)
+WroteVerdict old new (verdicts.Refused text) (Err faults.Mistake) = ⊥
+WroteVerdict old new (verdicts.Refused text) (Err faults.Memory) = ⊥
+WroteVerdict old new (verdicts.Refused text) (Err faults.Reading) = ⊥
+WroteVerdict old new (verdicts.Mistake text) (Ok done) = ⊥
+WroteVerdict old new (verdicts.Mistake text) (Err faults.Mistake) = Appends old new (string_bytes text)
+WroteVerdict old new (verdicts.Mistake text) (Err faults.Writing) = AppendsPrefix old new (string_bytes text)
+WroteVerdict old new (verdicts.Mistake text) (Err faults.Refused) = ⊥
+WroteVerdict old new (verdicts.Mistake text) (Err faults.Memory) = ⊥
+WroteVerdict old new (verdicts.Mistake text) (Err faults.Reading) = ⊥
 
 -- what a check read and wrote, by its answer: a play of the history, or a text that tells why there is none
-abbrev pub Checked : Option (List ℕ) → Option (List ℕ) → Option (List ℕ) → Option (List ℕ) → Result (Unit {0}) CheckFault → Type 0
+abbrev pub Checked : Option (List ℕ) → Option (List ℕ) → Option (List ℕ) → Option (List ℕ) →
+    Result (Unit {0}) CheckFault → Type 0
 Checked had left old new (Ok done) =
-    (bytes : List ℕ) × IsWholeInput (MOST_SCRIPT_BYTES + 1) had left bytes × (text : List ℕ) × IsPlayOf bytes text × Appends old new text
+    (bytes : List ℕ) × IsWholeInput (MAX_SCRIPT_BYTES + 1) had left bytes × (text : List ℕ)
+    × IsPlayOfHistory bytes text × Appends old new text
 Checked had left old new (Err faults.Mistake) = (text : List ℕ) × Appends old new text
 Checked had left old new (Err faults.Refused) = (text : List ℕ) × Appends old new text
 Checked had left old new (Err faults.Memory) = Keeps old new
 Checked had left old new (Err faults.Reading) = Keeps old new
-Checked had left old new (Err faults.Writing) = (text : List ℕ) × AppendsFront old new text
+Checked had left old new (Err faults.Writing) = (text : List ℕ) × AppendsPrefix old new text

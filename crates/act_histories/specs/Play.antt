@@ -1,7 +1,7 @@
 -- When a list of events ends as a history tells.
 use Rattle.std.specs.Prelude.{◌≡◌, ◌≢◌, ℕ, ◌≤◌, ◌<◌, ◌==◌, if◌then◌else◌, List, [], ◌∷◌, length, map, take, slice_get, Some, Ok, IsOk, All}
 use Rattle.std.specs.List.{flat_map}
-use Rattle.act_types.specs.declared.limits.TheConstants.{MOST_CALLERS, MOST_SCRIPT_BYTES}
+use Rattle.act_types.specs.declared.limits.TheConstants.{MAX_CALLERS, MAX_SCRIPT_BYTES}
 use Rattle.act_types.specs.declared.call.Method.{Method}
 use Rattle.act_types.specs.declared.call.Arg.{Arg}
 use Rattle.act_rules.specs.declared.event.Event.{Event}
@@ -9,12 +9,12 @@ use Rattle.act_rules.specs.declared.history.Submission.{Submission}
 use Rattle.act_rules.specs.declared.script.Step.{Step}
 use Rattle.act_rules.specs.declared.script.Step.TheVariants as step
 use Rattle.act_rules.specs.declared.script.Mode.TheVariants.{Play}
-use Rattle.act_rules.specs.History.{Casting, History, opening, calls_of}
+use Rattle.act_rules.specs.History.{ActorSpec, History, opening, calls_of}
 use Rattle.act_rules.specs.Laws.{history}
 use Rattle.act_rules.specs.Rules.{outcomes}
 use Rattle.act_rules.specs.Report.{summary}
 use Rattle.act_rules.specs.Grammar.{Script, spelled}
-use Rattle.act_rules.specs.Scripts.{role_casting}
+use Rattle.act_rules.specs.Scripts.{actor_spec_of}
 use Rattle.act_histories.specs.Lines.{told_lines}
 
 -- the call that a step submits, where it is one of the caller
@@ -26,15 +26,15 @@ call_of c (d, step.Kill a, line) = []
 call_of c (d, step.Await k, line) = []
 
 -- the calls that a caller's steps submit
-abbrev pub submitted : ℕ → List (ℕ × Step × ℕ) → List Submission
-submitted c steps = flat_map (call_of c) steps
+abbrev pub calls_of_steps : ℕ → List (ℕ × Step × ℕ) → List Submission
+calls_of_steps c steps = flat_map (call_of c) steps
 
 -- where steps tell a caller's calls, it has these
 abbrev pub HasCalls : ℕ → List (ℕ × Step × ℕ) → History → Type 0
-HasCalls c steps h = submitted c steps ≢ [] → calls_of c h ≡ submitted c steps
+HasCalls c steps h = calls_of_steps c steps ≢ [] → calls_of c h ≡ calls_of_steps c steps
 
 -- a list begins with these calls, so many
-pub record IsFront (count : ℕ) (front calls : List Submission) : Type 0 where
+pub record BeginsWith (count : ℕ) (front calls : List Submission) : Type 0 where
   pub within : count ≤ length calls
   pub same : take count calls ≡ front
 
@@ -43,19 +43,23 @@ pub record IsNext (k actor : ℕ) (method : Method) (args : List Arg) (calls : L
   pub within : k < length calls
   pub call : slice_get calls k ≡ Some (record { actor = actor; method = method; args = args })
 
--- all events are accepted in a world of these casts, which then shows these lines; and each caller has the calls that steps tell
-pub record EndsSo (casts : List Casting) (steps : List (ℕ × Step × ℕ)) (events : List Event) (told : List ℕ) : Type 0 where
+-- all events are accepted in a world of these casts, which then shows these lines; and each caller has the calls that
+-- steps tell
+pub record EndsSo (casts : List ActorSpec) (steps : List (ℕ × Step × ℕ)) (events : List Event)
+    (told : List ℕ) : Type 0 where
   pub accepted : All IsOk (outcomes (opening casts) events)
   pub shown : summary (history casts events) ≡ told
-  pub calls : (c : ℕ) → 1 ≤ c → c ≤ MOST_CALLERS → HasCalls c steps (history casts events)
+  pub calls : (c : ℕ) → 1 ≤ c → c ≤ MAX_CALLERS → HasCalls c steps (history casts events)
 
 -- the script is a play with the roles of the first one, and ends as its steps and the lines tell
 pub record IsPlayScript (script : Script) (rest : List ℕ) (play : Script) : Type 0 where
-  pub ends : EndsSo (map role_casting script.roles) script.steps play.events (told_lines rest)
+  pub ends : EndsSo (map actor_spec_of script.roles) script.steps play.events (told_lines rest)
   pub same : play ≡ record { roles = script.roles; events = play.events; steps = [] }
 
--- the text is a play with the roles of the script, and ends as its steps and the lines tell; one that is longer than a script may be can't be read, so only its events are spoken of
+-- the text is a play with the roles of the script, and ends as its steps and the lines tell; one that is longer than a
+-- script may be can't be read, so only its events are spoken of
 pub record IsPlayText (script : Script) (rest text : List ℕ) : Type 0 where
   pub events : List Event
-  pub ends : EndsSo (map role_casting script.roles) script.steps events (told_lines rest)
-  pub written : length text ≤ MOST_SCRIPT_BYTES → spelled Play text ≡ Ok (record { roles = script.roles; events = events; steps = [] })
+  pub ends : EndsSo (map actor_spec_of script.roles) script.steps events (told_lines rest)
+  pub written : length text ≤ MAX_SCRIPT_BYTES →
+      spelled Play text ≡ Ok (record { roles = script.roles; events = events; steps = [] })

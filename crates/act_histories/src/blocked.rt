@@ -8,7 +8,7 @@ use crate::history::{Call, History, Ran, future_at, slot_of};
 use crate::progress::{Asked, Progress};
 use crate::reason::{Blame, CallName, Reason};
 use crate::rules::has_died;
-use act_types::{ActorId, Arg, CallerId, MOST_ACTORS, MOST_CALLERS, NoMemory};
+use act_types::{ActorId, Arg, CallerId, MAX_ACTORS, MAX_CALLERS, NoMemory};
 use std::alloc::Global;
 
 /// A play that is stuck.
@@ -199,7 +199,7 @@ impl Way {
 
 /// The first actor whose run list isn't through.
 fn first_waiting(stuck: &Stuck<'_>) -> Option<ActorId> {
-    for before in 0..MOST_ACTORS {
+    for before in 0..MAX_ACTORS {
         let a = ActorId::new(before + 1)?;
         if stuck.front(a).is_some() {
             return Some(a);
@@ -210,7 +210,7 @@ fn first_waiting(stuck: &Stuck<'_>) -> Option<ActorId> {
 
 /// The first call that isn't submitted, of the first caller that has one.
 fn first_held(stuck: &Stuck<'_>) -> Option<CallName> {
-    for before in 0..MOST_CALLERS {
+    for before in 0..MAX_CALLERS {
         let c = CallerId::new(before + 1)?;
         if let Some(name) = stuck.first_unsubmitted(c) {
             return Some(name);
@@ -227,7 +227,7 @@ fn way_from(alloc: Global, stuck: &Stuck<'_>, first: ActorId) -> Result<Vec<Blam
     };
     let mut begins = [None; 9];
     let mut at = first;
-    for _step in 0..=MOST_ACTORS {
+    for _step in 0..=MAX_ACTORS {
         let slot = slot_of(at);
         if let Some(begin) = begins[slot] {
             return circle_of(alloc, &way.blames, begin);

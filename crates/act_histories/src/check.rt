@@ -4,16 +4,16 @@ ghost use Rattle.std.specs.Prelude.{◌≡◌, ◌≤◌, ◌<◌, ◌+◌, ◌^
 ghost use Rattle.std.specs.Io.KnownBytes.{Appends};
 ghost use Rattle.act_rules.specs.declared.script.Mode.TheVariants.{Play, Threads};
 ghost use Rattle.act_rules.specs.Grammar.{Script as Spelled};
-ghost use Rattle.act_rules.specs.Scripts.{role_casting};
+ghost use Rattle.act_rules.specs.Scripts.{actor_spec_of};
 ghost use Rattle.act_scripts.specs.Roles.{AreFitting};
 ghost use Rattle.act_scripts.specs.Spelled.{mode_of, count_of, spelled_script};
 ghost use Rattle.act_console.specs.Input.{IsWholeInput};
-ghost use Rattle.act_console.specs.Output.{AppendsFront};
+ghost use Rattle.act_console.specs.Output.{AppendsPrefix};
 ghost use Rattle.act_console.specs.Plans.{script_of};
 ghost use Rattle.act_console.specs.Stock.{IsReady};
 ghost use Rattle.act_histories.specs.Lines.{told_lines};
 ghost use Rattle.act_histories.specs.Play.{EndsSo, IsPlayScript, IsPlayText};
-ghost use Rattle.act_histories.specs.Checked.{IsVerdict, IsVerdictOf, IsBeforeWriting, Wrote, Checked};
+ghost use Rattle.act_histories.specs.Checked.{IsVerdict, IsVerdictOf, IsBeforeVerdict, WroteVerdict, Checked};
 
 use crate::blocked::blocked;
 use crate::compared::ends_so;
@@ -32,7 +32,7 @@ use act_console::{ConsoleFault, Stock, casts_of, read_whole, write_whole};
 use act_kinds::{Actor, Boxed};
 use act_rules::{Event, Mode, Role, Wrong};
 use act_scripts::{Items, Script, ScriptFault, read_script};
-use act_types::{ListOf, MOST_SCRIPT_BYTES, NoMemory};
+use act_types::{ListOf, MAX_SCRIPT_BYTES, NoMemory};
 use act_world::World;
 use std::alloc::{AllocError, Global};
 use std::io::{Read, Write};
@@ -49,7 +49,7 @@ pub(crate) enum Verdict {
 }
 
 /// More events than a world takes.
-const MOST_EVENTS: usize = 4_294_967_296;
+const MAX_EVENTS: usize = 4_294_967_296;
 
 fn mistake_of(alloc: Global, line: u32, wrong: Wrongly) -> Result<Verdict, AllocError>
     ensures of_bytes { (bytes : List ℕ) → IfOk result (IsVerdict bytes) }
@@ -79,10 +79,10 @@ fn why_not_events(
     lines: Lines<'_>,
 ) -> Result<Option<String>, NoMemory>
     requires ready { IsReady ⟦<Boxed as Actor>⟧.state stock }
-    requires roles { AreFitting (map role_casting roles) }
+    requires roles { AreFitting (map actor_spec_of roles) }
     requires few { length events.now < 2 ^ 32 }
     ensures { IfOk result (λ why. why ≡ None →
-        EndsSo (map role_casting roles) lines.entry.steps.now events.now (told_lines lines.entry.rest.now)) }
+        EndsSo (map actor_spec_of roles) lines.entry.steps.now events.now (told_lines lines.entry.rest.now)) }
 {
     let shown = told_of(alloc, lines.rest)?;
     let casts = casts_of(alloc, stock, roles)?;
@@ -106,7 +106,7 @@ fn why_not_script(
 ) -> Result<Option<String>, NoMemory>
     requires ready { IsReady ⟦<Boxed as Actor>⟧.state stock }
     requires mode { mode_of script.items ≡ Play }
-    requires roles { AreFitting (map role_casting script.casts) }
+    requires roles { AreFitting (map actor_spec_of script.casts) }
     requires few { count_of script.items < 2 ^ 32 }
     ensures { IfOk result (λ why. why ≡ None →
         IsPlayScript (script_of roles.now lines.entry.steps.now) lines.entry.rest.now (spelled_script script)) }
@@ -132,7 +132,8 @@ fn why_not_text(
     lines: Lines<'_>,
 ) -> Result<Option<String>, NoMemory>
     requires ready { IsReady ⟦<Boxed as Actor>⟧.state stock }
-    ensures { IfOk result (λ why. why ≡ None → IsPlayText (script_of roles.now lines.entry.steps.now) lines.entry.rest.now text.now) }
+    ensures { IfOk result (λ why. why ≡ None →
+        IsPlayText (script_of roles.now lines.entry.steps.now) lines.entry.rest.now text.now) }
 {
     match read_script(alloc, text.as_bytes(), Mode::Play) {
         Ok(script) => why_not_script(alloc, stock, roles, script, history, lines),
@@ -157,13 +158,14 @@ fn why_not(
     lines: Lines<'_>,
 ) -> Result<Option<String>, NoMemory>
     requires ready { IsReady ⟦<Boxed as Actor>⟧.state stock }
-    requires roles { AreFitting (map role_casting roles) }
-    ensures { IfOk result (λ why. why ≡ None → IsPlayText (script_of roles lines.entry.steps.now) lines.entry.rest.now text.now) }
+    requires roles { AreFitting (map actor_spec_of roles) }
+    ensures { IfOk result (λ why. why ≡ None →
+        IsPlayText (script_of roles lines.entry.steps.now) lines.entry.rest.now text.now) }
 {
-    if text.len() <= MOST_SCRIPT_BYTES {
+    if text.len() <= MAX_SCRIPT_BYTES {
         return why_not_text(alloc, stock, roles.as_slice(), text, history, lines);
     }
-    if events.len() >= MOST_EVENTS {
+    if events.len() >= MAX_EVENTS {
         let why = String::from_str(alloc, "line 0: the play that was found is too long\n")?;
         return Ok(Some(why));
     }
@@ -180,7 +182,7 @@ fn verdict_of_events(
     lines: Lines<'_>,
 ) -> Result<Verdict, NoMemory>
     requires ready { IsReady ⟦<Boxed as Actor>⟧.state stock }
-    requires roles { AreFitting (map role_casting roles) }
+    requires roles { AreFitting (map actor_spec_of roles) }
     ensures { IfOk result (IsVerdictOf (script_of roles lines.entry.steps.now) lines.entry.rest.now) }
 {
     let text = play_text(alloc, roles.as_slice(), events)?;
@@ -199,7 +201,7 @@ fn verdict_of_history(
     lines: Lines<'_>,
 ) -> Result<Verdict, NoMemory>
     requires ready { IsReady ⟦<Boxed as Actor>⟧.state stock }
-    requires roles { AreFitting (map role_casting roles) }
+    requires roles { AreFitting (map actor_spec_of roles) }
     ensures { IfOk result (IsVerdictOf (script_of roles lines.entry.steps.now) lines.entry.rest.now) }
 {
     if let Some(blame) = check_rules(alloc, history)? {
@@ -227,7 +229,7 @@ fn verdict_of_script(
 ) -> Result<Verdict, NoMemory>
     requires ready { IsReady ⟦<Boxed as Actor>⟧.state stock }
     requires mode { mode_of script.items ≡ Threads }
-    requires roles { AreFitting (map role_casting script.casts) }
+    requires roles { AreFitting (map actor_spec_of script.casts) }
     ensures { IfOk result (IsVerdictOf (spelled_script script) rest.now) }
 {
     let Script {
@@ -254,7 +256,7 @@ fn verdict_of(alloc: Global, stock: Stock, bytes: &[u8]) -> Result<Verdict, NoMe
     requires ready { IsReady ⟦<Boxed as Actor>⟧.state stock }
     ensures { IfOk result (IsVerdict bytes.now) }
 {
-    if bytes.len() > MOST_SCRIPT_BYTES {
+    if bytes.len() > MAX_SCRIPT_BYTES {
         return Ok(mistake_of(alloc, 0, Wrongly::Script(Wrong::TooLong))?);
     }
     let Cut { at, lines } = cut_of(bytes);
@@ -270,7 +272,7 @@ fn verdict_of(alloc: Global, stock: Stock, bytes: &[u8]) -> Result<Verdict, NoMe
 
 /// Writes a verdict, and tells which it was.
 fn write_verdict<W: Write>(writer: &mut W, verdict: Verdict) -> Result<(), CheckFault>
-    ensures { Wrote (W.contents writer.old) (W.contents writer.new) verdict result }
+    ensures { WroteVerdict (W.contents writer.old) (W.contents writer.new) verdict result }
 {
     match verdict {
         Verdict::Play(text) => write_text(writer, &text),
@@ -285,11 +287,11 @@ fn write_verdict<W: Write>(writer: &mut W, verdict: Verdict) -> Result<(), Check
     }
 }
 
-/// Writes a text whole, or a front of it and then fails.
+/// Writes a text whole, or a prefix of it and then fails.
 fn write_text<W: Write>(writer: &mut W, text: &str) -> Result<(), CheckFault>
     ensures ok { OnOk result (Appends (W.contents writer.old) (W.contents writer.new) text.now) }
     ensures fault { IfErr result (λ fault. fault ≡ CheckFault.Writing) }
-    ensures err { OnErr result (AppendsFront (W.contents writer.old) (W.contents writer.new) text.now) }
+    ensures err { OnErr result (AppendsPrefix (W.contents writer.old) (W.contents writer.new) text.now) }
 {
     match write_whole(writer, text) {
         Ok(()) => Ok(()),
@@ -300,8 +302,8 @@ fn write_text<W: Write>(writer: &mut W, text: &str) -> Result<(), CheckFault>
 /// All that the reader has.
 fn read_bytes<R: Read>(alloc: Global, reader: &mut R) -> Result<Vec<u8>, CheckFault>
     ensures ok { IfOk result (λ bytes.
-        IsWholeInput (MOST_SCRIPT_BYTES + 1) (R.remaining reader.old) (R.remaining reader.new) bytes.items) }
-    ensures err { IfErr result IsBeforeWriting }
+        IsWholeInput (MAX_SCRIPT_BYTES + 1) (R.remaining reader.old) (R.remaining reader.new) bytes.items) }
+    ensures err { IfErr result IsBeforeVerdict }
 {
     match read_whole(alloc, reader) {
         Ok(bytes) => Ok(bytes),
@@ -324,7 +326,8 @@ pub fn check_history<R: Read, W: Write>(
     writer: &mut W,
 ) -> Result<(), CheckFault>
     requires ready { IsReady ⟦<Boxed as Actor>⟧.state stock }
-    ensures { Checked (R.remaining reader.old) (R.remaining reader.new) (W.contents writer.old) (W.contents writer.new) result }
+    ensures { Checked (R.remaining reader.old) (R.remaining reader.new) (W.contents writer.old)
+        (W.contents writer.new) result }
 {
     let bytes = read_bytes(alloc, reader)?;
     match verdict_of(alloc, stock, &bytes) {

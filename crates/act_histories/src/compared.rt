@@ -2,20 +2,20 @@
 
 ghost use Rattle.std.specs.Prelude.{◌≡◌, ◌≢◌, ◌↔◌, ◌≤◌, ◌<◌, ◌++◌, ℕ, List, [], length, map, take, IfOk, IfSome, IsOk, IsTrue, All, Option, Some};
 ghost use Rattle.act_rules.specs.declared.event.Event.{Event as Happening};
-ghost use Rattle.act_rules.specs.History.{Casting, opening};
+ghost use Rattle.act_rules.specs.History.{ActorSpec, opening};
 ghost use Rattle.act_rules.specs.Laws.{history};
 ghost use Rattle.act_rules.specs.Report.{summary};
 ghost use Rattle.act_rules.specs.Rules.{outcomes};
-ghost use Rattle.act_world.specs.Stands.{Stands, HasRoom};
-ghost use Rattle.act_world.specs.View.{world_seen};
-ghost use Rattle.act_histories.specs.Play.{EndsSo, HasCalls, IsFront, IsNext, call_of, submitted};
+ghost use Rattle.act_world.specs.IsReachedBy.{IsReachedBy, HasRoom};
+ghost use Rattle.act_world.specs.View.{world_view};
+ghost use Rattle.act_histories.specs.Play.{EndsSo, HasCalls, BeginsWith, IsNext, call_of, calls_of_steps};
 
 use crate::same::{same_args, same_method};
 use act_console::play_report;
 use act_kinds::Actor;
 use act_owner::Owner;
 use act_rules::{Event, Outcome, Step};
-use act_types::{ActorId, Arg, CallerId, FutureId, MOST_CALLERS, MOST_CALLS, Method, NoMemory};
+use act_types::{ActorId, Arg, CallerId, FutureId, MAX_CALLERS, MAX_CALLS, Method, NoMemory};
 use act_world::World;
 use std::alloc::Global;
 
@@ -41,7 +41,7 @@ fn are_accepted(told: &[Outcome]) -> bool
 /// Whether the caller's call of this future goes to the actor, with this method and these arguments.
 fn has_call(owner: &Owner, k: u32, actor: ActorId, method: &Method, args: &[Arg]) -> bool
     ensures next { IsTrue result → IsNext k actor method.now args.now owner.now.calls }
-    ensures few { IsTrue result → k < MOST_CALLS }
+    ensures few { IsTrue result → k < MAX_CALLS }
 {
     if k >= owner.count() {
         return false;
@@ -58,7 +58,8 @@ fn has_call(owner: &Owner, k: u32, actor: ActorId, method: &Method, args: &[Arg]
 /// How many of the caller's calls the steps told so far after this one, where it submits the next.
 fn told_after(owner: &Owner, c: CallerId, told: u32, caller: CallerId, step: &Step) -> Option<u32>
     requires { told ≤ length owner.now.calls }
-    ensures { (line : ℕ) → IfSome result (λ next. IsFront next (take told owner.now.calls ++ call_of c (caller, step.now, line)) owner.now.calls) }
+    ensures { (line : ℕ) → IfSome result (λ next.
+        BeginsWith next (take told owner.now.calls ++ call_of c (caller, step.now, line)) owner.now.calls) }
 {
     if caller != c {
         return Some(told);
@@ -77,7 +78,7 @@ fn told_after(owner: &Owner, c: CallerId, told: u32, caller: CallerId, step: &St
 
 /// Whether the caller's calls are those that its steps submit, if any do.
 fn has_calls(owner: &Owner, c: CallerId, steps: &[(CallerId, Step, u32)]) -> bool
-    ensures { IsTrue result → submitted c steps.now ≢ [] → owner.now.calls ≡ submitted c steps.now }
+    ensures { IsTrue result → calls_of_steps c steps.now ≢ [] → owner.now.calls ≡ calls_of_steps c steps.now }
 {
     let mut told = 0;
     for step in steps {
@@ -98,7 +99,7 @@ fn is_silent(c: CallerId, caller: CallerId, step: &Step) -> bool
 
 /// Whether no step submits a call of this caller.
 fn has_none(c: CallerId, steps: &[(CallerId, Step, u32)]) -> bool
-    ensures { IsTrue result → submitted c steps.now ≡ [] }
+    ensures { IsTrue result → calls_of_steps c steps.now ≡ [] }
 {
     for step in steps {
         if !is_silent(c, step.0, &step.1) {
@@ -110,8 +111,8 @@ fn has_none(c: CallerId, steps: &[(CallerId, Step, u32)]) -> bool
 
 /// Whether the calls of the caller are those that its steps submit, if any do.
 fn has_calls_of<K: Actor>(world: &World<K>, c: CallerId, steps: &[(CallerId, Step, u32)]) -> bool
-    ensures { IsTrue result → (casts : List Casting) (events : List Happening) →
-        Stands casts events (world_seen K.state world.now) → HasCalls c steps.now (history casts events) }
+    ensures { IsTrue result → (casts : List ActorSpec) (events : List Happening) →
+        IsReachedBy casts events (world_view K.state world.now) → HasCalls c steps.now (history casts events) }
 {
     match world.owner(c) {
         None => has_none(c, steps),
@@ -121,9 +122,9 @@ fn has_calls_of<K: Actor>(world: &World<K>, c: CallerId, steps: &[(CallerId, Ste
 
 /// Whether the calls of the caller of this number are those that its steps submit, if any do.
 fn has_calls_at<K: Actor>(world: &World<K>, number: u8, steps: &[(CallerId, Step, u32)]) -> bool
-    requires { (1 ≤ number) × (number ≤ MOST_CALLERS) }
-    ensures { IsTrue result → (casts : List Casting) (events : List Happening) →
-        Stands casts events (world_seen K.state world.now) → HasCalls number steps.now (history casts events) }
+    requires { (1 ≤ number) × (number ≤ MAX_CALLERS) }
+    ensures { IsTrue result → (casts : List ActorSpec) (events : List Happening) →
+        IsReachedBy casts events (world_view K.state world.now) → HasCalls number steps.now (history casts events) }
 {
     let c = CallerId::new(number).unwrap();
     has_calls_of(world, c, steps)
@@ -131,11 +132,11 @@ fn has_calls_at<K: Actor>(world: &World<K>, number: u8, steps: &[(CallerId, Step
 
 /// Whether the calls of each caller are those that its steps submit, if any do.
 fn has_all_calls<K: Actor>(world: &World<K>, steps: &[(CallerId, Step, u32)]) -> bool
-    ensures { IsTrue result → (casts : List Casting) (events : List Happening) →
-        Stands casts events (world_seen K.state world.now) →
-        (c : ℕ) → 1 ≤ c → c ≤ MOST_CALLERS → HasCalls c steps.now (history casts events) }
+    ensures { IsTrue result → (casts : List ActorSpec) (events : List Happening) →
+        IsReachedBy casts events (world_view K.state world.now) →
+        (c : ℕ) → 1 ≤ c → c ≤ MAX_CALLERS → HasCalls c steps.now (history casts events) }
 {
-    for before in 0..MOST_CALLERS {
+    for before in 0..MAX_CALLERS {
         if !has_calls_at(world, before + 1, steps) {
             return false;
         }
@@ -149,12 +150,13 @@ fn play_in<K: Actor>(
     events: &[Event],
     told: &mut Vec<Outcome>,
 ) -> Result<bool, NoMemory>
-    requires room { HasRoom (length events.now) (world_seen K.state world.old).exchange }
+    requires room { HasRoom (length events.now) (world_view K.state world.old).network }
     requires none { told.old.items ≡ [] }
-    ensures accepted { IfOk result (λ is. IsTrue is → (casts : List Casting) →
-        Stands casts [] (world_seen K.state world.old) → All IsOk (outcomes (opening casts) events.now)) }
-    ensures stands { IfOk result (λ _. (casts : List Casting) →
-        Stands casts [] (world_seen K.state world.old) → Stands casts events.now (world_seen K.state world.new)) }
+    ensures accepted { IfOk result (λ is. IsTrue is → (casts : List ActorSpec) →
+        IsReachedBy casts [] (world_view K.state world.old) → All IsOk (outcomes (opening casts) events.now)) }
+    ensures reached { IfOk result (λ _. (casts : List ActorSpec) →
+        IsReachedBy casts [] (world_view K.state world.old) →
+        IsReachedBy casts events.now (world_view K.state world.new)) }
 {
     let Ok(()) = world.play(events, told) else {
         return Err(NoMemory);
@@ -171,8 +173,8 @@ fn same_bytes(one: &[u8], other: &[u8]) -> bool
 
 /// Whether the world shows these lines.
 fn shows<K: Actor>(alloc: Global, world: &World<K>, told: &[u8]) -> Result<bool, NoMemory>
-    ensures { IfOk result (λ is. IsTrue is → (casts : List Casting) (events : List Happening) →
-        Stands casts events (world_seen K.state world.now) → summary (history casts events) ≡ told.now) }
+    ensures { IfOk result (λ is. IsTrue is → (casts : List ActorSpec) (events : List Happening) →
+        IsReachedBy casts events (world_view K.state world.now) → summary (history casts events) ≡ told.now) }
 {
     let mut text = String::new(alloc);
     play_report(alloc, world, &[], &mut text)?;
@@ -189,10 +191,10 @@ pub(crate) fn ends_so<K: Actor>(
     lines: &[u8],
     told: &mut Vec<Outcome>,
 ) -> Result<bool, NoMemory>
-    requires room { HasRoom (length events.now) (world_seen K.state world.old).exchange }
+    requires room { HasRoom (length events.now) (world_view K.state world.old).network }
     requires none { told.old.items ≡ [] }
-    ensures { IfOk result (λ is. IsTrue is → (casts : List Casting) →
-        Stands casts [] (world_seen K.state world.old) → EndsSo casts steps.now events.now lines.now) }
+    ensures { IfOk result (λ is. IsTrue is → (casts : List ActorSpec) →
+        IsReachedBy casts [] (world_view K.state world.old) → EndsSo casts steps.now events.now lines.now) }
 {
     let accepted = play_in(world, events, told)?;
     if !accepted {

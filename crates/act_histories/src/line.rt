@@ -5,7 +5,7 @@ use act_rules::{KindName, RunItem};
 use act_scripts::{
     BAD_LINE, LineFault, actor_of, caller_of, kind_of, method_of, number_of, value_of,
 };
-use act_types::{ActorId, Answer, CallerId, Fault, FewOf, FutureId, Settled};
+use act_types::{ActorId, Answer, CallerId, Fault, FutureId, Settled, SmallList};
 use std::alloc::Global;
 
 /// What a line tells.
@@ -129,8 +129,8 @@ fn ending_of(word: &str) -> Result<Ending, LineFault> {
 }
 
 /// The arguments of a call that ran.
-fn settled_args(alloc: Global, words: &[&str]) -> Result<FewOf<Settled>, LineFault> {
-    let mut args = FewOf::with_capacity(alloc, words.len())?;
+fn settled_args(alloc: Global, words: &[&str]) -> Result<SmallList<Settled>, LineFault> {
+    let mut args = SmallList::with_capacity(alloc, words.len())?;
     for word in words {
         args.push(settled_of(alloc, word)?)?;
     }

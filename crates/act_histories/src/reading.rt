@@ -6,7 +6,7 @@ use crate::mistake::{Mistake, Wrongly};
 use act_rules::{KindName, Role, RunItem, Step, Wrong};
 use act_scripts::LineFault;
 use act_types::{
-    ActorId, Answer, Arg, CallerId, CopyOf, FutureId, ListOf, MOST_ACTORS, MOST_CALLERS, Method,
+    ActorId, Answer, Arg, CallerId, CopyOf, FutureId, ListOf, MAX_ACTORS, MAX_CALLERS, Method,
     NoMemory, Settled,
 };
 use std::alloc::Global;
@@ -28,10 +28,10 @@ fn empty(alloc: Global) -> Result<History, NoMemory> {
         callers: Vec::new(alloc),
         actors: Vec::new(alloc),
     };
-    for _ in 0..=MOST_CALLERS {
+    for _ in 0..=MAX_CALLERS {
         history.callers.push(Caller::new(alloc))?;
     }
-    for _ in 0..=MOST_ACTORS {
+    for _ in 0..=MAX_ACTORS {
         history.actors.push(Served::new(alloc))?;
     }
     Ok(history)

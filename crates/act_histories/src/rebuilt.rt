@@ -12,7 +12,7 @@ use crate::history::{Call, Caller, Ending, History, Ran, Served};
 use crate::progress::{Done, Progress, is_bereaved};
 use crate::rules::{has_died, has_terminated};
 use act_rules::Event;
-use act_types::{ActorId, CallerId, CopyOf, FutureId, MOST_ACTORS, MOST_CALLERS, NoMemory};
+use act_types::{ActorId, CallerId, CopyOf, FutureId, MAX_ACTORS, MAX_CALLERS, NoMemory};
 use std::alloc::Global;
 
 /// A play that is being made.
@@ -206,7 +206,7 @@ impl Rebuilt {
     /// What all callers can submit now.
     fn submit_round(&mut self, history: &History) -> Result<bool, NoMemory> {
         let mut has_moved = false;
-        for before in 0..MOST_CALLERS {
+        for before in 0..MAX_CALLERS {
             if let Some(c) = CallerId::new(before + 1)
                 && let Some(caller) = history.caller(c)
             {
@@ -219,7 +219,7 @@ impl Rebuilt {
     /// What all actors can do now.
     fn serve_round(&mut self, history: &History) -> Result<bool, NoMemory> {
         let mut has_moved = false;
-        for before in 0..MOST_ACTORS {
+        for before in 0..MAX_ACTORS {
             if let Some(a) = ActorId::new(before + 1)
                 && let Some(actor) = history.actor(a)
             {
@@ -246,7 +246,7 @@ impl Rebuilt {
 
     /// The actors that are told as retired retire.
     fn retire_all(&mut self, history: &History) -> Result<(), NoMemory> {
-        for before in 0..MOST_ACTORS {
+        for before in 0..MAX_ACTORS {
             if let Some(a) = ActorId::new(before + 1)
                 && let Some(actor) = history.actor(a)
                 && actor.ending == Ending::Retired
@@ -264,7 +264,7 @@ pub(crate) fn limit_of(history: &History, a: ActorId) -> Option<u32> {
 }
 
 /// More rounds than there are events in any play.
-const MOST_ROUNDS: u32 = 4_294_967_295;
+const MAX_ROUNDS: u32 = 4_294_967_295;
 
 /// The events of a play that ends so, as far as they can be put.
 pub(crate) fn rebuild(alloc: Global, history: &History) -> Result<Rebuilt, NoMemory> {
@@ -275,7 +275,7 @@ pub(crate) fn rebuild(alloc: Global, history: &History) -> Result<Rebuilt, NoMem
         notices: 0,
         progress: Progress::open(alloc, history)?,
     };
-    for _round in 0..MOST_ROUNDS {
+    for _round in 0..MAX_ROUNDS {
         let has_submitted = rebuilt.submit_round(history)?;
         let has_served = rebuilt.serve_round(history)?;
         if !has_submitted && !has_served {

@@ -4,7 +4,7 @@ use crate::history::{Call, Caller, Ending, History, Ran, Served, future_at, slot
 use crate::reason::{Blame, CallName, PlaceName, Reason};
 use act_rules::RunItem;
 use act_types::{
-    ActorId, Arg, CallerId, Fault, FutureId, MOST_ACTORS, MOST_CALLERS, Method, NoMemory, Settled,
+    ActorId, Arg, CallerId, Fault, FutureId, MAX_ACTORS, MAX_CALLERS, Method, NoMemory, Settled,
 };
 use std::alloc::Global;
 
@@ -17,7 +17,7 @@ struct Counts {
 impl Counts {
     fn new(alloc: Global) -> Result<Counts, NoMemory> {
         let mut ran = Vec::new(alloc);
-        for _ in 0..=MOST_CALLERS {
+        for _ in 0..=MAX_CALLERS {
             ran.push(0)?;
         }
         Ok(Counts { ran })
@@ -185,7 +185,7 @@ fn check_actor(alloc: Global, history: &History, a: ActorId) -> Result<Option<Bl
 }
 
 fn check_actors(alloc: Global, history: &History) -> Result<Option<Blame>, NoMemory> {
-    for before in 0..MOST_ACTORS {
+    for before in 0..MAX_ACTORS {
         if let Some(a) = ActorId::new(before + 1)
             && let Some(blame) = check_actor(alloc, history, a)?
         {
@@ -296,7 +296,7 @@ fn check_caller(history: &History, c: CallerId, caller: &Caller) -> Option<Blame
 }
 
 fn check_callers(history: &History) -> Option<Blame> {
-    for before in 0..MOST_CALLERS {
+    for before in 0..MAX_CALLERS {
         if let Some(c) = CallerId::new(before + 1)
             && let Some(caller) = history.caller(c)
             && let Some(blame) = check_caller(history, c, caller)

@@ -11,14 +11,14 @@ use Rattle.std.proofs.lemmas.Option.{slice_get-get_or, slice_get_within, get_or_
 use Rattle.slab.specs.Slab.{Slab, get, values, Updates}
 use Rattle.act_types.specs.declared.message.Packet.{Packet}
 use Rattle.act_inbox.specs.View.{key_of, IsHeld}
-use Rattle.act_inbox.specs.Inbox.{is_call}
+use Rattle.act_inbox.specs.Inbox.{is_packet_of}
 use Rattle.act_inbox.proofs.Packets.{both_equal, is_call_tells}
 use Rattle.act_inbox.proofs.Slots.{find-slot, find-no_slot, All-filled, slot-All, slice_get-set_same, slice_get-set_other}
 
 -- what a caller's index tells
 pub key_at : (keys : List (BTreeMap ℕ ℕ)) (place : ℕ) (index : BTreeMap ℕ ℕ) → place < length keys → index ≡ get_or keys place index → (caller number : ℕ) → place ≡ caller → key_of keys caller number ≡ get_in_map nat_cmp index number
-key_at keys place index within stands caller number same =
-    let here : slice_get keys caller ≡ Some index = ap (slice_get keys) (sym same) ∙ slice_get-get_or keys place index within ∙ ap Some (sym stands) in
+key_at keys place index within reached caller number same =
+    let here : slice_get keys caller ≡ Some index = ap (slice_get keys) (sym same) ∙ slice_get-get_or keys place index within ∙ ap Some (sym reached) in
     rw here refl
 
 -- the caller and the number are those
@@ -26,11 +26,11 @@ abbrev pub is_same : ℕ → ℕ → ℕ → ℕ → Bool
 is_same place number caller count = (place == caller) && (number == count)
 
 -- a caller's index after a change at one number
-module _ (keys : List (BTreeMap ℕ ℕ)) (place : ℕ) (old new : BTreeMap ℕ ℕ) (within : place < length keys) (stands : old ≡ get_or keys place old) where
+module _ (keys : List (BTreeMap ℕ ℕ)) (place : ℕ) (old new : BTreeMap ℕ ℕ) (within : place < length keys) (reached : old ≡ get_or keys place old) where
   pub key_of-set : (number : ℕ) (slot : Option ℕ) → ((count : ℕ) → get_in_map nat_cmp new count ≡ (if number == count then slot else get_in_map nat_cmp old count)) → (caller count : ℕ) → key_of (set keys place new) caller count ≡ (if is_same place number caller count then slot else key_of keys caller count)
   key_of-set number slot updates caller count = elim (eqb_tells place caller) [
     | inl t ↦
-        let here : slice_get keys caller ≡ Some old = ap (slice_get keys) (sym t.1) ∙ slice_get-get_or keys place old within ∙ ap Some (sym stands) in
+        let here : slice_get keys caller ≡ Some old = ap (slice_get keys) (sym t.1) ∙ slice_get-get_or keys place old within ∙ ap Some (sym reached) in
         let there : slice_get (set keys place new) caller ≡ Some new = ap (slice_get (set keys place new)) (sym t.1) ∙ slice_get-set_same keys place new within in
         rw (t.0, here, there) (updates count)
     | inr f ↦
@@ -42,7 +42,7 @@ module _ (keys : List (BTreeMap ℕ ℕ)) (place : ℕ) (old new : BTreeMap ℕ 
   pub key_of-kept : new.entries ≡ old.entries → (caller count : ℕ) → key_of (set keys place new) caller count ≡ key_of keys caller count
   key_of-kept unchanged caller count = elim (eqb_tells place caller) [
     | inl t ↦
-        let here : slice_get keys caller ≡ Some old = ap (slice_get keys) (sym t.1) ∙ slice_get-get_or keys place old within ∙ ap Some (sym stands) in
+        let here : slice_get keys caller ≡ Some old = ap (slice_get keys) (sym t.1) ∙ slice_get-get_or keys place old within ∙ ap Some (sym reached) in
         let there : slice_get (set keys place new) caller ≡ Some new = ap (slice_get (set keys place new)) (sym t.1) ∙ slice_get-set_same keys place new within in
         rw (here, there) (ap (lookup (is_at (nat_cmp count))) unchanged)
     | inr f ↦ ap (option_and_then (λ (index : BTreeMap ℕ ℕ). get_in_map nat_cmp index count)) (slice_get-set_other keys place caller new (λ e. f.1 (sym e)))
@@ -58,62 +58,62 @@ pub is_same_itself : (caller number : ℕ) → is_same caller number caller numb
 is_same_itself caller number = both_same caller caller number number refl refl
 
 -- a packet of the caller and number is that call
-pub is_call_from : (caller number : ℕ) (packet : Packet) → packet.caller ≡ caller → packet.number ≡ number → is_call caller number packet ≡ true
+pub is_call_from : (caller number : ℕ) (packet : Packet) → packet.caller ≡ caller → packet.number ≡ number → is_packet_of caller number packet ≡ true
 is_call_from caller number packet of_caller numbered = both_same packet.caller caller packet.number number of_caller numbered
 
 -- what a key names
 pub record Names (packets : Slab Packet) (caller number key : ℕ) : Type 0 where
   pub packet : Packet
-  pub stands : get packets key ≡ Some packet
+  pub reached : get packets key ≡ Some packet
   pub of_caller : packet.caller ≡ caller
   pub numbered : packet.number ≡ number
 
 names_by : (packets : Slab Packet) (caller number key : ℕ) (slot : Option Packet) → get packets key ≡ slot → IsSomeAnd slot (λ packet. (packet.caller ≡ caller) × (packet.number ≡ number)) → Names packets caller number key
 names_by packets caller number key None at told = absurd told
-names_by packets caller number key (Some packet) at told = record { packet = packet; stands = at; of_caller = told.0; numbered = told.1 }
+names_by packets caller number key (Some packet) at told = record { packet = packet; reached = at; of_caller = told.0; numbered = told.1 }
 
 -- where each key names its packet, and no other packet is held
 module _ (packets : Slab Packet) (keys : List (BTreeMap ℕ ℕ)) (held : IsHeld packets keys) (caller number : ℕ) where
   pub names : (key : ℕ) → key_of keys caller number ≡ Some key → Names packets caller number key
   names key at = names_by packets caller number key (get packets key) refl (held.named caller number key at)
 
-  key_is : (key : ℕ) (packet : Packet) → get packets key ≡ Some packet → is_call caller number packet ≡ true → key_of keys caller number ≡ Some key
-  key_is key packet stands is = let told = is_call_tells caller number packet is in rw (told.0, told.1) at (held.indexed key packet stands)
+  key_is : (key : ℕ) (packet : Packet) → get packets key ≡ Some packet → is_packet_of caller number packet ≡ true → key_of keys caller number ≡ Some key
+  key_is key packet reached is = let told = is_call_tells caller number packet is in rw (told.0, told.1) at (held.indexed key packet reached)
 
-  not_call : key_of keys caller number ≡ None → (key : ℕ) (packet : Packet) → get packets key ≡ Some packet → (b : Bool) → is_call caller number packet ≡ b → b ≡ false
-  not_call nowhere key packet stands true is = let at = key_is key packet stands is in absurd (cc)
-  not_call nowhere key packet stands false is = refl
+  not_call : key_of keys caller number ≡ None → (key : ℕ) (packet : Packet) → get packets key ≡ Some packet → (b : Bool) → is_packet_of caller number packet ≡ b → b ≡ false
+  not_call nowhere key packet reached true is = let at = key_is key packet reached is in absurd (cc)
+  not_call nowhere key packet reached false is = refl
 
-  pub none_held : key_of keys caller number ≡ None → find (is_call caller number) (values packets) ≡ None
-  none_held nowhere = find-no_slot (is_call caller number) packets.slots (λ key packet stands. not_call nowhere key packet stands (is_call caller number packet) refl)
+  pub none_held : key_of keys caller number ≡ None → find (is_packet_of caller number) (values packets) ≡ None
+  none_held nowhere = find-no_slot (is_packet_of caller number) packets.slots (λ key packet reached. not_call nowhere key packet reached (is_packet_of caller number packet) refl)
 
-  same_packet : (key : ℕ) (packet : Packet) → key_of keys caller number ≡ Some key → get packets key ≡ Some packet → (other : ℕ) (second : Packet) → get packets other ≡ Some second → is_call caller number second ≡ true → second ≡ packet
-  same_packet key packet at stands other second there is =
+  same_packet : (key : ℕ) (packet : Packet) → key_of keys caller number ≡ Some key → get packets key ≡ Some packet → (other : ℕ) (second : Packet) → get packets other ≡ Some second → is_packet_of caller number second ≡ true → second ≡ packet
+  same_packet key packet at reached other second there is =
       let at_other = key_is other second there is in
       let same : other ≡ key = cc in
       let here : get packets key ≡ Some second = ap (get packets) (sym same) ∙ there in
       cc
 
-  pub one_held : (key : ℕ) (packet : Packet) → key_of keys caller number ≡ Some key → get packets key ≡ Some packet → find (is_call caller number) (values packets) ≡ Some packet
-  one_held key packet at stands =
+  pub one_held : (key : ℕ) (packet : Packet) → key_of keys caller number ≡ Some key → get packets key ≡ Some packet → find (is_packet_of caller number) (values packets) ≡ Some packet
+  one_held key packet at reached =
       let named = names key at in
-      let same : named.packet ≡ packet = let one = named.stands in cc in
-      let is : is_call caller number packet ≡ true = subst (λ (p : Packet). is_call caller number p ≡ true) same (is_call_from caller number named.packet named.of_caller named.numbered) in
-      find-slot (is_call caller number) packets.slots key packet stands is (same_packet key packet at stands)
+      let same : named.packet ≡ packet = let one = named.reached in cc in
+      let is : is_packet_of caller number packet ≡ true = subst (λ (p : Packet). is_packet_of caller number p ≡ true) same (is_call_from caller number named.packet named.of_caller named.numbered) in
+      find-slot (is_packet_of caller number) packets.slots key packet reached is (same_packet key packet at reached)
 
-  finds_by : (key : Option ℕ) → key_of keys caller number ≡ key → find (is_call caller number) (values packets) ≡ option_and_then (λ key. get packets key) key
+  finds_by : (key : Option ℕ) → key_of keys caller number ≡ key → find (is_packet_of caller number) (values packets) ≡ option_and_then (λ key. get packets key) key
   finds_by None at = none_held at
-  finds_by (Some key) at = let named = names key at in one_held key named.packet at named.stands ∙ sym named.stands
+  finds_by (Some key) at = let named = names key at in one_held key named.packet at named.reached ∙ sym named.reached
 
   -- the packet of a call is found by its key
-  pub finds : find (is_call caller number) (values packets) ≡ option_and_then (λ key. get packets key) (key_of keys caller number)
+  pub finds : find (is_packet_of caller number) (values packets) ≡ option_and_then (λ key. get packets key) (key_of keys caller number)
   finds = finds_by (key_of keys caller number) refl
 
-  not_keyed_by : (key : Option ℕ) → key_of keys caller number ≡ key → find (is_call caller number) (values packets) ≡ None → key ≡ None
+  not_keyed_by : (key : Option ℕ) → key_of keys caller number ≡ key → find (is_packet_of caller number) (values packets) ≡ None → key ≡ None
   not_keyed_by None at none = refl
-  not_keyed_by (Some key) at none = let named = names key at in let one = one_held key named.packet at named.stands in absurd (cc)
+  not_keyed_by (Some key) at none = let named = names key at in let one = one_held key named.packet at named.reached in absurd (cc)
 
-  pub not_keyed : find (is_call caller number) (values packets) ≡ None → key_of keys caller number ≡ None
+  pub not_keyed : find (is_packet_of caller number) (values packets) ≡ None → key_of keys caller number ≡ None
   not_keyed none = not_keyed_by (key_of keys caller number) refl none
 
 -- the same slots and the same keys
@@ -121,7 +121,7 @@ pub held_same : (packets after : Slab Packet) (keys keys_after : List (BTreeMap 
 held_same packets after keys keys_after held slots long same = record {
   one_each = long ∙ held.one_each;
   named = λ caller number key at. rw (slots key) (held.named caller number key (sym (same caller number) ∙ at));
-  indexed = λ key packet stands. same packet.caller packet.number ∙ held.indexed key packet (sym (slots key) ∙ stands);
+  indexed = λ key packet reached. same packet.caller packet.number ∙ held.indexed key packet (sym (slots key) ∙ reached);
 }
 
 -- one slot changes
@@ -131,9 +131,9 @@ module _ (packets after : Slab Packet) (slot : ℕ) (content : Option Packet) (w
   elsewhere (Some key) differs = written.others key (differs key refl)
 
   pub all_after : (P : Packet → Type 0) → ((packet : Packet) → content ≡ Some packet → P packet) → All P (values packets) → All P (values after)
-  all_after P here all = All-filled P after.slots (λ key packet stands. elim (cases_eq key slot) [
-    | inl same ↦ here packet (sym written.changed ∙ ap (get after) (sym same) ∙ stands)
-    | inr differs ↦ slot-All P packets.slots all key packet (sym (written.others key differs) ∙ stands)
+  all_after P here all = All-filled P after.slots (λ key packet reached. elim (cases_eq key slot) [
+    | inl same ↦ here packet (sym written.changed ∙ ap (get after) (sym same) ∙ reached)
+    | inr differs ↦ slot-All P packets.slots all key packet (sym (written.others key differs) ∙ reached)
   ])
 
 -- no calls
@@ -150,18 +150,18 @@ pub held_at_first : (packets : Slab Packet) (keys : List (BTreeMap ℕ ℕ)) →
 held_at_first packets keys no_packets one_each no_keys = record {
   one_each = one_each;
   named = λ caller number key at. let none = no_index keys no_keys caller number (slice_get keys caller) refl in absurd (cc);
-  indexed = λ key packet stands. let none = no_slot packets no_packets key in absurd (cc);
+  indexed = λ key packet reached. let none = no_slot packets no_packets key in absurd (cc);
 }
 
 -- a call comes, at a vacant key
 module _ (packets after : Slab Packet) (keys keys_after : List (BTreeMap ℕ ℕ)) (packet : Packet) (slot : ℕ) (held : IsHeld packets keys)
     (absent : key_of keys packet.caller packet.number ≡ None) (vacant : get packets slot ≡ None) (written : Updates packets after slot (Some packet))
     (long : length keys_after ≡ length keys)
-    (keyed : (caller number : ℕ) → key_of keys_after caller number ≡ (if is_call caller number packet then Some slot else key_of keys caller number)) where
+    (keyed : (caller number : ℕ) → key_of keys_after caller number ≡ (if is_packet_of caller number packet then Some slot else key_of keys caller number)) where
   not_vacant : (caller number key : ℕ) → key_of keys caller number ≡ Some key → key ≢ slot
-  not_vacant caller number key at same = let named = names packets keys held caller number key at in let one = named.stands in let none : get packets key ≡ None = ap (get packets) same ∙ vacant in absurd (cc)
+  not_vacant caller number key at same = let named = names packets keys held caller number key at in let one = named.reached in let none : get packets key ≡ None = ap (get packets) same ∙ vacant in absurd (cc)
 
-  came_named : (caller number key : ℕ) (b : Bool) → is_call caller number packet ≡ b → key_of keys_after caller number ≡ Some key → IsSomeAnd (get after key) (λ each. (each.caller ≡ caller) × (each.number ≡ number))
+  came_named : (caller number key : ℕ) (b : Bool) → is_packet_of caller number packet ≡ b → key_of keys_after caller number ≡ Some key → IsSomeAnd (get after key) (λ each. (each.caller ≡ caller) × (each.number ≡ number))
   came_named caller number key true is at =
       let there : key_of keys_after caller number ≡ Some slot = rw is at (keyed caller number) in
       let same : slot ≡ key = cc in
@@ -170,13 +170,13 @@ module _ (packets after : Slab Packet) (keys keys_after : List (BTreeMap ℕ ℕ
       let there : key_of keys caller number ≡ Some key = sym (rw is at (keyed caller number)) ∙ at in
       rw (written.others key (not_vacant caller number key there)) (held.named caller number key there)
 
-  came_indexed : (key : ℕ) (each : Packet) (b : Bool) → is_call each.caller each.number packet ≡ b → get packets key ≡ Some each → key_of keys_after each.caller each.number ≡ Some key
-  came_indexed key each true is stands =
+  came_indexed : (key : ℕ) (each : Packet) (b : Bool) → is_packet_of each.caller each.number packet ≡ b → get packets key ≡ Some each → key_of keys_after each.caller each.number ≡ Some key
+  came_indexed key each true is reached =
       let told = is_call_tells each.caller each.number packet is in
       let nowhere : key_of keys each.caller each.number ≡ None = rw (told.0, told.1) at absent in
-      let at = held.indexed key each stands in
+      let at = held.indexed key each reached in
       absurd (cc)
-  came_indexed key each false is stands = rw is at (keyed each.caller each.number) ∙ held.indexed key each stands
+  came_indexed key each false is reached = rw is at (keyed each.caller each.number) ∙ held.indexed key each reached
 
   own_key : (each : Packet) → packet ≡ each → key_of keys_after each.caller each.number ≡ Some slot
   own_key each same = rw (is_call_from each.caller each.number packet (ap (λ (p : Packet). p.caller) same) (ap (λ (p : Packet). p.number) same)) at (keyed each.caller each.number)
@@ -184,25 +184,25 @@ module _ (packets after : Slab Packet) (keys keys_after : List (BTreeMap ℕ ℕ
   pub held_came : IsHeld after keys_after
   held_came = record {
     one_each = long ∙ held.one_each;
-    named = λ caller number key. came_named caller number key (is_call caller number packet) refl;
-    indexed = λ key each stands. elim (cases_eq key slot) [
+    named = λ caller number key. came_named caller number key (is_packet_of caller number packet) refl;
+    indexed = λ key each reached. elim (cases_eq key slot) [
       | inl same ↦
-          let here : Some packet ≡ Some each = sym written.changed ∙ ap (get after) (sym same) ∙ stands in
+          let here : Some packet ≡ Some each = sym written.changed ∙ ap (get after) (sym same) ∙ reached in
           let one : packet ≡ each = cc in
           own_key each one ∙ ap Some (sym same)
-      | inr differs ↦ came_indexed key each (is_call each.caller each.number packet) refl (sym (written.others key differs) ∙ stands)
+      | inr differs ↦ came_indexed key each (is_packet_of each.caller each.number packet) refl (sym (written.others key differs) ∙ reached)
     ];
   }
 
-  found_by : (caller number : ℕ) (b : Bool) → is_call caller number packet ≡ b → find (is_call caller number) (values after) ≡ (if b then Some packet else find (is_call caller number) (values packets))
+  found_by : (caller number : ℕ) (b : Bool) → is_packet_of caller number packet ≡ b → find (is_packet_of caller number) (values after) ≡ (if b then Some packet else find (is_packet_of caller number) (values packets))
   found_by caller number true is = finds after keys_after held_came caller number ∙ ap (option_and_then (λ key. get after key)) (rw is at (keyed caller number)) ∙ written.changed
   found_by caller number false is =
       finds after keys_after held_came caller number ∙ ap (option_and_then (λ key. get after key)) (rw is at (keyed caller number))
       ∙ elsewhere packets after slot (Some packet) written (key_of keys caller number) (not_vacant caller number)
       ∙ sym (finds packets keys held caller number)
 
-  pub found_came : (caller number : ℕ) → find (is_call caller number) (values after) ≡ (if is_call caller number packet then Some packet else find (is_call caller number) (values packets))
-  found_came caller number = found_by caller number (is_call caller number packet) refl
+  pub found_came : (caller number : ℕ) → find (is_packet_of caller number) (values after) ≡ (if is_packet_of caller number packet then Some packet else find (is_packet_of caller number) (values packets))
+  found_came caller number = found_by caller number (is_packet_of caller number packet) refl
 
 -- a call goes
 module _ (packets after : Slab Packet) (keys keys_after : List (BTreeMap ℕ ℕ)) (packet : Packet) (caller number slot : ℕ) (held : IsHeld packets keys)
@@ -212,7 +212,7 @@ module _ (packets after : Slab Packet) (keys keys_after : List (BTreeMap ℕ ℕ
   mine : (packet.caller ≡ caller) × (packet.number ≡ number)
   mine =
       let named = names packets keys held caller number slot at in
-      let stands = named.stands in
+      let reached = named.reached in
       let same : named.packet ≡ packet = cc in
       (ap (λ (p : Packet). p.caller) (sym same) ∙ named.of_caller, ap (λ (p : Packet). p.number) (sym same) ∙ named.numbered)
 
@@ -220,7 +220,7 @@ module _ (packets after : Slab Packet) (keys keys_after : List (BTreeMap ℕ ℕ
   not_there : (other count key : ℕ) → is_same caller number other count ≡ false → key_of keys other count ≡ Some key → key ≢ slot
   not_there other count key apart there same =
       let named = names packets keys held other count key there in
-      let stands = named.stands in
+      let reached = named.reached in
       let here : get packets key ≡ Some packet = ap (get packets) same ∙ stood in
       let one : named.packet ≡ packet = cc in
       let is : is_same caller number other count ≡ true = both_same caller other number count (sym mine.0 ∙ ap (λ (p : Packet). p.caller) (sym one) ∙ named.of_caller) (sym mine.1 ∙ ap (λ (p : Packet). p.number) (sym one) ∙ named.numbered) in
@@ -233,24 +233,24 @@ module _ (packets after : Slab Packet) (keys keys_after : List (BTreeMap ℕ ℕ
       rw (written.others key (not_there other count key is before)) (held.named other count key before)
 
   gone_indexed : (key : ℕ) (each : Packet) (b : Bool) → is_same caller number each.caller each.number ≡ b → key ≢ slot → get packets key ≡ Some each → key_of keys_after each.caller each.number ≡ Some key
-  gone_indexed key each true is differs stands =
+  gone_indexed key each true is differs reached =
       let told = both_equal caller each.caller number each.number is in
-      let there : key_of keys caller number ≡ Some key = rw (told.0, told.1) (held.indexed key each stands) in
+      let there : key_of keys caller number ≡ Some key = rw (told.0, told.1) (held.indexed key each reached) in
       let same : key ≡ slot = cc in
       absurd (differs same)
-  gone_indexed key each false is differs stands = rw is at (keyed each.caller each.number) ∙ held.indexed key each stands
+  gone_indexed key each false is differs reached = rw is at (keyed each.caller each.number) ∙ held.indexed key each reached
 
   pub held_gone : IsHeld after keys_after
   held_gone = record {
     one_each = long ∙ held.one_each;
     named = λ other count key. gone_named other count key (is_same caller number other count) refl;
-    indexed = λ key each stands. elim (cases_eq key slot) [
+    indexed = λ key each reached. elim (cases_eq key slot) [
       | inl same ↦ let none : get after key ≡ None = ap (get after) same ∙ written.changed in absurd (cc)
-      | inr differs ↦ gone_indexed key each (is_same caller number each.caller each.number) refl differs (sym (written.others key differs) ∙ stands)
+      | inr differs ↦ gone_indexed key each (is_same caller number each.caller each.number) refl differs (sym (written.others key differs) ∙ reached)
     ];
   }
 
-  pub found_gone : (other count : ℕ) → is_call other count packet ≡ false → find (is_call other count) (values after) ≡ find (is_call other count) (values packets)
+  pub found_gone : (other count : ℕ) → is_packet_of other count packet ≡ false → find (is_packet_of other count) (values after) ≡ find (is_packet_of other count) (values packets)
   found_gone other count apart =
       let is : is_same caller number other count ≡ false = rw (mine.0, mine.1) at apart in
       finds after keys_after held_gone other count ∙ ap (option_and_then (λ key. get after key)) (rw is at (keyed other count))

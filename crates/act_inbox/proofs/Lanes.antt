@@ -7,31 +7,31 @@ use Rattle.std.proofs.lemmas.List.Folds.{find-set, find_past}
 use Rattle.std.proofs.lemmas.List.Sums.{sum_by-set, sum_by-le}
 use Rattle.std.proofs.lemmas.List.Quantifiers.{position-Some}
 use Rattle.act_inbox.specs.declared.inbox.Lane.{Lane}
-use Rattle.act_inbox.specs.Inbox.{InboxValue, is_lane_of, lane_at_first, lane_of, handed_of, handed_in_all}
+use Rattle.act_inbox.specs.Inbox.{InboxView, is_lane_of, lane_at_first, lane_of, handed_of, handed_in_all}
 use Rattle.act_rules.proofs.Finding.{find-Some, find-None, position_or_len-Some}
 
 -- the counts of few lanes add up to little
-pub in_all_bound : (inbox : InboxValue) → length inbox.lanes ≤ 16 → All (λ lane. lane.handed ≤ 65536) inbox.lanes → handed_in_all inbox ≤ 16 * 65536
+pub in_all_bound : (inbox : InboxView) → length inbox.lanes ≤ 16 → All (λ lane. lane.handed ≤ 65536) inbox.lanes → handed_in_all inbox ≤ 16 * 65536
 in_all_bound inbox few counted =
     let most = sum_by-le (λ (lane : Lane). lane.handed) 65536 inbox.lanes counted in
     omega arith
 
-pub no_lane : (inbox : InboxValue) (caller : ℕ) → position (is_lane_of caller) inbox.lanes ≡ None → lane_of inbox caller ≡ None
+pub no_lane : (inbox : InboxView) (caller : ℕ) → position (is_lane_of caller) inbox.lanes ≡ None → lane_of inbox caller ≡ None
 no_lane inbox caller nowhere = find-None (is_lane_of caller) inbox.lanes nowhere
 
-pub unlisted_handed : (inbox : InboxValue) (caller : ℕ) → lane_of inbox caller ≡ None → 0 ≡ handed_of inbox caller
+pub unlisted_handed : (inbox : InboxView) (caller : ℕ) → lane_of inbox caller ≡ None → 0 ≡ handed_of inbox caller
 unlisted_handed inbox caller none = rw none refl
 
-pub listed_handed : (inbox : InboxValue) (caller : ℕ) (lane : Lane) → lane_of inbox caller ≡ Some lane → lane.handed ≡ handed_of inbox caller
+pub listed_handed : (inbox : InboxView) (caller : ℕ) (lane : Lane) → lane_of inbox caller ≡ Some lane → lane.handed ≡ handed_of inbox caller
 listed_handed inbox caller lane listed = rw listed refl
 
 -- the lane after one more call was handed out
 abbrev pub one_more : Lane → Lane
 one_more lane = record { caller = lane.caller; handed = lane.handed + 1 }
 
-module _ (inbox : InboxValue) (caller place : ℕ) (at : position (is_lane_of caller) inbox.lanes ≡ Some place) where
+module _ (inbox : InboxView) (caller place : ℕ) (at : position (is_lane_of caller) inbox.lanes ≡ Some place) where
   pub lane_is : (lane : Lane) → lane ≡ get_or inbox.lanes place lane → lane_of inbox caller ≡ Some lane
-  lane_is lane stands = find-Some (is_lane_of caller) inbox.lanes place lane at ∙ ap Some (sym stands)
+  lane_is lane reached = find-Some (is_lane_of caller) inbox.lanes place lane at ∙ ap Some (sym reached)
 
   pub within : place < length inbox.lanes
   within = (position-Some (is_lane_of caller) inbox.lanes place (lane_at_first 0) at).0
@@ -54,7 +54,7 @@ module _ (inbox : InboxValue) (caller place : ℕ) (at : position (is_lane_of ca
     lane_left other differs = find_past (is_lane_of other) inbox.lanes place next next (not_lane_of other differs (get_or inbox.lanes place next) (caller_at next)) (not_lane_of other differs next same)
 
     pub in_all_written : (lane : Lane) → lane ≡ get_or inbox.lanes place lane → next.handed ≡ lane.handed + 1 → sum_by (λ lane. lane.handed) (slice_set inbox.lanes place next) ≡ handed_in_all inbox + 1
-    in_all_written lane stands more =
+    in_all_written lane reached more =
         let total = sum_by-set (λ (lane : Lane). lane.handed) inbox.lanes place next lane within in
-        let here : lane.handed ≡ (get_or inbox.lanes place lane).handed = ap (λ (l : Lane). l.handed) stands in
+        let here : lane.handed ≡ (get_or inbox.lanes place lane).handed = ap (λ (l : Lane). l.handed) reached in
         omega arith

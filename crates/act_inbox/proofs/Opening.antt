@@ -16,7 +16,7 @@ use Rattle.act_types.specs.declared.message.Packet.{Packet}
 use Rattle.act_rules.specs.History.{contains}
 use Rattle.act_inbox.specs.declared.inbox.Lane.{Lane}
 use Rattle.act_inbox.specs.View.{IsInbox}
-use Rattle.act_inbox.specs.Inbox.{InboxValue, is_lane_of, lane_at_first, IsOpened}
+use Rattle.act_inbox.specs.Inbox.{InboxView, is_lane_of, lane_at_first, IsOpened}
 
 -- numbers from 1 to 16 with no two equal are at most 16
 few_callers : (callers : List ℕ) → AllPairs (λ one other. one ≢ other) callers → All (λ caller. (1 ≤ caller) × (caller ≤ 16)) callers → length callers ≤ 16
@@ -59,7 +59,7 @@ no_note count caller = elim (leb_tells (suc caller) count) [
   | inr f ↦ let long : length (no_notes count) ≡ count = length-replicate count None in get_or_past (no_notes count) caller None (omega (arith, f.1))
 ]
 
-module _ (callers : List ℕ) (inbox : InboxValue) (lanes : inbox.lanes ≡ map lane_at_first callers) (held : inbox.held ≡ []) (notes : inbox.notes ≡ no_notes 17) where
+module _ (callers : List ℕ) (inbox : InboxView) (lanes : inbox.lanes ≡ map lane_at_first callers) (held : inbox.held ≡ []) (notes : inbox.notes ≡ no_notes 17) where
   pub opened : IsOpened callers inbox
   opened = record {
     listed = λ caller. rw lanes (listed_at_first callers caller);

@@ -5,23 +5,23 @@ use Rattle.std.proofs.lemmas.Bool.Decides.{nat_tests}
 use Rattle.act_types.specs.declared.message.Packet.{Packet}
 use Rattle.act_rules.specs.declared.outcome.Arrival.TheVariants.{New, Repeat, Stranger}
 use Rattle.act_inbox.specs.declared.inbox.Lane.{Lane}
-use Rattle.act_inbox.specs.Inbox.{InboxValue, is_call, lane_of, is_listed, handed_of, was_handed, waiting, next_of, came, arrival_of, waiting_after, holding}
+use Rattle.act_inbox.specs.Inbox.{InboxView, is_packet_of, lane_of, is_listed, handed_of, was_handed, waiting_packet, next_of, has_come, arrival_of, waiting_after, holding}
 
 pub both_equal : (a b c d : ℕ) → ((a == b) && (c == d)) ≡ true → (a ≡ b) × (c ≡ d)
 both_equal a b c d e = grind (arith, nat_tests)
 
 -- a call is known by its caller and number
-pub is_call_tells : (caller number : ℕ) (packet : Packet) → is_call caller number packet ≡ true → (packet.caller ≡ caller) × (packet.number ≡ number)
+pub is_call_tells : (caller number : ℕ) (packet : Packet) → is_packet_of caller number packet ≡ true → (packet.caller ≡ caller) × (packet.number ≡ number)
 is_call_tells caller number packet e = both_equal packet.caller caller packet.number number e
 
-module _ (inbox : InboxValue) (caller : ℕ) where
+module _ (inbox : InboxView) (caller : ℕ) where
   pub unlisted_next : lane_of inbox caller ≡ None → next_of inbox caller ≡ None
   unlisted_next none = rw none refl
 
-  pub listed_next : (lane : Lane) → lane_of inbox caller ≡ Some lane → next_of inbox caller ≡ find (is_call caller lane.handed) inbox.held
+  pub listed_next : (lane : Lane) → lane_of inbox caller ≡ Some lane → next_of inbox caller ≡ find (is_packet_of caller lane.handed) inbox.held
   listed_next lane listed = rw (listed, le-ltb lane.handed lane.handed (omega arith)) refl
 
-module _ (inbox : InboxValue) (packet : Packet) where
+module _ (inbox : InboxView) (packet : Packet) where
   pub unlisted : lane_of inbox packet.caller ≡ None → Stranger ≡ arrival_of inbox packet
   unlisted none = rw none refl
 
@@ -29,10 +29,10 @@ module _ (inbox : InboxValue) (packet : Packet) where
     pub handed_out : packet.number < lane.handed → Repeat ≡ arrival_of inbox packet
     handed_out early = rw (listed, lt-ltb packet.number 65536 small, lt-ltb packet.number lane.handed early) refl
 
-    pub held_already : lane.handed ≤ packet.number → (first : Packet) → find (is_call packet.caller packet.number) inbox.held ≡ Some first → Repeat ≡ arrival_of inbox packet
+    pub held_already : lane.handed ≤ packet.number → (first : Packet) → find (is_packet_of packet.caller packet.number) inbox.held ≡ Some first → Repeat ≡ arrival_of inbox packet
     held_already late first found = rw (listed, lt-ltb packet.number 65536 small, le-ltb packet.number lane.handed late, found) refl
 
-    pub comes_first : lane.handed ≤ packet.number → find (is_call packet.caller packet.number) inbox.held ≡ None → New ≡ arrival_of inbox packet
+    pub comes_first : lane.handed ≤ packet.number → find (is_packet_of packet.caller packet.number) inbox.held ≡ None → New ≡ arrival_of inbox packet
     comes_first late none = rw (listed, lt-ltb packet.number 65536 small, le-ltb packet.number lane.handed late, none) refl
 
 arrival_tells : (listed small early : Bool) (found : Option Packet) → (if listed && small then (if early || is_some (if early then None else found) then Repeat else New) else Stranger) ≡ New → (small ≡ true) × (early ≡ false) × (found ≡ None)
@@ -43,9 +43,9 @@ arrival_tells true true false (Some packet) e = absurd (cc)
 arrival_tells true true false None e = (refl, refl, refl)
 
 -- what is known of a packet that comes for the first time
-pub new_tells : (inbox : InboxValue) (packet : Packet) → arrival_of inbox packet ≡ New → (packet.number < 65536) × (handed_of inbox packet.caller ≤ packet.number) × (find (is_call packet.caller packet.number) inbox.held ≡ None)
+pub new_tells : (inbox : InboxView) (packet : Packet) → arrival_of inbox packet ≡ New → (packet.number < 65536) × (handed_of inbox packet.caller ≤ packet.number) × (find (is_packet_of packet.caller packet.number) inbox.held ≡ None)
 new_tells inbox packet e =
-    let told = arrival_tells (is_listed inbox packet.caller) (nat_lt packet.number 65536) (was_handed inbox packet.caller packet.number) (find (is_call packet.caller packet.number) inbox.held) e in
+    let told = arrival_tells (is_listed inbox packet.caller) (nat_lt packet.number 65536) (was_handed inbox packet.caller packet.number) (find (is_packet_of packet.caller packet.number) inbox.held) e in
     (ltb-true _ _ told.0, ltb-false _ _ told.1, told.2)
 
 listed_told : (listed small was : Bool) → (if listed && small then (if was then Repeat else New) else Stranger) ≡ New → listed ≡ true
@@ -53,13 +53,13 @@ listed_told false small was e = absurd (cc)
 listed_told true small was e = refl
 
 -- its caller is listed
-pub new_listed : (inbox : InboxValue) (packet : Packet) → arrival_of inbox packet ≡ New → is_listed inbox packet.caller ≡ true
-new_listed inbox packet e = listed_told (is_listed inbox packet.caller) (nat_lt packet.number 65536) (came inbox packet.caller packet.number) e
+pub new_listed : (inbox : InboxView) (packet : Packet) → arrival_of inbox packet ≡ New → is_listed inbox packet.caller ≡ true
+new_listed inbox packet e = listed_told (is_listed inbox packet.caller) (nat_lt packet.number 65536) (has_come inbox packet.caller packet.number) e
 
 -- a packet that comes for the first time
-module _ (old new : InboxValue) (packet : Packet) (is_new : arrival_of old packet ≡ New) (lanes : new.lanes ≡ old.lanes)
-    (held : (caller number : ℕ) → find (is_call caller number) new.held ≡ (if is_call caller number packet then Some packet else find (is_call caller number) old.held)) where
-  waits_by : (caller number : ℕ) (b : Bool) → is_call caller number packet ≡ b → waiting new caller number ≡ (if b then Some packet else waiting old caller number)
+module _ (old new : InboxView) (packet : Packet) (is_new : arrival_of old packet ≡ New) (lanes : new.lanes ≡ old.lanes)
+    (held : (caller number : ℕ) → find (is_packet_of caller number) new.held ≡ (if is_packet_of caller number packet then Some packet else find (is_packet_of caller number) old.held)) where
+  waits_by : (caller number : ℕ) (b : Bool) → is_packet_of caller number packet ≡ b → waiting_packet new caller number ≡ (if b then Some packet else waiting_packet old caller number)
   waits_by caller number true is =
       let told = is_call_tells caller number packet is in
       let before = new_tells old packet is_new in
@@ -67,9 +67,9 @@ module _ (old new : InboxValue) (packet : Packet) (is_new : arrival_of old packe
       rw (lanes, le-ltb number (handed_of old caller) past) (rw is at (held caller number))
   waits_by caller number false is = rw (lanes, rw is at (held caller number)) refl
 
-  pub waits_then : (caller number : ℕ) → waiting new caller number ≡ waiting_after New packet old caller number
-  waits_then caller number = waits_by caller number (is_call caller number packet) refl
+  pub waits_then : (caller number : ℕ) → waiting_packet new caller number ≡ waiting_after New packet old caller number
+  waits_then caller number = waits_by caller number (is_packet_of caller number packet) refl
 
 -- an inbox that holds a new packet more is the one that it comes to
-pub waits_holding : (inbox : InboxValue) (packet : Packet) → arrival_of inbox packet ≡ New → (caller number : ℕ) → waiting (holding packet inbox) caller number ≡ waiting_after New packet inbox caller number
+pub waits_holding : (inbox : InboxView) (packet : Packet) → arrival_of inbox packet ≡ New → (caller number : ℕ) → waiting_packet (holding packet inbox) caller number ≡ waiting_after New packet inbox caller number
 waits_holding inbox packet is_new caller number = waits_then inbox (holding packet inbox) packet is_new refl (λ _ _. refl) caller number

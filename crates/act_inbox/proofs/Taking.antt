@@ -9,7 +9,7 @@ use Rattle.std.proofs.lemmas.List.Elements.{All-set, All-cons}
 use Rattle.act_types.specs.declared.message.Packet.{Packet}
 use Rattle.act_inbox.specs.declared.inbox.Lane.{Lane}
 use Rattle.act_inbox.specs.View.{IsInbox}
-use Rattle.act_inbox.specs.Inbox.{InboxValue, is_lane_of, is_call, lane_of, is_listed, handed_of, was_handed, next_of, holding, IsNextToCome, IsNextTaken}
+use Rattle.act_inbox.specs.Inbox.{InboxView, is_lane_of, is_packet_of, lane_of, is_listed, handed_of, was_handed, next_of, holding, IsNextToCome, IsNextTaken}
 use Rattle.act_rules.proofs.Finding.{find-tells}
 use Rattle.act_inbox.proofs.Lanes.{one_more, lane_is, caller_at, same_lane, listed_handed, lane_written, lane_left, in_all_written, in_all_bound}
 use Rattle.act_inbox.proofs.Packets.{is_call_tells, listed_next, new_tells}
@@ -24,9 +24,9 @@ if_masked true b' x y low same = refl
 if_masked false true x y low same = let bad : false ≡ true = low refl in absurd (cc)
 if_masked false false x y low same = same refl
 
-module _ (old : InboxValue) (caller place : ℕ) (lane : Lane) (packet : Packet)
+module _ (old : InboxView) (caller place : ℕ) (lane : Lane) (packet : Packet)
     (at : position (is_lane_of caller) old.lanes ≡ Some place) (lane_stands : lane ≡ get_or old.lanes place lane)
-    (found : find (is_call caller lane.handed) old.held ≡ Some packet) (sound : IsInbox old.lanes old.held) where
+    (found : find (is_packet_of caller lane.handed) old.held ≡ Some packet) (sound : IsInbox old.lanes old.held) where
   listed : lane_of old caller ≡ Some lane
   listed = lane_is old caller place at lane lane_stands
 
@@ -35,7 +35,7 @@ module _ (old : InboxValue) (caller place : ℕ) (lane : Lane) (packet : Packet)
 
   mine : (packet.number < 65536) × (packet.caller ≡ caller) × (packet.number ≡ lane.handed)
   mine =
-      let told = find-tells (λ (each : Packet). each.number < 65536) (is_call caller lane.handed) old.held packet sound.numbered found in
+      let told = find-tells (λ (each : Packet). each.number < 65536) (is_packet_of caller lane.handed) old.held packet sound.numbered found in
       let is = is_call_tells caller lane.handed packet told.1 in
       (told.0, is.0, is.1)
 
@@ -43,18 +43,18 @@ module _ (old : InboxValue) (caller place : ℕ) (lane : Lane) (packet : Packet)
   next_found = sym (listed_next old caller lane listed ∙ found)
 
   -- what is held of a call after this one went out
-  pub held_out : (new : List Packet) → find (is_call caller lane.handed) new ≡ None
-      → ((other number : ℕ) → is_call other number packet ≡ false → find (is_call other number) new ≡ find (is_call other number) old.held)
-      → (other number : ℕ) (b : Bool) → is_call other number packet ≡ b → find (is_call other number) new ≡ (if b then None else find (is_call other number) old.held)
+  pub held_out : (new : List Packet) → find (is_packet_of caller lane.handed) new ≡ None
+      → ((other number : ℕ) → is_packet_of other number packet ≡ false → find (is_packet_of other number) new ≡ find (is_packet_of other number) old.held)
+      → (other number : ℕ) (b : Bool) → is_packet_of other number packet ≡ b → find (is_packet_of other number) new ≡ (if b then None else find (is_packet_of other number) old.held)
   held_out new gone others other number false is = others other number is
   held_out new gone others other number true is =
       let is_mine = mine in
       let theirs = is_call_tells other number packet is in
       rw (sym theirs.0 ∙ is_mine.1, sym theirs.1 ∙ is_mine.2) gone
 
-  module _ (new : InboxValue) (written : Lane) (written_stands : written ≡ get_or old.lanes place written)
+  module _ (new : InboxView) (written : Lane) (written_stands : written ≡ get_or old.lanes place written)
       (lanes : new.lanes ≡ slice_set old.lanes place (one_more written))
-      (held : (other number : ℕ) → is_call other number packet ≡ false → find (is_call other number) new.held ≡ find (is_call other number) old.held)
+      (held : (other number : ℕ) → is_packet_of other number packet ≡ false → find (is_packet_of other number) new.held ≡ find (is_packet_of other number) old.held)
       (numbered : All (λ each. each.number < 65536) new.held) (notes : new.notes ≡ old.notes) where
     same : written.caller ≡ caller
     same = ap (λ (l : Lane). l.caller) written_stands ∙ caller_at old caller place at written
@@ -95,7 +95,7 @@ module _ (old : InboxValue) (caller place : ℕ) (lane : Lane) (packet : Packet)
       | inr f ↦ let e : handed_of new other ≡ handed_of old other = rw f.0 at (handed_then other) in omega arith
     ]
 
-    held_same : (other number : ℕ) (b : Bool) → is_call other number packet ≡ b → handed_of new other ≤ number → find (is_call other number) new.held ≡ find (is_call other number) old.held
+    held_same : (other number : ℕ) (b : Bool) → is_packet_of other number packet ≡ b → handed_of new other ≤ number → find (is_packet_of other number) new.held ≡ find (is_packet_of other number) old.held
     held_same other number false is past = held other number is
     held_same other number true is past =
         let is_mine = mine in
@@ -112,14 +112,14 @@ module _ (old : InboxValue) (caller place : ℕ) (lane : Lane) (packet : Packet)
       handed = handed_then;
       in_all = rw lanes (in_all_written old caller place at (one_more written) same lane lane_stands more);
       bound = in_all_bound new sound_then.few sound_then.counted;
-      waits = λ other number. if_masked (was_handed new other number) (was_handed old other number) (find (is_call other number) new.held) (find (is_call other number) old.held)
+      waits = λ other number. if_masked (was_handed new other number) (was_handed old other number) (find (is_packet_of other number) new.held) (find (is_packet_of other number) old.held)
           (λ below. let less : number < handed_of old other = ltb-true _ _ below in let up = grows other in lt-ltb _ _ (omega arith))
-          (λ past. held_same other number (is_call other number packet) refl (ltb-false _ _ past));
+          (λ past. held_same other number (is_packet_of other number packet) refl (ltb-false _ _ past));
       notes = λ other. rw notes refl;
     }
 
 -- a packet that comes and goes out at once
-module _ (inbox : InboxValue) (packet : Packet) (place : ℕ) (lane : Lane)
+module _ (inbox : InboxView) (packet : Packet) (place : ℕ) (lane : Lane)
     (at : position (is_lane_of packet.caller) inbox.lanes ≡ Some place) (lane_stands : lane ≡ get_or inbox.lanes place lane)
     (next : IsNextToCome packet inbox) (sound : IsInbox inbox.lanes inbox.held) where
   held_sound : IsInbox inbox.lanes (packet ∷ inbox.held)
@@ -130,12 +130,12 @@ module _ (inbox : InboxValue) (packet : Packet) (place : ℕ) (lane : Lane)
     numbered = All-cons (λ (each : Packet). each.number < 65536) packet inbox.held (new_tells inbox packet next.is_new).0 sound.numbered;
   }
 
-  held_first : find (is_call packet.caller lane.handed) (packet ∷ inbox.held) ≡ Some packet
+  held_first : find (is_packet_of packet.caller lane.handed) (packet ∷ inbox.held) ≡ Some packet
   held_first =
       let here : packet.number ≡ lane.handed = next.numbered ∙ sym (listed_handed inbox packet.caller lane (lane_is inbox packet.caller place at lane lane_stands)) in
       rw (eq-eqb packet.caller packet.caller refl, eq-eqb packet.number lane.handed here) refl
 
-  abbrev passed : InboxValue
+  abbrev passed : InboxView
   passed = record inbox { lanes = slice_set inbox.lanes place (one_more lane) }
 
   pub sound_passed : IsInbox passed.lanes passed.held

@@ -1,14 +1,14 @@
 -- What an inbox holds, and what its calls do.
 use Rattle.std.specs.Prelude.{◌≡◌, ℕ, ◌+◌, ◌*◌, ◌≤◌, ◌==◌, ◌&&◌, ◌||◌, nat_lt, List, [], ◌∷◌, find, sum_by, Option, None, Some, is_some, Bool, true, if◌then◌else◌, slice_index_or}
 use Rattle.std.specs.Option.{option_map_or}
-use Rattle.act_types.specs.declared.limits.TheConstants.{MOST_CALLERS, MOST_CALLS}
+use Rattle.act_types.specs.declared.limits.TheConstants.{MAX_CALLERS, MAX_CALLS}
 use Rattle.act_types.specs.declared.message.Packet.{Packet}
 use Rattle.act_types.specs.declared.message.ReleaseNote.{ReleaseNote}
 use Rattle.act_rules.specs.declared.outcome.Arrival.{Arrival}
 use Rattle.act_rules.specs.declared.outcome.Arrival.TheVariants.{New, Repeat, Stranger}
 use Rattle.act_rules.specs.History.{contains}
 use Rattle.act_inbox.specs.declared.inbox.Lane.{Lane}
-pub use Rattle.act_inbox.specs.View.{InboxValue}
+pub use Rattle.act_inbox.specs.View.{InboxView}
 
 -- the lane of a caller of whom no call was handed out
 abbrev pub lane_at_first : ℕ → Lane
@@ -19,129 +19,135 @@ abbrev pub is_lane_of : ℕ → Lane → Bool
 is_lane_of caller lane = lane.caller == caller
 
 -- the packet is the caller's call of this number
-abbrev pub is_call : ℕ → ℕ → Packet → Bool
-is_call caller number packet = (packet.caller == caller) && (packet.number == number)
+abbrev pub is_packet_of : ℕ → ℕ → Packet → Bool
+is_packet_of caller number packet = (packet.caller == caller) && (packet.number == number)
 
 -- the caller's lane, if the caller is listed
-abbrev pub lane_of : InboxValue → ℕ → Option Lane
+abbrev pub lane_of : InboxView → ℕ → Option Lane
 lane_of inbox caller = find (is_lane_of caller) inbox.lanes
 
 -- whether the caller is listed
-abbrev pub is_listed : InboxValue → ℕ → Bool
+abbrev pub is_listed : InboxView → ℕ → Bool
 is_listed inbox caller = is_some (lane_of inbox caller)
 
 -- how many calls of the caller were handed out
-abbrev pub handed_of : InboxValue → ℕ → ℕ
+abbrev pub handed_of : InboxView → ℕ → ℕ
 handed_of inbox caller = option_map_or (λ lane. lane.handed) (lane_of inbox caller) 0
 
 -- how many calls were handed out, of all callers
-abbrev pub handed_in_all : InboxValue → ℕ
+abbrev pub handed_in_all : InboxView → ℕ
 handed_in_all inbox = sum_by (λ lane. lane.handed) inbox.lanes
 
 -- whether the call was handed out
-abbrev pub was_handed : InboxValue → ℕ → ℕ → Bool
+abbrev pub was_handed : InboxView → ℕ → ℕ → Bool
 was_handed inbox caller number = nat_lt number (handed_of inbox caller)
 
 -- how many calls the caller's release note tells, if it came
-abbrev pub note_of : InboxValue → ℕ → Option ℕ
+abbrev pub note_of : InboxView → ℕ → Option ℕ
 note_of inbox caller = slice_index_or inbox.notes caller None
 
 -- the packet of a call, if it came and was not handed out
-abbrev pub waiting : InboxValue → ℕ → ℕ → Option Packet
-waiting inbox caller number = if was_handed inbox caller number then None else find (is_call caller number) inbox.held
+abbrev pub waiting_packet : InboxView → ℕ → ℕ → Option Packet
+waiting_packet inbox caller number = if was_handed inbox caller number then None
+    else find (is_packet_of caller number) inbox.held
 
 -- the packet of a call, if it is held, whether or not the call was handed out
-abbrev pub held_at : InboxValue → ℕ → ℕ → Option Packet
-held_at inbox caller number = find (is_call caller number) inbox.held
+abbrev pub held_at : InboxView → ℕ → ℕ → Option Packet
+held_at inbox caller number = find (is_packet_of caller number) inbox.held
 
 -- the caller's next call, if it came
-abbrev pub next_of : InboxValue → ℕ → Option Packet
-next_of inbox caller = if is_listed inbox caller then waiting inbox caller (handed_of inbox caller) else None
+abbrev pub next_of : InboxView → ℕ → Option Packet
+next_of inbox caller = if is_listed inbox caller then waiting_packet inbox caller (handed_of inbox caller) else None
 
 -- whether the call came before
-abbrev pub came : InboxValue → ℕ → ℕ → Bool
-came inbox caller number = was_handed inbox caller number || is_some (waiting inbox caller number)
+abbrev pub has_come : InboxView → ℕ → ℕ → Bool
+has_come inbox caller number = was_handed inbox caller number || is_some (waiting_packet inbox caller number)
 
 -- what a packet is to the inbox
-abbrev pub arrival_of : InboxValue → Packet → Arrival
+abbrev pub arrival_of : InboxView → Packet → Arrival
 arrival_of inbox packet =
-    if is_listed inbox packet.caller && nat_lt packet.number MOST_CALLS
-    then (if came inbox packet.caller packet.number then Repeat else New)
+    if is_listed inbox packet.caller && nat_lt packet.number MAX_CALLS
+    then (if has_come inbox packet.caller packet.number then Repeat else New)
     else Stranger
 
 -- what a release note is to the inbox: the first of a listed caller is new, whatever it tells
-abbrev pub note_arrival : InboxValue → ReleaseNote → Arrival
+abbrev pub note_arrival : InboxView → ReleaseNote → Arrival
 note_arrival inbox note =
     if is_listed inbox note.caller
     then (if is_some (note_of inbox note.caller) then Repeat else New)
     else Stranger
 
 -- the packet of a call after another packet came
-abbrev pub waiting_after : Arrival → Packet → InboxValue → ℕ → ℕ → Option Packet
-waiting_after New packet inbox caller number = if is_call caller number packet then Some packet else waiting inbox caller number
-waiting_after Repeat packet inbox caller number = waiting inbox caller number
-waiting_after Stranger packet inbox caller number = waiting inbox caller number
+abbrev pub waiting_after : Arrival → Packet → InboxView → ℕ → ℕ → Option Packet
+waiting_after New packet inbox caller number = if is_packet_of caller number packet then Some packet
+    else waiting_packet inbox caller number
+waiting_after Repeat packet inbox caller number = waiting_packet inbox caller number
+waiting_after Stranger packet inbox caller number = waiting_packet inbox caller number
 
 -- what is held of a call after another packet came
-abbrev pub held_after : Arrival → Packet → InboxValue → ℕ → ℕ → Option Packet
-held_after New packet inbox caller number = if is_call caller number packet then Some packet else held_at inbox caller number
+abbrev pub held_after : Arrival → Packet → InboxView → ℕ → ℕ → Option Packet
+held_after New packet inbox caller number = if is_packet_of caller number packet then Some packet
+    else held_at inbox caller number
 held_after Repeat packet inbox caller number = held_at inbox caller number
 held_after Stranger packet inbox caller number = held_at inbox caller number
 
 -- what is held of a call after a packet was handed out
-abbrev pub held_without : Packet → InboxValue → ℕ → ℕ → Option Packet
-held_without packet inbox caller number = if is_call caller number packet then None else held_at inbox caller number
+abbrev pub held_without : Packet → InboxView → ℕ → ℕ → Option Packet
+held_without packet inbox caller number = if is_packet_of caller number packet then None
+    else held_at inbox caller number
 
 -- the packet came, which was this to the inbox, and nothing else changed
-pub record IsTakenIn (packet : Packet) (arrival : Arrival) (old new : InboxValue) : Type 0 where
+pub record IsTakenIn (packet : Packet) (arrival : Arrival) (old new : InboxView) : Type 0 where
   pub lanes : new.lanes ≡ old.lanes
   pub notes : new.notes ≡ old.notes
-  pub waits : (caller number : ℕ) → waiting new caller number ≡ waiting_after arrival packet old caller number
+  pub waits : (caller number : ℕ) → waiting_packet new caller number ≡ waiting_after arrival packet old caller number
 
 -- the inbox that holds one more call
-abbrev pub holding : Packet → InboxValue → InboxValue
+abbrev pub holding : Packet → InboxView → InboxView
 holding packet inbox = record inbox { held = packet ∷ inbox.held }
 
 -- no call is held
-abbrev pub HoldsNone : InboxValue → Type 0
+abbrev pub HoldsNone : InboxView → Type 0
 HoldsNone inbox = inbox.held ≡ []
 
 -- the packet is new to the inbox, and its caller's next call
-pub record IsNextToCome (packet : Packet) (inbox : InboxValue) : Type 0 where
+pub record IsNextToCome (packet : Packet) (inbox : InboxView) : Type 0 where
   pub is_new : arrival_of inbox packet ≡ New
   pub numbered : packet.number ≡ handed_of inbox packet.caller
 
 -- what a caller's release note tells after a note came
-abbrev pub note_after : Arrival → ReleaseNote → InboxValue → ℕ → Option ℕ
+abbrev pub note_after : Arrival → ReleaseNote → InboxView → ℕ → Option ℕ
 note_after New note inbox caller = if caller == note.caller then Some note.after else note_of inbox caller
 note_after Repeat note inbox caller = note_of inbox caller
 note_after Stranger note inbox caller = note_of inbox caller
 
 -- the release note came, which was this to the inbox, and nothing else changed
-pub record IsNotedIn (note : ReleaseNote) (arrival : Arrival) (old new : InboxValue) : Type 0 where
+pub record IsNotedIn (note : ReleaseNote) (arrival : Arrival) (old new : InboxView) : Type 0 where
   pub lanes : new.lanes ≡ old.lanes
   pub held : new.held ≡ old.held
   pub notes : (caller : ℕ) → note_of new caller ≡ note_after arrival note old caller
 
 -- each caller's release note came, and as many of its calls were handed out as the note tells
-abbrev pub IsDrained : InboxValue → Type 0
+abbrev pub IsDrained : InboxView → Type 0
 IsDrained inbox = (caller : ℕ) → is_listed inbox caller ≡ true → note_of inbox caller ≡ Some (handed_of inbox caller)
 
 -- exactly these callers are listed, no call was handed out, none waits, and no release note came
-pub record IsOpened (callers : List ℕ) (inbox : InboxValue) : Type 0 where
+pub record IsOpened (callers : List ℕ) (inbox : InboxView) : Type 0 where
   pub listed : (caller : ℕ) → is_listed inbox caller ≡ contains caller callers
   pub handed : (caller : ℕ) → handed_of inbox caller ≡ 0
   pub in_all : handed_in_all inbox ≡ 0
-  pub waits : (caller number : ℕ) → waiting inbox caller number ≡ None
+  pub waits : (caller number : ℕ) → waiting_packet inbox caller number ≡ None
   pub notes : (caller : ℕ) → note_of inbox caller ≡ None
 
 -- the caller's next call was handed out, and nothing else changed
-pub record IsNextTaken (caller : ℕ) (packet : Packet) (old new : InboxValue) : Type 0 where
+pub record IsNextTaken (caller : ℕ) (packet : Packet) (old new : InboxView) : Type 0 where
   pub of_caller : packet.caller ≡ caller
   pub numbered : packet.number ≡ handed_of old caller
   pub listed : (other : ℕ) → is_listed new other ≡ is_listed old other
-  pub handed : (other : ℕ) → handed_of new other ≡ (if other == caller then handed_of old other + 1 else handed_of old other)
+  pub handed : (other : ℕ) →
+      handed_of new other ≡ (if other == caller then handed_of old other + 1 else handed_of old other)
   pub in_all : handed_in_all new ≡ handed_in_all old + 1
-  pub bound : handed_in_all new ≤ MOST_CALLERS * MOST_CALLS
-  pub waits : (other number : ℕ) → waiting new other number ≡ (if was_handed new other number then None else waiting old other number)
+  pub bound : handed_in_all new ≤ MAX_CALLERS * MAX_CALLS
+  pub waits : (other number : ℕ) →
+      waiting_packet new other number ≡ (if was_handed new other number then None else waiting_packet old other number)
   pub notes : (other : ℕ) → note_of new other ≡ note_of old other

@@ -3,13 +3,13 @@ use Rattle.std.specs.Option.{option_and_then}
 use Rattle.std.specs.Ordering.{nat_cmp}
 use Rattle.std.specs.BTreeMap.{BTreeMap, get as get_in_map}
 use Rattle.slab.specs.Slab.{Slab, get}
-use Rattle.act_types.specs.declared.limits.TheConstants.{MOST_CALLERS, MOST_CALLS}
+use Rattle.act_types.specs.declared.limits.TheConstants.{MAX_CALLERS, MAX_CALLS}
 use Rattle.act_types.specs.declared.message.Packet.{Packet}
 use Rattle.act_inbox.specs.declared.inbox.Lane.{Lane}
 
 -- for each caller how many calls were handed out, the packets that came and were not, and at each
 -- caller's number what its release note tells, if it came
-pub record InboxValue : Type 0 where
+pub record InboxView : Type 0 where
   pub lanes : List Lane
   pub held : List Packet
   pub notes : List (Option ℕ)
@@ -17,9 +17,9 @@ pub record InboxValue : Type 0 where
 -- what is true of each inbox, however it came to be
 pub record IsInbox (lanes : List Lane) (held : List Packet) : Type 0 where
   pub distinct : AllPairs (λ one other. one ≢ other) (map (λ lane. lane.caller) lanes)
-  pub few : length lanes ≤ MOST_CALLERS
-  pub counted : All (λ lane. lane.handed ≤ MOST_CALLS) lanes
-  pub numbered : All (λ packet. packet.number < MOST_CALLS) held
+  pub few : length lanes ≤ MAX_CALLERS
+  pub counted : All (λ lane. lane.handed ≤ MAX_CALLS) lanes
+  pub numbered : All (λ packet. packet.number < MAX_CALLS) held
 
 -- the key of the caller's call of this number, by the caller's index
 abbrev pub key_of : List (BTreeMap ℕ ℕ) → ℕ → ℕ → Option ℕ
@@ -27,6 +27,8 @@ key_of keys caller number = option_and_then (λ index. get_in_map nat_cmp index 
 
 -- each key in a caller's index names a held packet of that caller and number, and no other is held
 pub record IsHeld (packets : Slab Packet) (keys : List (BTreeMap ℕ ℕ)) : Type 0 where
-  pub one_each : length keys ≡ MOST_CALLERS + 1
-  pub named : (caller number key : ℕ) → key_of keys caller number ≡ Some key → IsSomeAnd (get packets key) (λ packet. (packet.caller ≡ caller) × (packet.number ≡ number))
-  pub indexed : (key : ℕ) (packet : Packet) → get packets key ≡ Some packet → key_of keys packet.caller packet.number ≡ Some key
+  pub one_each : length keys ≡ MAX_CALLERS + 1
+  pub named : (caller number key : ℕ) → key_of keys caller number ≡ Some key →
+      IsSomeAnd (get packets key) (λ packet. (packet.caller ≡ caller) × (packet.number ≡ number))
+  pub indexed : (key : ℕ) (packet : Packet) → get packets key ≡ Some packet →
+      key_of keys packet.caller packet.number ≡ Some key

@@ -3,16 +3,16 @@
 
 ghost use Rattle.std.specs.Prelude.{◌≡◌, ◌↔◌, ℕ, ◌<◌, [], None, Some, All, find, length, IfOk, IfErr, OnOk, OnErr, IfSome, IfNone, if◌then◌else◌, false, option_copied, IsTrue};
 ghost use Rattle.act_types.specs.declared.message.Packet.{Packet};
-ghost use Rattle.act_inbox.specs.Inbox.{is_call};
+ghost use Rattle.act_inbox.specs.Inbox.{is_packet_of};
 
-use act_types::{CallerId, MOST_CALLERS, MOST_CALLS, Packet};
+use act_types::{CallerId, MAX_CALLERS, MAX_CALLS, Packet};
 use slab::Slab;
 use std::alloc::{AllocError, Global};
 use std::collections::BTreeMap;
 use std::marker::Model;
 
 /// Each caller has a number below this.
-pub(crate) const CALLER_NUMBERS: usize = MOST_CALLERS as usize + 1;
+pub(crate) const CALLER_NUMBERS: usize = MAX_CALLERS as usize + 1;
 
 /// The packets, and by the callers' numbers the key of each of their calls.
 #[derive(Drop)]
@@ -66,7 +66,7 @@ impl HeldCalls {
 
     /// The caller's call of this number, if it is held.
     pub(crate) fn get(&self, caller: CallerId, number: u32) -> Option<&Packet>
-        ensures { option_copied result ≡ find (is_call caller number) self.now }
+        ensures { option_copied result ≡ find (is_packet_of caller number) self.now }
     {
         let key = self.keys[caller.number() as usize].get(&number)?;
         self.packets.get(*key)
@@ -74,12 +74,12 @@ impl HeldCalls {
 
     /// Holds a call that is not held. An `Err` hands it back for want of memory.
     pub(crate) fn insert(&mut self, packet: Packet) -> Result<(), Packet>
-        requires { find (is_call packet.caller packet.number) self.old ≡ None }
-        ensures found { OnOk result ((caller number : ℕ) → find (is_call caller number) self.new
-            ≡ (if is_call caller number packet then Some packet else find (is_call caller number) self.old)) }
-        ensures numbered { packet.number < MOST_CALLS
-            → All (λ each. each.number < MOST_CALLS) self.old
-            → All (λ each. each.number < MOST_CALLS) self.new }
+        requires { find (is_packet_of packet.caller packet.number) self.old ≡ None }
+        ensures found { OnOk result ((caller number : ℕ) → find (is_packet_of caller number) self.new
+            ≡ (if is_packet_of caller number packet then Some packet else find (is_packet_of caller number) self.old)) }
+        ensures numbered { packet.number < MAX_CALLS
+            → All (λ each. each.number < MAX_CALLS) self.old
+            → All (λ each. each.number < MAX_CALLS) self.new }
         ensures back { IfErr result (λ back. back ≡ packet) }
         ensures err { OnErr result (self.new ≡ self.old) }
     {
@@ -97,11 +97,12 @@ impl HeldCalls {
 
     /// Lets go of the caller's call of this number, if it is held. It takes no memory.
     pub(crate) fn remove(&mut self, caller: CallerId, number: u32) -> Option<Packet>
-        ensures value { result ≡ find (is_call caller number) self.old }
-        ensures others { IfSome result (λ packet. (other count : ℕ) → is_call other count packet ≡ false
-            → find (is_call other count) self.new ≡ find (is_call other count) self.old) }
-        ensures gone { find (is_call caller number) self.new ≡ None }
-        ensures numbered { All (λ each. each.number < MOST_CALLS) self.old → All (λ each. each.number < MOST_CALLS) self.new }
+        ensures value { result ≡ find (is_packet_of caller number) self.old }
+        ensures others { IfSome result (λ packet. (other count : ℕ) → is_packet_of other count packet ≡ false
+            → find (is_packet_of other count) self.new ≡ find (is_packet_of other count) self.old) }
+        ensures gone { find (is_packet_of caller number) self.new ≡ None }
+        ensures numbered { All (λ each. each.number < MAX_CALLS) self.old →
+            All (λ each. each.number < MAX_CALLS) self.new }
         ensures none { IfNone result (self.new ≡ self.old) }
     {
         let key = self.keys[caller.number() as usize].remove(&number)?;

@@ -2,11 +2,11 @@
 
 ghost use Rattle.std.specs.Prelude.{◌≡◌, ◌↔◌, ◌≢◌, ℕ, None, Some, slice_index_or, ◌≤◌, ◌==◌, All, AllPairs, map, position, is_some, IfOk, OnOk, IfErr, OnErr, IfSome, IfNone, option_copied, IsTrue};
 ghost use Rattle.act_rules.specs.declared.outcome.Arrival.TheVariants.{New};
-ghost use Rattle.act_inbox.specs.Inbox.{InboxValue, is_lane_of, is_call, lane_at_first, is_listed, handed_of, note_of, waiting, next_of, arrival_of, note_arrival, waiting_after, held_at, held_after, held_without, note_after, holding, HoldsNone, IsNextToCome, IsOpened, IsTakenIn, IsNextTaken, IsDrained};
+ghost use Rattle.act_inbox.specs.Inbox.{InboxView, is_lane_of, is_packet_of, lane_at_first, is_listed, handed_of, note_of, waiting_packet, next_of, arrival_of, note_arrival, waiting_after, held_at, held_after, held_without, note_after, holding, HoldsNone, IsNextToCome, IsOpened, IsTakenIn, IsNextTaken, IsDrained};
 
 use crate::held::{CALLER_NUMBERS, HeldCalls};
 use act_rules::Arrival;
-use act_types::{CallerId, MOST_CALLERS, MOST_CALLS, NoMemory, Packet, ReleaseNote};
+use act_types::{CallerId, MAX_CALLERS, MAX_CALLS, NoMemory, Packet, ReleaseNote};
 use std::alloc::{AllocError, Global};
 use std::marker::Model;
 
@@ -27,9 +27,9 @@ pub struct Inbox {
 }
 
 impl Model for Inbox {
-    ghost use Rattle.act_inbox.specs.View.{InboxValue, IsInbox};
+    ghost use Rattle.act_inbox.specs.View.{InboxView, IsInbox};
 
-    ghost Value = { InboxValue };
+    ghost Value = { InboxView };
 
     ghost view = { λ inbox. record { lanes = inbox.lanes.items; held = inbox.held; notes = inbox.notes } };
 
@@ -39,12 +39,12 @@ impl Model for Inbox {
 /// A lane for each caller, with no calls handed out.
 fn lanes_of(alloc: Global, callers: &[CallerId]) -> Result<Vec<Lane>, AllocError>
     ensures lanes { IfOk result (λ lanes. lanes.items ≡ map lane_at_first callers.now) }
-    ensures valid { OnOk result (All (λ caller. (1 ≤ caller) × (caller ≤ MOST_CALLERS)) callers.now) }
+    ensures valid { OnOk result (All (λ caller. (1 ≤ caller) × (caller ≤ MAX_CALLERS)) callers.now) }
 {
     let mut lanes = Vec::with_capacity(alloc, callers.len())?;
     for caller in callers {
-        // Distinct callers are at most `MOST_CALLERS`.
-        prove!(1 <= caller.number() && caller.number() <= MOST_CALLERS);
+        // Distinct callers are at most `MAX_CALLERS`.
+        prove!(1 <= caller.number() && caller.number() <= MAX_CALLERS);
         lanes.push(Lane {
             caller: *caller,
             handed: 0,
@@ -86,12 +86,13 @@ impl Inbox {
         ensures lanes { self.new.lanes ≡ self.old.lanes }
         ensures notes { self.new.notes ≡ self.old.notes }
         ensures waiting { IfOk result (λ arrival.
-            (caller number : ℕ) → waiting self.new caller number ≡ waiting_after arrival packet self.old caller number) }
+            (caller number : ℕ) → waiting_packet self.new caller number
+            ≡ waiting_after arrival packet self.old caller number) }
         ensures held { IfOk result (λ arrival.
             (caller number : ℕ) → held_at self.new caller number ≡ held_after arrival packet self.old caller number) }
         ensures unless_new { IfOk result (λ arrival. arrival ≢ New → self.new ≡ self.old) }
         // Memory is asked for where the packet is new, and there alone.
-        ensures last { OnErr result (arrival_of self.old packet ≡ New) }
+        ensures memory_last { OnErr result (arrival_of self.old packet ≡ New) }
         ensures back { IfErr result (λ back. back ≡ packet) }
         ensures err { OnErr result (self.new ≡ self.old) }
     {
@@ -122,7 +123,7 @@ impl Inbox {
         let Some(place) = place_of_lane(&self.lanes, packet.caller) else {
             return Arrival::Stranger;
         };
-        if packet.number >= MOST_CALLS {
+        if packet.number >= MAX_CALLS {
             return Arrival::Stranger;
         }
         if packet.number < self.lanes[place].handed {
@@ -218,7 +219,7 @@ impl Inbox {
     /// How many calls of the caller were handed out.
     pub fn handed(&self, caller: CallerId) -> u32
         ensures value { result ≡ handed_of self.now caller }
-        ensures bound { result ≤ MOST_CALLS }
+        ensures bound { result ≤ MAX_CALLS }
     {
         match place_of_lane(&self.lanes, caller) {
             None => 0,

@@ -6,7 +6,7 @@ ghost use Rattle.act_types.specs.Texts.{state_text};
 ghost use Rattle.act_types.specs.declared.call.Method.TheVariants.{Deposit, Withdraw};
 ghost use Rattle.act_types.specs.declared.value.Value.TheVariants.{Int};
 ghost use Rattle.act_rules.specs.Kinds.{reply_of};
-ghost use Rattle.act_rules.specs.RunList.{replied};
+ghost use Rattle.act_rules.specs.RunList.{step_of_reply};
 
 use crate::Actor;
 use crate::actor::append;
@@ -40,7 +40,8 @@ impl Account {
 
     /// Pays an amount in.
     fn deposit(&mut self, amount: i64) -> Answer
-        ensures { (AccountAt self.new, result) ≡ replied (AccountAt self.old) (reply_of (AccountAt self.old) Deposit (Int amount ∷ [])) }
+        ensures { (AccountAt self.new, result)
+            ≡ step_of_reply (AccountAt self.old) (reply_of (AccountAt self.old) Deposit (Int amount ∷ [])) }
     {
         if amount <= 0 {
             return Err(Fault::BadAmount);
@@ -54,7 +55,8 @@ impl Account {
 
     /// Pays an amount out.
     fn withdraw(&mut self, amount: i64) -> Answer
-        ensures { (AccountAt self.new, result) ≡ replied (AccountAt self.old) (reply_of (AccountAt self.old) Withdraw (Int amount ∷ [])) }
+        ensures { (AccountAt self.new, result)
+            ≡ step_of_reply (AccountAt self.old) (reply_of (AccountAt self.old) Withdraw (Int amount ∷ [])) }
     {
         if amount <= 0 {
             return Err(Fault::BadAmount);

@@ -6,7 +6,7 @@ ghost use Rattle.std.specs.Fmt.{AppendsText};
 ghost use Rattle.act_types.specs.KindState.{KindState};
 ghost use Rattle.act_types.specs.Texts.{state_text};
 ghost use Rattle.act_rules.specs.Kinds.{reply_of};
-ghost use Rattle.act_rules.specs.RunList.{replied};
+ghost use Rattle.act_rules.specs.RunList.{step_of_reply};
 
 use act_types::{Answer, Method, NoMemory, Value};
 use std::alloc::Global;
@@ -19,8 +19,10 @@ pub trait Actor: Drop {
 
     /// Answers a call. A fault leaves the state.
     fn ask(&mut self, method: &Method, args: &[Value]) -> Result<Answer, NoMemory>
-        ensures answer { IfOk result (λ answer. answer ≡ (replied (state self.old) (reply_of (state self.old) method.now args.now)).1) }
-        ensures moved { OnOk result (state self.new ≡ (replied (state self.old) (reply_of (state self.old) method.now args.now)).0) }
+        ensures answer { IfOk result (λ answer.
+            answer ≡ (step_of_reply (state self.old) (reply_of (state self.old) method.now args.now)).1) }
+        ensures moved { OnOk result
+            (state self.new ≡ (step_of_reply (state self.old) (reply_of (state self.old) method.now args.now)).0) }
 
         // Want of memory comes only where no fault does, and leaves the state.
         ensures err { OnErr result (state self.new ≡ state self.old) }

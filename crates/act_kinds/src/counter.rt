@@ -6,7 +6,7 @@ ghost use Rattle.act_types.specs.Texts.{state_text};
 ghost use Rattle.act_types.specs.declared.call.Method.TheVariants.{Add};
 ghost use Rattle.act_types.specs.declared.value.Value.TheVariants.{Int};
 ghost use Rattle.act_rules.specs.Kinds.{reply_of};
-ghost use Rattle.act_rules.specs.RunList.{replied};
+ghost use Rattle.act_rules.specs.RunList.{step_of_reply};
 
 use crate::Actor;
 use crate::actor::append;
@@ -38,7 +38,8 @@ impl Counter {
 
     /// Adds a number, where the sum is one of 64 bits.
     fn add(&mut self, number: i64) -> Answer
-        ensures { (CounterAt self.new, result) ≡ replied (CounterAt self.old) (reply_of (CounterAt self.old) Add (Int number ∷ [])) }
+        ensures { (CounterAt self.new, result)
+            ≡ step_of_reply (CounterAt self.old) (reply_of (CounterAt self.old) Add (Int number ∷ [])) }
     {
         let Some(sum) = self.number.checked_add(number) else {
             return Err(Fault::Overflow);

@@ -6,12 +6,12 @@ ghost use Rattle.act_types.specs.Texts.{state_text};
 ghost use Rattle.act_types.specs.declared.call.Method.TheVariants.{Push, Pop, At};
 ghost use Rattle.act_types.specs.declared.value.Value.TheVariants.{Int};
 ghost use Rattle.act_rules.specs.Kinds.{reply_of};
-ghost use Rattle.act_rules.specs.RunList.{replied};
+ghost use Rattle.act_rules.specs.RunList.{step_of_reply};
 
 use crate::Actor;
 use crate::actor::append;
 use crate::storable::is_storable;
-use act_types::{Answer, CopyOf, Fault, MOST_ITEMS, Method, NoMemory, Value};
+use act_types::{Answer, CopyOf, Fault, MAX_ITEMS, Method, NoMemory, Value};
 use std::alloc::Global;
 use std::fmt;
 use std::marker::Model;
@@ -25,14 +25,14 @@ pub struct ListKind {
 
 impl Model for ListKind {
     ghost use Rattle.std.specs.Prelude.{List, length, ◌≤◌};
-    ghost use Rattle.act_types.specs.declared.limits.TheConstants.{MOST_ITEMS};
+    ghost use Rattle.act_types.specs.declared.limits.TheConstants.{MAX_ITEMS};
     ghost use Rattle.act_types.specs.declared.value.Value.{Value as Item};
 
     ghost Value = { List Item };
 
     ghost view = { λ list. list.items.items };
 
-    ghost invariant = { λ list. length list.items.items ≤ MOST_ITEMS };
+    ghost invariant = { λ list. length list.items.items ≤ MAX_ITEMS };
 }
 
 impl ListKind {
@@ -57,14 +57,14 @@ impl ListKind {
     fn push(&mut self, value: &Value) -> Result<Answer, NoMemory>
         ensures ok { IfOk result (λ answer.
             (ItemsOf self.new, answer) ≡
-            replied (ItemsOf self.old) (reply_of (ItemsOf self.old) Push (value.now ∷ []))) }
+            step_of_reply (ItemsOf self.old) (reply_of (ItemsOf self.old) Push (value.now ∷ []))) }
         ensures err { OnErr result (self.new ≡ self.old) }
         ensures memory_last { OnErr result (IsOk (reply_of (ItemsOf self.old) Push (value.now ∷ []))) }
     {
         if !is_storable(value) {
             return Ok(Err(Fault::BadArgs));
         }
-        if self.items.len() >= MOST_ITEMS {
+        if self.items.len() >= MAX_ITEMS {
             return Ok(Err(Fault::KindFull));
         }
         self.items.push(value.copy_of(self.alloc)?)?;
@@ -73,7 +73,7 @@ impl ListKind {
 
     /// Takes the last item.
     fn pop(&mut self) -> Answer
-        ensures { (ItemsOf self.new, result) ≡ replied (ItemsOf self.old) (reply_of (ItemsOf self.old) Pop []) }
+        ensures { (ItemsOf self.new, result) ≡ step_of_reply (ItemsOf self.old) (reply_of (ItemsOf self.old) Pop []) }
     {
         self.items.pop().ok_or(Fault::NoItems)
     }
@@ -81,7 +81,8 @@ impl ListKind {
     /// A copy of the item at a place.
     fn at(&self, place: i64) -> Result<Answer, NoMemory>
         ensures ok { IfOk result (λ answer.
-            (ItemsOf self.now, answer) ≡ replied (ItemsOf self.now) (reply_of (ItemsOf self.now) At (Int place ∷ []))) }
+            (ItemsOf self.now, answer)
+            ≡ step_of_reply (ItemsOf self.now) (reply_of (ItemsOf self.now) At (Int place ∷ []))) }
         ensures memory_last { OnErr result (IsOk (reply_of (ItemsOf self.now) At (Int place ∷ []))) }
     {
         let Ok(place) = usize::try_from(place) else {

@@ -6,12 +6,12 @@ ghost use Rattle.act_types.specs.Texts.{state_text};
 ghost use Rattle.act_types.specs.declared.call.Method.TheVariants.{Put, Get, Del};
 ghost use Rattle.act_types.specs.declared.value.Value.TheVariants.{Text as TextValue};
 ghost use Rattle.act_rules.specs.Kinds.{reply_of};
-ghost use Rattle.act_rules.specs.RunList.{replied};
+ghost use Rattle.act_rules.specs.RunList.{step_of_reply};
 
 use crate::Actor;
 use crate::actor::append;
 use crate::storable::is_storable;
-use act_types::{Answer, CopyOf, Fault, MOST_KEYS, Method, NoMemory, Text, Value};
+use act_types::{Answer, CopyOf, Fault, MAX_KEYS, Method, NoMemory, Text, Value};
 use indexmap::IndexMap;
 use std::alloc::Global;
 use std::fmt;
@@ -28,14 +28,14 @@ impl Model for Table {
     ghost use Rattle.std.specs.Prelude.{ℕ, List, length, ◌≤◌};
     ghost use Rattle.std.specs.Str.{bytes_eq};
     ghost use Rattle.indexmap.specs.IndexMap.{IsUnique};
-    ghost use Rattle.act_types.specs.declared.limits.TheConstants.{MOST_KEYS};
+    ghost use Rattle.act_types.specs.declared.limits.TheConstants.{MAX_KEYS};
     ghost use Rattle.act_types.specs.declared.value.Value.{Value as Held};
 
     ghost Value = { List (List ℕ × Held) };
 
     ghost view = { λ table. table.pairs.entries };
 
-    ghost invariant = { λ table. (length table.pairs.entries ≤ MOST_KEYS) × IsUnique bytes_eq table.pairs };
+    ghost invariant = { λ table. (length table.pairs.entries ≤ MAX_KEYS) × IsUnique bytes_eq table.pairs };
 }
 
 impl Table {
@@ -61,14 +61,15 @@ impl Table {
     fn put(&mut self, key: &Text, value: &Value) -> Result<Answer, NoMemory>
         ensures ok { IfOk result (λ answer.
             (TableOf self.new, answer) ≡
-            replied (TableOf self.old) (reply_of (TableOf self.old) Put (TextValue key.now ∷ value.now ∷ []))) }
+            step_of_reply (TableOf self.old) (reply_of (TableOf self.old) Put (TextValue key.now ∷ value.now ∷ []))) }
         ensures err { OnErr result (self.new ≡ self.old) }
-        ensures memory_last { OnErr result (IsOk (reply_of (TableOf self.old) Put (TextValue key.now ∷ value.now ∷ []))) }
+        ensures memory_last { OnErr result
+            (IsOk (reply_of (TableOf self.old) Put (TextValue key.now ∷ value.now ∷ []))) }
     {
         if !key.is_good() || !is_storable(value) {
             return Ok(Err(Fault::BadArgs));
         }
-        if !self.pairs.contains_key(key) && self.pairs.len() >= MOST_KEYS {
+        if !self.pairs.contains_key(key) && self.pairs.len() >= MAX_KEYS {
             return Ok(Err(Fault::KindFull));
         }
         let key = key.copy_of(self.alloc)?;
@@ -82,7 +83,7 @@ impl Table {
     fn get(&self, key: &Text) -> Result<Answer, NoMemory>
         ensures ok { IfOk result (λ answer.
             (TableOf self.now, answer) ≡
-            replied (TableOf self.now) (reply_of (TableOf self.now) Get (TextValue key.now ∷ []))) }
+            step_of_reply (TableOf self.now) (reply_of (TableOf self.now) Get (TextValue key.now ∷ []))) }
         ensures memory_last { OnErr result (IsOk (reply_of (TableOf self.now) Get (TextValue key.now ∷ []))) }
     {
         if !key.is_good() {
@@ -97,7 +98,8 @@ impl Table {
     /// Takes a key's pair out.
     #[tactic(auto, using(crate::proofs::Pairs::lookup_is, crate::proofs::Pairs::remove_is))]
     fn del(&mut self, key: &Text) -> Answer
-        ensures { (TableOf self.new, result) ≡ replied (TableOf self.old) (reply_of (TableOf self.old) Del (TextValue key.now ∷ [])) }
+        ensures { (TableOf self.new, result)
+            ≡ step_of_reply (TableOf self.old) (reply_of (TableOf self.old) Del (TextValue key.now ∷ [])) }
     {
         if !key.is_good() {
             return Err(Fault::BadArgs);

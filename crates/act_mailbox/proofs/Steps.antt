@@ -5,10 +5,10 @@ use mathlib.Core.Option.{some, some-injective, some-ne-none}
 use lib.ListN.{get_elem?}
 use Rattle.crossbeam_queue.specs.Fifo.{Pushes, Pops, Forks, Merges, Learns}
 use Rattle.crossbeam_queue.proofs.Lists.{at_set, at_snoc}
-use Rattle.act_rules.specs.Consistent.{IsFront}
+use Rattle.act_rules.specs.Consistent.{IsPrefix}
 use Rattle.act_mailbox.specs.declared.line.view.View.{View}
 use Rattle.act_mailbox.specs.declared.line.view.View.TheVariants.{Puts, Takes, Saw, Spent}
-use Rattle.act_mailbox.specs.Lines.{items_of, putting, taking, role, after_deal, after_put, copied, shown, put_of, note_of, Took, Fits, Lined, Audited}
+use Rattle.act_mailbox.specs.Lines.{items_from, putting, taking, role, after_deal, after_put, copied, shown, put_of, note_of, Took, Fits, Lined, Audited}
 
 -- which of its kinds a pass is
 module _ {T N : Type 0} where
@@ -47,31 +47,31 @@ append_nil : {A : Type 0} (xs : List A) → xs ++ [] ≡ xs
 append_nil [] = refl
 append_nil (x ∷ xs) = ap (λ l. x ∷ l) (append_nil xs)
 
--- the seats, where the role of putter c is seated at n
-abbrev seated : (ℕ → ℕ) → ℕ → ℕ → ℕ → ℕ
-seated seat c n r = cond (r == suc c) n (seat r)
+-- the endpoints, where the role of putter c is seated at n
+abbrev endpoints_at : (ℕ → ℕ) → ℕ → ℕ → ℕ → ℕ
+endpoints_at endpoint c n r = cond (r == suc c) n (endpoint r)
 
-old_seat : (seat : ℕ → ℕ) (c n j r : ℕ) → (r ≡ suc c → ⊥) → j ≡ seat r → j ≡ seated seat c n r
-old_seat seat c n j r other e = e ∙ sym (ap (λ b. cond b n (seat r)) (ne_eqb r (suc c) other))
+old_endpoint : (endpoint : ℕ → ℕ) (c n j r : ℕ) → (r ≡ suc c → ⊥) → j ≡ endpoint r → j ≡ endpoints_at endpoint c n r
+old_endpoint endpoint c n j r other e = e ∙ sym (ap (λ b. cond b n (endpoint r)) (ne_eqb r (suc c) other))
 
-new_seat : (seat : ℕ → ℕ) (c n r : ℕ) → r ≡ suc c → n ≡ seated seat c n r
-new_seat seat c n r e = sym (ap (λ b. cond b n (seat r)) (eq-eqb r (suc c) e))
+new_endpoint : (endpoint : ℕ → ℕ) (c n r : ℕ) → r ≡ suc c → n ≡ endpoints_at endpoint c n r
+new_endpoint endpoint c n r e = sym (ap (λ b. cond b n (endpoint r)) (eq-eqb r (suc c) e))
 
 module _ {T : Type 0} (putter_of : T → ℕ) where
-  of-append : (c : ℕ) (xs ys : List T) → items_of putter_of c (xs ++ ys) ≡ items_of putter_of c xs ++ items_of putter_of c ys
+  of-append : (c : ℕ) (xs ys : List T) → items_from putter_of c (xs ++ ys) ≡ items_from putter_of c xs ++ items_from putter_of c ys
   of-append c xs ys = filter-append (λ x. putter_of x == c) xs ys
 
-  of-same : (c : ℕ) (x : T) → putter_of x ≡ c → items_of putter_of c (x ∷ []) ≡ x ∷ []
+  of-same : (c : ℕ) (x : T) → putter_of x ≡ c → items_from putter_of c (x ∷ []) ≡ x ∷ []
   of-same c x e = ap (λ b. cond b (x ∷ []) []) (eq-eqb (putter_of x) c e)
 
-  of-other : (c : ℕ) (x : T) → putter_of x ≢ c → items_of putter_of c (x ∷ []) ≡ []
+  of-other : (c : ℕ) (x : T) → putter_of x ≢ c → items_from putter_of c (x ∷ []) ≡ []
   of-other c x n = ap (λ b. cond b (x ∷ []) []) (ne_eqb (putter_of x) c n)
 
-  snoc-same : (c : ℕ) (got items : List T) (x : T) → putter_of x ≡ c → items_of putter_of c (got ++ (items ++ x ∷ [])) ≡ items_of putter_of c (got ++ items) ++ x ∷ []
-  snoc-same c got items x e = ap (items_of putter_of c) (sym (append_assoc got items (x ∷ []))) ∙ of-append c (got ++ items) (x ∷ []) ∙ ap (λ l. items_of putter_of c (got ++ items) ++ l) (of-same c x e)
+  snoc-same : (c : ℕ) (got items : List T) (x : T) → putter_of x ≡ c → items_from putter_of c (got ++ (items ++ x ∷ [])) ≡ items_from putter_of c (got ++ items) ++ x ∷ []
+  snoc-same c got items x e = ap (items_from putter_of c) (sym (append_assoc got items (x ∷ []))) ∙ of-append c (got ++ items) (x ∷ []) ∙ ap (λ l. items_from putter_of c (got ++ items) ++ l) (of-same c x e)
 
-  snoc-other : (c : ℕ) (got items : List T) (x : T) → putter_of x ≢ c → items_of putter_of c (got ++ (items ++ x ∷ [])) ≡ items_of putter_of c (got ++ items)
-  snoc-other c got items x n = ap (items_of putter_of c) (sym (append_assoc got items (x ∷ []))) ∙ of-append c (got ++ items) (x ∷ []) ∙ ap (λ l. items_of putter_of c (got ++ items) ++ l) (of-other c x n) ∙ append_nil (items_of putter_of c (got ++ items))
+  snoc-other : (c : ℕ) (got items : List T) (x : T) → putter_of x ≢ c → items_from putter_of c (got ++ (items ++ x ∷ [])) ≡ items_from putter_of c (got ++ items)
+  snoc-other c got items x n = ap (items_from putter_of c) (sym (append_assoc got items (x ∷ []))) ∙ of-append c (got ++ items) (x ∷ []) ∙ ap (λ l. items_from putter_of c (got ++ items) ++ l) (of-other c x n) ∙ append_nil (items_from putter_of c (got ++ items))
 
   -- each item's putter has a pass
   abbrev Known : List ℕ → T → Type 0
@@ -83,12 +83,12 @@ module _ {T : Type 0} (putter_of : T → ℕ) where
   known_here : (putters : List ℕ) (got items : List T) (x : T) {was : List ℕ} → was ≡ putters → All (Known putters) (got ++ x ∷ items) → Contains was (putter_of x)
   known_here putters got items x e all = subst (λ (l : List ℕ). Contains l (putter_of x)) (sym e) (All-contains (Known putters) (got ++ x ∷ items) x all (Contains-append_right got (x ∷ items) x (0, omega arith, refl)))
 
-  none_of : (putters : List ℕ) (c : ℕ) → (Contains putters c → ⊥) → (xs : List T) → All (Known putters) xs → items_of putter_of c xs ≡ []
+  none_of : (putters : List ℕ) (c : ℕ) → (Contains putters c → ⊥) → (xs : List T) → All (Known putters) xs → items_from putter_of c xs ≡ []
   none_of putters c fresh [] all = refl
   none_of putters c fresh (x ∷ xs) all =
-      ap (λ b. cond b (x ∷ items_of putter_of c xs) (items_of putter_of c xs)) (ne_eqb (putter_of x) c (λ e. fresh (subst (Contains putters) e (All-head (Known putters) x xs all)))) ∙ none_of putters c fresh xs (All-tail (Known putters) x xs all)
+      ap (λ b. cond b (x ∷ items_from putter_of c xs) (items_from putter_of c xs)) (ne_eqb (putter_of x) c (λ e. fresh (subst (Contains putters) e (All-head (Known putters) x xs all)))) ∙ none_of putters c fresh xs (All-tail (Known putters) x xs all)
 
-  pub longer : (xs got : List T) (x : T) → IsFront xs got → IsFront xs (got ++ x ∷ [])
+  pub longer : (xs got : List T) (x : T) → IsPrefix xs got → IsPrefix xs (got ++ x ∷ [])
   longer xs got x p = (p.0 ++ x ∷ [], sym (append_assoc xs p.0 (x ∷ [])) ∙ ap (λ l. l ++ x ∷ []) p.1)
 
 module _ {T N : Type 0} where
@@ -100,13 +100,13 @@ module _ {T N : Type 0} where
       (λ (x : (j ≢ port) × (get_elem? views j ≡ some u)). others j u x.0 x.1) (at_set views port j w u e)
 
   -- two passes have two roles
-  apart : (seat : ℕ → ℕ) (port j : ℕ) (v u : View T N) (r : ℕ) → role v ≡ Some r → ((q : ℕ) → role v ≡ Some q → port ≡ seat q) → ((q : ℕ) → role u ≡ Some q → j ≡ seat q) → j ≢ port → role u ≡ Some r → ⊥
-  apart seat port j v u r e mine theirs other e' = other (theirs r e' ∙ sym (mine r e))
+  apart : (endpoint : ℕ → ℕ) (port j : ℕ) (v u : View T N) (r : ℕ) → role v ≡ Some r → ((q : ℕ) → role v ≡ Some q → port ≡ endpoint q) → ((q : ℕ) → role u ≡ Some q → j ≡ endpoint q) → j ≢ port → role u ≡ Some r → ⊥
+  apart endpoint port j v u r e mine theirs other e' = other (theirs r e' ∙ sym (mine r e))
 
 module _ {T N : Type 0} (putter_of : T → ℕ) where
   -- where each view but the one at `port` stays
   abbrev Keeps : (ℕ → ℕ) → List ℕ → List T → List T → ℕ → View T N → Type 0
-  Keeps seat putters got items port v = Fits putter_of putters got items v × ((r : ℕ) → role v ≡ Some r → port ≡ seat r)
+  Keeps endpoint putters got items port v = Fits putter_of putters got items v × ((r : ℕ) → role v ≡ Some r → port ≡ endpoint r)
 
   pub begins : Lined {T = T} {N = N} putter_of [] (taking [] [] [] ∷ [])
   begins = let first : View T N = taking [] [] [] in (
@@ -130,11 +130,11 @@ module _ {T N : Type 0} (putter_of : T → ℕ) where
     puts_role Spent = refl
 
     -- others stay
-    puts_other : (seat : ℕ → ℕ) (putters : List ℕ) (got items : List T) (j : ℕ) (u : View T N) → (role u ≡ Some (suc (putter_of x)) → ⊥) → Keeps seat putters got items j u → Keeps seat putters got (items ++ x ∷ []) j u
-    puts_other seat putters got items j (Puts u) not_mine k = ((k.0.0, k.0.1 ∙ sym (snoc-other putter_of u.number got items x (λ e. not_mine (ap (λ c. Some (suc c)) (sym e)))), k.0.2), k.1)
-    puts_other seat putters got items j (Takes u) not_mine k = (k.0, k.1)
-    puts_other seat putters got items j (Saw xs) not_mine k = (k.0, k.1)
-    puts_other seat putters got items j Spent not_mine k = (k.0, k.1)
+    puts_other : (endpoint : ℕ → ℕ) (putters : List ℕ) (got items : List T) (j : ℕ) (u : View T N) → (role u ≡ Some (suc (putter_of x)) → ⊥) → Keeps endpoint putters got items j u → Keeps endpoint putters got (items ++ x ∷ []) j u
+    puts_other endpoint putters got items j (Puts u) not_mine k = ((k.0.0, k.0.1 ∙ sym (snoc-other putter_of u.number got items x (λ e. not_mine (ap (λ c. Some (suc c)) (sym e)))), k.0.2), k.1)
+    puts_other endpoint putters got items j (Takes u) not_mine k = (k.0, k.1)
+    puts_other endpoint putters got items j (Saw xs) not_mine k = (k.0, k.1)
+    puts_other endpoint putters got items j Spent not_mine k = (k.0, k.1)
 
     pub puts : (n port : ℕ) (v : View T N) → IsPutting (putter_of x) v → Pushes (Lined putter_of) n port v x (λ w. w ≡ after_put x note v)
     puts n port (Puts v) mine items views room h at =
@@ -158,11 +158,11 @@ module _ {T N : Type 0} (putter_of : T → ℕ) where
 
   -- the taker takes x, and its note becomes `note`
   module _ (note : List N) where
-    takes_other : (seat : ℕ → ℕ) (putters : List ℕ) (got items : List T) (x : T) (j : ℕ) (u : View T N) → (role u ≡ Some 0 → ⊥) → Keeps seat putters got (x ∷ items) j u → Keeps seat putters (got ++ x ∷ []) items j u
-    takes_other seat putters got items x j (Puts u) not_mine k = ((k.0.0, k.0.1 ∙ ap (items_of putter_of u.number) (sym (append_assoc got (x ∷ []) items)), longer putter_of u.seen got x k.0.2), k.1)
-    takes_other seat putters got items x j (Takes u) not_mine k = absurd (not_mine refl)
-    takes_other seat putters got items x j (Saw xs) not_mine k = (longer putter_of xs got x k.0, k.1)
-    takes_other seat putters got items x j Spent not_mine k = (k.0, k.1)
+    takes_other : (endpoint : ℕ → ℕ) (putters : List ℕ) (got items : List T) (x : T) (j : ℕ) (u : View T N) → (role u ≡ Some 0 → ⊥) → Keeps endpoint putters got (x ∷ items) j u → Keeps endpoint putters (got ++ x ∷ []) items j u
+    takes_other endpoint putters got items x j (Puts u) not_mine k = ((k.0.0, k.0.1 ∙ ap (items_from putter_of u.number) (sym (append_assoc got (x ∷ []) items)), longer putter_of u.seen got x k.0.2), k.1)
+    takes_other endpoint putters got items x j (Takes u) not_mine k = absurd (not_mine refl)
+    takes_other endpoint putters got items x j (Saw xs) not_mine k = (longer putter_of xs got x k.0, k.1)
+    takes_other endpoint putters got items x j Spent not_mine k = (k.0, k.1)
 
     pub takes : (port : ℕ) (v : View T N) → IsTaking v → Pops (Lined putter_of) port v (λ x w. Took putter_of note v x w)
     takes port (Puts v) mine x items views h at = absurd mine
@@ -185,11 +185,11 @@ module _ {T N : Type 0} (putter_of : T → ℕ) where
     takes port Spent mine x items views h at = absurd mine
 
   -- the taker makes the pass of a putter
-  module _ (seat : ℕ → ℕ) (putters : List ℕ) (got items : List T) (c n : ℕ) (fresh : Contains putters c → ⊥) where
-    deals_other : (j : ℕ) (u : View T N) → (role u ≡ Some 0 → ⊥) → Keeps seat putters got items j u → Keeps (seated seat c n) (putters ++ c ∷ []) got items j u
+  module _ (endpoint : ℕ → ℕ) (putters : List ℕ) (got items : List T) (c n : ℕ) (fresh : Contains putters c → ⊥) where
+    deals_other : (j : ℕ) (u : View T N) → (role u ≡ Some 0 → ⊥) → Keeps endpoint putters got items j u → Keeps (endpoints_at endpoint c n) (putters ++ c ∷ []) got items j u
     deals_other j (Puts u) not_mine k = (
       (Contains-append_left putters (c ∷ []) u.number k.0.0, k.0.1, k.0.2),
-      λ r e. old_seat seat c n j r (λ is. fresh (let same : u.number ≡ c = inside u.number r e is in subst (Contains putters) same k.0.0)) (k.1 r e),
+      λ r e. old_endpoint endpoint c n j r (λ is. fresh (let same : u.number ≡ c = inside u.number r e is in subst (Contains putters) same k.0.0)) (k.1 r e),
     )
       where
         inside : (f r : ℕ) → Some (suc f) ≡ Some r → r ≡ suc c → f ≡ c
@@ -207,17 +207,17 @@ module _ {T N : Type 0} (putter_of : T → ℕ) where
       let right : View T N = putting c [] [] [] in
       let old : List (View T N) = set views port left in
       let n : ℕ = length old in
-      let K : ℕ → View T N → Type 0 = Keeps (seated h.0 c n) (h.1 ++ c ∷ []) h.2 items in
+      let K : ℕ → View T N → Type 0 = Keeps (endpoints_at h.0 c n) (h.1 ++ c ∷ []) h.2 items in
       let olds : Each K old = all_set K views port left
-      ((ap (λ l. l ++ c ∷ []) me.0.0, me.0.1), λ r e. old_seat h.0 c n port r (λ is. let z : 0 ≡ suc c = cc in absurd (omega arith)) (me.1 r e))
+      ((ap (λ l. l ++ c ∷ []) me.0.0, me.0.1), λ r e. old_endpoint h.0 c n port r (λ is. let z : 0 ≡ suc c = cc in absurd (omega arith)) (me.1 r e))
       (λ j u other e. let k = h.4 j u e in deals_other h.0 h.1 h.2 items c n fresh j u (apart h.0 port j (Takes v) u 0 refl me.1 k.1 other) k) in (
-        seated h.0 c n,
+        endpoints_at h.0 c n,
         h.1 ++ c ∷ [],
         h.2,
         All-weaker (λ x. Contains h.1 (putter_of x)) (λ x. Contains (h.1 ++ c ∷ []) (putter_of x)) (λ x has. Contains-append_left h.1 (c ∷ []) (putter_of x) has) (h.2 ++ items) h.3,
         (λ j u e. ⊎_elim (λ was. olds j u was)
             (λ (is : (j ≡ n) × (right ≡ u)). subst (λ (y : ℕ × View T N). K y.0 y.1) (λ i. (sym is.0 i, is.1 i))
-            ((Contains-push h.1 c, sym (none_of putter_of h.1 c fresh (h.2 ++ items) h.3), (h.2, refl)), λ r e'. new_seat h.0 c n r (let z : suc c ≡ r = cc in sym z)))
+            ((Contains-push h.1 c, sym (none_of putter_of h.1 c fresh (h.2 ++ items) h.3), (h.2, refl)), λ r e'. new_endpoint h.0 c n r (let z : suc c ≡ r = cc in sym z)))
             (at_new old right u j e)),
       )
   deals port c (Saw xs) may items views h at = absurd may
@@ -249,14 +249,14 @@ module _ {T N : Type 0} (putter_of : T → ℕ) where
             (at_snoc old (copied v) u j e)),
       )
 
-  shown_fits : (seat : ℕ → ℕ) (putters : List ℕ) (got items : List T) (port c : ℕ) (v w : View T N) → IsPutting c v → IsCopy w → Keeps seat putters got items port v → Fits putter_of putters got items w → Keeps seat putters got items port (shown v w)
-  shown_fits seat putters got items port c (Puts v) (Saw xs) mine theirs k f = ((k.0.0, k.0.1, f), k.1)
-  shown_fits seat putters got items port c (Puts v) (Puts w) mine theirs k f = absurd theirs
-  shown_fits seat putters got items port c (Puts v) (Takes w) mine theirs k f = absurd theirs
-  shown_fits seat putters got items port c (Puts v) Spent mine theirs k f = absurd theirs
-  shown_fits seat putters got items port c (Takes v) w mine theirs k f = absurd mine
-  shown_fits seat putters got items port c (Saw xs) w mine theirs k f = absurd mine
-  shown_fits seat putters got items port c Spent w mine theirs k f = absurd mine
+  shown_fits : (endpoint : ℕ → ℕ) (putters : List ℕ) (got items : List T) (port c : ℕ) (v w : View T N) → IsPutting c v → IsCopy w → Keeps endpoint putters got items port v → Fits putter_of putters got items w → Keeps endpoint putters got items port (shown v w)
+  shown_fits endpoint putters got items port c (Puts v) (Saw xs) mine theirs k f = ((k.0.0, k.0.1, f), k.1)
+  shown_fits endpoint putters got items port c (Puts v) (Puts w) mine theirs k f = absurd theirs
+  shown_fits endpoint putters got items port c (Puts v) (Takes w) mine theirs k f = absurd theirs
+  shown_fits endpoint putters got items port c (Puts v) Spent mine theirs k f = absurd theirs
+  shown_fits endpoint putters got items port c (Takes v) w mine theirs k f = absurd mine
+  shown_fits endpoint putters got items port c (Saw xs) w mine theirs k f = absurd mine
+  shown_fits endpoint putters got items port c Spent w mine theirs k f = absurd mine
 
   pub sees : (port : ℕ) (v : View T N) (other : ℕ) (w : View T N) (c : ℕ) → IsPutting c v → IsCopy w → Merges (Lined putter_of) port v other w (shown v w) Spent
   sees port v other w c mine theirs items views h at two at' =
@@ -272,8 +272,8 @@ module _ {T N : Type 0} (putter_of : T → ℕ) where
 
   pub audits : (port : ℕ) (v : View T N) → Learns (Lined putter_of) port v (λ items. Audited putter_of v)
   audits port (Puts v) items views h at = let me = h.4 port (Puts v) at in (
-    items_of putter_of v.number (me.0.2.0 ++ items),
-    sym (me.0.1 ∙ ap (λ l. items_of putter_of v.number (l ++ items)) (sym me.0.2.1) ∙ ap (items_of putter_of v.number) (append_assoc v.seen me.0.2.0 items) ∙ of-append putter_of v.number v.seen (me.0.2.0 ++ items)),
+    items_from putter_of v.number (me.0.2.0 ++ items),
+    sym (me.0.1 ∙ ap (λ l. items_from putter_of v.number (l ++ items)) (sym me.0.2.1) ∙ ap (items_from putter_of v.number) (append_assoc v.seen me.0.2.0 items) ∙ of-append putter_of v.number v.seen (me.0.2.0 ++ items)),
   )
   audits port (Takes v) items views h at = tt
   audits port (Saw xs) items views h at = tt

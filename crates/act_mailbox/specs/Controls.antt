@@ -5,12 +5,13 @@ use Rattle.act_types.specs.declared.message.KillNote.{KillNote}
 use Rattle.act_mailbox.specs.declared.control.Asked.{Asked}
 
 -- which line it is, and whose
-pub record ControlValue : Type 0 where
+pub record ControlView : Type 0 where
   pub line : TableId
   pub actor : ℕ
 
--- the executor's pass: its line and actor, the askers that have passes, the kills taken, the log's length at each of them, and how many lengths were looked at
-pub record ControlExecValue : Type 0 where
+-- the executor's pass: its line and actor, the askers that have passes, the kills taken, the log's length at each of
+-- them, and how many lengths were looked at
+pub record ControlExecView : Type 0 where
   pub line : TableId
   pub actor : ℕ
   pub askers : List ℕ
@@ -27,15 +28,19 @@ abbrev pub asker_of : Asked → ℕ
 asker_of kill = kill.asker
 
 -- a kill with its asker
-abbrev pub asked : ℕ → KillNote → Asked
-asked asker note = record { asker = asker; note = note }
+abbrev pub kill_by : ℕ → KillNote → Asked
+kill_by asker note = record { asker = asker; note = note }
 
 -- one more where the log shown has exactly so many items
 abbrev pub looked_after : ℕ → ℕ → ℕ
 looked_after looked long = if looked == long then looked + 1 else looked
 
 -- a kill of an asker that has a pass was taken, and the log was so long
-pub record HasTaken (note : KillNote) (long : ℕ) (old new : ControlExecValue) : Type 0 where
+pub record HasTakenKill (note : KillNote) (long : ℕ) (old new : ControlExecView) : Type 0 where
   pub asker : ℕ
   pub known : Contains old.askers asker
-  pub taken : new ≡ record old { taken = old.taken ++ asked asker note ∷ []; lengths = old.lengths ++ long ∷ []; looked = new.looked }
+  pub taken : new ≡ record old {
+    taken = old.taken ++ kill_by asker note ∷ [];
+    lengths = old.lengths ++ long ∷ [];
+    looked = new.looked;
+  }

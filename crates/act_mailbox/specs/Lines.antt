@@ -2,13 +2,13 @@
 use Rattle.std.specs.Prelude.{◌≡◌, ℕ, suc, ◌==◌, List, [], ◌∷◌, ◌++◌, Option, Some, None, filter, All, Contains}
 use mathlib.Core.Option.{some}
 use lib.ListN.{get_elem?}
-use Rattle.act_rules.specs.Consistent.{IsFront}
+use Rattle.act_rules.specs.Consistent.{IsPrefix}
 use Rattle.act_mailbox.specs.declared.line.view.View.{View}
 use Rattle.act_mailbox.specs.declared.line.view.View.TheVariants.{Puts, Takes, Saw, Spent}
 
 -- the items of putter c, in order
-abbrev pub items_of : {T : Type 0} → (T → ℕ) → ℕ → List T → List T
-items_of putter_of c xs = filter (λ x. putter_of x == c) xs
+abbrev pub items_from : {T : Type 0} → (T → ℕ) → ℕ → List T → List T
+items_from putter_of c xs = filter (λ x. putter_of x == c) xs
 
 module _ {T N : Type 0} where
   -- what a putter's pass knows
@@ -88,16 +88,19 @@ module _ {T N : Type 0} where
 module _ {T N : Type 0} (putter_of : T → ℕ) where
   -- what a pass knows, where `got` was taken so far and the queue holds `items`
   abbrev pub Fits : List ℕ → List T → List T → View T N → Type 0
-  Fits putters got items (Puts v) = Contains putters v.number × (v.put ≡ items_of putter_of v.number (got ++ items)) × IsFront v.seen got
+  Fits putters got items (Puts v) = Contains putters v.number × (v.put ≡ items_from putter_of v.number (got ++ items))
+      × IsPrefix v.seen got
   Fits putters got items (Takes v) = (v.putters ≡ putters) × (v.taken ≡ got)
-  Fits putters got items (Saw xs) = IsFront xs got
+  Fits putters got items (Saw xs) = IsPrefix xs got
   Fits putters got items Spent = Unit {0}
 
-  -- a putter or the taker has one pass; what was taken of a putter, and then what the queue holds of it, is what it put; each item's putter has a pass
+  -- a putter or the taker has one pass; what was taken of a putter, and then what the queue holds of it, is what it
+  -- put; each item's putter has a pass
   abbrev pub Lined : List T → List (View T N) → Type 0
-  Lined items views = (seat : ℕ → ℕ) × (putters : List ℕ) × (got : List T)
+  Lined items views = (endpoint : ℕ → ℕ) × (putters : List ℕ) × (got : List T)
       × All (λ x. Contains putters (putter_of x)) (got ++ items)
-      × ((port : ℕ) (v : View T N) → get_elem? views port ≡ some v → Fits putters got items v × ((r : ℕ) → role v ≡ Some r → port ≡ seat r))
+      × ((port : ℕ) (v : View T N) → get_elem? views port ≡ some v →
+      Fits putters got items v × ((r : ℕ) → role v ≡ Some r → port ≡ endpoint r))
 
   -- what a take tells
   abbrev pub Took : List N → View T N → T → View T N → Type 0
@@ -105,7 +108,7 @@ module _ {T N : Type 0} (putter_of : T → ℕ) where
 
   -- what an audit tells of a putter
   abbrev pub Audited : View T N → Type 0
-  Audited (Puts v) = IsFront (items_of putter_of v.number v.seen) v.put
+  Audited (Puts v) = IsPrefix (items_from putter_of v.number v.seen) v.put
   Audited (Takes v) = Unit {0}
   Audited (Saw xs) = Unit {0}
   Audited Spent = Unit {0}

@@ -5,7 +5,7 @@ use Rattle.act_mailbox.specs.declared.mail.Letter.{Letter}
 use Rattle.act_mailbox.specs.declared.mail.Letter.TheVariants.{Call, Note}
 
 -- which line it is, and whose
-pub record MailValue : Type 0 where
+pub record MailView : Type 0 where
   pub line : TableId
   pub actor : ℕ
 

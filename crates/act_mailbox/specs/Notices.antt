@@ -6,38 +6,39 @@ use Rattle.act_types.specs.declared.message.Notice.TheVariants.{Answered, Death}
 use Rattle.act_rules.specs.declared.history.RunItem.{RunItem}
 
 -- which line it is, and whose
-pub record RepliesValue : Type 0 where
+pub record RepliesView : Type 0 where
   pub line : TableId
   pub caller : ℕ
 
 -- an executor's pass: its line and actor, the notices given, and the log last shown
-pub record ReplyExecValue : Type 0 where
+pub record ReplyExecView : Type 0 where
   pub line : TableId
   pub actor : ℕ
   pub given : List Notice
   pub seen : List RunItem
 
 -- an executor's pass that has given nothing
-abbrev pub new_exec : TableId → ℕ → ReplyExecValue
+abbrev pub new_exec : TableId → ℕ → ReplyExecView
 new_exec line actor = record { line = line; actor = actor; given = []; seen = [] }
 
 -- the actor that a notice names
-abbrev pub actor_of : Notice → ℕ
-actor_of (Answered reply) = reply.actor
-actor_of (Death actor) = actor
+abbrev pub notice_actor : Notice → ℕ
+notice_actor (Answered reply) = reply.actor
+notice_actor (Death actor) = actor
 
 -- a notice that is no death
-abbrev pub IsReply : Notice → Type 0
-IsReply (Answered reply) = Unit {0}
-IsReply (Death actor) = ⊥
+abbrev pub IsNoDeath : Notice → Type 0
+IsNoDeath (Answered reply) = Unit {0}
+IsNoDeath (Death actor) = ⊥
 
 -- a reply names a place of the log, and that place's caller and future
 abbrev pub NamesPlace : List RunItem → Notice → Type 0
-NamesPlace log (Answered reply) = (item : RunItem) × (slice_get log reply.place ≡ Some item) × (reply.caller ≡ item.caller) × (reply.future ≡ item.future)
+NamesPlace log (Answered reply) = (item : RunItem) × (slice_get log reply.place ≡ Some item)
+    × (reply.caller ≡ item.caller) × (reply.future ≡ item.future)
 NamesPlace log (Death actor) = Unit {0}
 
 -- each notice names the actor, each reply a place of the log that was seen, and no notice follows a death
 pub record IsGiven (actor : ℕ) (seen : List RunItem) (given : List Notice) : Type 0 where
-  pub names : All (λ notice. actor_of notice ≡ actor) given
+  pub names : All (λ notice. notice_actor notice ≡ actor) given
   pub places : All (NamesPlace seen) given
-  pub alive : (before : List Notice) (last : Notice) → given ≡ before ++ last ∷ [] → All IsReply before
+  pub alive : (before : List Notice) (last : Notice) → given ≡ before ++ last ∷ [] → All IsNoDeath before

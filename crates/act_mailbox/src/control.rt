@@ -1,11 +1,11 @@
 //! The control line of an actor: kills, each with its asker.
 
 ghost use Rattle.std.specs.Prelude.{◌≡◌, ◌≢◌, ℕ, [], ◌∷◌, ◌++◌, length, map, AllPairs, Contains, IfOk, OnOk, IfErr, OnErr, IfSome, IfNone};
-ghost use Rattle.act_actor.specs.StateViews.{live_seen};
-ghost use Rattle.act_rules.specs.Consistent.{IsFront};
-ghost use Rattle.act_mailbox.specs.Lines.{items_of};
+ghost use Rattle.act_actor.specs.StateViews.{live_view};
+ghost use Rattle.act_rules.specs.Consistent.{IsPrefix};
+ghost use Rattle.act_mailbox.specs.Lines.{items_from};
 ghost use Rattle.act_mailbox.specs.Passes.{new_putter};
-ghost use Rattle.act_mailbox.specs.Controls.{asker_of, asked, looked_after, starter, HasTaken};
+ghost use Rattle.act_mailbox.specs.Controls.{asker_of, kill_by, looked_after, starter, HasTakenKill};
 
 use crate::line::{Item, Line, Noted, Putter};
 use act_actor::Live;
@@ -49,9 +49,9 @@ pub struct Control {
 }
 
 impl Model for Control {
-    ghost use Rattle.act_mailbox.specs.Controls.{ControlValue};
+    ghost use Rattle.act_mailbox.specs.Controls.{ControlView};
 
-    ghost Value = { ControlValue };
+    ghost Value = { ControlView };
 
     ghost view = { λ control. record { line = control.line; actor = control.actor } };
 }
@@ -100,7 +100,8 @@ impl Control {
         note: KillNote,
     ) -> Result<(), KillNote>
         requires pass { pass.old.line ≡ self.now.line }
-        ensures ok { OnOk result (pass.new ≡ record pass.old { put = pass.old.put ++ asked pass.old.number note ∷ [] }) }
+        ensures ok { OnOk result
+            (pass.new ≡ record pass.old { put = pass.old.put ++ kill_by pass.old.number note ∷ [] }) }
         ensures err { OnErr result (pass.new ≡ pass.old) }
         ensures back { IfErr result (λ back. back ≡ note) }
     {
@@ -118,9 +119,10 @@ impl Control {
         live: &Live<K>,
     ) -> Option<KillNote>
         requires pass { pass.old.line ≡ self.now.line }
-        requires actor { (live_seen K.state live.now).id ≡ pass.old.actor }
-        ensures looked { pass.new.looked ≡ looked_after pass.old.looked (length (live_seen K.state live.now).log) }
-        ensures taken { IfSome result (λ note. HasTaken note (length (live_seen K.state live.now).log) pass.old pass.new) }
+        requires actor { (live_view K.state live.now).id ≡ pass.old.actor }
+        ensures looked { pass.new.looked ≡ looked_after pass.old.looked (length (live_view K.state live.now).log) }
+        ensures taken { IfSome result (λ note.
+            HasTakenKill note (length (live_view K.state live.now).log) pass.old pass.new) }
         ensures none { IfNone result (pass.new ≡ record pass.old { looked = pass.new.looked }) }
     {
         let long = live.log().len();
@@ -158,7 +160,7 @@ impl Control {
     ) -> usize
         requires passes { (asker.old.line ≡ self.now.line) × (executor.old.line ≡ self.now.line) }
         ensures same { (asker.new ≡ asker.old) × (executor.new ≡ executor.old) }
-        ensures prefix { IsFront (items_of asker_of asker.old.number executor.old.taken) asker.old.put }
+        ensures prefix { IsPrefix (items_from asker_of asker.old.number executor.old.taken) asker.old.put }
     {
         self.line.audit(rt, asker, &mut executor.pass)
     }

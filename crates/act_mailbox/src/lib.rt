@@ -4,17 +4,17 @@
 #![tactic(auto)]
 
 mod control;
+mod endpoint;
+mod idle_backoff;
 mod line;
 mod mail;
 mod notes;
-mod patience;
 mod replies;
-mod seat;
 
 pub use control::{Asked, Control, ControlCaller, ControlExec};
+pub use endpoint::Endpoint;
+pub use idle_backoff::{IdleBackoff, SHORT_PAUSES};
 pub use line::{Putter, Taker};
 pub use mail::{Letter, Mail, MailCaller, MailExec};
 pub use notes::{Mark, NoNotes, Notes, Page};
-pub use patience::{Patience, SHORT_PAUSES};
 pub use replies::{Replies, ReplyCaller, ReplyExec};
-pub use seat::Seat;

@@ -3,8 +3,8 @@
 //! What was taken of a putter, and then what the queue holds of it, is what it put, in order.
 
 ghost use Rattle.std.specs.Prelude.{◌≡◌, ◌≢◌, ℕ, ◌≤◌, ◌<◌, [], ◌∷◌, ◌++◌, map, AllPairs, Contains, IfOk, OnOk, IfErr, OnErr, IfSome, IfNone};
-ghost use Rattle.act_rules.specs.Consistent.{IsFront};
-ghost use Rattle.act_mailbox.specs.Lines.{items_of};
+ghost use Rattle.act_rules.specs.Consistent.{IsPrefix};
+ghost use Rattle.act_mailbox.specs.Lines.{items_from};
 ghost use Rattle.act_mailbox.specs.Passes.{new_putter, new_taker};
 
 use act_types::{CallerId, NoMemory};
@@ -116,7 +116,8 @@ impl<T: Item, N> Line<T, N> {
     /// Takes an item, and `K` is the taker's note from then on. `None` where the line is empty.
     pub(crate) fn take<K: Noted<N>, R: Wait>(&self, rt: &R, taker: &mut Taker<T, N>) -> Option<T>
         requires line { taker.old.line ≡ self.now }
-        ensures taken { IfSome result (λ item. taker.new ≡ record taker.old { taken = taker.old.taken ++ item ∷ []; note = K.note }) }
+        ensures taken { IfSome result (λ item.
+            taker.new ≡ record taker.old { taken = taker.old.taken ++ item ∷ []; note = K.note }) }
         ensures none { IfNone result (taker.new ≡ taker.old) }
         ensures known { IfSome result (λ item. Contains taker.old.putters (T.putter item)) }
     {
@@ -127,7 +128,8 @@ impl<T: Item, N> Line<T, N> {
     /// item before others isn't finished. It leaves alone the word that every put changes.
     pub(crate) fn try_take<K: Noted<N>>(&self, taker: &mut Taker<T, N>) -> Option<T>
         requires line { taker.old.line ≡ self.now }
-        ensures taken { IfSome result (λ item. taker.new ≡ record taker.old { taken = taker.old.taken ++ item ∷ []; note = K.note }) }
+        ensures taken { IfSome result (λ item.
+            taker.new ≡ record taker.old { taken = taker.old.taken ++ item ∷ []; note = K.note }) }
         ensures none { IfNone result (taker.new ≡ taker.old) }
         ensures known { IfSome result (λ item. Contains taker.old.putters (T.putter item)) }
     {
@@ -144,7 +146,7 @@ impl<T: Item, N> Line<T, N> {
     ) -> usize
         requires lines { (putter.old.line ≡ self.now) × (taker.old.line ≡ self.now) }
         ensures same { (putter.new ≡ putter.old) × (taker.new ≡ taker.old) }
-        ensures prefix { IsFront (items_of T.putter putter.old.number taker.old.taken) putter.old.put }
+        ensures prefix { IsPrefix (items_from T.putter putter.old.number taker.old.taken) putter.old.put }
     {
         let copy = self.queue.another::<Copies>(&mut taker.pass);
         self.queue.absorb::<Sees>(&mut putter.pass, copy);

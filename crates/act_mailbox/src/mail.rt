@@ -1,8 +1,8 @@
 //! The mail line of an actor: the letters of its callers.
 
 ghost use Rattle.std.specs.Prelude.{◌≡◌, ◌≢◌, [], ◌∷◌, ◌++◌, map, AllPairs, Contains, IfOk, OnOk, IfErr, OnErr, IfSome, IfNone};
-ghost use Rattle.act_rules.specs.Consistent.{IsFront};
-ghost use Rattle.act_mailbox.specs.Lines.{items_of};
+ghost use Rattle.act_rules.specs.Consistent.{IsPrefix};
+ghost use Rattle.act_mailbox.specs.Lines.{items_from};
 ghost use Rattle.act_mailbox.specs.Passes.{new_putter, new_taker};
 ghost use Rattle.act_mailbox.specs.Mails.{caller_of};
 
@@ -42,9 +42,9 @@ pub struct Mail {
 }
 
 impl Model for Mail {
-    ghost use Rattle.act_mailbox.specs.Mails.{MailValue};
+    ghost use Rattle.act_mailbox.specs.Mails.{MailView};
 
-    ghost Value = { MailValue };
+    ghost Value = { MailView };
 
     ghost view = { λ mail. record { line = mail.line; actor = mail.actor } };
 }
@@ -109,7 +109,7 @@ impl Mail {
     pub fn audit<R: Wait>(&self, rt: &R, caller: &mut MailCaller, executor: &mut MailExec) -> usize
         requires passes { (caller.old.line ≡ self.now.line) × (executor.old.line ≡ self.now.line) }
         ensures same { (caller.new ≡ caller.old) × (executor.new ≡ executor.old) }
-        ensures prefix { IsFront (items_of caller_of caller.old.number executor.old.taken) caller.old.put }
+        ensures prefix { IsPrefix (items_from caller_of caller.old.number executor.old.taken) caller.old.put }
     {
         self.line.audit(rt, caller, executor)
     }

@@ -1,10 +1,10 @@
 //! The reply line of a caller: the notices of its actors.
 
 ghost use Rattle.std.specs.Prelude.{◌≡◌, ◌≢◌, [], ◌∷◌, ◌++◌, map, All, AllPairs, Contains, IfOk, OnOk, IfErr, OnErr, IfSome, IfNone};
-ghost use Rattle.act_rules.specs.Consistent.{IsFront};
-ghost use Rattle.act_mailbox.specs.Lines.{items_of};
+ghost use Rattle.act_rules.specs.Consistent.{IsPrefix};
+ghost use Rattle.act_mailbox.specs.Lines.{items_from};
 ghost use Rattle.act_mailbox.specs.Passes.{new_taker};
-ghost use Rattle.act_mailbox.specs.Notices.{actor_of, IsReply, NamesPlace, new_exec};
+ghost use Rattle.act_mailbox.specs.Notices.{notice_actor, IsNoDeath, NamesPlace, new_exec};
 
 use crate::line::{Item, Line, Noted, Taker};
 use act_rules::RunItem;
@@ -21,9 +21,9 @@ pub use passes::ReplyExec;
 const REPLY_CAPACITY: usize = 64;
 
 impl Item for Notice {
-    ghost use Rattle.act_mailbox.specs.Notices.{actor_of};
+    ghost use Rattle.act_mailbox.specs.Notices.{notice_actor};
 
-    ghost putter = { actor_of };
+    ghost putter = { notice_actor };
 }
 
 /// The caller's pass on a reply line.
@@ -37,9 +37,9 @@ pub struct Replies {
 }
 
 impl Model for Replies {
-    ghost use Rattle.act_mailbox.specs.Notices.{RepliesValue};
+    ghost use Rattle.act_mailbox.specs.Notices.{RepliesView};
 
-    ghost Value = { RepliesValue };
+    ghost Value = { RepliesView };
 
     ghost view = { λ replies. record { line = replies.line; caller = replies.caller } };
 }
@@ -98,11 +98,12 @@ impl Replies {
         notice: Notice,
     ) -> Result<(), Notice>
         requires pass { pass.old.line ≡ self.now.line }
-        requires actor { actor_of notice ≡ pass.old.actor }
-        requires grown { IsFront pass.old.seen log.now }
+        requires actor { notice_actor notice ≡ pass.old.actor }
+        requires grown { IsPrefix pass.old.seen log.now }
         requires place { NamesPlace log.now notice }
-        requires alive { All IsReply pass.old.given }
-        ensures ok { OnOk result (pass.new ≡ record pass.old { given = pass.old.given ++ notice ∷ []; seen = log.now }) }
+        requires alive { All IsNoDeath pass.old.given }
+        ensures ok { OnOk result
+            (pass.new ≡ record pass.old { given = pass.old.given ++ notice ∷ []; seen = log.now }) }
         ensures err { OnErr result (pass.new ≡ pass.old) }
         ensures back { IfErr result (λ back. back ≡ notice) }
     {
@@ -119,11 +120,12 @@ impl Replies {
     ) -> Result<(), Notice>
         requires note { K.note ≡ log.now }
         requires pass { pass.old.line ≡ self.now.line }
-        requires actor { actor_of notice ≡ pass.old.actor }
-        requires grown { IsFront pass.old.seen log.now }
+        requires actor { notice_actor notice ≡ pass.old.actor }
+        requires grown { IsPrefix pass.old.seen log.now }
         requires place { NamesPlace log.now notice }
-        requires alive { All IsReply pass.old.given }
-        ensures ok { OnOk result (pass.new ≡ record pass.old { given = pass.old.given ++ notice ∷ []; seen = log.now }) }
+        requires alive { All IsNoDeath pass.old.given }
+        ensures ok { OnOk result
+            (pass.new ≡ record pass.old { given = pass.old.given ++ notice ∷ []; seen = log.now }) }
         ensures err { OnErr result (pass.new ≡ pass.old) }
         ensures back { IfErr result (λ back. back ≡ notice) }
     {
@@ -135,7 +137,7 @@ impl Replies {
         requires pass { pass.old.line ≡ self.now.line }
         ensures taken { IfSome result (λ notice. pass.new ≡ record pass.old { taken = pass.old.taken ++ notice ∷ [] }) }
         ensures none { IfNone result (pass.new ≡ pass.old) }
-        ensures known { IfSome result (λ notice. Contains pass.old.putters (actor_of notice)) }
+        ensures known { IfSome result (λ notice. Contains pass.old.putters (notice_actor notice)) }
     {
         self.line.take::<Brand, R>(rt, pass)
     }
@@ -146,7 +148,7 @@ impl Replies {
         requires pass { pass.old.line ≡ self.now.line }
         ensures taken { IfSome result (λ notice. pass.new ≡ record pass.old { taken = pass.old.taken ++ notice ∷ [] }) }
         ensures none { IfNone result (pass.new ≡ pass.old) }
-        ensures known { IfSome result (λ notice. Contains pass.old.putters (actor_of notice)) }
+        ensures known { IfSome result (λ notice. Contains pass.old.putters (notice_actor notice)) }
     {
         self.line.try_take::<Brand>(pass)
     }
@@ -160,7 +162,7 @@ impl Replies {
     ) -> usize
         requires passes { (executor.old.line ≡ self.now.line) × (caller.old.line ≡ self.now.line) }
         ensures same { (executor.new ≡ executor.old) × (caller.new ≡ caller.old) }
-        ensures prefix { IsFront (items_of actor_of executor.old.actor caller.old.taken) executor.old.given }
+        ensures prefix { IsPrefix (items_from notice_actor executor.old.actor caller.old.taken) executor.old.given }
     {
         self.line.audit(rt, &mut executor.pass, caller)
     }

@@ -9,17 +9,17 @@ use Rattle.act_rules.specs.declared.history.RunItem.{RunItem}
 use Rattle.act_rules.specs.declared.script.Step.{Step}
 use Rattle.act_rules.specs.RunList.{Answer, state_after}
 use Rattle.act_rules.specs.OwnRuns.{told_in, IsKept, Left}
-use Rattle.act_rules.specs.History.{Casting, History, opening, opening_of, cast_of}
+use Rattle.act_rules.specs.History.{ActorSpec, History, opening, opening_of, cast_of}
 use Rattle.act_rules.specs.Rules.{refusal_of, after, after_by, after_all}
 use Rattle.act_rules.specs.declared.outcome.WorldRefusal.{WorldRefusal}
 use Rattle.act_rules.specs.Laws.{history}
 use Rattle.act_rules.proofs.Growth.{added_grows}
 use Rattle.act_rules.proofs.Finding.{find-tells}
 use Rattle.act_rules.proofs.OwnRuns.{holds_in_each_run}
-use Rattle.act_owner.specs.Owner.{OwnerValue}
-use Rattle.act_world.specs.View.{SlotSeen, Runs, Died, Ended, Vacant, WorldSeen}
-use Rattle.act_world.specs.Ties.{IsStage}
-use Rattle.act_serve.specs.Served.{EndSeen, Killed, Retired, Starved, id_of, IfRetired}
+use Rattle.act_owner.specs.Owner.{OwnerView}
+use Rattle.act_world.specs.View.{SlotView, Runs, Died, Ended, Vacant, WorldView}
+use Rattle.act_world.specs.Refines.{IsStage}
+use Rattle.act_serve.specs.Served.{EndView, Killed, Retired, Starved, end_id, IfRetired}
 use Rattle.act_executor.specs.Joined.{IsJoined, RanAll, end_of}
 use Rattle.act_own.specs.Kept.{Keeps, SlotKeeps, EndKeeps, OpensAt, KeptInEachWorld, KeptInEachRun}
 
@@ -33,8 +33,8 @@ all_casts : (h : History) (events : List Event) → (after_all h events).casts �
 all_casts h [] = refl
 all_casts h (event ∷ events) = all_casts (after h event) events ∙ after_casts h event (refusal_of h event)
 
-cast_is_opening : (casts : List Casting) (events : List Event) (a : ℕ) → cast_of a (history casts events) ≡ cast_of a (opening casts)
-cast_is_opening casts events a = ap (λ (all : List Casting). find (λ (cast : Casting). cast.actor == a) all) (all_casts (opening casts) events)
+cast_is_opening : (casts : List ActorSpec) (events : List Event) (a : ℕ) → cast_of a (history casts events) ≡ cast_of a (opening casts)
+cast_is_opening casts events a = ap (λ (all : List ActorSpec). find (λ (cast : ActorSpec). cast.actor == a) all) (all_casts (opening casts) events)
 
 some_same : {A : Type 0} (x y : A) → Some x ≡ Some y → x ≡ y
 some_same {A = A} x y e = ap (λ (o : Option A). unwrap_or o x) e
@@ -46,7 +46,7 @@ module _ {S : Type 0} (step : StepOf S) (written : S → List ℕ) (holds : List
   left : (log : List RunItem) → Left step written holds opened log
   left log = holds_in_each_run step written holds kept start at_first log
 
-  keeps : (cast : Casting) (log : List RunItem) (seen : KindState) → option_map (λ (one : Casting). one.opening) (Some cast) ≡ Some opened → seen ≡ state_after cast.opening log → Keeps step written holds opened log seen
+  keeps : (cast : ActorSpec) (log : List RunItem) (seen : KindState) → option_map (λ (one : ActorSpec). one.opening) (Some cast) ≡ Some opened → seen ≡ state_after cast.opening log → Keeps step written holds opened log seen
   keeps cast log seen opens state =
       let one : Left step written holds opened log = left log in
       record {
@@ -56,36 +56,36 @@ module _ {S : Type 0} (step : StepOf S) (written : S → List ℕ) (holds : List
       }
 
   -- an actor of a world
-  pub slot_keeps : (casts : List Casting) (events : List Event) (a : ℕ) → OpensAt step written casts a start
-      → (slot : Option SlotSeen) → IsStage (history casts events) a slot → SlotKeeps step written holds opened slot
+  pub slot_keeps : (casts : List ActorSpec) (events : List Event) (a : ℕ) → OpensAt step written casts a start
+      → (slot : Option SlotView) → IsStage (history casts events) a slot → SlotKeeps step written holds opened slot
   slot_keeps casts events a opens None stage = tt
   slot_keeps casts events a opens (Some Vacant) stage = tt
   slot_keeps casts events a opens (Some (Died dead)) stage = left dead.log
   slot_keeps casts events a opens (Some (Runs live)) stage =
       keeps stage.cast live.log live.state
-      (ap (λ (o : Option Casting). option_map (λ (one : Casting). one.opening) o) (sym stage.cast_is ∙ cast_is_opening casts events a) ∙ opens)
+      (ap (λ (o : Option ActorSpec). option_map (λ (one : ActorSpec). one.opening) o) (sym stage.cast_is ∙ cast_is_opening casts events a) ∙ opens)
       (stage.state ∙ ap (λ (log : List RunItem). state_after stage.cast.opening log) (sym stage.log))
   slot_keeps casts events a opens (Some (Ended retired)) stage =
       keeps stage.cast retired.log retired.state
-      (ap (λ (o : Option Casting). option_map (λ (one : Casting). one.opening) o) (sym stage.cast_is ∙ cast_is_opening casts events a) ∙ opens)
+      (ap (λ (o : Option ActorSpec). option_map (λ (one : ActorSpec). one.opening) o) (sym stage.cast_is ∙ cast_is_opening casts events a) ∙ opens)
       (stage.state ∙ ap (λ (log : List RunItem). state_after stage.cast.opening log) (sym stage.log))
 
   -- an actor that threads left
-  end_keeps : (casts : List Casting) (owners : List OwnerValue) (a : ℕ) → OpensAt step written casts a start
-      → (end : EndSeen) → id_of end ≡ a → IfRetired end (RanAll casts owners) → EndKeeps step written holds opened (Some end)
+  end_keeps : (casts : List ActorSpec) (owners : List OwnerView) (a : ℕ) → OpensAt step written casts a start
+      → (end : EndView) → end_id end ≡ a → IfRetired end (RanAll casts owners) → EndKeeps step written holds opened (Some end)
   end_keeps casts owners a opens (Killed dead) named ran = left dead.log
   end_keeps casts owners a opens (Starved dead) named ran = left dead.log
   end_keeps casts owners a opens (Retired retired) named ran =
       keeps ran.cast retired.log retired.state
-      (ap (λ (o : Option Casting). option_map (λ (one : Casting). one.opening) o) (sym ran.at ∙ ap (λ (b : ℕ). find (λ (cast : Casting). cast.actor == b) casts) named) ∙ opens)
+      (ap (λ (o : Option ActorSpec). option_map (λ (one : ActorSpec). one.opening) o) (sym ran.at ∙ ap (λ (b : ℕ). find (λ (cast : ActorSpec). cast.actor == b) casts) named) ∙ opens)
       ran.state
 
-  pub run_keeps : (casts : List Casting) (plans : List (ℕ × List Step)) (owners : List OwnerValue) (ends : List EndSeen) → IsJoined casts plans owners ends
+  pub run_keeps : (casts : List ActorSpec) (plans : List (ℕ × List Step)) (owners : List OwnerView) (ends : List EndView) → IsJoined casts plans owners ends
       → (a : ℕ) → OpensAt step written casts a start → EndKeeps step written holds opened (end_of a ends)
   run_keeps casts plans owners ends joined a opens = go (end_of a ends) refl
     where
-      go : (end : Option EndSeen) → end_of a ends ≡ end → EndKeeps step written holds opened end
+      go : (end : Option EndView) → end_of a ends ≡ end → EndKeeps step written holds opened end
       go None e = tt
       go (Some end) e =
-          let found = find-tells (λ (one : EndSeen). IfRetired one (RanAll casts owners)) (λ (one : EndSeen). id_of one == a) ends end joined.retired e in
-          end_keeps casts owners a opens end (eqb-true (id_of end) a found.1) found.0
+          let found = find-tells (λ (one : EndView). IfRetired one (RanAll casts owners)) (λ (one : EndView). end_id one == a) ends end joined.retired e in
+          end_keeps casts owners a opens end (eqb-true (end_id end) a found.1) found.0

@@ -12,13 +12,13 @@ use Rattle.act_rules.specs.Submissions.{kept_at}
 use Rattle.act_rules.proofs.Lists.{slice_get_last}
 use Rattle.act_handles.specs.declared.handles.Handle.{Handle}
 use Rattle.act_replies.specs.declared.table.Row.{Row}
-use Rattle.act_replies.specs.Table.{is_open, waits_for as row_waits_for, unanswered_row, with_answer, after_keep, after_keep_in, row_after_death, after_death as rows_after_death}
+use Rattle.act_replies.specs.Table.{is_open, row_waits_for as row_waits_for, unanswered_row, row_with_answer, after_keep, after_keep_in, row_after_death, rows_after_death as rows_after_death}
 use Rattle.act_owner.specs.declared.owner.Call.{Call}
 use Rattle.act_types.specs.declared.message.Reply.{Reply}
 use Rattle.act_handles.specs.Handles.{copies_in}
 use Rattle.act_owner.specs.declared.owner.Collected.TheVariants.{First, Late, Stray, Died}
-use Rattle.act_owner.specs.Owner.{OwnerValue, is_of_call, with_answer as owner_with_answer, after_reply_that, after_reply, with_death, with_sent, collected_death, after_death, submission_of, answers_of, answered_row, waits_for, answer_after_death, KnowsAnswers, IsOwner}
-use Rattle.act_resolver.specs.Resolver.{Entered, with_answered, with_sent as with_sent_entered}
+use Rattle.act_owner.specs.Owner.{OwnerView, is_of_call, with_kept_answer as owner_with_answer, after_reply_that, after_reply, with_death, with_sent, collected_death, owner_after_death, submission_of, answers_of, answered_row, call_waits_for, answer_after_death, KnowsAnswers, IsOwner}
+use Rattle.act_resolver.specs.Resolver.{Entered, with_told, with_mark as with_sent_entered}
 use Rattle.act_owner.proofs.Calls.{set_last}
 use Rattle.act_owner.proofs.Waiting.{seen, read_stays, read_set}
 
@@ -44,10 +44,10 @@ after_keep-later : (k : ℕ) (answer : Answer) (row : Row) (rows : List Row) →
 after_keep-later k answer row rows =
     elim (slice_get rows k) as (λ found. after_keep_in (suc k) answer (row ∷ rows) found ≡ row ∷ after_keep_in k answer rows found) [
       | None ↦ refl
-      | Some r ↦ elim (is_open r) as (λ b. (if b then slice_set (row ∷ rows) (suc k) (with_answer answer r) else row ∷ rows) ≡ row ∷ (if b then slice_set rows k (with_answer answer r) else rows)) [ true ↦ refl | false ↦ refl ]
+      | Some r ↦ elim (is_open r) as (λ b. (if b then slice_set (row ∷ rows) (suc k) (row_with_answer answer r) else row ∷ rows) ≡ row ∷ (if b then slice_set rows k (row_with_answer answer r) else rows)) [ true ↦ refl | false ↦ refl ]
     ]
 
-keep_first : (answer : Answer) (row : Row) (rows : List Row) → is_some row.answer ≡ false → answers_of (if is_open row then with_answer answer row ∷ rows else row ∷ rows) ≡ Some answer ∷ answers_of rows
+keep_first : (answer : Answer) (row : Row) (rows : List Row) → is_some row.answer ≡ false → answers_of (if is_open row then row_with_answer answer row ∷ rows else row ∷ rows) ≡ Some answer ∷ answers_of rows
 keep_first answer row rows none = rw none refl
 
 -- the answers after a first answer
@@ -62,7 +62,7 @@ keep_open (suc k) answer (row ∷ rows) none =
 actors-after_keep : (k : ℕ) (answer : Answer) (rows : List Row) → map (λ row. row.actor) (after_keep k answer rows) ≡ map (λ row. row.actor) rows
 actors-after_keep k answer [] = refl
 actors-after_keep zero answer (row ∷ rows) =
-    elim (is_open row) as (λ b. map (λ (r : Row). r.actor) (if b then with_answer answer row ∷ rows else row ∷ rows) ≡ map (λ (r : Row). r.actor) (row ∷ rows)) [ true ↦ refl | false ↦ refl ]
+    elim (is_open row) as (λ b. map (λ (r : Row). r.actor) (if b then row_with_answer answer row ∷ rows else row ∷ rows) ≡ map (λ (r : Row). r.actor) (row ∷ rows)) [ true ↦ refl | false ↦ refl ]
 actors-after_keep (suc k) answer (row ∷ rows) =
     ap (map (λ (r : Row). r.actor)) (after_keep-later k answer row rows)
     ∙ ap (λ rest. row.actor ∷ rest) (actors-after_keep k answer rows)
@@ -70,7 +70,7 @@ actors-after_keep (suc k) answer (row ∷ rows) =
 actors-after_death : (a : ℕ) (rows : List Row) → map (λ row. row.actor) (rows_after_death a rows) ≡ map (λ row. row.actor) rows
 actors-after_death a [] = refl
 actors-after_death a (row ∷ rows) =
-    ap (λ n. n ∷ map (λ (r : Row). r.actor) (rows_after_death a rows)) (elim (row_waits_for a row) as (λ b. (if b then with_answer (Err ActorDied) row else row).actor ≡ row.actor) [ true ↦ refl | false ↦ refl ])
+    ap (λ n. n ∷ map (λ (r : Row). r.actor) (rows_after_death a rows)) (elim (row_waits_for a row) as (λ b. (if b then row_with_answer (Err ActorDied) row else row).actor ≡ row.actor) [ true ↦ refl | false ↦ refl ])
     ∙ ap (λ rest. row.actor ∷ rest) (actors-after_death a rows)
 
 with_answers : (handles : List Handle) (calls : List Call) (rows new : List Row) (entered entered2 : List Entered) → IsOwner handles calls rows entered → map (λ row. row.actor) new ≡ map (λ row. row.actor) rows → map (λ call. call.futures) entered2 ≡ map (λ call. call.futures) entered → KnowsAnswers entered2 new → IsOwner handles calls new entered2
@@ -94,9 +94,9 @@ sent_fine k handles calls rows entered entered2 fine is =
     rw is (with_answers handles calls rows rows entered (with_sent_entered entered k) fine refl (read_stays (λ (call : Entered). call.futures) (λ (call : Entered). record call { sent = true }) (λ _. refl) entered k) (read_stays (λ (call : Entered). call.answered) (λ (call : Entered). record call { sent = true }) (λ _. refl) entered k ∙ fine.told))
 
 -- a caller after an answer
-pub kept_fine : (k : ℕ) (answer : Answer) (handles : List Handle) (calls : List Call) (rows new : List Row) (entered entered2 : List Entered) → IsOwner handles calls rows entered → is_some (kept_at (answers_of rows) k) ≡ false → new ≡ after_keep k answer rows → entered2 ≡ with_answered entered k → IsOwner handles calls new entered2
+pub kept_fine : (k : ℕ) (answer : Answer) (handles : List Handle) (calls : List Call) (rows new : List Row) (entered entered2 : List Entered) → IsOwner handles calls rows entered → is_some (kept_at (answers_of rows) k) ≡ false → new ≡ after_keep k answer rows → entered2 ≡ with_told entered k → IsOwner handles calls new entered2
 kept_fine k answer handles calls rows new entered entered2 fine none is told =
-    rw (is, told) (with_answers handles calls rows (after_keep k answer rows) entered (with_answered entered k) fine
+    rw (is, told) (with_answers handles calls rows (after_keep k answer rows) entered (with_told entered k) fine
     (actors-after_keep k answer rows)
     (read_stays (λ (call : Entered). call.futures) (λ (call : Entered). record call { answered = true }) (λ _. refl) entered k)
     (read_set (λ (call : Entered). call.answered) (λ (call : Entered). record call { answered = true }) true (λ _. refl) entered k
@@ -111,11 +111,11 @@ died_fine a handles calls rows new entered entered2 fine is waits told =
     rw is (with_answers handles calls rows (rows_after_death a rows) entered entered2 fine (actors-after_death a rows) waits told)
 
 -- whether a future waits for its actor, by its call and by its row
-waits_same : (a : ℕ) (row : Row) (call : Call) → row.actor ≡ call.actor → row_waits_for a row ≡ waits_for a (submission_of call, row.answer)
+waits_same : (a : ℕ) (row : Row) (call : Call) → row.actor ≡ call.actor → row_waits_for a row ≡ call_waits_for a (submission_of call, row.answer)
 waits_same a row call same = ap (λ n. (n == a) && not (is_some row.answer)) same
 
 row_answer : (a : ℕ) (row : Row) → (row_after_death a row).answer ≡ (if row_waits_for a row then Some (Err ActorDied) else row.answer)
-row_answer a row = elim (row_waits_for a row) as (λ b. (if b then with_answer (Err ActorDied) row else row).answer ≡ (if b then Some (Err ActorDied) else row.answer)) [ true ↦ refl | false ↦ refl ]
+row_answer a row = elim (row_waits_for a row) as (λ b. (if b then row_with_answer (Err ActorDied) row else row).answer ≡ (if b then Some (Err ActorDied) else row.answer)) [ true ↦ refl | false ↦ refl ]
 
 -- the answers after a death
 pub died_answers : (a : ℕ) (rows : List Row) (calls : List Call) → map (λ row. row.actor) rows ≡ map (λ call. call.actor) calls → answers_of (rows_after_death a rows) ≡ map (answer_after_death a) (zip (map submission_of calls) (answers_of rows))
@@ -127,7 +127,7 @@ died_answers a (row ∷ rows) (call ∷ calls) same =
     ∙ ap (λ rest. answer_after_death a (submission_of call, row.answer) ∷ rest) (died_answers a rows calls (ap (drop 1) same))
 
 -- how many calls of an actor wait, by the rows and by the calls
-pub pending_count : (a : ℕ) (rows : List Row) (calls : List Call) → map (λ row. row.actor) rows ≡ map (λ call. call.actor) calls → count_by (row_waits_for a) rows ≡ count_by (waits_for a) (zip (map submission_of calls) (answers_of rows))
+pub pending_count : (a : ℕ) (rows : List Row) (calls : List Call) → map (λ row. row.actor) rows ≡ map (λ call. call.actor) calls → count_by (row_waits_for a) rows ≡ count_by (call_waits_for a) (zip (map submission_of calls) (answers_of rows))
 pending_count a [] [] same = refl
 pending_count a [] (call ∷ calls) same = refl
 pending_count a (row ∷ rows) [] same = let none : length (map (λ (r : Row). r.actor) (row ∷ rows)) ≡ 0 = ap length same in absurd (omega (arith, none))
@@ -136,47 +136,47 @@ pending_count a (row ∷ rows) (call ∷ calls) same =
     omega (
       arith,
       sum_by-cons (λ (r : Row). cond (row_waits_for a r) 1 0) row rows,
-      sum_by-cons (λ (pair : Submission × Option Answer). cond (waits_for a pair) 1 0) (submission_of call, row.answer) pairs,
+      sum_by-cons (λ (pair : Submission × Option Answer). cond (call_waits_for a pair) 1 0) (submission_of call, row.answer) pairs,
       ap {B = ℕ} (λ b. cond b 1 0) (waits_same a row call (ap (λ (l : List ℕ). get_or l 0 0) same)),
       pending_count a rows calls (ap (drop 1) same),
     )
 
-reply_cases : (mine known : Bool) (owner : OwnerValue) (reply : Reply) → mine ≡ true → known ≡ false → owner_with_answer owner reply.future reply.answer ≡ after_reply_that (if mine then (if known then Late reply.future else First reply.future) else Stray) owner reply
+reply_cases : (mine known : Bool) (owner : OwnerView) (reply : Reply) → mine ≡ true → known ≡ false → owner_with_answer owner reply.future reply.answer ≡ after_reply_that (if mine then (if known then Late reply.future else First reply.future) else Stray) owner reply
 reply_cases true false owner reply m n = refl
 reply_cases true true owner reply m n = absurd (cc n)
 reply_cases false known owner reply m n = absurd (cc m)
 
 -- a caller after the first answer of a future
-pub reply_kept : (id : ℕ) (handles : List Handle) (calls : List Call) (rows new : List Row) (entered entered2 : List Entered) (dead : List Bool) (limits : List (ℕ × Option ℕ)) (now : OwnerValue) (reply : Reply) → seen id handles calls rows entered dead limits ≡ now → new ≡ after_keep reply.future reply.answer rows → entered2 ≡ with_answered entered reply.future → is_of_call now reply ≡ true → is_some (kept_at now.kept reply.future) ≡ false → seen id handles calls new entered2 dead limits ≡ after_reply now reply
+pub reply_kept : (id : ℕ) (handles : List Handle) (calls : List Call) (rows new : List Row) (entered entered2 : List Entered) (dead : List Bool) (limits : List (ℕ × Option ℕ)) (now : OwnerView) (reply : Reply) → seen id handles calls rows entered dead limits ≡ now → new ≡ after_keep reply.future reply.answer rows → entered2 ≡ with_told entered reply.future → is_of_call now reply ≡ true → is_some (kept_at now.kept reply.future) ≡ false → seen id handles calls new entered2 dead limits ≡ after_reply now reply
 reply_kept id handles calls rows new entered entered2 dead limits now reply same is told mine unknown =
-    let before : is_some (kept_at (answers_of rows) reply.future) ≡ false = ap (λ (owner : OwnerValue). is_some (kept_at owner.kept reply.future)) same ∙ unknown in
+    let before : is_some (kept_at (answers_of rows) reply.future) ≡ false = ap (λ (owner : OwnerView). is_some (kept_at owner.kept reply.future)) same ∙ unknown in
     ap (λ (sent : List Bool). record (seen id handles calls new entered dead limits) { sent = sent }) (ap (map (λ (call : Entered). call.sent)) told ∙ read_stays (λ (call : Entered). call.sent) (λ (call : Entered). record call { answered = true }) (λ _. refl) entered reply.future)
     ∙ ap (λ (kept : List (Option Answer)). record (seen id handles calls rows entered dead limits) { kept = kept }) (ap answers_of is ∙ keep_open reply.future reply.answer rows before)
-    ∙ ap (λ (owner : OwnerValue). owner_with_answer owner reply.future reply.answer) same
+    ∙ ap (λ (owner : OwnerView). owner_with_answer owner reply.future reply.answer) same
     ∙ reply_cases (is_of_call now reply) (is_some (kept_at now.kept reply.future)) now reply mine unknown
 
 -- a caller after a call was sent
-pub sent_marked : (id : ℕ) (handles : List Handle) (calls : List Call) (rows : List Row) (entered entered2 : List Entered) (dead : List Bool) (limits : List (ℕ × Option ℕ)) (now : OwnerValue) (k : ℕ) → seen id handles calls rows entered dead limits ≡ now → entered2 ≡ with_sent_entered entered k → seen id handles calls rows entered2 dead limits ≡ with_sent now k
+pub sent_marked : (id : ℕ) (handles : List Handle) (calls : List Call) (rows : List Row) (entered entered2 : List Entered) (dead : List Bool) (limits : List (ℕ × Option ℕ)) (now : OwnerView) (k : ℕ) → seen id handles calls rows entered dead limits ≡ now → entered2 ≡ with_sent_entered entered k → seen id handles calls rows entered2 dead limits ≡ with_sent now k
 sent_marked id handles calls rows entered entered2 dead limits now k same is =
     ap (λ (sent : List Bool). record (seen id handles calls rows entered dead limits) { sent = sent }) (ap (map (λ (call : Entered). call.sent)) is ∙ read_set (λ (call : Entered). call.sent) (λ (call : Entered). record call { sent = true }) true (λ _. refl) entered k)
-    ∙ ap (λ (owner : OwnerValue). with_sent owner k) same
+    ∙ ap (λ (owner : OwnerView). with_sent owner k) same
 
 -- what the death of a caller's actor tells
-pub death_told : (id : ℕ) (handles : List Handle) (calls : List Call) (rows : List Row) (entered : List Entered) (dead : List Bool) (limits : List (ℕ × Option ℕ)) (now : OwnerValue) (a n : ℕ) → seen id handles calls rows entered dead limits ≡ now → map (λ row. row.actor) rows ≡ map (λ call. call.actor) calls → is_some (copies_in a now.handles) ≡ true → n ≡ count_by (row_waits_for a) rows → Died n ≡ collected_death now a
+pub death_told : (id : ℕ) (handles : List Handle) (calls : List Call) (rows : List Row) (entered : List Entered) (dead : List Bool) (limits : List (ℕ × Option ℕ)) (now : OwnerView) (a n : ℕ) → seen id handles calls rows entered dead limits ≡ now → map (λ row. row.actor) rows ≡ map (λ call. call.actor) calls → is_some (copies_in a now.handles) ≡ true → n ≡ count_by (row_waits_for a) rows → Died n ≡ collected_death now a
 death_told id handles calls rows entered dead limits now a n same actors listed count =
     ap Died (count ∙ pending_count a rows calls actors)
-    ∙ ap (λ (owner : OwnerValue). Died (count_by (waits_for a) (zip owner.calls owner.kept))) same
-    ∙ sym (ap (λ b. if b then Died (count_by (waits_for a) (zip now.calls now.kept)) else Stray) listed)
+    ∙ ap (λ (owner : OwnerView). Died (count_by (call_waits_for a) (zip owner.calls owner.kept))) same
+    ∙ sym (ap (λ b. if b then Died (count_by (call_waits_for a) (zip now.calls now.kept)) else Stray) listed)
 
 -- a caller after the death of one of its actors
-pub death_kept : (id : ℕ) (handles : List Handle) (calls : List Call) (rows new : List Row) (entered entered2 : List Entered) (dead : List Bool) (limits : List (ℕ × Option ℕ)) (now : OwnerValue) (a number : ℕ) → seen id handles calls rows entered dead limits ≡ now → map (λ row. row.actor) rows ≡ map (λ call. call.actor) calls → is_some (copies_in a now.handles) ≡ true → new ≡ rows_after_death a rows → map (λ call. call.sent) entered2 ≡ map (λ call. call.sent) entered → number ≡ a → seen id handles calls new entered2 (slice_set dead number true) limits ≡ after_death now a
+pub death_kept : (id : ℕ) (handles : List Handle) (calls : List Call) (rows new : List Row) (entered entered2 : List Entered) (dead : List Bool) (limits : List (ℕ × Option ℕ)) (now : OwnerView) (a number : ℕ) → seen id handles calls rows entered dead limits ≡ now → map (λ row. row.actor) rows ≡ map (λ call. call.actor) calls → is_some (copies_in a now.handles) ≡ true → new ≡ rows_after_death a rows → map (λ call. call.sent) entered2 ≡ map (λ call. call.sent) entered → number ≡ a → seen id handles calls new entered2 (slice_set dead number true) limits ≡ owner_after_death now a
 death_kept id handles calls rows new entered entered2 dead limits now a number same actors listed is sent here =
     let before = seen id handles calls rows entered dead limits in
     ap (λ (flags : List Bool). record (seen id handles calls new entered (slice_set dead number true) limits) { sent = flags }) sent
     ∙ ap (λ (rs : List Row). seen id handles calls rs entered (slice_set dead number true) limits) is
     ∙ ap (λ b. seen id handles calls (rows_after_death a rows) entered (slice_set dead b true) limits) here
     ∙ ap (λ (kept : List (Option Answer)). record before { kept = kept; dead = slice_set dead a true }) (died_answers a rows calls actors)
-    ∙ ap (λ (owner : OwnerValue). with_death owner a) same
+    ∙ ap (λ (owner : OwnerView). with_death owner a) same
     ∙ sym (ap (λ b. if b then with_death now a else now) listed)
 
 -- something passes where more than none are counted

@@ -14,20 +14,20 @@ use Rattle.act_rules.specs.declared.outcome.HandleRefusal.TheVariants.{NoActor, 
 use Rattle.act_rules.specs.Submissions.{needs, number_of, copies_held}
 use Rattle.act_rules.proofs.Lists.{slice_get_last}
 use Rattle.act_handles.specs.declared.handles.Handle.{Handle}
-use Rattle.act_handles.specs.Handles.{changed, copies_in, given_in, given_of_all, numbered, or_else, opened, with_copy, with_number, without_copy}
+use Rattle.act_handles.specs.Handles.{change_handle, copies_in, given_in, given_of_all, number_answer, or_else, new_handle, with_copy, with_number, without_copy}
 use Rattle.act_handles.proofs.Lookups.{given-with_copy, given-without_copy, given-with_number, given-with_number-other, given-opened, given_of_all-opened}
 use Rattle.act_replies.specs.declared.table.Row.{Row}
 use Rattle.act_resolver.specs.Resolver.{Entered}
 use Rattle.act_owner.specs.declared.owner.Call.{Call}
-use Rattle.act_owner.specs.Owner.{call_at, numbered_call, submission_of, futures_of, first_answer, answered_row, entered_call, IsOwner}
+use Rattle.act_owner.specs.Owner.{call_at, numbered_call, submission_of, futures_of_args, answer_of_new_call, answered_row, entered_call, IsOwner}
 
 -- a change that keeps the numbers given keeps their sum
-given_of_all-changed : (a : ℕ) (change : Handle → Handle) → ((handle : Handle) → (change handle).given ≡ handle.given) → (handles : List Handle) → given_of_all (changed a change handles) ≡ given_of_all handles
+given_of_all-changed : (a : ℕ) (change : Handle → Handle) → ((handle : Handle) → (change handle).given ≡ handle.given) → (handles : List Handle) → given_of_all (change_handle a change handles) ≡ given_of_all handles
 given_of_all-changed a change same [] = refl
 given_of_all-changed a change same (handle ∷ handles) =
     elim (eqb_tells handle.actor a) [
-      | inl t ↦ rw t.0 (omega (arith, sum_by-cons (λ (h : Handle). h.given) handle handles, sum_by-cons (λ (h : Handle). h.given) (change handle) (changed a change handles), same handle, given_of_all-changed a change same handles))
-      | inr f ↦ rw f.0 (omega (arith, sum_by-cons (λ (h : Handle). h.given) handle handles, sum_by-cons (λ (h : Handle). h.given) handle (changed a change handles), given_of_all-changed a change same handles))
+      | inl t ↦ rw t.0 (omega (arith, sum_by-cons (λ (h : Handle). h.given) handle handles, sum_by-cons (λ (h : Handle). h.given) (change handle) (change_handle a change handles), same handle, given_of_all-changed a change same handles))
+      | inr f ↦ rw f.0 (omega (arith, sum_by-cons (λ (h : Handle). h.given) handle handles, sum_by-cons (λ (h : Handle). h.given) handle (change_handle a change handles), given_of_all-changed a change same handles))
     ]
 
 -- handles of which the numbers given stay the same
@@ -55,7 +55,7 @@ released_fine a (Ok after) handles new calls rows entered ok err fine =
 released_fine a (Err refusal) handles new calls rows entered ok err fine = rw err fine
 
 -- a caller at its opening
-pub opened_fine : (actors : List ℕ) → IsOwner (map opened actors) [] [] []
+pub opened_fine : (actors : List ℕ) → IsOwner (map new_handle actors) [] [] []
 opened_fine actors = record {
   numbered = λ k. refl;
   actors = refl;
@@ -140,18 +140,18 @@ number_cases true true false given n e = absurd (cc e)
 number_cases true false room given n e = absurd (cc e)
 number_cases false held room given n e = absurd (cc e)
 
-number_facts : (a n : ℕ) (handles : List Handle) → Ok n ≡ numbered a handles → (is_some (copies_in a handles) ≡ true) × (given_of_all handles < 65536) × (n ≡ given_in a handles)
+number_facts : (a n : ℕ) (handles : List Handle) → Ok n ≡ number_answer a handles → (is_some (copies_in a handles) ≡ true) × (given_of_all handles < 65536) × (n ≡ given_in a handles)
 number_facts a n handles e =
     let facts = number_cases (is_some (copies_in a handles)) (nat_lt 0 (copies_held (copies_in a handles))) (nat_lt (given_of_all handles) 65536) (given_in a handles) n e in
     (facts.0, elim (leb_tells (suc (given_of_all handles)) 65536) [ inl t ↦ t.1 | inr f ↦ absurd (cc (f.0, facts.1)) ], facts.2)
 
 -- a new call has an answer where its actor is dead
-dead_answered : (is_dead : Bool) → is_dead ≡ is_some (first_answer is_dead)
+dead_answered : (is_dead : Bool) → is_dead ≡ is_some (answer_of_new_call is_dead)
 dead_answered true = refl
 dead_answered false = refl
 
 -- a caller after a new call
-added_fine : (a n : ℕ) (method : Method) (args : List Arg) (is_dead : Bool) (handles : List Handle) (calls : List Call) (rows : List Row) (entered : List Entered) → IsOwner handles calls rows entered → Ok n ≡ numbered a handles → given_of_all (with_number a handles) ≡ given_of_all handles + 1 → IsOwner (with_number a handles) (calls ++ record { actor = a; number = n; method = method; args = args } ∷ []) (rows ++ answered_row a is_dead ∷ []) (entered ++ entered_call args is_dead ∷ [])
+added_fine : (a n : ℕ) (method : Method) (args : List Arg) (is_dead : Bool) (handles : List Handle) (calls : List Call) (rows : List Row) (entered : List Entered) → IsOwner handles calls rows entered → Ok n ≡ number_answer a handles → given_of_all (with_number a handles) ≡ given_of_all handles + 1 → IsOwner (with_number a handles) (calls ++ record { actor = a; number = n; method = method; args = args } ∷ []) (rows ++ answered_row a is_dead ∷ []) (entered ++ entered_call args is_dead ∷ [])
 added_fine a n method args is_dead handles calls rows entered fine is counted =
     let call : Call = record { actor = a; number = n; method = method; args = args } in
     let facts = number_facts a n handles is in
@@ -161,7 +161,7 @@ added_fine a n method args is_dead handles calls rows entered fine is counted =
     record {
       numbered = λ k. numbered_added calls call fine.numbered number k ∙ ap (λ (l : List Submission). call_at l k) (sym more);
       actors = map-append (λ (row : Row). row.actor) rows (answered_row a is_dead ∷ []) ∙ ap (λ (l : List ℕ). l ++ a ∷ []) fine.actors ∙ sym (map-append (λ (c : Call). c.actor) calls (call ∷ []));
-      waits = map-append (λ (c : Entered). c.futures) entered (entered_call args is_dead ∷ []) ∙ ap (λ (l : List (List ℕ)). l ++ futures_of args ∷ []) fine.waits ∙ sym (map-append (λ (c : Call). futures_of c.args) calls (call ∷ []));
+      waits = map-append (λ (c : Entered). c.futures) entered (entered_call args is_dead ∷ []) ∙ ap (λ (l : List (List ℕ)). l ++ futures_of_args args ∷ []) fine.waits ∙ sym (map-append (λ (c : Call). futures_of_args c.args) calls (call ∷ []));
       told = map-append (λ (c : Entered). c.answered) entered (entered_call args is_dead ∷ []) ∙ ap (λ (l : List Bool). l ++ is_dead ∷ []) fine.told ∙ ap (λ b. map (λ (row : Row). is_some row.answer) rows ++ b ∷ []) (dead_answered is_dead) ∙ sym (map-append (λ (row : Row). is_some row.answer) rows (answered_row a is_dead ∷ []));
       given = λ b. given_added a b handles subs (submission_of call) refl facts.0 fine.given ∙ ap (λ (l : List Submission). length (filter (λ c. c.actor == b) l)) (sym more);
       given_in_all = omega (arith, counted, fine.given_in_all, length-append calls (call ∷ []));
@@ -169,6 +169,6 @@ added_fine a n method args is_dead handles calls rows entered fine is counted =
     }
 
 -- the same, of parts that were changed one by one
-pub submitted_fine : (a n : ℕ) (method : Method) (args : List Arg) (is_dead : Bool) (handles new : List Handle) (calls calls1 calls2 : List Call) (rows rows1 rows2 : List Row) (entered entered1 entered2 : List Entered) → IsOwner handles calls rows entered → Ok n ≡ numbered a handles → new ≡ with_number a handles → given_of_all new ≡ given_of_all handles + 1 → calls1 ≡ calls → rows1 ≡ rows → entered1 ≡ entered → calls2 ≡ calls1 ++ record { actor = a; number = n; method = method; args = args } ∷ [] → rows2 ≡ rows1 ++ answered_row a is_dead ∷ [] → entered2 ≡ entered1 ++ entered_call args is_dead ∷ [] → IsOwner new calls2 rows2 entered2
+pub submitted_fine : (a n : ℕ) (method : Method) (args : List Arg) (is_dead : Bool) (handles new : List Handle) (calls calls1 calls2 : List Call) (rows rows1 rows2 : List Row) (entered entered1 entered2 : List Entered) → IsOwner handles calls rows entered → Ok n ≡ number_answer a handles → new ≡ with_number a handles → given_of_all new ≡ given_of_all handles + 1 → calls1 ≡ calls → rows1 ≡ rows → entered1 ≡ entered → calls2 ≡ calls1 ++ record { actor = a; number = n; method = method; args = args } ∷ [] → rows2 ≡ rows1 ++ answered_row a is_dead ∷ [] → entered2 ≡ entered1 ++ entered_call args is_dead ∷ [] → IsOwner new calls2 rows2 entered2
 submitted_fine a n method args is_dead handles new calls calls1 calls2 rows rows1 rows2 entered entered1 entered2 fine is numbers counted calls_same rows_same entered_same more_calls more_rows more_entered =
     rw (numbers, more_calls, more_rows, more_entered, calls_same, rows_same, entered_same) (added_fine a n method args is_dead handles calls rows entered fine is (ap given_of_all (sym numbers) ∙ counted))

@@ -4,9 +4,9 @@ use Rattle.std.specs.Prelude.{slice_set}
 use Rattle.std.proofs.lemmas.List.{length-map, map-set}
 use Rattle.act_rules.specs.RunList.{Answer}
 use Rattle.act_replies.specs.declared.table.Row.{Row}
-use Rattle.act_replies.specs.Table.{waits_at, with_answer, after_keep}
+use Rattle.act_replies.specs.Table.{waits_at, row_with_answer, after_keep}
 use Rattle.act_replies.proofs.Deaths.{waiting_row}
-use Rattle.act_resolver.specs.Resolver.{Entered, with_answered}
+use Rattle.act_resolver.specs.Resolver.{Entered, with_told}
 use Rattle.act_owner.specs.Owner.{KnowsAnswers}
 use Rattle.act_owner.proofs.Waiting.{read_set, read_stays}
 
@@ -20,23 +20,23 @@ waits_within a k answer rows entered waits told =
     )
 
 -- a future that is answered is told
-pub told_step : (a k : ℕ) (answer : Answer) (rows new : List Row) (entered entered2 : List Entered) → waits_at a rows k ≡ true → KnowsAnswers entered rows → new ≡ after_keep k answer rows → entered2 ≡ with_answered entered k → KnowsAnswers entered2 new
+pub told_step : (a k : ℕ) (answer : Answer) (rows new : List Row) (entered entered2 : List Entered) → waits_at a rows k ≡ true → KnowsAnswers entered rows → new ≡ after_keep k answer rows → entered2 ≡ with_told entered k → KnowsAnswers entered2 new
 told_step a k answer rows new entered entered2 waits told is is2 =
     let row = waiting_row a k answer rows waits in
     ap (map (λ (call : Entered). call.answered)) is2
     ∙ read_set (λ (call : Entered). call.answered) (λ (call : Entered). record call { answered = true }) true (λ _. refl) entered k
     ∙ ap (λ (flags : List Bool). slice_set flags k true) told
-    ∙ sym (map-set (λ (row : Row). is_some row.answer) rows k (with_answer answer row.0))
+    ∙ sym (map-set (λ (row : Row). is_some row.answer) rows k (row_with_answer answer row.0))
     ∙ ap (map (λ (row : Row). is_some row.answer)) (sym row.4)
     ∙ ap (map (λ (row : Row). is_some row.answer)) (sym is)
 
 -- nothing else of the calls is changed
-pub futures_step : (k : ℕ) (entered entered2 : List Entered) → entered2 ≡ with_answered entered k → map (λ call. call.futures) entered2 ≡ map (λ call. call.futures) entered
+pub futures_step : (k : ℕ) (entered entered2 : List Entered) → entered2 ≡ with_told entered k → map (λ call. call.futures) entered2 ≡ map (λ call. call.futures) entered
 futures_step k entered entered2 is =
     ap (map (λ (call : Entered). call.futures)) is
     ∙ read_stays (λ (call : Entered). call.futures) (λ (call : Entered). record call { answered = true }) (λ _. refl) entered k
 
-pub sent_step : (k : ℕ) (entered entered2 : List Entered) → entered2 ≡ with_answered entered k → map (λ call. call.sent) entered2 ≡ map (λ call. call.sent) entered
+pub sent_step : (k : ℕ) (entered entered2 : List Entered) → entered2 ≡ with_told entered k → map (λ call. call.sent) entered2 ≡ map (λ call. call.sent) entered
 sent_step k entered entered2 is =
     ap (map (λ (call : Entered). call.sent)) is
     ∙ read_stays (λ (call : Entered). call.sent) (λ (call : Entered). record call { answered = true }) (λ _. refl) entered k

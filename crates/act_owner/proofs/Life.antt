@@ -15,15 +15,15 @@ use Rattle.act_types.specs.declared.message.Reply.{Reply}
 use Rattle.act_types.specs.declared.message.Notice.TheVariants.{Answered, Death}
 use Rattle.act_rules.specs.declared.history.Submission.{Submission}
 use Rattle.act_rules.specs.RunList.{Answer}
-use Rattle.act_rules.specs.Submissions.{number_of, kept_at, settled, settled_future, is_known}
+use Rattle.act_rules.specs.Submissions.{number_of, kept_at, settle, settled_future, is_known}
 use Rattle.act_handles.specs.Handles.{copies_in}
 use Rattle.act_owner.specs.declared.owner.Collected.TheVariants.{First, Late, Stray}
-use Rattle.act_owner.specs.Owner.{OwnerValue, with_call, with_death, after_reply_that, is_of_call, is_dead, first_answer, answer_after_death, is_known_call, packet_of, packet_at}
-use Rattle.act_owner.specs.Life.{Change, Copied, Released, Submitted, Sent, Noticed, after, after_all, is_known_at}
+use Rattle.act_owner.specs.Owner.{OwnerView, with_submission, with_death, after_reply_that, is_of_call, is_known_dead, answer_of_new_call, answer_after_death, is_known_call, packet_for, packet_at}
+use Rattle.act_owner.specs.Life.{Change, Copied, Released, Submitted, Sent, Noticed, after_change, after_changes, is_known_at}
 use Rattle.act_owner.proofs.Calls.{get_before, number_of-more}
 
 -- what was there stays: each call with its number, and each answer
-pub record Extends (owner later : OwnerValue) : Type 0 where
+pub record Extends (owner later : OwnerView) : Type 0 where
   pub id : later.id ≡ owner.id
   pub calls : (k : ℕ) → k < length owner.calls → slice_get later.calls k ≡ slice_get owner.calls k
   pub numbers : (a k : ℕ) → k < length owner.calls → number_of a k later.calls ≡ number_of a k owner.calls
@@ -33,18 +33,18 @@ pub record Extends (owner later : OwnerValue) : Type 0 where
 
 -- ---- a packet
 
-known_after : (kept later : List (Option Answer)) → ((k : ℕ) → is_some (kept_at kept k) ≡ true → kept_at later k ≡ kept_at kept k) → (arg : Arg) → is_known kept arg ≡ true → (is_known later arg ≡ true) × (settled later arg ≡ settled kept arg)
+known_after : (kept later : List (Option Answer)) → ((k : ℕ) → is_some (kept_at kept k) ≡ true → kept_at later k ≡ kept_at kept k) → (arg : Arg) → is_known kept arg ≡ true → (is_known later arg ≡ true) × (settle later arg ≡ settle kept arg)
 known_after kept later same (Plain value) known = (refl, refl)
 known_after kept later same (Fut k) known = (ap is_some (same k known) ∙ known, ap (settled_future k) (same k known))
 
-args_after : (kept later : List (Option Answer)) → ((k : ℕ) → is_some (kept_at kept k) ≡ true → kept_at later k ≡ kept_at kept k) → (args : List Arg) → list_all (is_known kept) args ≡ true → (list_all (is_known later) args ≡ true) × (map (settled later) args ≡ map (settled kept) args)
+args_after : (kept later : List (Option Answer)) → ((k : ℕ) → is_some (kept_at kept k) ≡ true → kept_at later k ≡ kept_at kept k) → (args : List Arg) → list_all (is_known kept) args ≡ true → (list_all (is_known later) args ≡ true) × (map (settle later) args ≡ map (settle kept) args)
 args_after kept later same [] known = (refl, refl)
 args_after kept later same (arg ∷ args) known =
     let parts = and_parts (is_known kept arg) (list_all (is_known kept) args) known in
     let here = known_after kept later same arg parts.0 in
     let rest = args_after kept later same args parts.1 in (
       ap (λ b. b && list_all (is_known later) args) here.0 ∙ rest.0,
-      ap (λ (x : Settled). x ∷ map (settled later) args) here.1 ∙ ap (λ (xs : List Settled). settled kept arg ∷ xs) rest.1,
+      ap (λ (x : Settled). x ∷ map (settle later) args) here.1 ∙ ap (λ (xs : List Settled). settle kept arg ∷ xs) rest.1,
     )
 
 pub found_below : (calls : List Submission) (k : ℕ) (call : Submission) → slice_get calls k ≡ Some call → k < length calls
@@ -54,17 +54,17 @@ found_below calls k call found =
       | inr f ↦ let none : slice_get calls k ≡ None = slice_get_past calls k (omega (arith, f.1)) in absurd (cc (found, none))
     ]
 
-packet_by : (owner later : OwnerValue) (k : ℕ) (found : Option Submission) → Extends owner later → slice_get owner.calls k ≡ found → is_known_call owner found ≡ true → (is_known_call later found ≡ true) × (option_map (packet_of later k) found ≡ option_map (packet_of owner k) found)
+packet_by : (owner later : OwnerView) (k : ℕ) (found : Option Submission) → Extends owner later → slice_get owner.calls k ≡ found → is_known_call owner found ≡ true → (is_known_call later found ≡ true) × (option_map (packet_for later k) found ≡ option_map (packet_for owner k) found)
 packet_by owner later k None grown is known = absurd (cc known)
 packet_by owner later k (Some call) grown is known =
     let args = args_after owner.kept later.kept grown.kept call.args known in (
       args.0,
-      ap (λ (id : ℕ). Some (record (packet_of later k call) { caller = id })) grown.id
-          ∙ ap (λ (n : ℕ). Some (record (packet_of later k call) { caller = owner.id; number = n })) (grown.numbers call.actor k (found_below owner.calls k call is))
-          ∙ ap (λ (xs : List Settled). Some (record (packet_of owner k call) { args = xs })) args.1,
+      ap (λ (id : ℕ). Some (record (packet_for later k call) { caller = id })) grown.id
+          ∙ ap (λ (n : ℕ). Some (record (packet_for later k call) { caller = owner.id; number = n })) (grown.numbers call.actor k (found_below owner.calls k call is))
+          ∙ ap (λ (xs : List Settled). Some (record (packet_for owner k call) { args = xs })) args.1,
     )
 
-known_below : (calls : List Submission) (owner : OwnerValue) (k : ℕ) → is_known_call owner (slice_get calls k) ≡ true → k < length calls
+known_below : (calls : List Submission) (owner : OwnerView) (k : ℕ) → is_known_call owner (slice_get calls k) ≡ true → k < length calls
 known_below calls owner k known =
     elim (leb_tells (suc k) (length calls)) [
       | inl t ↦ t.1
@@ -72,11 +72,11 @@ known_below calls owner k known =
     ]
 
 -- a call that is known stays so, and its packet stays the same
-pub packet_stays : (owner later : OwnerValue) (k : ℕ) → Extends owner later → is_known_at owner k ≡ true → (is_known_at later k ≡ true) × (packet_at later k ≡ packet_at owner k)
+pub packet_stays : (owner later : OwnerView) (k : ℕ) → Extends owner later → is_known_at owner k ≡ true → (is_known_at later k ≡ true) × (packet_at later k ≡ packet_at owner k)
 packet_stays owner later k grown known =
     let same = grown.calls k (known_below owner.calls owner k known) in
     let both = packet_by owner later k (slice_get owner.calls k) grown refl known in
-    (ap (is_known_call later) same ∙ both.0, ap (option_map (packet_of later k)) same ∙ both.1)
+    (ap (is_known_call later) same ∙ both.0, ap (option_map (packet_for later k)) same ∙ both.1)
 
 -- ---- the answers after a change
 
@@ -111,21 +111,21 @@ places_death a (call ∷ calls) (y ∷ kept) same = ap suc (places_death a calls
 
 -- ---- each change
 
-unchanged : (owner : OwnerValue) → length owner.kept ≡ length owner.calls → Extends owner owner
+unchanged : (owner : OwnerView) → length owner.kept ≡ length owner.calls → Extends owner owner
 unchanged owner places = record { id = refl; calls = λ k _. refl; numbers = λ a k _. refl; kept = λ k _. refl; places = places }
 
-submitted : (owner : OwnerValue) (a : ℕ) (method : Method) (args : List Arg) → length owner.kept ≡ length owner.calls → Extends owner (with_call owner a method args)
+submitted : (owner : OwnerView) (a : ℕ) (method : Method) (args : List Arg) → length owner.kept ≡ length owner.calls → Extends owner (with_submission owner a method args)
 submitted owner a method args places =
     let call : Submission = record { actor = a; method = method; args = args } in
     record {
       id = refl;
       calls = λ k below. get_before owner.calls call k below;
       numbers = λ b k below. number_of-more b k owner.calls call (omega (arith, below));
-      kept = λ k some. kept_more owner.kept (first_answer (is_dead owner a)) k some;
-      places = omega (arith, places, length-append owner.calls (call ∷ []), length-append owner.kept (first_answer (is_dead owner a) ∷ []));
+      kept = λ k some. kept_more owner.kept (answer_of_new_call (is_known_dead owner a)) k some;
+      places = omega (arith, places, length-append owner.calls (call ∷ []), length-append owner.kept (answer_of_new_call (is_known_dead owner a) ∷ []));
     }
 
-answered : (owner : OwnerValue) (reply : Reply) (mine known : Bool) → length owner.kept ≡ length owner.calls → is_some (kept_at owner.kept reply.future) ≡ known → Extends owner (after_reply_that (if mine then (if known then Late reply.future else First reply.future) else Stray) owner reply)
+answered : (owner : OwnerView) (reply : Reply) (mine known : Bool) → length owner.kept ≡ length owner.calls → is_some (kept_at owner.kept reply.future) ≡ known → Extends owner (after_reply_that (if mine then (if known then Late reply.future else First reply.future) else Stray) owner reply)
 answered owner reply false known places is = unchanged owner places
 answered owner reply true true places is = unchanged owner places
 answered owner reply true false places is = record {
@@ -136,7 +136,7 @@ answered owner reply true false places is = record {
   places = length-set owner.kept reply.future (Some reply.answer) ∙ places;
 }
 
-died : (owner : OwnerValue) (a : ℕ) (listed : Bool) → length owner.kept ≡ length owner.calls → Extends owner (if listed then with_death owner a else owner)
+died : (owner : OwnerView) (a : ℕ) (listed : Bool) → length owner.kept ≡ length owner.calls → Extends owner (if listed then with_death owner a else owner)
 died owner a false places = unchanged owner places
 died owner a true places = record {
   id = refl;
@@ -146,7 +146,7 @@ died owner a true places = record {
   places = places_death a owner.calls owner.kept places;
 }
 
-pub step : (owner : OwnerValue) (change : Change) → length owner.kept ≡ length owner.calls → Extends owner (after owner change)
+pub step : (owner : OwnerView) (change : Change) → length owner.kept ≡ length owner.calls → Extends owner (after_change owner change)
 step owner (Copied a) places = record { id = refl; calls = λ k _. refl; numbers = λ b k _. refl; kept = λ k _. refl; places = places }
 step owner (Released a) places = record { id = refl; calls = λ k _. refl; numbers = λ b k _. refl; kept = λ k _. refl; places = places }
 step owner (Submitted a method args) places = submitted owner a method args places
@@ -156,18 +156,18 @@ step owner (Noticed (Death a)) places = died owner a (is_some (copies_in a owner
 
 -- ---- a life
 
-pub places_all : (owner : OwnerValue) (changes : List Change) → length owner.kept ≡ length owner.calls → length (after_all owner changes).kept ≡ length (after_all owner changes).calls
+pub places_all : (owner : OwnerView) (changes : List Change) → length owner.kept ≡ length owner.calls → length (after_changes owner changes).kept ≡ length (after_changes owner changes).calls
 places_all owner [] places = places
-places_all owner (change ∷ changes) places = places_all (after owner change) changes (step owner change places).places
+places_all owner (change ∷ changes) places = places_all (after_change owner change) changes (step owner change places).places
 
-pub packet_stays_all : (owner : OwnerValue) (changes : List Change) (k : ℕ) → length owner.kept ≡ length owner.calls → is_known_at owner k ≡ true → (is_known_at (after_all owner changes) k ≡ true) × (packet_at (after_all owner changes) k ≡ packet_at owner k)
+pub packet_stays_all : (owner : OwnerView) (changes : List Change) (k : ℕ) → length owner.kept ≡ length owner.calls → is_known_at owner k ≡ true → (is_known_at (after_changes owner changes) k ≡ true) × (packet_at (after_changes owner changes) k ≡ packet_at owner k)
 packet_stays_all owner [] k places known = (known, refl)
 packet_stays_all owner (change ∷ changes) k places known =
     let grown = step owner change places in
-    let now = packet_stays owner (after owner change) k grown known in
-    let later = packet_stays_all (after owner change) changes k grown.places now.0 in
+    let now = packet_stays owner (after_change owner change) k grown known in
+    let later = packet_stays_all (after_change owner change) changes k grown.places now.0 in
     (later.0, later.1 ∙ now.1)
 
-pub after_all-append : (owner : OwnerValue) (changes later : List Change) → after_all owner (changes ++ later) ≡ after_all (after_all owner changes) later
+pub after_all-append : (owner : OwnerView) (changes later : List Change) → after_changes owner (changes ++ later) ≡ after_changes (after_changes owner changes) later
 after_all-append owner [] later = refl
-after_all-append owner (change ∷ changes) later = after_all-append (after owner change) changes later
+after_all-append owner (change ∷ changes) later = after_all-append (after_change owner change) changes later

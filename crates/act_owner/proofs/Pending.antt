@@ -17,12 +17,12 @@ use Rattle.act_rules.proofs.Lists.{option_or-none_second}
 use Rattle.act_handles.specs.Handles.{copies_in}
 use Rattle.act_owner.specs.declared.owner.Collected.{Collected}
 use Rattle.act_owner.specs.declared.owner.Collected.TheVariants.{First, Late, Stray, Died}
-use Rattle.act_owner.specs.Owner.{OwnerValue, limit_of, pending, submission_refusal, with_call, with_death, after_reply_that, collected_reply, first_answer, is_dead, waits_for, answer_after_death}
-use Rattle.act_owner.specs.Life.{Change, Copied, Released, Submitted, Sent, Noticed, after, after_all, IsAccepted, AreAccepted}
+use Rattle.act_owner.specs.Owner.{OwnerView, owner_limit, pending, refusal_to_submit, with_submission, with_death, after_reply_that, collected_reply, answer_of_new_call, is_known_dead, call_waits_for, answer_after_death}
+use Rattle.act_owner.specs.Life.{Change, Copied, Released, Submitted, Sent, Noticed, after_change, after_changes, IsAccepted, AreAccepted}
 use Rattle.act_owner.proofs.Life.{step}
 
 abbrev waiting : ℕ → List Submission → List (Option Answer) → ℕ
-waiting a calls kept = count_by (waits_for a) (zip calls kept)
+waiting a calls kept = count_by (call_waits_for a) (zip calls kept)
 
 counted : {X : Type 0} (p : X → Bool) (x : X) (xs : List X) → count_by p (x ∷ xs) ≡ cond (p x) 1 0 + count_by p xs
 counted p x xs = sum_by-cons (λ y. cond (p y) 1 0) x xs
@@ -43,12 +43,12 @@ fewer_set : (a : ℕ) (calls : List Submission) (kept : List (Option Answer)) (k
 fewer_set a [] kept k answer = let none : waiting a [] (slice_set kept k (Some answer)) ≡ 0 = refl in omega (arith, none)
 fewer_set a (call ∷ calls) [] k answer = let none : waiting a (call ∷ calls) (slice_set {A = Option Answer} [] k (Some answer)) ≡ 0 = refl in omega (arith, none)
 fewer_set a (call ∷ calls) (x ∷ kept) zero answer =
-    no_more (waits_for a (call, Some answer)) (waits_for a (call, x)) (waiting a calls kept) (waiting a calls kept) _ _
-    (counted (waits_for a) (call, Some answer) (zip calls kept)) (counted (waits_for a) (call, x) (zip calls kept))
+    no_more (call_waits_for a (call, Some answer)) (call_waits_for a (call, x)) (waiting a calls kept) (waiting a calls kept) _ _
+    (counted (call_waits_for a) (call, Some answer) (zip calls kept)) (counted (call_waits_for a) (call, x) (zip calls kept))
     (answered_rests (call.actor == a) (not (is_some x))) (omega arith)
 fewer_set a (call ∷ calls) (x ∷ kept) (suc k) answer =
-    no_more (waits_for a (call, x)) (waits_for a (call, x)) (waiting a calls (slice_set kept k (Some answer))) (waiting a calls kept) _ _
-    (counted (waits_for a) (call, x) (zip calls (slice_set kept k (Some answer)))) (counted (waits_for a) (call, x) (zip calls kept))
+    no_more (call_waits_for a (call, x)) (call_waits_for a (call, x)) (waiting a calls (slice_set kept k (Some answer))) (waiting a calls kept) _ _
+    (counted (call_waits_for a) (call, x) (zip calls (slice_set kept k (Some answer)))) (counted (call_waits_for a) (call, x) (zip calls kept))
     (λ e. e) (fewer_set a calls kept k answer)
 
 died_rests : (to dies before : Bool) (x : Option Answer) → not (is_some x) ≡ before → (to && not (is_some (cond dies (Some (Err ActorDied)) x))) ≡ true → (to && before) ≡ true
@@ -61,31 +61,31 @@ fewer_died : (a b : ℕ) (calls : List Submission) (kept : List (Option Answer))
 fewer_died a b [] kept = let none : waiting a [] (map (answer_after_death b) (zip [] kept)) ≡ 0 = refl in omega (arith, none)
 fewer_died a b (call ∷ calls) [] = let none : waiting a (call ∷ calls) (map (answer_after_death b) (zip (call ∷ calls) [])) ≡ 0 = refl in omega (arith, none)
 fewer_died a b (call ∷ calls) (x ∷ kept) =
-    no_more (waits_for a (call, answer_after_death b (call, x))) (waits_for a (call, x)) (waiting a calls (map (answer_after_death b) (zip calls kept))) (waiting a calls kept) _ _
-    (counted (waits_for a) (call, answer_after_death b (call, x)) (zip calls (map (answer_after_death b) (zip calls kept)))) (counted (waits_for a) (call, x) (zip calls kept))
-    (died_rests (call.actor == a) (waits_for b (call, x)) (not (is_some x)) x refl) (fewer_died a b calls kept)
+    no_more (call_waits_for a (call, answer_after_death b (call, x))) (call_waits_for a (call, x)) (waiting a calls (map (answer_after_death b) (zip calls kept))) (waiting a calls kept) _ _
+    (counted (call_waits_for a) (call, answer_after_death b (call, x)) (zip calls (map (answer_after_death b) (zip calls kept)))) (counted (call_waits_for a) (call, x) (zip calls kept))
+    (died_rests (call.actor == a) (call_waits_for b (call, x)) (not (is_some x)) x refl) (fewer_died a b calls kept)
 
 -- a call more
 one_more : (a : ℕ) (calls : List Submission) (kept : List (Option Answer)) (call : Submission) (answer : Option Answer) → length kept ≡ length calls
-    → waiting a (calls ++ call ∷ []) (kept ++ answer ∷ []) ≡ waiting a calls kept + cond (waits_for a (call, answer)) 1 0
+    → waiting a (calls ++ call ∷ []) (kept ++ answer ∷ []) ≡ waiting a calls kept + cond (call_waits_for a (call, answer)) 1 0
 one_more a [] [] call answer places =
-    let one : waiting a ([] ++ call ∷ []) ([] ++ answer ∷ []) ≡ cond (waits_for a (call, answer)) 1 0 + 0 = counted (waits_for a) (call, answer) [] in
+    let one : waiting a ([] ++ call ∷ []) ([] ++ answer ∷ []) ≡ cond (call_waits_for a (call, answer)) 1 0 + 0 = counted (call_waits_for a) (call, answer) [] in
     let none : waiting a [] [] ≡ 0 = refl in
     omega (arith, one, none)
 one_more a [] (x ∷ kept) call answer places = absurd (omega (arith, places))
 one_more a (other ∷ calls) [] call answer places = absurd (omega (arith, places))
 one_more a (other ∷ calls) (x ∷ kept) call answer places =
-    let rest : waiting a (calls ++ call ∷ []) (kept ++ answer ∷ []) ≡ waiting a calls kept + cond (waits_for a (call, answer)) 1 0
+    let rest : waiting a (calls ++ call ∷ []) (kept ++ answer ∷ []) ≡ waiting a calls kept + cond (call_waits_for a (call, answer)) 1 0
     = one_more a calls kept call answer (omega (arith, places)) in
-    let longer = counted (waits_for a) (other, x) (zip (calls ++ call ∷ []) (kept ++ answer ∷ [])) in
-    let shorter = counted (waits_for a) (other, x) (zip calls kept) in
+    let longer = counted (call_waits_for a) (other, x) (zip (calls ++ call ∷ []) (kept ++ answer ∷ [])) in
+    let shorter = counted (call_waits_for a) (other, x) (zip calls kept) in
     omega (arith, rest, longer, shorter)
 
 -- ---- a limit
 
 -- what is pending is no more than the limit says
-abbrev pub IsUnder : ℕ → ℕ → OwnerValue → Type 0
-IsUnder a limit owner = limit_of owner a ≡ Some limit → pending owner a ≤ limit
+abbrev pub IsUnder : ℕ → ℕ → OwnerView → Type 0
+IsUnder a limit owner = owner_limit owner a ≡ Some limit → pending owner a ≤ limit
 
 -- where the limit refuses nothing, there is room for one more
 has_room : (limit n : ℕ) → limit_refusal (Some limit) n ≡ None → n + 1 ≤ limit
@@ -95,36 +95,36 @@ has_room limit n e = go (nat_lt n limit) refl e
     go true is e = let less = ltb-true n limit is in omega (arith, less)
     go false is e = cc
 
-submitted_under : (owner : OwnerValue) (a limit b : ℕ) (method : Method) (args : List Arg) → length owner.kept ≡ length owner.calls → submission_refusal owner b args ≡ None → IsUnder a limit owner → IsUnder a limit (with_call owner b method args)
+submitted_under : (owner : OwnerView) (a limit b : ℕ) (method : Method) (args : List Arg) → length owner.kept ≡ length owner.calls → refusal_to_submit owner b args ≡ None → IsUnder a limit owner → IsUnder a limit (with_submission owner b method args)
 submitted_under owner a limit b method args places accepted under set =
     let call : Submission = record { actor = b; method = method; args = args } in
-    let more = one_more a owner.calls owner.kept call (first_answer (is_dead owner b)) places in
+    let more = one_more a owner.calls owner.kept call (answer_of_new_call (is_known_dead owner b)) places in
     go (b == a) refl more
   where
-    go : (to : Bool) → (b == a) ≡ to → pending (with_call owner b method args) a ≡ pending owner a + cond (to && not (is_some (first_answer (is_dead owner b)))) 1 0 → pending (with_call owner b method args) a ≤ limit
+    go : (to : Bool) → (b == a) ≡ to → pending (with_submission owner b method args) a ≡ pending owner a + cond (to && not (is_some (answer_of_new_call (is_known_dead owner b)))) 1 0 → pending (with_submission owner b method args) a ≤ limit
     go true e more =
         let same : b ≡ a = eqb-true b a e in
-        let free : limit_refusal (limit_of owner b) (pending owner b) ≡ None = option_or-none_second (submit_refusal (copies_in b owner.handles) (length owner.calls) args) (limit_refusal (limit_of owner b) (pending owner b)) accepted in
-        let here : limit_refusal (limit_of owner a) (pending owner a) ≡ None = subst (λ x. limit_refusal (limit_of owner x) (pending owner x) ≡ None) same free in
+        let free : limit_refusal (owner_limit owner b) (pending owner b) ≡ None = option_or-none_second (submit_refusal (copies_in b owner.handles) (length owner.calls) args) (limit_refusal (owner_limit owner b) (pending owner b)) accepted in
+        let here : limit_refusal (owner_limit owner a) (pending owner a) ≡ None = subst (λ x. limit_refusal (owner_limit owner x) (pending owner x) ≡ None) same free in
         let room = has_room limit (pending owner a) (ap (λ l. limit_refusal l (pending owner a)) (sym set) ∙ here) in
-        at_most (not (is_some (first_answer (is_dead owner b)))) more room
+        at_most (not (is_some (answer_of_new_call (is_known_dead owner b)))) more room
       where
-        at_most : (waits : Bool) → pending (with_call owner b method args) a ≡ pending owner a + cond waits 1 0 → pending owner a + 1 ≤ limit → pending (with_call owner b method args) a ≤ limit
+        at_most : (waits : Bool) → pending (with_submission owner b method args) a ≡ pending owner a + cond waits 1 0 → pending owner a + 1 ≤ limit → pending (with_submission owner b method args) a ≤ limit
         at_most true more room = omega (arith, more, room)
         at_most false more room = omega (arith, more, room)
     go false e more = let before = under set in omega (arith, more, before)
 
-answered_under : (owner : OwnerValue) (a limit : ℕ) (reply : Reply) (told : Collected) → IsUnder a limit owner → IsUnder a limit (after_reply_that told owner reply)
+answered_under : (owner : OwnerView) (a limit : ℕ) (reply : Reply) (told : Collected) → IsUnder a limit owner → IsUnder a limit (after_reply_that told owner reply)
 answered_under owner a limit reply (First k) under set = let before = under set in let fewer = fewer_set a owner.calls owner.kept k reply.answer in omega (arith, before, fewer)
 answered_under owner a limit reply (Late k) under set = under set
 answered_under owner a limit reply Stray under set = under set
 answered_under owner a limit reply (Died n) under set = under set
 
-died_under : (owner : OwnerValue) (a limit b : ℕ) (listed : Bool) → IsUnder a limit owner → IsUnder a limit (cond listed (with_death owner b) owner)
+died_under : (owner : OwnerView) (a limit b : ℕ) (listed : Bool) → IsUnder a limit owner → IsUnder a limit (cond listed (with_death owner b) owner)
 died_under owner a limit b true under set = let before = under set in let fewer = fewer_died a b owner.calls owner.kept in omega (arith, before, fewer)
 died_under owner a limit b false under set = under set
 
-under_step : (owner : OwnerValue) (a limit : ℕ) (change : Change) → length owner.kept ≡ length owner.calls → IsAccepted owner change → IsUnder a limit owner → IsUnder a limit (after owner change)
+under_step : (owner : OwnerView) (a limit : ℕ) (change : Change) → length owner.kept ≡ length owner.calls → IsAccepted owner change → IsUnder a limit owner → IsUnder a limit (after_change owner change)
 under_step owner a limit (Copied b) places accepted under = under
 under_step owner a limit (Released b) places accepted under = under
 under_step owner a limit (Submitted b method args) places accepted under = submitted_under owner a limit b method args places accepted under
@@ -132,7 +132,7 @@ under_step owner a limit (Sent k) places accepted under = under
 under_step owner a limit (Noticed (Answered reply)) places accepted under = answered_under owner a limit reply (collected_reply owner reply) under
 under_step owner a limit (Noticed (Death b)) places accepted under = died_under owner a limit b (is_some (copies_in b owner.handles)) under
 
-pub under_all : (owner : OwnerValue) (a limit : ℕ) (changes : List Change) → length owner.kept ≡ length owner.calls → AreAccepted owner changes → IsUnder a limit owner → IsUnder a limit (after_all owner changes)
+pub under_all : (owner : OwnerView) (a limit : ℕ) (changes : List Change) → length owner.kept ≡ length owner.calls → AreAccepted owner changes → IsUnder a limit owner → IsUnder a limit (after_changes owner changes)
 under_all owner a limit [] places accepted under = under
 under_all owner a limit (change ∷ changes) places accepted under =
-    under_all (after owner change) a limit changes (step owner change places).places accepted.1 (under_step owner a limit change places accepted.0 under)
+    under_all (after_change owner change) a limit changes (step owner change places).places accepted.1 (under_step owner a limit change places accepted.0 under)

@@ -15,9 +15,9 @@ use Rattle.act_rules.specs.Submissions.{kept_at, calls_to}
 use Rattle.act_rules.proofs.Lists.{slice_get_last}
 use Rattle.act_handles.specs.Handles.{copies_in, given_in}
 use Rattle.act_owner.specs.declared.owner.Collected.TheVariants.{First, Late, Stray}
-use Rattle.act_owner.specs.Owner.{OwnerValue, submission_of, opened_under, with_death, after_reply_that, is_of_call, is_sent, is_dead, is_to, is_death, first_answer, answer_after_death}
+use Rattle.act_owner.specs.Owner.{OwnerView, submission_of, opened_under, with_death, after_reply_that, is_of_call, is_sent, is_known_dead, is_to, is_death, answer_of_new_call, answer_after_death}
 use Rattle.act_owner.specs.declared.owner.Call.{Call}
-use Rattle.act_owner.specs.Life.{Change, Copied, Released, Submitted, Sent, Noticed, after, after_all, notices_in, IsToldBy, Hears}
+use Rattle.act_owner.specs.Life.{Change, Copied, Released, Submitted, Sent, Noticed, after_change, after_changes, notices_in, IsToldBy, Hears}
 use Rattle.act_owner.proofs.Life.{Extends, step, found_below}
 
 -- ---- deaths
@@ -41,16 +41,16 @@ sent_set (b ∷ sent) zero (suc k) is = is
 sent_set (b ∷ sent) (suc j) zero is = is
 sent_set (b ∷ sent) (suc j) (suc k) is = sent_set sent j k is
 
-pub reply_sent : (owner : OwnerValue) (reply : Reply) (mine known : Bool) → (after_reply_that (if mine then (if known then Late reply.future else First reply.future) else Stray) owner reply).sent ≡ owner.sent
+pub reply_sent : (owner : OwnerView) (reply : Reply) (mine known : Bool) → (after_reply_that (if mine then (if known then Late reply.future else First reply.future) else Stray) owner reply).sent ≡ owner.sent
 reply_sent owner reply false known = refl
 reply_sent owner reply true true = refl
 reply_sent owner reply true false = refl
 
-pub death_sent : (owner : OwnerValue) (a : ℕ) (listed : Bool) → (if listed then with_death owner a else owner).sent ≡ owner.sent
+pub death_sent : (owner : OwnerView) (a : ℕ) (listed : Bool) → (if listed then with_death owner a else owner).sent ≡ owner.sent
 death_sent owner a false = refl
 death_sent owner a true = refl
 
-pub sent_stays : (owner : OwnerValue) (change : Change) (k : ℕ) → is_sent owner k ≡ true → is_sent (after owner change) k ≡ true
+pub sent_stays : (owner : OwnerView) (change : Change) (k : ℕ) → is_sent owner k ≡ true → is_sent (after_change owner change) k ≡ true
 sent_stays owner (Copied a) k is = is
 sent_stays owner (Released a) k is = is
 sent_stays owner (Submitted a method args) k is = sent_more owner.sent k is
@@ -58,13 +58,13 @@ sent_stays owner (Sent j) k is = sent_set owner.sent j k is
 sent_stays owner (Noticed (Answered reply)) k is = ap (λ (s : List Bool). unwrap_or (slice_get s k) false) (reply_sent owner reply (is_of_call owner reply) (is_some (kept_at owner.kept reply.future))) ∙ is
 sent_stays owner (Noticed (Death a)) k is = ap (λ (s : List Bool). unwrap_or (slice_get s k) false) (death_sent owner a (is_some (copies_in a owner.handles))) ∙ is
 
-pub sent_stays_all : (owner : OwnerValue) (changes : List Change) (k : ℕ) → is_sent owner k ≡ true → is_sent (after_all owner changes) k ≡ true
+pub sent_stays_all : (owner : OwnerView) (changes : List Change) (k : ℕ) → is_sent owner k ≡ true → is_sent (after_changes owner changes) k ≡ true
 sent_stays_all owner [] k is = is
-sent_stays_all owner (change ∷ changes) k is = sent_stays_all (after owner change) changes k (sent_stays owner change k is)
+sent_stays_all owner (change ∷ changes) k is = sent_stays_all (after_change owner change) changes k (sent_stays owner change k is)
 
 -- ---- more notices, and more calls
 
-more_told : (death : Bool) (owner later : OwnerValue) (notices more : List Notice) (k : ℕ) (answer : Answer) → later.id ≡ owner.id → ((a : ℕ) → is_to a (slice_get owner.calls k) ≡ true → is_to a (slice_get later.calls k) ≡ true) → IsToldBy death owner notices k answer → IsToldBy death later (notices ++ more) k answer
+more_told : (death : Bool) (owner later : OwnerView) (notices more : List Notice) (k : ℕ) (answer : Answer) → later.id ≡ owner.id → ((a : ℕ) → is_to a (slice_get owner.calls k) ≡ true → is_to a (slice_get later.calls k) ≡ true) → IsToldBy death owner notices k answer → IsToldBy death later (notices ++ more) k answer
 more_told true owner later notices more k answer same calls told = record { actor = told.actor; heard = Contains-append_left notices more (Death told.actor) told.heard; to = calls told.actor told.to }
 more_told false owner later notices more k answer same calls told = record {
   reply = told.reply;
@@ -79,11 +79,11 @@ to_below : (a : ℕ) (calls : List Submission) (k : ℕ) (found : Option Submiss
 to_below a calls k None is to = absurd (cc to)
 to_below a calls k (Some call) is to = found_below calls k call is
 
-to_later : (owner later : OwnerValue) (k a : ℕ) → Extends owner later → is_to a (slice_get owner.calls k) ≡ true → is_to a (slice_get later.calls k) ≡ true
+to_later : (owner later : OwnerView) (k a : ℕ) → Extends owner later → is_to a (slice_get owner.calls k) ≡ true → is_to a (slice_get later.calls k) ≡ true
 to_later owner later k a grown to = ap (is_to a) (grown.calls k (to_below a owner.calls k (slice_get owner.calls k) refl to)) ∙ to
 
 -- a change that answers nothing and tells of no death
-quiet : (owner later : OwnerValue) (notices more : List Notice) → Extends owner later → later.kept ≡ owner.kept → later.dead ≡ owner.dead → Hears owner notices → Hears later (notices ++ more)
+quiet : (owner later : OwnerView) (notices more : List Notice) → Extends owner later → later.kept ≡ owner.kept → later.dead ≡ owner.dead → Hears owner notices → Hears later (notices ++ more)
 quiet owner later notices more grown kept dead hears = record {
   answers = λ k answer is. more_told (is_death answer) owner later notices more k answer grown.id (λ a to. to_later owner later k a grown to) (hears.answers k answer (ap (λ (l : List (Option Answer)). kept_at l k) (sym kept) ∙ is));
   deaths = λ a is. Contains-append_left notices more (Death a) (hears.deaths a (ap (λ (l : List Bool). unwrap_or (slice_get l a) false) (sym dead) ∙ is));
@@ -97,24 +97,24 @@ last_kept [] x (suc k) answer is = absurd (cc is)
 last_kept (y ∷ kept) x zero answer is = inl is
 last_kept (y ∷ kept) x (suc k) answer is = elim (last_kept kept x k answer is) [ inl t ↦ inl t | inr f ↦ inr (ap suc f.0, f.1) ]
 
-dead_first : (dead : Bool) (answer : Answer) → first_answer dead ≡ Some answer → (dead ≡ true) × (answer ≡ Err ActorDied)
+dead_first : (dead : Bool) (answer : Answer) → answer_of_new_call dead ≡ Some answer → (dead ≡ true) × (answer ≡ Err ActorDied)
 dead_first true answer is = (refl, cc is)
 dead_first false answer is = absurd (cc is)
 
 eqb_same : (a : ℕ) → (a == a) ≡ true
 eqb_same a = search rules
 
-one_call : (death : Bool) (owner : OwnerValue) (notices : List Notice) (k a : ℕ) (answer : Answer) → death ≡ true → Contains notices (Death a) → is_to a (slice_get owner.calls k) ≡ true → IsToldBy death owner notices k answer
+one_call : (death : Bool) (owner : OwnerView) (notices : List Notice) (k a : ℕ) (answer : Answer) → death ≡ true → Contains notices (Death a) → is_to a (slice_get owner.calls k) ≡ true → IsToldBy death owner notices k answer
 one_call true owner notices k a answer is heard to = record { actor = a; heard = heard; to = to }
 one_call false owner notices k a answer is heard to = absurd (cc is)
 
-hears_submitted : (owner later : OwnerValue) (notices : List Notice) (call : Submission) → Extends owner later → length owner.kept ≡ length owner.calls → later.calls ≡ owner.calls ++ call ∷ [] → later.kept ≡ owner.kept ++ first_answer (is_dead owner call.actor) ∷ [] → later.dead ≡ owner.dead → Hears owner notices → Hears later (notices ++ [])
+hears_submitted : (owner later : OwnerView) (notices : List Notice) (call : Submission) → Extends owner later → length owner.kept ≡ length owner.calls → later.calls ≡ owner.calls ++ call ∷ [] → later.kept ≡ owner.kept ++ answer_of_new_call (is_known_dead owner call.actor) ∷ [] → later.dead ≡ owner.dead → Hears owner notices → Hears later (notices ++ [])
 hears_submitted owner later notices call grown places calls kept dead hears = record {
   answers = λ k answer is.
-      elim (last_kept owner.kept (first_answer (is_dead owner call.actor)) k answer (ap (λ (l : List (Option Answer)). kept_at l k) (sym kept) ∙ is)) [
+      elim (last_kept owner.kept (answer_of_new_call (is_known_dead owner call.actor)) k answer (ap (λ (l : List (Option Answer)). kept_at l k) (sym kept) ∙ is)) [
         | inl t ↦ more_told (is_death answer) owner later notices [] k answer grown.id (λ a to. to_later owner later k a grown to) (hears.answers k answer t)
         | inr f ↦
-            let first = dead_first (is_dead owner call.actor) answer f.1 in
+            let first = dead_first (is_known_dead owner call.actor) answer f.1 in
             let there : slice_get later.calls k ≡ Some call = ap (λ (l : List Submission). slice_get l k) calls ∙ ap (slice_get (owner.calls ++ call ∷ [])) (f.0 ∙ places) ∙ slice_get_last owner.calls call in
             one_call (is_death answer) later (notices ++ []) k call.actor answer (ap is_death first.1) (Contains-append_left notices [] (Death call.actor) (hears.deaths call.actor first.0)) (ap (is_to call.actor) there ∙ eqb_same call.actor)
       ];
@@ -130,7 +130,7 @@ set_kept (y ∷ kept) zero (suc k) x answer is = inl is
 set_kept (y ∷ kept) (suc j) zero x answer is = inl is
 set_kept (y ∷ kept) (suc j) (suc k) x answer is = elim (set_kept kept j k x answer is) [ inl t ↦ inl t | inr f ↦ inr (ap suc f.0, f.1) ]
 
-one_reply : (death : Bool) (owner : OwnerValue) (notices : List Notice) (reply : Reply) (k : ℕ) (answer : Answer) → death ≡ false → Contains notices (Answered reply) → reply.caller ≡ owner.id → is_to reply.actor (slice_get owner.calls k) ≡ true → reply.future ≡ k → reply.answer ≡ answer → IsToldBy death owner notices k answer
+one_reply : (death : Bool) (owner : OwnerView) (notices : List Notice) (reply : Reply) (k : ℕ) (answer : Answer) → death ≡ false → Contains notices (Answered reply) → reply.caller ≡ owner.id → is_to reply.actor (slice_get owner.calls k) ≡ true → reply.future ≡ k → reply.answer ≡ answer → IsToldBy death owner notices k answer
 one_reply true owner notices reply k answer is heard caller to future answer_is = absurd (cc is)
 one_reply false owner notices reply k answer is heard caller to future answer_is = record { reply = reply; heard = heard; caller = caller; actor = to; future = future; answer_is = answer_is }
 
@@ -144,7 +144,7 @@ four true true false d is = absurd (cc is)
 four true false c d is = absurd (cc is)
 four false b c d is = absurd (cc is)
 
-hears_reply : (owner : OwnerValue) (notices : List Notice) (reply : Reply) (mine known : Bool) → is_of_call owner reply ≡ mine → length owner.kept ≡ length owner.calls → Hears owner notices
+hears_reply : (owner : OwnerView) (notices : List Notice) (reply : Reply) (mine known : Bool) → is_of_call owner reply ≡ mine → length owner.kept ≡ length owner.calls → Hears owner notices
     → Hears (after_reply_that (if mine then (if known then Late reply.future else First reply.future) else Stray) owner reply) (notices ++ Answered reply ∷ [])
 hears_reply owner notices reply false known mine places hears = record {
   answers = λ k answer is. more_told (is_death answer) owner owner notices (Answered reply ∷ []) k answer refl (λ a to. to) (hears.answers k answer is);
@@ -156,7 +156,7 @@ hears_reply owner notices reply true true mine places hears = record {
 }
 hears_reply owner notices reply true false mine places hears =
     let all = four (reply.caller == owner.id) (is_to reply.actor (slice_get owner.calls reply.future)) (is_sent owner reply.future) (not (is_death reply.answer)) mine in
-    let later : OwnerValue = record owner { kept = slice_set owner.kept reply.future (Some reply.answer) } in
+    let later : OwnerView = record owner { kept = slice_set owner.kept reply.future (Some reply.answer) } in
     record {
       answers = λ k answer is.
           elim (set_kept owner.kept reply.future k reply.answer answer is) [
@@ -189,7 +189,7 @@ dead_set (d ∷ dead) zero (suc b) is = inl is
 dead_set (d ∷ dead) (suc a) zero is = inl is
 dead_set (d ∷ dead) (suc a) (suc b) is = elim (dead_set dead a b is) [ inl t ↦ inl t | inr f ↦ inr (ap suc f) ]
 
-hears_death : (owner : OwnerValue) (notices : List Notice) (a : ℕ) (listed : Bool) → Hears owner notices → Hears (if listed then with_death owner a else owner) (notices ++ Death a ∷ [])
+hears_death : (owner : OwnerView) (notices : List Notice) (a : ℕ) (listed : Bool) → Hears owner notices → Hears (if listed then with_death owner a else owner) (notices ++ Death a ∷ [])
 hears_death owner notices a false hears = record {
   answers = λ k answer is. more_told (is_death answer) owner owner notices (Death a ∷ []) k answer refl (λ b to. to) (hears.answers k answer is);
   deaths = λ b is. Contains-append_left notices (Death a ∷ []) (Death b) (hears.deaths b is);
@@ -209,7 +209,7 @@ hears_death owner notices a true hears = record {
 
 -- ---- a life
 
-pub hears_step : (owner : OwnerValue) (notices : List Notice) (change : Change) → length owner.kept ≡ length owner.calls → Hears owner notices → Hears (after owner change) (notices ++ notices_in (change ∷ []))
+pub hears_step : (owner : OwnerView) (notices : List Notice) (change : Change) → length owner.kept ≡ length owner.calls → Hears owner notices → Hears (after_change owner change) (notices ++ notices_in (change ∷ []))
 hears_step owner notices (Copied a) places hears = quiet owner _ notices [] (step owner (Copied a) places) refl refl hears
 hears_step owner notices (Released a) places hears = quiet owner _ notices [] (step owner (Released a) places) refl refl hears
 hears_step owner notices (Submitted a method args) places hears = hears_submitted owner _ notices (record { actor = a; method = method; args = args }) (step owner (Submitted a method args) places) places refl refl refl hears
@@ -224,11 +224,11 @@ notices_more (Submitted a method args) changes = refl
 notices_more (Sent k) changes = refl
 notices_more (Noticed notice) changes = refl
 
-pub hears_all : (owner : OwnerValue) (notices : List Notice) (changes : List Change) → length owner.kept ≡ length owner.calls → Hears owner notices → Hears (after_all owner changes) (notices ++ notices_in changes)
+pub hears_all : (owner : OwnerView) (notices : List Notice) (changes : List Change) → length owner.kept ≡ length owner.calls → Hears owner notices → Hears (after_changes owner changes) (notices ++ notices_in changes)
 hears_all owner notices [] places hears = subst (Hears owner) (sym (append-nil notices)) hears
 hears_all owner notices (change ∷ changes) places hears =
-    subst (Hears (after_all (after owner change) changes)) (append_assoc notices (notices_in (change ∷ [])) (notices_in changes) ∙ ap (λ (l : List Notice). notices ++ l) (notices_more change changes))
-    (hears_all (after owner change) (notices ++ notices_in (change ∷ [])) changes (step owner change places).places (hears_step owner notices change places hears))
+    subst (Hears (after_changes (after_change owner change) changes)) (append_assoc notices (notices_in (change ∷ [])) (notices_in changes) ∙ ap (λ (l : List Notice). notices ++ l) (notices_more change changes))
+    (hears_all (after_change owner change) (notices ++ notices_in (change ∷ [])) changes (step owner change places).places (hears_step owner notices change places hears))
 
 pub none_dead : (n a : ℕ) → unwrap_or (slice_get (replicate n false) a) false ≡ false
 none_dead zero a = refl
@@ -252,7 +252,7 @@ calls_to-length a n (call ∷ calls) = both (call.actor == a) (calls_to-length a
     both true e = ap suc e
     both false e = e
 
-pub given_is : (a : ℕ) (calls : List Call) (seen now : OwnerValue) → seen ≡ now → seen.calls ≡ map submission_of calls → given_in a seen.handles ≡ length (filter (λ (call : Submission). call.actor == a) (map submission_of calls)) → given_in a now.handles ≡ length (calls_to a now.calls)
+pub given_is : (a : ℕ) (calls : List Call) (seen now : OwnerView) → seen ≡ now → seen.calls ≡ map submission_of calls → given_in a seen.handles ≡ length (filter (λ (call : Submission). call.actor == a) (map submission_of calls)) → given_in a now.handles ≡ length (calls_to a now.calls)
 given_is a calls seen now same is given =
     let here : given_in a seen.handles ≡ length (calls_to a seen.calls) = given ∙ ap (λ (l : List Submission). length (filter (λ (call : Submission). call.actor == a) l)) (sym is) ∙ sym (calls_to-length a 0 seen.calls) in
-    subst (λ (o : OwnerValue). given_in a o.handles ≡ length (calls_to a o.calls)) same here
+    subst (λ (o : OwnerView). given_in a o.handles ≡ length (calls_to a o.calls)) same here

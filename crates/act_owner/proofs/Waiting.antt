@@ -14,16 +14,16 @@ use Rattle.act_rules.specs.Submissions.{kept_at, is_earlier, is_known as is_know
 use Rattle.act_rules.proofs.Lists.{slice_get_last}
 use Rattle.act_handles.specs.declared.handles.Handle.{Handle}
 use Rattle.act_replies.specs.declared.table.Row.{Row}
-use Rattle.act_resolver.specs.Resolver.{Entered, changed_at, new_call, with_answered, is_answered, is_sent, is_known, is_ready, first_ready}
+use Rattle.act_resolver.specs.Resolver.{Entered, changed_at, new_call, with_told, is_answered, is_marked_sent, is_told, is_next_ready, least_ready}
 use Rattle.act_owner.specs.declared.owner.Call.{Call}
 use Rattle.act_types.specs.declared.message.Packet.{Packet}
 use Rattle.act_rules.specs.declared.history.Submission.{Submission}
-use Rattle.act_rules.specs.Submissions.{settled}
-use Rattle.act_owner.specs.Owner.{call_at, numbered_call, packet_at, packet_of, OwnerValue, submission_of, answers_of, futures_of, entered_call, KnowsAnswers, IsOwner, is_known_call, is_sent as owner_is_sent, is_ready as owner_is_ready, first_ready as owner_first_ready}
+use Rattle.act_rules.specs.Submissions.{settle}
+use Rattle.act_owner.specs.Owner.{call_at, numbered_call, packet_at, packet_for, OwnerView, submission_of, answers_of, futures_of_args, entered_call, KnowsAnswers, IsOwner, is_known_call, is_sent as owner_is_sent, is_ready as owner_is_ready, first_ready as owner_first_ready}
 use Rattle.act_owner.proofs.Calls.{set_last}
 
 -- one caller, seen through its parts
-abbrev pub seen : ℕ → List Handle → List Call → List Row → List Entered → List Bool → List (ℕ × Option ℕ) → OwnerValue
+abbrev pub seen : ℕ → List Handle → List Call → List Row → List Entered → List Bool → List (ℕ × Option ℕ) → OwnerView
 seen id handles calls rows entered dead limits = record { id = id; handles = handles; calls = map submission_of calls; sent = map (λ call. call.sent) entered; kept = answers_of rows; dead = dead; limits = limits }
 
 -- ---- a change of one call
@@ -62,33 +62,33 @@ told_same : (k : ℕ) (entered : List Entered) (rows : List Row) → KnowsAnswer
 told_same k entered rows told =
     is_told-read k entered ∙ ap (λ (flags : List Bool). unwrap_or (slice_get flags k) false) told ∙ sym (is_answered-read k rows)
 
-pub sent_same : (k : ℕ) (entered : List Entered) → is_sent entered k ≡ unwrap_or (slice_get (map (λ call. call.sent) entered) k) false
+pub sent_same : (k : ℕ) (entered : List Entered) → is_marked_sent entered k ≡ unwrap_or (slice_get (map (λ call. call.sent) entered) k) false
 sent_same k entered =
     rw (slice_get-map (λ (call : Entered). call.sent) entered k)
     (elim (slice_get entered k) as (λ found. option_map_or (λ (call : Entered). call.sent) found false ≡ unwrap_or (option_map (λ (call : Entered). call.sent) found) false) [ None ↦ refl | Some call ↦ refl ])
 
 -- ---- what a call waits for
 
-args_same : (entered : List Entered) (kept : List (Option Answer)) → ((k : ℕ) → is_answered entered k ≡ is_some (kept_at kept k)) → (args : List Arg) → list_all (is_answered entered) (futures_of args) ≡ list_all (is_known_arg kept) args
+args_same : (entered : List Entered) (kept : List (Option Answer)) → ((k : ℕ) → is_answered entered k ≡ is_some (kept_at kept k)) → (args : List Arg) → list_all (is_answered entered) (futures_of_args args) ≡ list_all (is_known_arg kept) args
 args_same entered kept same [] = refl
 args_same entered kept same (Plain value ∷ args) = args_same entered kept same args
 args_same entered kept same (Fut k ∷ args) =
-    ap (λ told. told && list_all (is_answered entered) (futures_of args)) (same k)
+    ap (λ told. told && list_all (is_answered entered) (futures_of_args args)) (same k)
     ∙ ap (λ rest. is_some (kept_at kept k) && rest) (args_same entered kept same args)
 
-is_known-read : (k : ℕ) (entered : List Entered) → is_known entered k ≡ option_map_or (list_all (is_answered entered)) (slice_get (map (λ call. call.futures) entered) k) false
+is_known-read : (k : ℕ) (entered : List Entered) → is_told entered k ≡ option_map_or (list_all (is_answered entered)) (slice_get (map (λ call. call.futures) entered) k) false
 is_known-read k entered =
     rw (slice_get-map (λ (call : Entered). call.futures) entered k)
     (elim (slice_get entered k) as (λ found. option_map_or (λ (call : Entered). list_all (is_answered entered) call.futures) found false ≡ option_map_or (list_all (is_answered entered)) (option_map (λ (call : Entered). call.futures) found) false) [ None ↦ refl | Some call ↦ refl ])
 
 -- the resolver knows a call exactly where all its future arguments have an answer
-pub known_same : (k id : ℕ) (handles : List Handle) (calls : List Call) (rows : List Row) (entered : List Entered) (dead : List Bool) (limits : List (ℕ × Option ℕ)) → IsOwner handles calls rows entered → is_known entered k ≡ is_known_call (seen id handles calls rows entered dead limits) (slice_get (map submission_of calls) k)
+pub known_same : (k id : ℕ) (handles : List Handle) (calls : List Call) (rows : List Row) (entered : List Entered) (dead : List Bool) (limits : List (ℕ × Option ℕ)) → IsOwner handles calls rows entered → is_told entered k ≡ is_known_call (seen id handles calls rows entered dead limits) (slice_get (map submission_of calls) k)
 known_same k id handles calls rows entered dead limits fine =
     let owner = seen id handles calls rows entered dead limits in
     is_known-read k entered
     ∙ ap (λ (lists : List (List ℕ)). option_map_or (list_all (is_answered entered)) (slice_get lists k) false) fine.waits
-    ∙ rw (slice_get-map (λ (call : Call). futures_of call.args) calls k, slice_get-map submission_of calls k)
-    (elim (slice_get calls k) as (λ found. option_map_or (list_all (is_answered entered)) (option_map (λ (call : Call). futures_of call.args) found) false ≡ is_known_call owner (option_map submission_of found)) [
+    ∙ rw (slice_get-map (λ (call : Call). futures_of_args call.args) calls k, slice_get-map submission_of calls k)
+    (elim (slice_get calls k) as (λ found. option_map_or (list_all (is_answered entered)) (option_map (λ (call : Call). futures_of_args call.args) found) false ≡ is_known_call owner (option_map submission_of found)) [
       | None ↦ refl
       | Some call ↦ args_same entered (answers_of rows) (λ j. told_same j entered rows fine.told) call.args
     ])
@@ -98,10 +98,10 @@ known_same k id handles calls rows entered dead limits fine =
 and_same : (a b c d e f : Bool) → a ≡ d → b ≡ e → c ≡ f → (a && not b && not c) ≡ (d && not e && not f)
 and_same a b c d e f first second third = cc
 
-ready_at_same : (k id : ℕ) (handles : List Handle) (calls : List Call) (rows : List Row) (entered : List Entered) (dead : List Bool) (limits : List (ℕ × Option ℕ)) → IsOwner handles calls rows entered → is_ready entered k ≡ owner_is_ready (seen id handles calls rows entered dead limits) k
+ready_at_same : (k id : ℕ) (handles : List Handle) (calls : List Call) (rows : List Row) (entered : List Entered) (dead : List Bool) (limits : List (ℕ × Option ℕ)) → IsOwner handles calls rows entered → is_next_ready entered k ≡ owner_is_ready (seen id handles calls rows entered dead limits) k
 ready_at_same k id handles calls rows entered dead limits fine =
     let owner = seen id handles calls rows entered dead limits in
-    and_same (is_known entered k) (is_sent entered k) (is_answered entered k) (is_known_call owner (slice_get owner.calls k)) (owner_is_sent owner k) (is_some (kept_at owner.kept k))
+    and_same (is_told entered k) (is_marked_sent entered k) (is_answered entered k) (is_known_call owner (slice_get owner.calls k)) (owner_is_sent owner k) (is_some (kept_at owner.kept k))
     (known_same k id handles calls rows entered dead limits fine) (sent_same k entered) (told_same k entered rows fine.told)
 
 find_same : (p q : ℕ → Bool) → ((k : ℕ) → p k ≡ q k) → (ks : List ℕ) → find p ks ≡ find q ks
@@ -112,18 +112,18 @@ find_same p q same (k ∷ ks) =
 -- as many calls were entered as submitted
 entered_all : (handles : List Handle) (calls : List Call) (rows : List Row) (entered : List Entered) → IsOwner handles calls rows entered → length entered ≡ length calls
 entered_all handles calls rows entered fine =
-    sym (length-map entered (λ (call : Entered). call.futures)) ∙ ap length fine.waits ∙ length-map calls (λ (call : Call). futures_of call.args)
+    sym (length-map entered (λ (call : Entered). call.futures)) ∙ ap length fine.waits ∙ length-map calls (λ (call : Call). futures_of_args call.args)
 
-pub first_ready_same : (id : ℕ) (handles : List Handle) (calls : List Call) (rows : List Row) (entered : List Entered) (dead : List Bool) (limits : List (ℕ × Option ℕ)) → IsOwner handles calls rows entered → first_ready entered ≡ owner_first_ready (seen id handles calls rows entered dead limits)
+pub first_ready_same : (id : ℕ) (handles : List Handle) (calls : List Call) (rows : List Row) (entered : List Entered) (dead : List Bool) (limits : List (ℕ × Option ℕ)) → IsOwner handles calls rows entered → least_ready entered ≡ owner_first_ready (seen id handles calls rows entered dead limits)
 first_ready_same id handles calls rows entered dead limits fine =
     let owner = seen id handles calls rows entered dead limits in
-    find_same (is_ready entered) (owner_is_ready owner) (λ k. ready_at_same k id handles calls rows entered dead limits fine) (range_with_len 0 (length entered))
+    find_same (is_next_ready entered) (owner_is_ready owner) (λ k. ready_at_same k id handles calls rows entered dead limits fine) (range_with_len 0 (length entered))
     ∙ ap (λ n. find (owner_is_ready owner) (range_with_len 0 n)) (entered_all handles calls rows entered fine ∙ sym (length-map calls submission_of))
 
 -- ---- a call as it enters
 
 -- the futures among the arguments are earlier ones
-pub all_earlier : (count : ℕ) (args : List Arg) → list_all (is_earlier count) args ≡ true → All (λ future. future < count) (futures_of args)
+pub all_earlier : (count : ℕ) (args : List Arg) → list_all (is_earlier count) args ≡ true → All (λ future. future < count) (futures_of_args args)
 all_earlier count [] earlier k d below = absurd (omega arith)
 all_earlier count (Plain value ∷ args) earlier k d below = all_earlier count args earlier k d below
 all_earlier count (Fut j ∷ args) earlier zero d below =
@@ -133,13 +133,13 @@ all_earlier count (Fut j ∷ args) earlier (suc k) d below =
     all_earlier count args (and_parts (nat_lt j count) (list_all (is_earlier count) args) earlier).1 k d (omega arith)
 
 -- a call that is told as it enters
-pub told_last : (k : ℕ) (args : List Arg) (is_dead : Bool) (futures : List ℕ) (entered entered1 entered2 : List Entered) → k ≡ length entered → futures ≡ futures_of args → is_dead ≡ true → entered1 ≡ entered ++ new_call futures ∷ [] → entered2 ≡ with_answered entered1 k → entered2 ≡ entered ++ entered_call args is_dead ∷ []
+pub told_last : (k : ℕ) (args : List Arg) (is_dead : Bool) (futures : List ℕ) (entered entered1 entered2 : List Entered) → k ≡ length entered → futures ≡ futures_of_args args → is_dead ≡ true → entered1 ≡ entered ++ new_call futures ∷ [] → entered2 ≡ with_told entered1 k → entered2 ≡ entered ++ entered_call args is_dead ∷ []
 told_last k args is_dead futures entered entered1 entered2 last same dead one two =
     let first : Entered = new_call futures in
     let new : Entered = record { futures = futures; answered = true; sent = false } in
     two
-    ∙ ap (λ calls. with_answered calls k) one
-    ∙ ap (with_answered (entered ++ first ∷ [])) last
+    ∙ ap (λ calls. with_told calls k) one
+    ∙ ap (with_told (entered ++ first ∷ [])) last
     ∙ ap (λ found. option_map_or (λ (call : Entered). slice_set (entered ++ first ∷ []) (length entered) (record call { answered = true })) found (entered ++ first ∷ [])) (slice_get_last entered first)
     ∙ set_last entered first new
     ∙ ap (λ (fs : List ℕ). entered ++ record { futures = fs; answered = true; sent = false } ∷ []) same
@@ -159,13 +159,13 @@ first_of_three : (a b c : Bool) → (a && not b && not c) ≡ true → a ≡ tru
 first_of_three true b c is = refl
 first_of_three false b c is = absurd (cc is)
 
-ready_is_known : (owner : OwnerValue) (k : ℕ) → owner_first_ready owner ≡ Some k → is_known_call owner (slice_get owner.calls k) ≡ true
+ready_is_known : (owner : OwnerView) (k : ℕ) → owner_first_ready owner ≡ Some k → is_known_call owner (slice_get owner.calls k) ≡ true
 ready_is_known owner k ready =
     first_of_three (is_known_call owner (slice_get owner.calls k)) (owner_is_sent owner k) (is_some (kept_at owner.kept k))
     (find_true (owner_is_ready owner) (range_with_len 0 (length owner.calls)) k ready)
 
 -- a call that is ready was submitted
-pub ready_is_there : (owner : OwnerValue) (k : ℕ) → owner_first_ready owner ≡ Some k → call_at owner.calls k ≡ None → ⊥
+pub ready_is_there : (owner : OwnerView) (k : ℕ) → owner_first_ready owner ≡ Some k → call_at owner.calls k ≡ None → ⊥
 ready_is_there owner k ready none = go (slice_get owner.calls k) refl (ready_is_known owner k ready)
   where
     go : (found : Option Submission) → slice_get owner.calls k ≡ found → is_known_call owner found ≡ true → ⊥
@@ -173,11 +173,11 @@ ready_is_there owner k ready none = go (slice_get owner.calls k) refl (ready_is_
     go (Some call) is known = cc (sym none ∙ ap (option_map (numbered_call owner.calls k)) is)
 
 -- the packet of a call that was submitted
-pub packet_is : (owner : OwnerValue) (k : ℕ) (call : Call) → Some call ≡ call_at owner.calls k →
-    packet_at owner k ≡ Some (record { caller = owner.id; actor = call.actor; number = call.number; future = k; method = call.method; args = map (settled owner.kept) call.args })
+pub packet_is : (owner : OwnerView) (k : ℕ) (call : Call) → Some call ≡ call_at owner.calls k →
+    packet_at owner k ≡ Some (record { caller = owner.id; actor = call.actor; number = call.number; future = k; method = call.method; args = map (settle owner.kept) call.args })
 packet_is owner k call is = go (slice_get owner.calls k) is
   where
     go : (found : Option Submission) → Some call ≡ option_map (numbered_call owner.calls k) found →
-        option_map (packet_of owner k) found ≡ Some (record { caller = owner.id; actor = call.actor; number = call.number; future = k; method = call.method; args = map (settled owner.kept) call.args })
+        option_map (packet_for owner k) found ≡ Some (record { caller = owner.id; actor = call.actor; number = call.number; future = k; method = call.method; args = map (settle owner.kept) call.args })
     go None is = absurd (cc is)
     go (Some found) is = let same : call ≡ numbered_call owner.calls k found = cc is in rw same refl

@@ -2,11 +2,11 @@
 
 ghost use Rattle.std.specs.Prelude.{◌≡◌, map, IfOk};
 ghost use Rattle.std.specs.List.{list_all};
-ghost use Rattle.act_rules.specs.Submissions.{is_earlier, settled};
+ghost use Rattle.act_rules.specs.Submissions.{is_earlier, settle};
 ghost use Rattle.act_owner.specs.Owner.{answers_of};
 
 use act_replies::ReplyTable;
-use act_types::{Arg, CopyOf, FewOf, ListOf, NoMemory, Settled};
+use act_types::{Arg, CopyOf, ListOf, NoMemory, Settled, SmallList};
 use std::alloc::Global;
 
 /// Whether the argument is a value or one of the first `count` futures.
@@ -28,7 +28,7 @@ pub(crate) fn are_earlier(args: &ListOf<Arg>, count: u32) -> bool
 
 /// What is sent for an argument that has its answer.
 fn settled(alloc: Global, arg: &Arg, table: &ReplyTable) -> Result<Settled, NoMemory>
-    ensures { IfOk result (λ sent. sent ≡ settled (answers_of table.now.rows) arg.now) }
+    ensures { IfOk result (λ sent. sent ≡ settle (answers_of table.now.rows) arg.now) }
 {
     match arg {
         Arg::Plain(value) => Ok(Settled::Good(value.copy_of(alloc)?)),
@@ -44,10 +44,10 @@ pub(crate) fn all_settled(
     alloc: Global,
     args: &ListOf<Arg>,
     table: &ReplyTable,
-) -> Result<FewOf<Settled>, NoMemory>
-    ensures { IfOk result (λ sent. sent ≡ map (settled (answers_of table.now.rows)) args.now) }
+) -> Result<SmallList<Settled>, NoMemory>
+    ensures { IfOk result (λ sent. sent ≡ map (settle (answers_of table.now.rows)) args.now) }
 {
-    let mut sent = FewOf::with_capacity(alloc, args.len())?;
+    let mut sent = SmallList::with_capacity(alloc, args.len())?;
     for arg in args.as_slice() {
         sent.push(settled(alloc, arg, table)?)?;
     }

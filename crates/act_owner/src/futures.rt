@@ -3,17 +3,17 @@
 ghost use Rattle.std.specs.Prelude.{◌≡◌, ◌≤◌, ◌<◌, ◌++◌, ◌∷◌, [], true, length, map, count_by};
 ghost use Rattle.std.specs.List.{list_all};
 ghost use Rattle.act_rules.specs.Submissions.{is_earlier};
-ghost use Rattle.act_replies.specs.Table.{waits_for, after_death};
-ghost use Rattle.act_owner.specs.Owner.{futures_of, answered_row, entered_call, KnowsAnswers};
+ghost use Rattle.act_replies.specs.Table.{row_waits_for, rows_after_death};
+ghost use Rattle.act_owner.specs.Owner.{futures_of_args, answered_row, entered_call, KnowsAnswers};
 
 use act_replies::ReplyTable;
 use act_resolver::{Futures, Resolver};
-use act_types::{ActorId, Arg, Fault, FutureId, ListOf, MOST_ARGS, MOST_CALLS};
+use act_types::{ActorId, Arg, Fault, FutureId, ListOf, MAX_ARGS, MAX_CALLS};
 
 /// The futures among the arguments of a call.
 fn futures_of(args: &ListOf<Arg>) -> Futures
-    requires { length args.now ≤ MOST_ARGS }
-    ensures { result ≡ futures_of args.now }
+    requires { length args.now ≤ MAX_ARGS }
+    ensures { result ≡ futures_of_args args.now }
 {
     let mut futures = Futures::new(&[]);
     for arg in args.as_slice() {
@@ -29,7 +29,7 @@ fn futures_of(args: &ListOf<Arg>) -> Futures
 pub(crate) fn enter_call(resolver: &mut Resolver, k: FutureId, args: &ListOf<Arg>, is_dead: bool)
     requires room { 1 ≤ resolver.old.spare }
     requires next { k ≡ length resolver.old.calls }
-    requires few { length args.now ≤ MOST_ARGS }
+    requires few { length args.now ≤ MAX_ARGS }
     requires earlier { list_all (is_earlier k) args.now ≡ true }
     ensures { resolver.new.calls ≡ resolver.old.calls ++ entered_call args.now is_dead ∷ [] }
 {
@@ -43,7 +43,7 @@ pub(crate) fn enter_call(resolver: &mut Resolver, k: FutureId, args: &ListOf<Arg
 /// Adds a future of the actor, which is answered at once where the actor is dead.
 pub(crate) fn enter(table: &mut ReplyTable, a: ActorId, is_dead: bool) -> FutureId
     requires room { 1 ≤ table.old.spare }
-    requires limit { length table.old.rows < MOST_CALLS }
+    requires limit { length table.old.rows < MAX_CALLS }
     ensures value { result ≡ length table.old.rows }
     ensures rows { table.new.rows ≡ table.old.rows ++ answered_row a is_dead ∷ [] }
 {
@@ -58,9 +58,9 @@ pub(crate) fn enter(table: &mut ReplyTable, a: ActorId, is_dead: bool) -> Future
 /// it, and gives their number. It passes over no other call.
 pub(crate) fn answer_death(table: &mut ReplyTable, resolver: &mut Resolver, a: ActorId) -> u32
     requires told { KnowsAnswers resolver.old.calls table.old.rows }
-    ensures value { result ≡ count_by (waits_for a) table.old.rows }
-    ensures rows { table.new.rows ≡ after_death a table.old.rows }
-    ensures told { KnowsAnswers resolver.new.calls (after_death a table.old.rows) }
+    ensures value { result ≡ count_by (row_waits_for a) table.old.rows }
+    ensures rows { table.new.rows ≡ rows_after_death a table.old.rows }
+    ensures told { KnowsAnswers resolver.new.calls (rows_after_death a table.old.rows) }
     ensures futures { map (λ call. call.futures) resolver.new.calls ≡ map (λ call. call.futures) resolver.old.calls }
     ensures sent { map (λ call. call.sent) resolver.new.calls ≡ map (λ call. call.sent) resolver.old.calls }
 {

@@ -4,9 +4,9 @@ ghost use Rattle.std.specs.Prelude.{◌≡◌, ◌≢◌, ◌==◌, ℕ, ◌≤�
 ghost use Rattle.std.specs.List.{list_all, list_any};
 ghost use Rattle.act_rules.specs.declared.outcome.SubmitRefusal.TheVariants.{NoMemory as NoRoom};
 ghost use Rattle.act_rules.specs.declared.outcome.SendRefusal.TheVariants.{NoMemory as NoRoomToSend};
-ghost use Rattle.act_rules.specs.Submissions.{calls_to, copies_held, handle_refusal, limit_refusal, kept_at, settled};
-ghost use Rattle.act_handles.specs.Handles.{copies_in, given_in, copied, with_copy, without_copy};
-ghost use Rattle.act_owner.specs.Owner.{OwnerValue, answers_of, opened, opened_under, opened_with, limit_of, pending, with_handles, release_told, kill_told, submission_refusal, with_call, call_at, is_sent, is_dead, sending_refusal, packet_at, address_at, with_sent, is_known_call, first_ready, is_to, is_death, is_of_call, collected_reply, after_reply, collected_death, after_death, collected, after_collect, waits_for, KnowsDeath};
+ghost use Rattle.act_rules.specs.Submissions.{calls_to, copies_held, handle_refusal, limit_refusal, kept_at, settle};
+ghost use Rattle.act_handles.specs.Handles.{copies_in, given_in, copy_answer, with_copy, without_copy};
+ghost use Rattle.act_owner.specs.Owner.{OwnerView, answers_of, open_owner, opened_under, opened_with, owner_limit, pending, with_handles, release_told, kill_told, refusal_to_submit, with_submission, call_at, is_sent, is_known_dead, sending_refusal, packet_at, address_at, with_sent, is_known_call, first_ready, is_to, is_death, is_of_call, collected_reply, after_reply, collected_death, owner_after_death, collect_result, after_collect, call_waits_for, KnowsDeath};
 ghost use Rattle.act_types.specs.declared.message.Notice.TheVariants.{Death};
 
 use crate::args::{all_settled, are_earlier};
@@ -16,8 +16,8 @@ use act_replies::ReplyTable;
 use act_resolver::Resolver;
 use act_rules::{SendRefusal, SubmitRefusal};
 use act_types::{
-    ActorId, Answer, Arg, CallerId, Fault, FutureId, KillNote, ListOf, MOST_ARGS, MOST_CALLS,
-    Method, NoMemory, Notice, Packet, ReleaseNote, Reply,
+    ActorId, Answer, Arg, CallerId, Fault, FutureId, KillNote, ListOf, MAX_ARGS, MAX_CALLS, Method,
+    NoMemory, Notice, Packet, ReleaseNote, Reply,
 };
 use std::alloc::Global;
 use std::marker::Model;
@@ -64,10 +64,10 @@ pub struct Owner {
 }
 
 impl Model for Owner {
-    ghost use Rattle.act_owner.specs.Owner.{OwnerValue, submission_of, answers_of, IsOwner};
+    ghost use Rattle.act_owner.specs.Owner.{OwnerView, submission_of, answers_of, IsOwner};
     ghost use Rattle.std.specs.Prelude.{map};
 
-    ghost Value = { OwnerValue };
+    ghost Value = { OwnerView };
 
     ghost view = { λ owner. record {
       id = owner.id;
@@ -139,7 +139,7 @@ fn packet_with(
       number = call.now.number;
       future = k;
       method = call.now.method;
-      args = map (settled (answers_of table.now.rows)) call.now.args;
+      args = map (settle (answers_of table.now.rows)) call.now.args;
     }) }
 {
     let args = all_settled(alloc, &call.args, table)?;
@@ -179,7 +179,7 @@ impl Owner {
     /// Nothing limits how many of its calls may have no answer yet.
     pub fn open(alloc: Global, id: CallerId, actors: &[ActorId]) -> Result<Owner, NoMemory>
         requires distinct { AllPairs (λ one other. one ≢ other) actors.now }
-        ensures { IfOk result (λ owner. owner ≡ opened id actors.now) }
+        ensures { IfOk result (λ owner. owner ≡ open_owner id actors.now) }
     {
         Owner::opened_under(alloc, Vec::new(alloc), id, actors)
     }
@@ -218,7 +218,7 @@ impl Owner {
 
     /// Adds a copy of the actor's handle and gives their number. An `Err` changes nothing.
     pub fn copy(&mut self, a: ActorId) -> Result<u32, HandleRefusal>
-        ensures value { result ≡ copied a self.old.handles }
+        ensures value { result ≡ copy_answer a self.old.handles }
         ensures ok { OnOk result (self.new ≡ with_handles self.old (with_copy a self.old.handles)) }
         ensures err { OnErr result (self.new ≡ self.old) }
     {
@@ -260,7 +260,7 @@ impl Owner {
     /// How many calls were submitted.
     pub fn count(&self) -> u32
         ensures value { result ≡ length self.now.calls }
-        ensures limit { result ≤ MOST_CALLS }
+        ensures limit { result ≤ MAX_CALLS }
     {
         self.calls.len() as u32
     }
@@ -299,14 +299,14 @@ impl Owner {
     /// How many calls of the actor may have no answer yet, as the caller was opened with it: none
     /// where nothing limits them, or the actor is not one of this caller's. It takes no memory.
     pub fn limit(&self, a: ActorId) -> Option<u32>
-        ensures { result ≡ limit_of self.now a }
+        ensures { result ≡ owner_limit self.now a }
     {
         limit_in(self.limits.as_slice(), a)
     }
 
     /// Why the actor's limit would refuse one call more.
     fn limit_refusal(&self, a: ActorId) -> Option<SubmitRefusal>
-        ensures { result ≡ limit_refusal (limit_of self.now a) (pending self.now a) }
+        ensures { result ≡ limit_refusal (owner_limit self.now a) (pending self.now a) }
     {
         let limit = self.limit(a)?;
         if self.pending(a) < limit {
@@ -318,7 +318,7 @@ impl Owner {
     /// Whether a call of the actor has no answer yet. It is known without a search.
     #[tactic(auto, using(crate::proofs::Answers::any_counted))]
     pub fn awaits(&self, a: ActorId) -> bool
-        ensures { result ≡ list_any (waits_for a) (zip self.now.calls self.now.kept) }
+        ensures { result ≡ list_any (call_waits_for a) (zip self.now.calls self.now.kept) }
     {
         self.pending(a) > 0
     }
@@ -336,7 +336,7 @@ impl Owner {
     /// Whether the actor's death was collected. It never was where the actor is not one of this
     /// caller's.
     pub fn is_dead(&self, a: ActorId) -> bool
-        ensures { result ≡ is_dead self.now a }
+        ensures { result ≡ is_known_dead self.now a }
     {
         let number = a.number();
         self.dead[number as usize]
@@ -356,24 +356,24 @@ impl Owner {
 
     /// Why a call of the actor would not be submitted, memory apart.
     pub fn submission_refusal(&self, a: ActorId, args: &ListOf<Arg>) -> Option<SubmitRefusal>
-        ensures { result ≡ submission_refusal self.now a args.now }
+        ensures { result ≡ refusal_to_submit self.now a args.now }
     {
         let count = self.calls.len() as u32;
         match self.handles.refusal(a) {
             Some(HandleRefusal::NoActor) => Some(SubmitRefusal::NoActor),
             Some(_) => Some(SubmitRefusal::NoHandle),
-            None if args.len() > MOST_ARGS => Some(SubmitRefusal::TooManyArgs),
+            None if args.len() > MAX_ARGS => Some(SubmitRefusal::TooManyArgs),
             None if !are_earlier(args, count) => Some(SubmitRefusal::BadFuture),
-            None if count >= MOST_CALLS => Some(SubmitRefusal::TooManyCalls),
+            None if count >= MAX_CALLS => Some(SubmitRefusal::TooManyCalls),
             None => self.limit_refusal(a),
         }
     }
 
     /// Adds a call that nothing refuses.
     fn add(&mut self, a: ActorId, method: Method, args: ListOf<Arg>) -> Result<FutureId, NoMemory>
-        requires accepted { submission_refusal self.old a args ≡ None }
+        requires accepted { refusal_to_submit self.old a args ≡ None }
         ensures future { IfOk result (λ k. k ≡ length self.old.calls) }
-        ensures ok { OnOk result (self.new ≡ with_call self.old a method args) }
+        ensures ok { OnOk result (self.new ≡ with_submission self.old a method args) }
         ensures err { OnErr result (self.new ≡ self.old) }
     {
         self.calls.reserve(1)?;
@@ -409,9 +409,9 @@ impl Owner {
         args: ListOf<Arg>,
     ) -> Result<FutureId, SubmitRefusal>
         ensures future { IfOk result (λ k. k ≡ length self.old.calls) }
-        ensures accepted { OnOk result (submission_refusal self.old a args ≡ None) }
-        ensures ok { OnOk result (self.new ≡ with_call self.old a method args) }
-        ensures refusal { IfErr result (λ refusal. refusal ≡ unwrap_or (submission_refusal self.old a args) NoRoom) }
+        ensures accepted { OnOk result (refusal_to_submit self.old a args ≡ None) }
+        ensures ok { OnOk result (self.new ≡ with_submission self.old a method args) }
+        ensures refusal { IfErr result (λ refusal. refusal ≡ unwrap_or (refusal_to_submit self.old a args) NoRoom) }
         ensures err { OnErr result (self.new ≡ self.old) }
     {
         if let Some(refusal) = self.submission_refusal(a, &args) {
@@ -592,7 +592,7 @@ impl Owner {
 
     /// What a notice would become. It takes no memory.
     pub fn collected(&self, notice: &Notice) -> Collected
-        ensures { result ≡ collected self.now notice.now }
+        ensures { result ≡ collect_result self.now notice.now }
     {
         match notice {
             Notice::Answered(reply) => self.collected_reply(reply),
@@ -618,7 +618,7 @@ impl Owner {
 
     fn collect_death(&mut self, a: ActorId) -> Collected
         ensures value { result ≡ collected_death self.old a }
-        ensures after { self.new ≡ after_death self.old a }
+        ensures after { self.new ≡ owner_after_death self.old a }
         ensures known { KnowsDeath (Death a) self.old self.new }
     {
         if !self.is_listed(a) {
@@ -631,7 +631,7 @@ impl Owner {
     /// Takes what an actor's side tells. A reply's answer is kept where its future has none yet,
     /// and a death is the answer of each of its actor's futures that has none. It takes no memory.
     pub fn collect(&mut self, notice: Notice) -> Collected
-        ensures value { result ≡ collected self.old notice }
+        ensures value { result ≡ collect_result self.old notice }
         ensures after { self.new ≡ after_collect self.old notice }
         ensures known { KnowsDeath notice self.old self.new }
     {

@@ -5,4 +5,4 @@ pub mod Numbers
 pub mod Roles
 pub mod Keys
 pub mod Matching
-pub mod Castings
+pub mod ActorSpecs

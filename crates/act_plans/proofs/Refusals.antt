@@ -10,15 +10,15 @@ use Rattle.act_types.specs.declared.call.Arg.{Arg}
 use Rattle.act_rules.specs.declared.outcome.HandleRefusal.{HandleRefusal}
 use Rattle.act_rules.specs.declared.script.Step.{Step}
 use Rattle.act_rules.specs.declared.script.Step.TheVariants.{Submit, Copy, Release}
-use Rattle.act_rules.specs.Plans.{Progress, nothing_done, holds, stepped, is_refused, first_bad, first_bad_from}
+use Rattle.act_rules.specs.Plans.{Progress, nothing_done, holds, do_step, is_refused, first_bad, first_bad_from}
 use Rattle.act_rules.specs.Submissions.{copies_held, copy_refusal, handle_refusal, submit_refusal, is_earlier}
 use Rattle.act_rules.proofs.Ended.{needs-none}
 use Rattle.act_handles.specs.declared.handles.Handle.{Handle}
-use Rattle.act_handles.specs.Handles.{is_of, changed, opened, copies_in, given_of_all, with_copy, with_number, without_copy, number_refusal, or_else, copied, numbered, released}
+use Rattle.act_handles.specs.Handles.{is_of, change_handle, new_handle, copies_in, given_of_all, with_copy, with_number, without_copy, number_refusal, or_else, copy_answer, number_answer, release_answer}
 use Rattle.act_handles.proofs.Lookups.{copies-opened, given_of_all-opened, copies-with_number}
 use Rattle.act_handles.proofs.Copies.{release_copies, copy_copies}
-use Rattle.act_plans.specs.declared.draft.Draft.{Draft}
-use Rattle.act_plans.specs.Drafts.{IsAfter, GoesOn}
+use Rattle.act_plans.specs.declared.plan_checker.PlanChecker.{PlanChecker}
+use Rattle.act_plans.specs.PlanChecks.{IsAfter, ChecksStep}
 
 -- ---- what was not refused
 
@@ -52,16 +52,16 @@ chosen_given true one other same = same
 chosen_given false one other same = refl
 
 given_from : (a : ℕ) (change : Handle → Handle) → ((handle : Handle) → (change handle).given ≡ handle.given) → (n : ℕ) (handles : List Handle)
-    → fold (λ sum (handle : Handle). sum + handle.given) n (changed a change handles) ≡ fold (λ sum (handle : Handle). sum + handle.given) n handles
+    → fold (λ sum (handle : Handle). sum + handle.given) n (change_handle a change handles) ≡ fold (λ sum (handle : Handle). sum + handle.given) n handles
 given_from a change same n [] = refl
 given_from a change same n (handle ∷ handles) =
-    ap (λ given. fold (λ sum (handle : Handle). sum + handle.given) (n + given) (changed a change handles)) (chosen_given (is_of a handle) (change handle) handle (same handle))
+    ap (λ given. fold (λ sum (handle : Handle). sum + handle.given) (n + given) (change_handle a change handles)) (chosen_given (is_of a handle) (change handle) handle (same handle))
     ∙ given_from a change same (n + handle.given) handles
 
 -- ---- a submission
 
-pub submit_on : (a : ℕ) (method : Method) (args : List Arg) (old new : Draft) (answer : Result ℕ HandleRefusal) → length args ≤ 4 → list_all (is_earlier old.count) args ≡ true → answer ≡ numbered a old.handles → is_err answer ≡ false
-    → OnOk answer (new.handles ≡ with_number a old.handles) → OnOk answer (given_of_all new.handles ≡ given_of_all old.handles + 1) → new.count ≡ old.count + 1 → GoesOn true (Submit a method args) old new
+pub submit_on : (a : ℕ) (method : Method) (args : List Arg) (old new : PlanChecker) (answer : Result ℕ HandleRefusal) → length args ≤ 4 → list_all (is_earlier old.count) args ≡ true → answer ≡ number_answer a old.handles → is_err answer ≡ false
+    → OnOk answer (new.handles ≡ with_number a old.handles) → OnOk answer (given_of_all new.handles ≡ given_of_all old.handles + 1) → new.count ≡ old.count + 1 → ChecksStep true (Submit a method args) old new
 submit_on a method args old new answer few earlier is ok changes counts count =
     let accepted = not_err answer ok in
     let fine : number_refusal old.handles a ≡ None = none_of _ (sym accepted ∙ ap is_ok is ∙ accepted_is (number_refusal old.handles a) _) in
@@ -85,7 +85,7 @@ submit_on a method args old new answer few earlier is ok changes counts count =
 
 -- ---- a copy and a release
 
-pub copy_on : (a : ℕ) (old new : Draft) (answer : Result ℕ HandleRefusal) → answer ≡ copied a old.handles → OnOk answer (new.handles ≡ with_copy a old.handles) → new.count ≡ old.count → GoesOn (is_ok answer) (Copy a) old new
+pub copy_on : (a : ℕ) (old new : PlanChecker) (answer : Result ℕ HandleRefusal) → answer ≡ copy_answer a old.handles → OnOk answer (new.handles ≡ with_copy a old.handles) → new.count ≡ old.count → ChecksStep (is_ok answer) (Copy a) old new
 copy_on a old new answer is changes count =
     let says : is_ok answer ≡ not (is_some (copy_refusal (copies_in a old.handles))) = ap is_ok is ∙ accepted_is (copy_refusal (copies_in a old.handles)) (copies_held (copies_in a old.handles) + 1) in
     record {
@@ -99,7 +99,7 @@ copy_on a old new answer is changes count =
           };
     }
 
-pub release_on : (a : ℕ) (old new : Draft) (answer : Result (Option ℕ) HandleRefusal) → answer ≡ released a old.handles → OnOk answer (new.handles ≡ without_copy a old.handles) → new.count ≡ old.count → GoesOn (is_ok answer) (Release a) old new
+pub release_on : (a : ℕ) (old new : PlanChecker) (answer : Result (Option ℕ) HandleRefusal) → answer ≡ release_answer a old.handles → OnOk answer (new.handles ≡ without_copy a old.handles) → new.count ≡ old.count → ChecksStep (is_ok answer) (Release a) old new
 release_on a old new answer is changes count = record {
   told = λ actors p after. ap is_ok is ∙ accepted_is (handle_refusal (copies_in a old.handles)) _ ∙ ap (λ copies. not (is_some (handle_refusal copies))) (after.copies a);
   after = λ actors p after accepted.
@@ -113,11 +113,11 @@ release_on a old new answer is changes count = record {
 -- ---- the first step that is refused
 
 -- what is known after the first steps of a plan: they were accepted, and the first refused one stands among the rest
-abbrev pub HasPassed : List ℕ → List Step → ℕ → Draft → Type 0
-HasPassed actors plan place draft = (p : Progress) × IsAfter actors p draft × (first_bad actors plan ≡ first_bad_from place actors p (drop place plan))
+abbrev pub HasPassed : List ℕ → List Step → ℕ → PlanChecker → Type 0
+HasPassed actors plan place plan_checker = (p : Progress) × IsAfter actors p plan_checker × (first_bad actors plan ≡ first_bad_from place actors p (drop place plan))
 
-pub begins : (actors : List ℕ) (plan : List Step) (draft : Draft) → draft.handles ≡ map opened actors → draft.count ≡ 0 → HasPassed actors plan 0 draft
-begins actors plan draft handles count = (
+pub begins : (actors : List ℕ) (plan : List Step) (plan_checker : PlanChecker) → plan_checker.handles ≡ map new_handle actors → plan_checker.count ≡ 0 → HasPassed actors plan 0 plan_checker
+begins actors plan plan_checker handles count = (
   nothing_done,
   record {
     count = count;
@@ -134,11 +134,11 @@ accepted_as : (b accepted : Bool) → accepted ≡ not b → accepted ≡ true �
 accepted_as true accepted told is = absurd (cc (told, is))
 accepted_as false accepted told is = refl
 
-pub passes : (actors : List ℕ) (plan : List Step) (place : ℕ) (step : Step) (accepted : Bool) (old new : Draft) → place < length plan → step ≡ get_or plan place step → HasPassed actors plan place old → GoesOn accepted step old new → accepted ≡ true → HasPassed actors plan (place + 1) new
+pub passes : (actors : List ℕ) (plan : List Step) (place : ℕ) (step : Step) (accepted : Bool) (old new : PlanChecker) → place < length plan → step ≡ get_or plan place step → HasPassed actors plan place old → ChecksStep accepted step old new → accepted ≡ true → HasPassed actors plan (place + 1) new
 passes actors plan place step accepted old new below is passed on ok =
     let p = passed.0 in
     let same : is_refused actors p step ≡ false = accepted_as _ accepted (on.told actors p passed.1) ok in (
-      stepped p step,
+      do_step p step,
       on.after actors p passed.1 ok,
-      passed.2 ∙ at_step actors plan place step p below is ∙ ap (λ (b : Bool). if b then Some place else first_bad_from (place + 1) actors (stepped p step) (drop (place + 1) plan)) same,
+      passed.2 ∙ at_step actors plan place step p below is ∙ ap (λ (b : Bool). if b then Some place else first_bad_from (place + 1) actors (do_step p step) (drop (place + 1) plan)) same,
     )

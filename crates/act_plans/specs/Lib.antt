@@ -1,4 +1,4 @@
 pub mod Runs
-pub mod Parts
+pub mod Setups
 pub mod Prepared
-pub mod Drafts
+pub mod PlanChecks

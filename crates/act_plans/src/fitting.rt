@@ -3,14 +3,14 @@
 ghost use Rattle.std.specs.Prelude.{◌≡◌, ◌↔◌, ◌≢◌, ◌<◌, ◌==◌, length, All, AllPairs, IsTrue};
 ghost use Rattle.std.specs.List.{list_all, list_any};
 ghost use Rattle.act_rules.specs.History.{contains};
-ghost use Rattle.act_plans.specs.Parts.{PlansFit, most_steps};
+ghost use Rattle.act_plans.specs.Setups.{PlansFit, most_steps};
 
 use crate::Plan;
 use act_actor::Cast;
 use act_types::CallerId;
 
 /// A plan has fewer steps than this.
-pub const MOST_STEPS: usize = 4_294_967_296;
+pub const MAX_STEPS: usize = 4_294_967_296;
 
 /// Whether one of the casts names the caller.
 pub(crate) fn is_named<K>(casts: &[Cast<K>], caller: CallerId) -> bool
@@ -51,7 +51,7 @@ fn are_named<K>(casts: &[Cast<K>], plans: &[(CallerId, Plan)]) -> bool
 fn are_short(plans: &[(CallerId, Plan)]) -> bool
     ensures { IsTrue result ↔ (All (λ plan. length plan.1.items < most_steps) plans.now) }
 {
-    plans.iter().all(|plan| plan.1.len() < MOST_STEPS)
+    plans.iter().all(|plan| plan.1.len() < MAX_STEPS)
 }
 
 /// Whether the callers are distinct, each is named by a cast, and no plan is too long.

@@ -1,12 +1,12 @@
 //! Who takes part in a run of threads, and what each caller does there.
 #![tactic(auto)]
 
-mod draft;
 mod fitting;
-mod part;
+mod plan_checker;
 mod rising;
+mod setup;
 
-pub use draft::{bad_step, first_bad_part};
-pub use fitting::{MOST_STEPS, plans_fit};
-pub use part::{Part, Plan};
+pub use fitting::{MAX_STEPS, plans_fit};
+pub use plan_checker::{bad_step, first_bad_setup};
 pub use rising::{Prepared, prepare};
+pub use setup::{CallerSetup, Plan};

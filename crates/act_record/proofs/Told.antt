@@ -2,14 +2,14 @@
 use Rattle.std.proofs.Common.{◌≡◌, ℕ, ◌+◌, List, Option, Some, None, Result, Ok, Err, refl, sym, subst, ◌∙◌}
 use Rattle.std.specs.Prelude.{string_bytes}
 use Rattle.std.specs.Io.KnownBytes.{Keeps, Appends}
-use Rattle.act_types.specs.declared.limits.TheConstants.{MOST_SCRIPT_BYTES}
+use Rattle.act_types.specs.declared.limits.TheConstants.{MAX_SCRIPT_BYTES}
 use Rattle.act_rules.specs.declared.event.Event.{Event}
 use Rattle.act_rules.specs.declared.script.Role.{Role}
 use Rattle.act_rules.specs.declared.script.Wrong.{Wrong}
 use Rattle.act_rules.specs.Grammar.{Script}
 use Rattle.act_console.specs.declared.fault.ConsoleFault.TheVariants as faults
 use Rattle.act_console.specs.Input.{IsWholeInput}
-use Rattle.act_console.specs.Output.{AppendsFront}
+use Rattle.act_console.specs.Output.{AppendsPrefix}
 use Rattle.act_console.specs.Threads.{spelled_threads}
 use Rattle.act_record.specs.declared.answer.Answer.{Answer}
 use Rattle.act_record.specs.declared.answer.Answer.TheVariants as answers
@@ -18,13 +18,13 @@ use Rattle.act_record.specs.declared.answer.Written.TheVariants.{Play, LongPlay}
 use Rattle.act_record.specs.declared.fault.RecordingFault.{RecordingFault}
 use Rattle.act_record.specs.declared.fault.RecordingFault.TheVariants.{Console, Unplayed}
 use Rattle.act_record.specs.Record.{IsPlay, IsWritten, IsRecordOf, IsRecorded}
-use Rattle.act_record.specs.Answer.{IsShown, IsMissing, IsAnswer, Wrote}
+use Rattle.act_record.specs.Answer.{HasShownText, IsMissing, IsAnswer, WroteRecord}
 
 -- ---- before anything is written
 
 -- the text of a play is to be written
 pub written_is : (script : Script) (roles : List Role) (events : List Event) (written : Written) (text : List ℕ)
-    → script.roles ≡ roles → IsPlay script events → IsShown written roles events text → IsWritten written script text
+    → script.roles ≡ roles → IsPlay script events → HasShownText written roles events text → IsWritten written script text
 written_is script roles events (Play source) text same is shown = record {
   play = shown.play;
   spells = shown.spells;
@@ -44,9 +44,9 @@ missed script Unplayed is = (script, refl)
 
 -- ---- what was written
 
-module _ (had left old new : Option (List ℕ)) (bytes : List ℕ) (whole : IsWholeInput (MOST_SCRIPT_BYTES + 1) had left bytes) where
+module _ (had left old new : Option (List ℕ)) (bytes : List ℕ) (whole : IsWholeInput (MAX_SCRIPT_BYTES + 1) had left bytes) where
   -- an answer was written
-  pub told : (answer : Answer) (result : Result Written RecordingFault) → IsAnswer (Ok answer) (spelled_threads bytes) → Wrote old new answer result → IsRecorded had left old new result
+  pub told : (answer : Answer) (result : Result Written RecordingFault) → IsAnswer (Ok answer) (spelled_threads bytes) → WroteRecord old new answer result → IsRecorded had left old new result
   told (answers.Play play) (Ok written) is wrote =
       (bytes, whole, is.0, is.1, string_bytes play.text, subst (λ (written : Written). IsWritten written is.0 (string_bytes play.text)) (sym wrote.0) is.2, wrote.1)
   told (answers.Play play) (Err (Console faults.Writing)) is wrote =
@@ -69,7 +69,7 @@ keeps_itself : (contents : Option (List ℕ)) → Keeps contents contents
 keeps_itself None = tt
 keeps_itself (Some bytes) = refl
 
-module _ (had left old : Option (List ℕ)) (bytes : List ℕ) (whole : IsWholeInput (MOST_SCRIPT_BYTES + 1) had left bytes) where
+module _ (had left old : Option (List ℕ)) (bytes : List ℕ) (whole : IsWholeInput (MAX_SCRIPT_BYTES + 1) had left bytes) where
   -- nothing was to be written
   pub untold : (fault : RecordingFault) → IsAnswer (Err fault) (spelled_threads bytes) → IsRecorded had left old old (Err fault)
   untold (Console faults.Memory) is = keeps_itself old

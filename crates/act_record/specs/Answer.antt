@@ -1,7 +1,7 @@
 -- What there is to be written of a script whose run is recorded, before it is written.
 use Rattle.std.specs.Prelude.{◌≡◌, ℕ, ◌<◌, List, length, Option, Result, Ok, Err, string_bytes}
 use Rattle.std.specs.Io.KnownBytes.{Appends}
-use Rattle.act_types.specs.declared.limits.TheConstants.{MOST_SCRIPT_BYTES}
+use Rattle.act_types.specs.declared.limits.TheConstants.{MAX_SCRIPT_BYTES}
 use Rattle.act_rules.specs.declared.event.Event.{Event}
 use Rattle.act_rules.specs.declared.script.Role.{Role}
 use Rattle.act_rules.specs.declared.script.Mode.TheVariants.{Play as PlayMode}
@@ -13,7 +13,7 @@ use Rattle.act_replay.specs.declared.run.RecordFault.TheVariants as records
 use Rattle.act_console.specs.declared.plans.Mark.{Mark}
 use Rattle.act_console.specs.declared.fault.ConsoleFault.TheVariants as faults
 use Rattle.act_console.specs.Plans.{HasLine, Explains}
-use Rattle.act_console.specs.Output.{AppendsFront}
+use Rattle.act_console.specs.Output.{AppendsPrefix}
 use Rattle.act_record.specs.declared.answer.Answer.{Answer}
 use Rattle.act_record.specs.declared.answer.Answer.TheVariants as answers
 use Rattle.act_record.specs.declared.answer.PlayText.{PlayText}
@@ -31,12 +31,12 @@ pub record IsReadAs (roles : List Role) (events : List Event) (text : List ℕ) 
   pub events_are : play.events ≡ events
 
 -- the text was read again, or is too long for that
-abbrev pub IsShown : Written → List Role → List Event → List ℕ → Type 0
-IsShown (Play source) roles events text = IsReadAs roles events text
-IsShown (LongPlay source) roles events text = MOST_SCRIPT_BYTES < length text
+abbrev pub HasShownText : Written → List Role → List Event → List ℕ → Type 0
+HasShownText (Play source) roles events text = IsReadAs roles events text
+HasShownText (LongPlay source) roles events text = MAX_SCRIPT_BYTES < length text
 
 abbrev pub IsTextOf : List Role → List Event → PlayText → Type 0
-IsTextOf roles events play = IsShown play.written roles events (string_bytes play.text)
+IsTextOf roles events play = HasShownText play.written roles events (string_bytes play.text)
 
 -- a fault that has nothing to do with the script
 abbrev pub IsMissing : RecordingFault → Type 0
@@ -53,10 +53,13 @@ abbrev pub IsExplained : List Mark → RecordFault → Result Script (ℕ × Wro
 IsExplained marks (records.Run fault) read = Explains marks fault read
 IsExplained marks records.Unplayed read = (script : Script) × (read ≡ Ok script)
 
--- what is to be written of what bytes spell, or why nothing is: a thread is missed, and no play found, only where the plans are good
+-- what is to be written of what bytes spell, or why nothing is: a thread is missed, and no play found, only where the
+-- plans are good
 abbrev pub IsAnswer : Result Answer RecordingFault → Result Script (ℕ × Wrong) → Type 0
-IsAnswer (Ok (answers.Play play)) read = (script : Script) × (read ≡ Ok script) × IsWritten play.written script (string_bytes play.text)
-IsAnswer (Ok (answers.Refusal text)) read = (fault : ℕ × Wrong) × (read ≡ Err fault) × (string_bytes text ≡ fault_line fault)
+IsAnswer (Ok (answers.Play play)) read = (script : Script) × (read ≡ Ok script)
+    × IsWritten play.written script (string_bytes play.text)
+IsAnswer (Ok (answers.Refusal text)) read = (fault : ℕ × Wrong) × (read ≡ Err fault)
+    × (string_bytes text ≡ fault_line fault)
 IsAnswer (Err Unplayed) read = (script : Script) × (read ≡ Ok script)
 IsAnswer (Err (Console faults.Memory)) read = Unit {0}
 IsAnswer (Err (Console faults.Thread)) read = (script : Script) × (read ≡ Ok script)
@@ -64,19 +67,21 @@ IsAnswer (Err (Console faults.Script)) read = ⊥
 IsAnswer (Err (Console faults.Reading)) read = ⊥
 IsAnswer (Err (Console faults.Writing)) read = ⊥
 
--- what was written of an answer: a play whole, and a refusal whole, which is then told as the script's fault; or a front of either
-abbrev pub Wrote : Option (List ℕ) → Option (List ℕ) → Answer → Result Written RecordingFault → Type 0
-Wrote old new (answers.Play play) (Ok written) = (written ≡ play.written) × Appends old new (string_bytes play.text)
-Wrote old new (answers.Play play) (Err (Console faults.Writing)) = AppendsFront old new (string_bytes play.text)
-Wrote old new (answers.Play play) (Err (Console faults.Script)) = ⊥
-Wrote old new (answers.Play play) (Err (Console faults.Memory)) = ⊥
-Wrote old new (answers.Play play) (Err (Console faults.Thread)) = ⊥
-Wrote old new (answers.Play play) (Err (Console faults.Reading)) = ⊥
-Wrote old new (answers.Play play) (Err Unplayed) = ⊥
-Wrote old new (answers.Refusal text) (Ok written) = ⊥
-Wrote old new (answers.Refusal text) (Err (Console faults.Script)) = Appends old new (string_bytes text)
-Wrote old new (answers.Refusal text) (Err (Console faults.Writing)) = AppendsFront old new (string_bytes text)
-Wrote old new (answers.Refusal text) (Err (Console faults.Memory)) = ⊥
-Wrote old new (answers.Refusal text) (Err (Console faults.Thread)) = ⊥
-Wrote old new (answers.Refusal text) (Err (Console faults.Reading)) = ⊥
-Wrote old new (answers.Refusal text) (Err Unplayed) = ⊥
+-- what was written of an answer: a play whole, and a refusal whole, which is then told as the script's fault; or a
+-- prefix of either
+abbrev pub WroteRecord : Option (List ℕ) → Option (List ℕ) → Answer → Result Written RecordingFault → Type 0
+WroteRecord old new (answers.Play play) (Ok written) = (written ≡ play.written)
+    × Appends old new (string_bytes play.text)
+WroteRecord old new (answers.Play play) (Err (Console faults.Writing)) = AppendsPrefix old new (string_bytes play.text)
+WroteRecord old new (answers.Play play) (Err (Console faults.Script)) = ⊥
+WroteRecord old new (answers.Play play) (Err (Console faults.Memory)) = ⊥
+WroteRecord old new (answers.Play play) (Err (Console faults.Thread)) = ⊥
+WroteRecord old new (answers.Play play) (Err (Console faults.Reading)) = ⊥
+WroteRecord old new (answers.Play play) (Err Unplayed) = ⊥
+WroteRecord old new (answers.Refusal text) (Ok written) = ⊥
+WroteRecord old new (answers.Refusal text) (Err (Console faults.Script)) = Appends old new (string_bytes text)
+WroteRecord old new (answers.Refusal text) (Err (Console faults.Writing)) = AppendsPrefix old new (string_bytes text)
+WroteRecord old new (answers.Refusal text) (Err (Console faults.Memory)) = ⊥
+WroteRecord old new (answers.Refusal text) (Err (Console faults.Thread)) = ⊥
+WroteRecord old new (answers.Refusal text) (Err (Console faults.Reading)) = ⊥
+WroteRecord old new (answers.Refusal text) (Err Unplayed) = ⊥

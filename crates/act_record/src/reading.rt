@@ -11,7 +11,7 @@ use crate::same::{same_events, same_roles};
 use act_console::{Items, Script, ScriptFault, read_script};
 use act_replay::Source;
 use act_rules::{Event, Mode, Role};
-use act_types::{MOST_SCRIPT_BYTES, NoMemory};
+use act_types::{MAX_SCRIPT_BYTES, NoMemory};
 use std::alloc::Global;
 
 /// Whether a script has these roles and these events.
@@ -52,7 +52,7 @@ pub(crate) fn text_of(
     ensures fault { IfErr result IsMissing }
 {
     let text = play_text(alloc, roles, events)?;
-    if text.len() > MOST_SCRIPT_BYTES {
+    if text.len() > MAX_SCRIPT_BYTES {
         let written = Written::LongPlay(source);
         return Ok(PlayText { text, written });
     }

@@ -4,14 +4,14 @@ ghost use Rattle.std.specs.Prelude.{◌≡◌, ◌<◌, ◌^◌, ℕ, Result, Ok
 ghost use Rattle.act_rules.specs.declared.script.Wrong.{Wrong};
 ghost use Rattle.act_rules.specs.declared.script.Mode.TheVariants.{Threads};
 ghost use Rattle.act_rules.specs.Grammar.{Script as Spelled};
-ghost use Rattle.act_rules.specs.Scripts.{role_casting, checked};
+ghost use Rattle.act_rules.specs.Scripts.{actor_spec_of, with_good_plans};
 ghost use Rattle.act_scripts.specs.Roles.{AreFitting};
 ghost use Rattle.act_scripts.specs.Spelled.{mode_of, count_of, spelled_script};
 ghost use Rattle.act_console.specs.Plans.{HasLine, Explains, first_stranger, script_of};
 ghost use Rattle.act_console.specs.Stock.{IsReady};
 ghost use Rattle.act_console.specs.Threads.{spelled_threads};
 ghost use Rattle.act_record.specs.Record.{IsPlay, IsRecorded};
-ghost use Rattle.act_record.specs.Answer.{HasLineOf, IsAnswer, IsExplained, Wrote};
+ghost use Rattle.act_record.specs.Answer.{HasLineOf, IsAnswer, IsExplained, WroteRecord};
 
 use crate::answer::{Answer, PlayText, Written};
 use crate::copied::copy_of_roles;
@@ -25,7 +25,7 @@ use act_executor::RunFault;
 use act_kinds::{Actor, Boxed};
 use act_replay::{RecordFault, Recorded, Source, run_recorded};
 use act_rules::{Event, Mode, Role, Step, Wrong};
-use act_types::{CallerId, ListOf, MOST_ACTORS, MOST_CALLERS};
+use act_types::{CallerId, ListOf, MAX_ACTORS, MAX_CALLERS};
 use std::alloc::Global;
 use std::io::{Read, Write};
 use std::sync::Wait;
@@ -89,10 +89,10 @@ fn answer_of_steps<Rt: Threads + Wait + Sync, G: Gate>(
 ) -> Result<Answer, RecordingFault>
     requires ready { IsReady ⟦<Boxed as Actor>⟧.state stock }
     requires twins { IsReady ⟦<Boxed as Actor>⟧.state twins }
-    requires roles { AreFitting (map role_casting roles) }
+    requires roles { AreFitting (map actor_spec_of roles) }
     requires few { length steps < 2 ^ 32 }
     requires known { first_stranger roles steps ≡ None }
-    ensures { IsAnswer result (checked MOST_CALLERS MOST_ACTORS (Ok (script_of roles steps))) }
+    ensures { IsAnswer result (with_good_plans MAX_CALLERS MAX_ACTORS (Ok (script_of roles steps))) }
 {
     let sorted = sort(alloc, roles.as_slice(), steps)?;
     let Sorted { plans, marks } = sorted;
@@ -121,9 +121,9 @@ fn answer_of_script<Rt: Threads + Wait + Sync, G: Gate>(
     requires ready { IsReady ⟦<Boxed as Actor>⟧.state stock }
     requires twins { IsReady ⟦<Boxed as Actor>⟧.state twins }
     requires mode { mode_of script.items ≡ Threads }
-    requires roles { AreFitting (map role_casting script.casts) }
+    requires roles { AreFitting (map actor_spec_of script.casts) }
     requires few { count_of script.items < 2 ^ 32 }
-    ensures { IsAnswer result (checked MOST_CALLERS MOST_ACTORS (Ok (spelled_script script))) }
+    ensures { IsAnswer result (with_good_plans MAX_CALLERS MAX_ACTORS (Ok (spelled_script script))) }
 {
     let Script {
         casts: roles,
@@ -162,7 +162,7 @@ fn answer_of<Rt: Threads + Wait + Sync, G: Gate>(
 
 /// Writes what there is to be written of a script. A refusal is told as the script's fault.
 fn write_answer<W: Write>(writer: &mut W, answer: Answer) -> Result<Written, RecordingFault>
-    ensures { Wrote (W.contents writer.old) (W.contents writer.new) answer result }
+    ensures { WroteRecord (W.contents writer.old) (W.contents writer.new) answer result }
 {
     match answer {
         Answer::Play(PlayText { text, written }) => {
@@ -195,7 +195,8 @@ pub fn record_script<Rt: Threads + Wait + Sync, R: Read, W: Write, G: Gate>(
 ) -> Result<Written, RecordingFault>
     requires ready { IsReady ⟦<Boxed as Actor>⟧.state stock }
     requires twins { IsReady ⟦<Boxed as Actor>⟧.state twins }
-    ensures { IsRecorded (R.remaining reader.old) (R.remaining reader.new) (W.contents writer.old) (W.contents writer.new) result }
+    ensures { IsRecorded (R.remaining reader.old) (R.remaining reader.new) (W.contents writer.old)
+        (W.contents writer.new) result }
 {
     let bytes = read_whole(alloc, reader)?;
     match answer_of(rt, alloc, stock, twins, &bytes, gate) {

@@ -7,10 +7,10 @@ use Rattle.act_rules.specs.declared.history.Submission.{Submission}
 use Rattle.act_rules.specs.RunList.{Answer}
 use Rattle.act_rules.specs.Submissions.{kept_at}
 use Rattle.act_owner.specs.declared.owner.Call.{Call}
-use Rattle.act_owner.specs.Owner.{OwnerValue, numbered_call, call_at}
+use Rattle.act_owner.specs.Owner.{OwnerView, numbered_call, call_at}
 
 -- the first calls are the same, and so are their answers
-pub record AreSameBelow (n : ℕ) (one other : OwnerValue) : Type 0 where
+pub record AreSameBelow (n : ℕ) (one other : OwnerView) : Type 0 where
   pub calls : take n one.calls ≡ take n other.calls
   pub answers : (k : ℕ) → k < n → kept_at one.kept k ≡ kept_at other.kept k
 
@@ -39,7 +39,7 @@ kept_more : (one other : List (Option Answer)) (n k : ℕ) → (k < n → kept_a
 kept_more one other n k front same below = grind arith
 
 -- so it is of one call more
-pub below_more : (one other : OwnerValue) (n k : ℕ) → k ≡ n → n < length one.calls → length one.calls ≡ length other.calls
+pub below_more : (one other : OwnerView) (n k : ℕ) → k ≡ n → n < length one.calls → length one.calls ≡ length other.calls
     → (call_at one.calls k ≡ call_at other.calls k) × (kept_at one.kept k ≡ kept_at other.kept k) → AreSameBelow n one other → AreSameBelow (n + 1) one other
 below_more one other n k is within long same front = record {
   calls = same_more one.calls other.calls n within (omega arith) front.calls (subst (λ (k : ℕ). call_at one.calls k ≡ call_at other.calls k) is same.0);

@@ -3,26 +3,26 @@ use Rattle.std.proofs.Common.{◌≡◌, ◌↔◌, ℕ, Bool, true, false, List
 use Rattle.std.specs.Prelude.{All, IsOk, IsTrue, is_some}
 use Rattle.std.proofs.lemmas.Bool.{or_parts}
 use Rattle.act_rules.specs.declared.event.Event.{Event}
-use Rattle.act_rules.specs.History.{Casting, History, opening, cast_of, is_caller, calls_of, kept_of, is_dead, is_retired}
+use Rattle.act_rules.specs.History.{ActorSpec, History, opening, cast_of, is_caller, calls_of, kept_of, is_dead, is_retired}
 use Rattle.act_rules.specs.Laws.{history}
 use Rattle.act_rules.specs.Rules.{Outcome, outcomes}
 use Rattle.act_rules.specs.Submissions.{kept_at}
 use Rattle.act_rules.specs.RunList.{Answer}
-use Rattle.act_owner.specs.Owner.{OwnerValue}
-use Rattle.act_serve.specs.Served.{EndSeen, Killed, Retired, Starved, id_of}
-use Rattle.act_world.specs.View.{SlotSeen, Runs, Died, Ended, Vacant, WorldSeen}
-use Rattle.act_world.specs.Ties.{IsOwnerAt, IsStage}
-use Rattle.act_world.specs.Stands.{Stands, Played}
+use Rattle.act_owner.specs.Owner.{OwnerView}
+use Rattle.act_serve.specs.Served.{EndView, Killed, Retired, Starved, end_id}
+use Rattle.act_world.specs.View.{SlotView, Runs, Died, Ended, Vacant, WorldView}
+use Rattle.act_world.specs.Refines.{IsOwnerAt, IsStage}
+use Rattle.act_world.specs.IsReachedBy.{IsReachedBy, HasPlayed}
 use Rattle.act_replay.specs.Play.{IsOwnerIn, IsEndIn, IsPlayOf, AreSame, IsSameEnd}
 
 -- ---- one caller
 
 -- a caller that the world doesn't have
-pub no_owner_in : (h : History) (c : ℕ) (owner : OwnerValue) → c ≡ owner.id → IsOwnerAt h c None → IsTrue false ↔ IsOwnerIn h owner
+pub no_owner_in : (h : History) (c : ℕ) (owner : OwnerView) → c ≡ owner.id → IsOwnerAt h c None → IsTrue false ↔ IsOwnerIn h owner
 no_owner_in h c owner is none = (λ holds. absurd (true≢false (sym holds)), λ known. absurd (true≢false (sym known.known ∙ ap (λ (c : ℕ). is_caller c h) (sym is) ∙ none)))
 
 -- a caller that the world has
-pub owner_in : (h : History) (c : ℕ) (owner other : OwnerValue) (r : Bool) → c ≡ owner.id → IsOwnerAt h c (Some other) → (IsTrue r ↔ AreSame owner other) → IsTrue r ↔ IsOwnerIn h owner
+pub owner_in : (h : History) (c : ℕ) (owner other : OwnerView) (r : Bool) → c ≡ owner.id → IsOwnerAt h c (Some other) → (IsTrue r ↔ AreSame owner other) → IsTrue r ↔ IsOwnerIn h owner
 owner_in h c owner other r is at tells = (
   λ holds. let same = tells.0 holds in record {
     known = ap (λ (c : ℕ). is_caller c h) (sym is) ∙ at.0;
@@ -38,19 +38,19 @@ owner_in h c owner other r is at tells = (
 -- ---- one actor
 
 -- an actor that the world doesn't have
-pub no_end_in : (h : History) (a : ℕ) (end : EndSeen) → a ≡ id_of end → cast_of a h ≡ None → IsTrue false ↔ IsEndIn h end
+pub no_end_in : (h : History) (a : ℕ) (end : EndView) → a ≡ end_id end → cast_of a h ≡ None → IsTrue false ↔ IsEndIn h end
 no_end_in h a end is none = (
   λ holds. absurd (true≢false (sym holds)),
-  λ known. absurd (true≢false (sym known.known ∙ ap (λ (a : ℕ). is_some (cast_of a h)) (sym is) ∙ ap (λ (cast : Option Casting). is_some cast) none)),
+  λ known. absurd (true≢false (sym known.known ∙ ap (λ (a : ℕ). is_some (cast_of a h)) (sym is) ∙ ap (λ (cast : Option ActorSpec). is_some cast) none)),
 )
 
 -- an actor in the world's slot, beside one that ended
 module _ (h : History) where
-  same_to : (slot : SlotSeen) (end : EndSeen) → IsStage h (id_of end) (Some slot) → IsSameEnd slot end → IsEndIn h end
-  same_to (Died dead) (Killed other) at same = record { known = ap (λ (cast : Option Casting). is_some cast) at.cast_is; runs = sym same ∙ at.log; ended = at.died }
+  same_to : (slot : SlotView) (end : EndView) → IsStage h (end_id end) (Some slot) → IsSameEnd slot end → IsEndIn h end
+  same_to (Died dead) (Killed other) at same = record { known = ap (λ (cast : Option ActorSpec). is_some cast) at.cast_is; runs = sym same ∙ at.log; ended = at.died }
   same_to (Died dead) (Retired other) at same = absurd same
   same_to (Died dead) (Starved other) at same = absurd same
-  same_to (Ended retired) (Retired other) at same = record { known = ap (λ (cast : Option Casting). is_some cast) at.cast_is; runs = sym same ∙ at.log; ended = (at.lived, at.ended) }
+  same_to (Ended retired) (Retired other) at same = record { known = ap (λ (cast : Option ActorSpec). is_some cast) at.cast_is; runs = sym same ∙ at.log; ended = (at.lived, at.ended) }
   same_to (Ended retired) (Killed other) at same = absurd same
   same_to (Ended retired) (Starved other) at same = absurd same
   same_to (Runs live) (Killed other) at same = absurd same
@@ -60,7 +60,7 @@ module _ (h : History) where
   same_to Vacant (Retired other) at same = absurd same
   same_to Vacant (Starved other) at same = absurd same
 
-  same_from : (slot : SlotSeen) (end : EndSeen) → IsStage h (id_of end) (Some slot) → IsEndIn h end → IsSameEnd slot end
+  same_from : (slot : SlotView) (end : EndView) → IsStage h (end_id end) (Some slot) → IsEndIn h end → IsSameEnd slot end
   same_from slot (Starved other) at known = absurd known.ended
   same_from (Died dead) (Killed other) at known = at.log ∙ sym known.runs
   same_from (Died dead) (Retired other) at known = absurd (true≢false (sym at.died ∙ known.ended.0))
@@ -68,23 +68,23 @@ module _ (h : History) where
   same_from (Ended retired) (Killed other) at known = absurd (true≢false (sym known.ended ∙ at.lived))
   same_from (Runs live) (Killed other) at known = absurd (true≢false (sym known.ended ∙ (or_parts (is_dead other.id h) (is_retired other.id h) at.runs).0))
   same_from (Runs live) (Retired other) at known = absurd (true≢false (sym known.ended.1 ∙ (or_parts (is_dead other.id h) (is_retired other.id h) at.runs).1))
-  same_from Vacant (Killed other) at known = absurd (true≢false (sym known.known ∙ ap (λ (cast : Option Casting). is_some cast) at))
-  same_from Vacant (Retired other) at known = absurd (true≢false (sym known.known ∙ ap (λ (cast : Option Casting). is_some cast) at))
+  same_from Vacant (Killed other) at known = absurd (true≢false (sym known.known ∙ ap (λ (cast : Option ActorSpec). is_some cast) at))
+  same_from Vacant (Retired other) at known = absurd (true≢false (sym known.known ∙ ap (λ (cast : Option ActorSpec). is_some cast) at))
 
 -- an actor that the world has
-pub end_in : (h : History) (a : ℕ) (slot : SlotSeen) (end : EndSeen) (r : Bool) → a ≡ id_of end → IsStage h a (Some slot) → (IsTrue r ↔ IsSameEnd slot end) → IsTrue r ↔ IsEndIn h end
+pub end_in : (h : History) (a : ℕ) (slot : SlotView) (end : EndView) (r : Bool) → a ≡ end_id end → IsStage h a (Some slot) → (IsTrue r ↔ IsSameEnd slot end) → IsTrue r ↔ IsEndIn h end
 end_in h a slot end r is at tells =
-    let here : IsStage h (id_of end) (Some slot) = subst (λ (a : ℕ). IsStage h a (Some slot)) is at in
+    let here : IsStage h (end_id end) (Some slot) = subst (λ (a : ℕ). IsStage h a (Some slot)) is at in
     (λ holds. same_to h slot end here (tells.0 holds), λ known. tells.1 (same_from h slot end here known))
 
 -- ---- all of it
 
 -- what was told of events that were played
-pub told_in : (casts : List Casting) (events : List Event) (old new : WorldSeen) (empty told : List Outcome) (r : Bool) → empty ≡ [] → Played events old new empty told → (IsTrue r ↔ All IsOk told) → Stands casts [] old → IsTrue r ↔ All IsOk (outcomes (opening casts) events)
+pub told_in : (casts : List ActorSpec) (events : List Event) (old new : WorldView) (empty told : List Outcome) (r : Bool) → empty ≡ [] → HasPlayed events old new empty told → (IsTrue r ↔ All IsOk told) → IsReachedBy casts [] old → IsTrue r ↔ All IsOk (outcomes (opening casts) events)
 told_in casts events old new empty told r none played tells opened =
     subst (λ (told : List Outcome). IsTrue r ↔ All IsOk told) ((played casts [] opened).1 ∙ ap (λ (front : List Outcome). front ++ outcomes (opening casts) events) none) tells
 
-module _ (casts : List Casting) (events : List Event) (owners : List OwnerValue) (ends : List EndSeen) where
+module _ (casts : List ActorSpec) (events : List Event) (owners : List OwnerView) (ends : List EndView) where
   -- an event was refused
   pub not_accepted : (r : Bool) → (IsTrue r ↔ All IsOk (outcomes (opening casts) events)) → r ≡ false → IsTrue false ↔ IsPlayOf casts events owners ends
   not_accepted r tells fails = (λ wrong. absurd (true≢false (sym wrong)), λ is. absurd (true≢false (sym (tells.1 is.accepted) ∙ fails)))
@@ -105,9 +105,9 @@ module _ (casts : List Casting) (events : List Event) (owners : List OwnerValue)
   )
 
 -- what is a play of the same is one
-pub play_same : (casts : List Casting) (events same_events : List Event) (owners same_owners : List OwnerValue) (ends same_ends : List EndSeen)
+pub play_same : (casts : List ActorSpec) (events same_events : List Event) (owners same_owners : List OwnerView) (ends same_ends : List EndView)
     → events ≡ same_events → owners ≡ same_owners → ends ≡ same_ends → IsPlayOf casts events owners ends → IsPlayOf casts same_events same_owners same_ends
 play_same casts events same_events owners same_owners ends same_ends one two three is =
-    subst (λ (l : List EndSeen). IsPlayOf casts same_events same_owners l) three
-    (subst (λ (l : List OwnerValue). IsPlayOf casts same_events l ends) two
+    subst (λ (l : List EndView). IsPlayOf casts same_events same_owners l) three
+    (subst (λ (l : List OwnerView). IsPlayOf casts same_events l ends) two
     (subst (λ (l : List Event). IsPlayOf casts l owners ends) one is))

@@ -4,18 +4,18 @@ use Rattle.std.specs.Prelude.{All, AllPairs}
 use Rattle.std.proofs.lemmas.List.{get_or-map, length-map}
 use Rattle.std.proofs.lemmas.List.Elements.{All-map}
 use Rattle.act_types.specs.KindState.{KindState}
-use Rattle.act_rules.specs.History.{Casting}
+use Rattle.act_rules.specs.History.{ActorSpec}
 use Rattle.act_rules.specs.Submissions.{IsLimit}
 use Rattle.act_actor.specs.declared.cast.Cast.{Cast}
 use Rattle.act_actor.specs.Cast.{CallersDiffer, IsFitting}
-use Rattle.act_actor.specs.Casts.{casting}
+use Rattle.act_actor.specs.Casts.{actor_spec}
 
 -- ---- what holds of all items, or of each two, and of what is seen of them
 
 module _ {X Y : Type 0} (f : X → Y) where
-  pairs_seen : (R : Y → Y → Type 0) (xs : List X) → AllPairs (λ one other. R (f one) (f other)) xs → AllPairs R (map f xs)
-  pairs_seen R [] all = λ i j d before within. absurd (omega (arith, within))
-  pairs_seen R (x ∷ xs) all = λ i j d before within.
+  pairs_view : (R : Y → Y → Type 0) (xs : List X) → AllPairs (λ one other. R (f one) (f other)) xs → AllPairs R (map f xs)
+  pairs_view R [] all = λ i j d before within. absurd (omega (arith, within))
+  pairs_view R (x ∷ xs) all = λ i j d before within.
       let inside : j < length (x ∷ xs) = subst (λ n. j < n) (length-map (x ∷ xs) f) within in
       subst (λ (it : Y). R it (get_or (map f (x ∷ xs)) j d)) (sym (get_or-map f (x ∷ xs) i x d (omega arith)))
       (subst (λ (it : Y). R (f (get_or (x ∷ xs) i x)) it) (sym (get_or-map f (x ∷ xs) j x d inside)) (all i j x before inside))
@@ -33,12 +33,12 @@ module _ {X Y : Type 0} (f : X → Y) where
 
 -- casts fit where others with the same roles do
 pub twins_fit : {K J : Type 0} (state : K → KindState) (other : J → KindState) (casts : List (Cast K)) (twins : List (Cast J))
-    → map (casting other) twins ≡ map (casting state) casts → IsFitting casts → IsFitting twins
+    → map (actor_spec other) twins ≡ map (actor_spec state) casts → IsFitting casts → IsFitting twins
 twins_fit state other casts twins same fit = record {
-  actors = pairs_there (casting other) (λ (one two : Casting). one.actor ≢ two.actor) twins
-      (subst (AllPairs (λ (one two : Casting). one.actor ≢ two.actor)) (sym same) (pairs_seen (casting state) (λ (one two : Casting). one.actor ≢ two.actor) casts fit.actors));
-  callers = all_there (casting other) (λ (it : Casting). CallersDiffer it.callers) twins
-      (subst (All (λ (it : Casting). CallersDiffer it.callers)) (sym same) (All-map (λ (it : Casting). CallersDiffer it.callers) (casting state) casts fit.callers));
-  limits = all_there (casting other) (λ (it : Casting). IsLimit it.pending) twins
-      (subst (All (λ (it : Casting). IsLimit it.pending)) (sym same) (All-map (λ (it : Casting). IsLimit it.pending) (casting state) casts fit.limits));
+  actors = pairs_there (actor_spec other) (λ (one two : ActorSpec). one.actor ≢ two.actor) twins
+      (subst (AllPairs (λ (one two : ActorSpec). one.actor ≢ two.actor)) (sym same) (pairs_view (actor_spec state) (λ (one two : ActorSpec). one.actor ≢ two.actor) casts fit.actors));
+  callers = all_there (actor_spec other) (λ (it : ActorSpec). CallersDiffer it.callers) twins
+      (subst (All (λ (it : ActorSpec). CallersDiffer it.callers)) (sym same) (All-map (λ (it : ActorSpec). CallersDiffer it.callers) (actor_spec state) casts fit.callers));
+  limits = all_there (actor_spec other) (λ (it : ActorSpec). IsLimit it.pending) twins
+      (subst (All (λ (it : ActorSpec). IsLimit it.pending)) (sym same) (All-map (λ (it : ActorSpec). IsLimit it.pending) (actor_spec state) casts fit.limits));
 }

@@ -2,7 +2,7 @@
 
 ghost use Rattle.std.specs.Prelude.{◌<◌};
 
-use act_types::{ActorId, CallerId, FutureId, MOST_ACTORS, MOST_CALLERS, NoMemory};
+use act_types::{ActorId, CallerId, FutureId, MAX_ACTORS, MAX_CALLERS, NoMemory};
 use std::alloc::Global;
 
 /// The place of what is kept of a caller, by its number.
@@ -57,14 +57,14 @@ impl Causes {
             callers: Vec::new(alloc),
             actors: Vec::new(alloc),
         };
-        for _caller in 0..MOST_CALLERS + 1 {
+        for _caller in 0..MAX_CALLERS + 1 {
             causes.callers.push(Posted {
                 submitted: 0,
                 calls: Vec::new(alloc),
                 notes: [None; 9],
             })?;
         }
-        for _actor in 0..MOST_ACTORS + 1 {
+        for _actor in 0..MAX_ACTORS + 1 {
             causes.actors.push(Given {
                 replies: Vec::new(alloc),
                 deaths: [None; 17],

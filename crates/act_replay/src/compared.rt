@@ -2,14 +2,14 @@
 
 ghost use Rattle.std.specs.Prelude.{◌≡◌, ◌↔◌, ◌<◌, ◌^◌, List, [], length, map, IfOk, IsOk, IsTrue, All};
 ghost use Rattle.act_rules.specs.declared.event.Event.{Event as Happening};
-ghost use Rattle.act_rules.specs.History.{Casting, opening};
+ghost use Rattle.act_rules.specs.History.{ActorSpec, opening};
 ghost use Rattle.act_rules.specs.Laws.{history};
 ghost use Rattle.act_rules.specs.Rules.{outcomes};
 ghost use Rattle.act_actor.specs.Cast.{IsFitting};
-ghost use Rattle.act_actor.specs.Casts.{casting};
-ghost use Rattle.act_serve.specs.Served.{end_seen, id_of};
-ghost use Rattle.act_world.specs.Stands.{Stands, HasRoom};
-ghost use Rattle.act_world.specs.View.{stage_seen, world_seen};
+ghost use Rattle.act_actor.specs.Casts.{actor_spec};
+ghost use Rattle.act_serve.specs.Served.{end_view, end_id};
+ghost use Rattle.act_world.specs.IsReachedBy.{IsReachedBy, HasRoom};
+ghost use Rattle.act_world.specs.View.{stage_view, world_view};
 ghost use Rattle.act_replay.specs.Play.{IsOwnerIn, IsEndIn, IsSameEnd, IsPlayOf};
 
 use crate::same::{same_log, same_owner};
@@ -46,13 +46,13 @@ fn play_in<J: Actor>(
     world: &mut World<J>,
     events: &[Event],
 ) -> Result<bool, NoMemory>
-    requires room { HasRoom (length events.now) (world_seen J.state world.old).exchange }
+    requires room { HasRoom (length events.now) (world_view J.state world.old).network }
     ensures accepted { IfOk result (λ is.
-        (casts : List Casting) → Stands casts [] (world_seen J.state world.old) →
+        (casts : List ActorSpec) → IsReachedBy casts [] (world_view J.state world.old) →
         IsTrue is ↔ All IsOk (outcomes (opening casts) events.now)) }
-    ensures stands { IfOk result (λ _.
-        (casts : List Casting) → Stands casts [] (world_seen J.state world.old) →
-        Stands casts events.now (world_seen J.state world.new)) }
+    ensures reached { IfOk result (λ _.
+        (casts : List ActorSpec) → IsReachedBy casts [] (world_view J.state world.old) →
+        IsReachedBy casts events.now (world_view J.state world.new)) }
 {
     let mut told = Vec::new(alloc);
     let Ok(()) = world.play(events, &mut told) else {
@@ -63,8 +63,8 @@ fn play_in<J: Actor>(
 
 /// Whether the world has the caller, with the same calls and the same answers.
 fn has_owner<J: Actor>(world: &World<J>, owner: &Owner) -> bool
-    ensures { (casts : List Casting) (events : List Happening) →
-        Stands casts events (world_seen J.state world.now) →
+    ensures { (casts : List ActorSpec) (events : List Happening) →
+        IsReachedBy casts events (world_view J.state world.now) →
         IsTrue result ↔ IsOwnerIn (history casts events) owner.now }
 {
     match world.owner(owner.id()) {
@@ -75,8 +75,8 @@ fn has_owner<J: Actor>(world: &World<J>, owner: &Owner) -> bool
 
 /// Whether the world has each of these callers.
 fn has_owners<J: Actor>(world: &World<J>, owners: &[Owner]) -> bool
-    ensures { (casts : List Casting) (events : List Happening) →
-        Stands casts events (world_seen J.state world.now) →
+    ensures { (casts : List ActorSpec) (events : List Happening) →
+        IsReachedBy casts events (world_view J.state world.now) →
         IsTrue result ↔ All (IsOwnerIn (history casts events)) owners.now }
 {
     for owner in owners {
@@ -89,7 +89,7 @@ fn has_owners<J: Actor>(world: &World<J>, owners: &[Owner]) -> bool
 
 /// The actor that ended.
 fn id_of<K: Actor>(ended: &Ended<K>) -> ActorId
-    ensures { result ≡ id_of (end_seen K.state ended.now) }
+    ensures { result ≡ end_id (end_view K.state ended.now) }
 {
     match ended {
         Ended::Killed(dead) | Ended::Starved(dead) => dead.id(),
@@ -99,7 +99,7 @@ fn id_of<K: Actor>(ended: &Ended<K>) -> ActorId
 
 /// Whether the actor of a world ran the same as one of threads, and ended in the same way.
 fn same_end<J: Actor, K: Actor>(stage: Stage<'_, J>, ended: &Ended<K>) -> bool
-    ensures { IsTrue result ↔ IsSameEnd (stage_seen J.state stage.entry) (end_seen K.state ended.now) }
+    ensures { IsTrue result ↔ IsSameEnd (stage_view J.state stage.entry) (end_view K.state ended.now) }
 {
     match (stage, ended) {
         (Stage::Dead(dead), Ended::Killed(other)) => same_log(dead.log(), other.log()),
@@ -110,9 +110,9 @@ fn same_end<J: Actor, K: Actor>(stage: Stage<'_, J>, ended: &Ended<K>) -> bool
 
 /// Whether the world has the actor, which ran the same and ended in the same way.
 fn has_end<J: Actor, K: Actor>(world: &World<J>, ended: &Ended<K>) -> bool
-    ensures { (casts : List Casting) (events : List Happening) →
-        Stands casts events (world_seen J.state world.now) →
-        IsTrue result ↔ IsEndIn (history casts events) (end_seen K.state ended.now) }
+    ensures { (casts : List ActorSpec) (events : List Happening) →
+        IsReachedBy casts events (world_view J.state world.now) →
+        IsTrue result ↔ IsEndIn (history casts events) (end_view K.state ended.now) }
 {
     match world.stage(id_of(ended)) {
         None => false,
@@ -122,9 +122,9 @@ fn has_end<J: Actor, K: Actor>(world: &World<J>, ended: &Ended<K>) -> bool
 
 /// Whether the world has each of these actors.
 fn has_ends<J: Actor, K: Actor>(world: &World<J>, actors: &[Finished<K>]) -> bool
-    ensures { (casts : List Casting) (events : List Happening) →
-        Stands casts events (world_seen J.state world.now) →
-        IsTrue result ↔ All (λ actor. IsEndIn (history casts events) (end_seen K.state actor.ended)) actors.now }
+    ensures { (casts : List ActorSpec) (events : List Happening) →
+        IsReachedBy casts events (world_view J.state world.now) →
+        IsTrue result ↔ All (λ actor. IsEndIn (history casts events) (end_view K.state actor.ended)) actors.now }
 {
     for actor in actors {
         if !has_end(world, &actor.ended) {
@@ -143,12 +143,12 @@ fn ends_so<J: Actor, K: Actor>(
     owners: &[Owner],
     actors: &[Finished<K>],
 ) -> Result<bool, NoMemory>
-    requires room { HasRoom (length events.now) (world_seen J.state world.old).exchange }
+    requires room { HasRoom (length events.now) (world_view J.state world.old).network }
     ensures { IfOk result (λ is.
-        (casts : List Casting) → Stands casts [] (world_seen J.state world.old) →
+        (casts : List ActorSpec) → IsReachedBy casts [] (world_view J.state world.old) →
         IsTrue is ↔
         IsPlayOf casts events.now owners.now
-        (map (λ actor. end_seen K.state actor.ended) actors.now)) }
+        (map (λ actor. end_view K.state actor.ended) actors.now)) }
 {
     let accepted = play_in(alloc, world, events)?;
     if !accepted {
@@ -172,8 +172,8 @@ pub fn is_play_of<K: Actor>(
     requires fit { IsFitting casts.items }
     requires few { length events.now < 2 ^ 32 }
     ensures { IfOk result (λ is. IsTrue is ↔
-        IsPlayOf (map (casting ⟦<Boxed as Actor>⟧.state) casts.items) events.now owners.now
-        (map (λ actor. end_seen K.state actor.ended) actors.now)) }
+        IsPlayOf (map (actor_spec ⟦<Boxed as Actor>⟧.state) casts.items) events.now owners.now
+        (map (λ actor. end_view K.state actor.ended) actors.now)) }
 {
     let mut world = World::open(alloc, casts)?;
     let is = ends_so(alloc, &mut world, events, owners, actors)?;

@@ -216,7 +216,7 @@ impl Merged {
 }
 
 /// More rounds than there are events in any play.
-const MOST_ROUNDS: u32 = 4_294_967_295;
+const MAX_ROUNDS: u32 = 4_294_967_295;
 
 /// The events that the threads of these callers and actors noted, in an order in which each stands
 /// after its cause. None where a page isn't whole, or a cause stands nowhere.
@@ -232,7 +232,7 @@ pub(crate) fn merge<K: Actor>(
         return Ok(None);
     };
     let mut merged = Merged::open(alloc, owners.len(), actors.len())?;
-    for _round in 0..MOST_ROUNDS {
+    for _round in 0..MAX_ROUNDS {
         let has_called = merged.call_round(owners, of_callers)?;
         let has_served = merged.serve_round(actors, of_actors)?;
         if !has_called && !has_served {

@@ -346,7 +346,7 @@ impl Rebuilt {
 }
 
 /// More rounds than there are events in any play.
-const MOST_ROUNDS: u32 = 4_294_967_295;
+const MAX_ROUNDS: u32 = 4_294_967_295;
 
 /// The events of a play that ends in what these callers and actors left, where one does.
 pub(crate) fn rebuild<K: Actor>(
@@ -355,7 +355,7 @@ pub(crate) fn rebuild<K: Actor>(
     actors: &[Finished<K>],
 ) -> Result<Vec<Event>, NoMemory> {
     let mut rebuilt = Rebuilt::open(alloc, owners.len(), actors.len())?;
-    for _round in 0..MOST_ROUNDS {
+    for _round in 0..MAX_ROUNDS {
         let has_submitted = rebuilt.submit_round(owners)?;
         let has_served = rebuilt.serve_round(owners, actors)?;
         if !has_submitted && !has_served {

@@ -2,12 +2,12 @@
 
 ghost use Rattle.std.specs.Prelude.{◌≡◌, map, None, IfOk, IfErr};
 ghost use Rattle.act_actor.specs.Cast.{IsFitting};
-ghost use Rattle.act_actor.specs.Casts.{casting};
-ghost use Rattle.act_serve.specs.Served.{end_seen};
+ghost use Rattle.act_actor.specs.Casts.{actor_spec};
+ghost use Rattle.act_serve.specs.Served.{end_view};
 ghost use Rattle.act_plans.specs.Parts.{PlansFit};
 ghost use Rattle.act_plans.specs.Runs.{first_bad_plan};
 ghost use Rattle.act_executor.specs.Joined.{IsJoined};
-ghost use Rattle.act_executor.specs.Runs.{plan_seen};
+ghost use Rattle.act_executor.specs.Runs.{plan_view};
 ghost use Rattle.act_replay.specs.Play.{IsPlayOf};
 ghost use Rattle.act_replay.specs.Faults.{IsRecordFault};
 
@@ -70,17 +70,17 @@ pub fn run_recorded<R: Threads + Wait + Sync, K: Actor + Send, G: Gate>(
     gate: &G,
 ) -> Result<Recorded<K>, RecordFault>
     requires fit { IsFitting casts.items }
-    requires twins { map (casting ⟦<Boxed as Actor>⟧.state) twins.items ≡ map (casting K.state) casts.items }
+    requires twins { map (actor_spec ⟦<Boxed as Actor>⟧.state) twins.items ≡ map (actor_spec K.state) casts.items }
     requires plans { PlansFit casts.items plans.items }
     ensures joined { IfOk result (λ recorded.
-        IsJoined (map (casting K.state) casts.items) (map plan_seen plans.items) recorded.joined.owners.items
-        (map (λ actor. end_seen K.state actor.ended) recorded.joined.actors.items)) }
+        IsJoined (map (actor_spec K.state) casts.items) (map plan_view plans.items) recorded.joined.owners.items
+        (map (λ actor. end_view K.state actor.ended) recorded.joined.actors.items)) }
     ensures good { IfOk result (λ _.
-        first_bad_plan (map (casting K.state) casts.items) (map plan_seen plans.items) ≡ None) }
+        first_bad_plan (map (actor_spec K.state) casts.items) (map plan_view plans.items) ≡ None) }
     ensures played { IfOk result (λ recorded.
-        IsPlayOf (map (casting K.state) casts.items) recorded.events.items recorded.joined.owners.items
-        (map (λ actor. end_seen K.state actor.ended) recorded.joined.actors.items)) }
-    ensures fault { IfErr result (IsRecordFault (map (casting K.state) casts.items) (map plan_seen plans.items)) }
+        IsPlayOf (map (actor_spec K.state) casts.items) recorded.events.items recorded.joined.owners.items
+        (map (λ actor. end_view K.state actor.ended) recorded.joined.actors.items)) }
+    ensures fault { IfErr result (IsRecordFault (map (actor_spec K.state) casts.items) (map plan_view plans.items)) }
 {
     let ran = run_plans_noting::<R, K, G, Page>(rt, alloc, casts, plans, gate)?;
     let (joined, pages) = ran;

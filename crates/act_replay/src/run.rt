@@ -2,8 +2,8 @@
 
 ghost use Rattle.std.specs.Prelude.{◌≡◌, map, IfOk, IfErr};
 ghost use Rattle.act_actor.specs.Cast.{IsFitting};
-ghost use Rattle.act_actor.specs.Casts.{casting};
-ghost use Rattle.act_serve.specs.Served.{end_seen};
+ghost use Rattle.act_actor.specs.Casts.{actor_spec};
+ghost use Rattle.act_serve.specs.Served.{end_view};
 ghost use Rattle.act_replay.specs.Play.{IsPlayOf};
 ghost use Rattle.act_replay.specs.Faults.{IsPlayFault};
 
@@ -60,7 +60,7 @@ impl fmt::Display for RecordFault {
 impl Error for RecordFault {}
 
 /// More events than a world takes.
-const MOST_EVENTS: usize = 4_294_967_296;
+const MAX_EVENTS: usize = 4_294_967_296;
 
 /// The events, where they are a play of what is joined.
 pub(crate) fn played<K: Actor>(
@@ -71,11 +71,11 @@ pub(crate) fn played<K: Actor>(
 ) -> Result<Vec<Event>, RecordFault>
     requires fit { IsFitting casts.items }
     ensures played { IfOk result (λ events.
-        IsPlayOf (map (casting ⟦<Boxed as Actor>⟧.state) casts.items) events.items joined.now.owners.items
-        (map (λ actor. end_seen K.state actor.ended) joined.now.actors.items)) }
+        IsPlayOf (map (actor_spec ⟦<Boxed as Actor>⟧.state) casts.items) events.items joined.now.owners.items
+        (map (λ actor. end_view K.state actor.ended) joined.now.actors.items)) }
     ensures fault { IfErr result IsPlayFault }
 {
-    if events.len() >= MOST_EVENTS {
+    if events.len() >= MAX_EVENTS {
         return Err(RecordFault::Unplayed);
     }
     if !is_play_of(alloc, casts, &events, &joined.owners, &joined.actors)? {
@@ -97,8 +97,8 @@ pub fn play_of<K: Actor>(
 ) -> Result<Vec<Event>, RecordFault>
     requires fit { IsFitting casts.items }
     ensures played { IfOk result (λ events.
-        IsPlayOf (map (casting ⟦<Boxed as Actor>⟧.state) casts.items) events.items joined.now.owners.items
-        (map (λ actor. end_seen K.state actor.ended) joined.now.actors.items)) }
+        IsPlayOf (map (actor_spec ⟦<Boxed as Actor>⟧.state) casts.items) events.items joined.now.owners.items
+        (map (λ actor. end_view K.state actor.ended) joined.now.actors.items)) }
     ensures fault { IfErr result IsPlayFault }
 {
     let events = rebuild(alloc, &joined.owners, &joined.actors)?;

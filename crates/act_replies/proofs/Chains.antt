@@ -273,13 +273,13 @@ pushed_before w before after last a o fine as_many valid o_is j x waits =
       | inl e ↦
           let same : Some a ≡ Some x = sym (new_place w (Some a) j e) ∙ waits in
           let actor : a ≡ x = cc same in
-          let stands : found_at (before ++ o ∷ []) j ≡ o = new_place before o j (e ∙ sym as_many) in
+          let reached : found_at (before ++ o ∷ []) j ≡ o = new_place before o j (e ∙ sym as_many) in
           let last_one : IsLastBelow w2 a j o = below_grows w (Some a) o a j (omega (arith, e)) (subst (λ n. IsLastBelow w a n o) (sym e) (subst (IsLastBelow w a (length w)) (sym o_is) (fine.ends a valid))) in
-          subst (IsLastBelow w2 x j) (sym stands) (subst (λ y. IsLastBelow w2 y j o) actor last_one)
+          subst (IsLastBelow w2 x j) (sym reached) (subst (λ y. IsLastBelow w2 y j o) actor last_one)
       | inr apart ↦ elim apart [
         | inl l ↦
-            let stands : found_at (before ++ o ∷ []) j ≡ found_at before j = old_place before o j (omega (arith, l, as_many)) in
-            subst (IsLastBelow w2 x j) (sym stands) (below_grows w (Some a) (found_at before j) x j (omega (arith, l)) (fine.befores j x (sym (old_place w (Some a) j l) ∙ waits)))
+            let reached : found_at (before ++ o ∷ []) j ≡ found_at before j = old_place before o j (omega (arith, l, as_many)) in
+            subst (IsLastBelow w2 x j) (sym reached) (below_grows w (Some a) (found_at before j) x j (omega (arith, l)) (fine.befores j x (sym (old_place w (Some a) j l) ∙ waits)))
         | inr g ↦ let none : found_at w2 j ≡ None = no_place w (Some a) j g in absurd (cc (none, waits))
       ]
     ]
@@ -297,8 +297,8 @@ pushed_after w before after last a o fine as_many valid o_is j x waits =
       | inr apart ↦ elim apart [
         | inl l ↦
             let waited : found_at w j ≡ Some x = sym (old_place w (Some a) j l) ∙ waits in
-            let stands : found_at (after2 ++ None ∷ []) j ≡ found_at after2 j = old_place after2 None j (omega (arith, l, as_many2)) in
-            subst (IsFirstAbove w2 x j) (sym stands)
+            let reached : found_at (after2 ++ None ∷ []) j ≡ found_at after2 j = old_place after2 None j (omega (arith, l, as_many2)) in
+            subst (IsFirstAbove w2 x j) (sym reached)
             (elim (cases_found o j) [
               | inl hit ↦
                   let at_j : IsLastBelow w a (length w) (Some j) = subst (IsLastBelow w a (length w)) hit last_one in

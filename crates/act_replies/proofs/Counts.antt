@@ -5,7 +5,7 @@ use Rattle.std.proofs.lemmas.Bool.{eq-eqb}
 use Rattle.std.proofs.lemmas.Bool.Decides.{eqb_tells}
 use Rattle.std.proofs.lemmas.List.{get_or-set_same, get_or-set_other}
 use Rattle.std.proofs.lemmas.List.Sums.{sum_by-set, sum_by_push}
-use Rattle.act_types.specs.declared.limits.TheConstants.{MOST_ACTORS}
+use Rattle.act_types.specs.declared.limits.TheConstants.{MAX_ACTORS}
 use Rattle.act_replies.specs.Chains.{found_at, is_for, IsCounted}
 use Rattle.act_replies.proofs.Chains.{within}
 
@@ -43,7 +43,7 @@ less w k a x here =
     let was : counts_for x (found_at w k) ≡ cond (a == x) 1 0 = ap (counts_for x) here in
     omega (arith, counted, was)
 
-pub counts_some : (w : List (Option ℕ)) (counts : List ℕ) (k a at : ℕ) → IsCounted w counts → a ≤ MOST_ACTORS → at ≡ a → found_at w k ≡ Some a → 1 ≤ get_or counts at 0
+pub counts_some : (w : List (Option ℕ)) (counts : List ℕ) (k a at : ℕ) → IsCounted w counts → a ≤ MAX_ACTORS → at ≡ a → found_at w k ≡ Some a → 1 ≤ get_or counts at 0
 counts_some w counts k a at fine valid at_is here =
     let one : counts_for a (Some a) ≡ 1 = ap {B = ℕ} (λ b. cond b 1 0) (eq-eqb a a refl) in
     omega (arith, less w k a a here, one, fine a valid, ap (λ n. get_or counts n 0) at_is)

@@ -1,10 +1,10 @@
 //! The table of a caller's futures.
 
 ghost use Rattle.std.specs.Prelude.{◌≡◌, ◌+◌, ◌<◌, ◌≤◌, [], ◌∷◌, ◌++◌, length, drop, count_by, true, IfOk, IfNone, IfSome, OnOk, OnErr, IsOk, option_copied};
-ghost use Rattle.act_replies.specs.Table.{is_open, waits_for, waits_at, unanswered_row, answer_of, kept, after_keep, after_death};
+ghost use Rattle.act_replies.specs.Table.{is_open, row_waits_for, waits_at, unanswered_row, answer_in_table, keep_result, after_keep, rows_after_death};
 
 use crate::waiting::Waiting;
-use act_types::{ActorId, Answer, Fault, FutureId, MOST_CALLS, NoMemory};
+use act_types::{ActorId, Answer, Fault, FutureId, MAX_CALLS, NoMemory};
 use std::alloc::Global;
 use std::marker::Model;
 
@@ -36,16 +36,17 @@ pub struct ReplyTable {
 
 impl Model for ReplyTable {
     ghost use Rattle.std.specs.Prelude.{◌-◌, min, vec_len, vec_capacity};
-    ghost use Rattle.act_replies.specs.Table.{TableValue, IsTable, IsKnown};
+    ghost use Rattle.act_replies.specs.Table.{TableView, IsTable, IsKnown};
 
-    ghost Value = { TableValue };
+    ghost Value = { TableView };
 
     ghost view = { λ table. record {
       rows = table.rows.items;
       spare = min (vec_capacity table.rows - vec_len table.rows) table.waiting.spare;
     } };
 
-    ghost invariant = { λ table. IsTable table.rows.items table.unanswered × IsKnown table.rows.items table.waiting.actors };
+    ghost invariant = { λ table.
+        IsTable table.rows.items table.unanswered × IsKnown table.rows.items table.waiting.actors };
 }
 
 impl ReplyTable {
@@ -86,7 +87,7 @@ impl ReplyTable {
 
     /// Adds a future of this actor, which has no answer yet. Where there is room it can't fail.
     pub fn enter(&mut self, actor: ActorId) -> Result<FutureId, NoMemory>
-        requires { length self.old.rows < MOST_CALLS }
+        requires { length self.old.rows < MAX_CALLS }
         ensures future { IfOk result (λ k. k ≡ length self.old.rows) }
         ensures ok { OnOk result (self.new.rows ≡ self.old.rows ++ unanswered_row actor ∷ []) }
         ensures err { OnErr result (self.new.rows ≡ self.old.rows) }
@@ -99,7 +100,7 @@ impl ReplyTable {
 
     /// The same, where room was made before.
     pub fn enter_reserved(&mut self, actor: ActorId) -> FutureId
-        requires few { length self.old.rows < MOST_CALLS }
+        requires few { length self.old.rows < MAX_CALLS }
         requires room { 1 ≤ self.old.spare }
         ensures future { result ≡ length self.old.rows }
         ensures rows { self.new.rows ≡ self.old.rows ++ unanswered_row actor ∷ [] }
@@ -117,7 +118,7 @@ impl ReplyTable {
 
     /// Keeps the answer where its future has none yet.
     pub fn keep(&mut self, future: FutureId, answer: Answer) -> Kept
-        ensures value { result ≡ kept future self.old.rows }
+        ensures value { result ≡ keep_result future self.old.rows }
         ensures rows { self.new.rows ≡ after_keep future answer self.old.rows }
         ensures spare { self.new.spare ≡ self.old.spare }
     {
@@ -137,8 +138,8 @@ impl ReplyTable {
     /// Answers each future of the actor that has no answer yet with `ActorDied`, and gives their
     /// number. It passes over no other future.
     pub fn died(&mut self, actor: ActorId) -> u32
-        ensures value { result ≡ count_by (waits_for actor) self.old.rows }
-        ensures rows { self.new.rows ≡ after_death actor self.old.rows }
+        ensures value { result ≡ count_by (row_waits_for actor) self.old.rows }
+        ensures rows { self.new.rows ≡ rows_after_death actor self.old.rows }
         ensures spare { self.new.spare ≡ self.old.spare }
     {
         let count = self.pending(actor);
@@ -151,15 +152,15 @@ impl ReplyTable {
     /// The last future of the actor that has no answer yet. It is known without a search.
     pub fn waiting_of(&self, actor: ActorId) -> Option<FutureId>
         ensures waits { IfSome result (λ k. waits_at actor self.now.rows k ≡ true) }
-        ensures last { IfSome result (λ k. count_by (waits_for actor) (drop (k + 1) self.now.rows) ≡ 0) }
-        ensures none { IfNone result (count_by (waits_for actor) self.now.rows ≡ 0) }
+        ensures last { IfSome result (λ k. count_by (row_waits_for actor) (drop (k + 1) self.now.rows) ≡ 0) }
+        ensures none { IfNone result (count_by (row_waits_for actor) self.now.rows ≡ 0) }
     {
         self.waiting.last_of(actor)
     }
 
     /// The answer that is kept for a future.
     pub fn answer(&self, future: FutureId) -> Option<&Answer>
-        ensures { option_copied result ≡ answer_of future self.now.rows }
+        ensures { option_copied result ≡ answer_in_table future self.now.rows }
     {
         self.rows.get(future.number() as usize)?.answer.as_ref()
     }
@@ -168,7 +169,7 @@ impl ReplyTable {
     /// kept, and a death leaves none. The number is kept: asking for it takes constant time, and no
     /// memory.
     pub fn pending(&self, a: ActorId) -> u32
-        ensures { result ≡ count_by (waits_for a) self.now.rows }
+        ensures { result ≡ count_by (row_waits_for a) self.now.rows }
     {
         self.waiting.count_of(a)
     }
@@ -183,7 +184,7 @@ impl ReplyTable {
     /// How many futures there are.
     pub fn count(&self) -> u32
         ensures value { result ≡ length self.now.rows }
-        ensures limit { result ≤ MOST_CALLS }
+        ensures limit { result ≤ MAX_CALLS }
     {
         self.rows.len() as u32
     }

@@ -1,9 +1,9 @@
 //! Which futures have no answer yet, those of each actor linked to one another and counted.
 
 ghost use Rattle.std.specs.Prelude.{◌≡◌, ◌+◌, ◌<◌, ◌≤◌, [], ◌∷◌, ◌++◌, length, slice_set, count_by, None, Some, IfSome, OnOk, IsOk};
-ghost use Rattle.act_replies.specs.Chains.{with_found, is_for, actors_of, before_of, after_of, IsLastBelow};
+ghost use Rattle.act_replies.specs.Chains.{with_found, is_for, linked_actors, before_of, after_of, IsLastBelow};
 
-use act_types::{ActorId, FutureId, MOST_CALLS, NoMemory};
+use act_types::{ActorId, FutureId, MAX_CALLS, NoMemory};
 use std::alloc::Global;
 use std::marker::Model;
 
@@ -28,22 +28,23 @@ pub(crate) struct Waiting {
 
 impl Model for Waiting {
     ghost use Rattle.std.specs.Prelude.{◌-◌, vec_len, vec_capacity};
-    ghost use Rattle.act_replies.specs.Chains.{WaitingValue, actors_of, IsLinked, IsCounted};
+    ghost use Rattle.act_replies.specs.Chains.{WaitingView, linked_actors, IsLinked, IsCounted};
 
-    ghost Value = { WaitingValue };
+    ghost Value = { WaitingView };
 
     ghost view = { λ waiting. record {
-      actors = actors_of waiting.links.items;
+      actors = linked_actors waiting.links.items;
       spare = vec_capacity waiting.links - vec_len waiting.links;
     } };
 
-    ghost invariant = { λ waiting. IsLinked waiting.links.items waiting.last × IsCounted (actors_of waiting.links.items) waiting.counts };
+    ghost invariant = { λ waiting.
+        IsLinked waiting.links.items waiting.last × IsCounted (linked_actors waiting.links.items) waiting.counts };
 }
 
 /// Writes what stands before a future, where there is one.
 fn set_before(links: &mut [Link], future: Option<FutureId>, before: Option<FutureId>)
     requires { IfSome future (λ k. k < length links.old) }
-    ensures actors { actors_of links.new ≡ actors_of links.old }
+    ensures actors { linked_actors links.new ≡ linked_actors links.old }
     ensures before { before_of links.new ≡ with_found (before_of links.old) future before }
     ensures after { after_of links.new ≡ after_of links.old }
 {
@@ -55,7 +56,7 @@ fn set_before(links: &mut [Link], future: Option<FutureId>, before: Option<Futur
 /// Writes what stands after a future, where there is one.
 fn set_after(links: &mut [Link], future: Option<FutureId>, after: Option<FutureId>)
     requires { IfSome future (λ k. k < length links.old) }
-    ensures actors { actors_of links.new ≡ actors_of links.old }
+    ensures actors { linked_actors links.new ≡ linked_actors links.old }
     ensures before { before_of links.new ≡ before_of links.old }
     ensures after { after_of links.new ≡ with_found (after_of links.old) future after }
 {
@@ -68,7 +69,7 @@ fn set_after(links: &mut [Link], future: Option<FutureId>, after: Option<FutureI
 fn bypass(links: &mut [Link], link: &Link)
     requires before { IfSome link.now.before (λ k. k < length links.old) }
     requires after { IfSome link.now.after (λ k. k < length links.old) }
-    ensures actors { actors_of links.new ≡ actors_of links.old }
+    ensures actors { linked_actors links.new ≡ linked_actors links.old }
     ensures before { before_of links.new ≡ with_found (before_of links.old) link.now.after link.now.before }
     ensures after { after_of links.new ≡ with_found (after_of links.old) link.now.before link.now.after }
 {
@@ -113,7 +114,7 @@ impl Waiting {
     /// Adds a future that waits for this actor.
     pub(crate) fn push(&mut self, actor: ActorId)
         requires room { 1 ≤ self.old.spare }
-        requires limit { length self.old.actors < MOST_CALLS }
+        requires limit { length self.old.actors < MAX_CALLS }
         ensures actors { self.new.actors ≡ self.old.actors ++ Some actor ∷ [] }
         ensures spare { self.old.spare ≡ self.new.spare + 1 }
     {

@@ -3,7 +3,7 @@ use Rattle.std.proofs.Common.{◌≡◌, ℕ, zero, suc, ◌+◌, ◌<◌, Optio
 use Rattle.std.specs.Prelude.{slice_set, slice_get}
 use Rattle.std.proofs.lemmas.List.{get_or_append_left, get_or_at, map-set, get_or-map, length_push}
 use Rattle.act_resolver.specs.declared.waiters.Place.{Place}
-use Rattle.act_resolver.specs.Waiters.{chain_from, chains_after, chains_of, AreLinked, AreWaiters, waiting}
+use Rattle.act_resolver.specs.Waiters.{chain_from, chains_after, chains_of, AreLinked, AreWaiters, waiters_of}
 
 length-chains_after : (chains : List (List ℕ)) (places : List Place) → length (chains_after chains places) ≡ length chains + length places
 length-chains_after chains [] = omega arith
@@ -62,25 +62,25 @@ same_chains chains more n (first ∷ firsts) size within =
     rw (chain_from_push chains more first (rw (sym size) here), same_chains chains more n firsts size (λ k d lt. within (suc k) d (omega arith))) refl
 
 -- a place in front of a future's chain
-pub added : (firsts : List (Option ℕ)) (places : List Place) (place : Place) (k : ℕ) → AreWaiters firsts places → k < length firsts → place.next ≡ get_or firsts k None → chains_of (slice_set firsts k (Some (length places))) (places ++ place ∷ []) ≡ slice_set (chains_of firsts places) k (place.call ∷ waiting (chains_of firsts places) k)
+pub added : (firsts : List (Option ℕ)) (places : List Place) (place : Place) (k : ℕ) → AreWaiters firsts places → k < length firsts → place.next ≡ get_or firsts k None → chains_of (slice_set firsts k (Some (length places))) (places ++ place ∷ []) ≡ slice_set (chains_of firsts places) k (place.call ∷ waiters_of (chains_of firsts places) k)
 added firsts places place k fine lt next =
     let chains = chains_after [] places in
     let here = place.call ∷ chain_from chains place.next in
     let size : length chains ≡ length places = length-chains_after [] places ∙ omega arith in
-    let begins : waiting (chains_of firsts places) k ≡ chain_from chains place.next = get_or-map (chain_from chains) firsts k None [] lt ∙ ap (chain_from chains) (sym next) in
+    let begins : waiters_of (chains_of firsts places) k ≡ chain_from chains place.next = get_or-map (chain_from chains) firsts k None [] lt ∙ ap (chain_from chains) (sym next) in
     rw (chains_after-push [] places place, map-set (chain_from (chains ++ here ∷ [])) firsts k (Some (length places)), same_chains chains here (length places) firsts (sym size) fine.0, get_or_at chains here [] [] (length places) size, begins) refl
 
 -- the chain of a future that has one
-chain_first : (firsts : List (Option ℕ)) (places : List Place) (k first : ℕ) (d : Place) → AreWaiters firsts places → k < length firsts → get_or firsts k None ≡ Some first → waiting (chains_of firsts places) k ≡ (get_or places first d).call ∷ chain_from (chains_after [] places) (get_or places first d).next
+chain_first : (firsts : List (Option ℕ)) (places : List Place) (k first : ℕ) (d : Place) → AreWaiters firsts places → k < length firsts → get_or firsts k None ≡ Some first → waiters_of (chains_of firsts places) k ≡ (get_or places first d).call ∷ chain_from (chains_after [] places) (get_or places first d).next
 chain_first firsts places k first d fine lt is =
     let within : first < length places = rw is at (fine.0 k None lt) in
     let index : 0 + first ≡ first = omega arith in
     get_or-map (chain_from (chains_after [] places)) firsts k None [] lt ∙ ap (chain_from (chains_after [] places)) is ∙ rw index at (chain_at [] places first d within fine.1)
 
-pub popped_call : (firsts : List (Option ℕ)) (places : List Place) (k first : ℕ) (d : Place) → AreWaiters firsts places → k < length firsts → get_or firsts k None ≡ Some first → Some (get_or places first d).call ≡ slice_get (waiting (chains_of firsts places) k) 0
+pub popped_call : (firsts : List (Option ℕ)) (places : List Place) (k first : ℕ) (d : Place) → AreWaiters firsts places → k < length firsts → get_or firsts k None ≡ Some first → Some (get_or places first d).call ≡ slice_get (waiters_of (chains_of firsts places) k) 0
 popped_call firsts places k first d fine lt is = ap (λ (calls : List ℕ). slice_get calls 0) (sym (chain_first firsts places k first d fine lt is))
 
-pub popped_lists : (firsts : List (Option ℕ)) (places : List Place) (k first : ℕ) (d : Place) → AreWaiters firsts places → k < length firsts → get_or firsts k None ≡ Some first → chains_of (slice_set firsts k (get_or places first d).next) places ≡ slice_set (chains_of firsts places) k (drop 1 (waiting (chains_of firsts places) k))
+pub popped_lists : (firsts : List (Option ℕ)) (places : List Place) (k first : ℕ) (d : Place) → AreWaiters firsts places → k < length firsts → get_or firsts k None ≡ Some first → chains_of (slice_set firsts k (get_or places first d).next) places ≡ slice_set (chains_of firsts places) k (drop 1 (waiters_of (chains_of firsts places) k))
 popped_lists firsts places k first d fine lt is =
     map-set (chain_from (chains_after [] places)) firsts k (get_or places first d).next
     ∙ ap (λ (rest : List ℕ). slice_set (chains_of firsts places) k rest) (sym (ap (λ (calls : List ℕ). drop 1 calls) (chain_first firsts places k first d fine lt is)))

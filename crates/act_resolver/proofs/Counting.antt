@@ -8,10 +8,10 @@ use Rattle.std.proofs.lemmas.List.Sums.{sum_by-cons}
 use Rattle.std.proofs.lemmas.Option.{slice_get-get_or, slice_get_past, slice_get_within, slice_get_read}
 use Rattle.std.proofs.lemmas.Bool.{cases_lt, cases_eq, eq-eqb, false≢true}
 use Rattle.std.proofs.lemmas.Bool.Decides.{eqb_tells}
-use Rattle.act_resolver.specs.Resolver.{Entered, new_call, is_answered, is_known, is_ready, first_ready, changed_at}
+use Rattle.act_resolver.specs.Resolver.{Entered, new_call, is_answered, is_told, is_next_ready, least_ready, changed_at}
 use Rattle.act_resolver.specs.Least.{IsLeast}
-use Rattle.act_resolver.specs.Waiters.{waiting}
-use Rattle.act_resolver.specs.Counts.{futures_of, missing_of, times, places_for, is_free, AreCounted, AreFree, IsResolver, IsTelling}
+use Rattle.act_resolver.specs.Waiters.{waiters_of}
+use Rattle.act_resolver.specs.Counts.{futures_at, missing_of, count_number, places_for, is_free, AreCounted, AreFree, IsResolver, IsTelling}
 
 not_eqb : (a b : ℕ) → a ≢ b → eqb a b ≡ false
 not_eqb a b other = elim (eqb_tells a b) [ inl told ↦ absurd (other told.1) | inr told ↦ told.0 ]
@@ -72,7 +72,7 @@ count_same p q (x ∷ xs) same =
     sum_by-cons (λ y. cond (p y) 1 0) x xs ∙ rw (same x, count_same p q xs same) (sym (sum_by-cons (λ y. cond (q y) 1 0) x xs))
 
 -- the places that wait are fewer by those of a future that is told
-count_told : (told after : ℕ → Bool) (k : ℕ) (xs : List ℕ) → after k ≡ true → ((x : ℕ) → x ≢ k → after x ≡ told x) → count_by (λ x. not (told x)) xs ≡ count_by (λ x. not (after x)) xs + cond (told k) 0 (times k xs)
+count_told : (told after : ℕ → Bool) (k : ℕ) (xs : List ℕ) → after k ≡ true → ((x : ℕ) → x ≢ k → after x ≡ told x) → count_by (λ x. not (told x)) xs ≡ count_by (λ x. not (after x)) xs + cond (told k) 0 (count_number k xs)
 count_told told after k [] is same = elim (told k) as (λ b. 0 ≡ 0 + cond b 0 0) [ true ↦ refl | false ↦ refl ]
 count_told told after k (x ∷ xs) is same =
     let rest = count_told told after k xs is same in
@@ -89,9 +89,9 @@ count_told told after k (x ∷ xs) is same =
     apart true a n m = omega arith
     apart false a n m = omega arith
 
-    here : (x ≡ k) ⊎ (x ≢ k) → cond (not (told x)) 1 0 + (count_by (λ y. not (after y)) xs + cond (told k) 0 (times k xs)) ≡ cond (not (after x)) 1 0 + count_by (λ y. not (after y)) xs + cond (told k) 0 (cond (x == k) 1 0 + times k xs)
-    here (inl e) = rw (e, eq-eqb k k refl, is) (step (told k) (count_by (λ y. not (after y)) xs) (times k xs))
-    here (inr other) = rw (not_eqb x k other, same x other) (apart (told k) (cond (not (told x)) 1 0) (count_by (λ y. not (after y)) xs) (times k xs))
+    here : (x ≡ k) ⊎ (x ≢ k) → cond (not (told x)) 1 0 + (count_by (λ y. not (after y)) xs + cond (told k) 0 (count_number k xs)) ≡ cond (not (after x)) 1 0 + count_by (λ y. not (after y)) xs + cond (told k) 0 (cond (x == k) 1 0 + count_number k xs)
+    here (inl e) = rw (e, eq-eqb k k refl, is) (step (told k) (count_by (λ y. not (after y)) xs) (count_number k xs))
+    here (inr other) = rw (not_eqb x k other, same x other) (apart (told k) (cond (not (told x)) 1 0) (count_by (λ y. not (after y)) xs) (count_number k xs))
 
 -- the count of a call that no place waits for
 all_told_more : (told : Bool) (n : ℕ) (rest : Bool) → (n == 0) ≡ rest → (cond (not told) 1 0 + n == 0) ≡ (told && rest)
@@ -105,10 +105,10 @@ all_told told (x ∷ xs) =
 
 count_known : (calls : List Entered) (counts : List ℕ) (k : ℕ) (call : Entered) → AreCounted calls counts → slice_get calls k ≡ Some call → (get_or counts k 0 == 0) ≡ list_all (is_answered calls) call.futures
 count_known calls counts k call counted found =
-    let named : futures_of calls k ≡ call.futures = rw found refl in
+    let named : futures_at calls k ≡ call.futures = rw found refl in
     ap (λ n. n == 0) (counted k ∙ ap (missing_of calls) named) ∙ all_told (is_answered calls) call.futures
 
-known_at : (calls : List Entered) (counts : List ℕ) (k : ℕ) → length counts ≡ length calls → AreCounted calls counts → (found : Option Entered) → slice_get calls k ≡ found → option_map_or (λ count. count == 0) (slice_get counts k) false ≡ is_known calls k
+known_at : (calls : List Entered) (counts : List ℕ) (k : ℕ) → length counts ≡ length calls → AreCounted calls counts → (found : Option Entered) → slice_get calls k ≡ found → option_map_or (λ count. count == 0) (slice_get counts k) false ≡ is_told calls k
 known_at calls counts k size counted None found =
     elim (cases_lt k (length calls)) [
       | inl lt ↦ absurd (none_at calls k lt found)
@@ -123,15 +123,15 @@ known_at calls counts k size counted (Some call) found =
     let lt = slice_get_within calls k call found in
     rw (slice_get-get_or counts k 0 (omega arith), found) (count_known calls counts k call counted found)
 
-pub known_is : (calls : List Entered) (counts : List ℕ) (k : ℕ) → length counts ≡ length calls → AreCounted calls counts → option_map_or (λ count. count == 0) (slice_get counts k) false ≡ is_known calls k
+pub known_is : (calls : List Entered) (counts : List ℕ) (k : ℕ) → length counts ≡ length calls → AreCounted calls counts → option_map_or (λ count. count == 0) (slice_get counts k) false ≡ is_told calls k
 known_is calls counts k size counted = known_at calls counts k size counted (slice_get calls k) refl
 
 -- the free calls are those that are ready
-free_at : (calls : List Entered) (counts : List ℕ) (k : ℕ) → AreCounted calls counts → (found : Option Entered) → slice_get calls k ≡ found → is_free calls counts k ≡ is_ready calls k
+free_at : (calls : List Entered) (counts : List ℕ) (k : ℕ) → AreCounted calls counts → (found : Option Entered) → slice_get calls k ≡ found → is_free calls counts k ≡ is_next_ready calls k
 free_at calls counts k counted None found = rw found refl
 free_at calls counts k counted (Some call) found = rw found (ap (λ b. b && not call.sent && not call.answered) (count_known calls counts k call counted found))
 
-free_is_ready : (calls : List Entered) (counts : List ℕ) → AreCounted calls counts → (k : ℕ) → is_free calls counts k ≡ is_ready calls k
+free_is_ready : (calls : List Entered) (counts : List ℕ) → AreCounted calls counts → (k : ℕ) → is_free calls counts k ≡ is_next_ready calls k
 free_is_ready calls counts counted k = free_at calls counts k counted (slice_get calls k) refl
 
 -- the first number from a on that passes
@@ -155,13 +155,13 @@ ready_within calls counts k free =
     ]
 
 -- the least of the free calls is the first that is ready
-pub first_ready_is : (calls : List Entered) (counts : List ℕ) (ready : List Bool) (least : Option ℕ) → AreCounted calls counts → AreFree calls counts ready → IsLeast ready least → least ≡ first_ready calls
+pub first_ready_is : (calls : List Entered) (counts : List ℕ) (ready : List Bool) (least : Option ℕ) → AreCounted calls counts → AreFree calls counts ready → IsLeast ready least → least ≡ least_ready calls
 first_ready_is calls counts ready None counted free none =
-    sym (find_none (is_ready calls) 0 (length calls) (λ k. sym (free_is_ready calls counts counted k) ∙ sym (free k) ∙ none k))
+    sym (find_none (is_next_ready calls) 0 (length calls) (λ k. sym (free_is_ready calls counts counted k) ∙ sym (free k) ∙ none k))
 first_ready_is calls counts ready (Some r) counted free least =
     let here : is_free calls counts r ≡ true = sym (free r) ∙ least.0 in
     let within = ready_within calls counts r here in
-    sym (find_first (is_ready calls) 0 (length calls) r (omega arith) (omega arith) (sym (free_is_ready calls counts counted r) ∙ here) (λ k lt. sym (free_is_ready calls counts counted k) ∙ sym (free k) ∙ least.1 k lt))
+    sym (find_first (is_next_ready calls) 0 (length calls) r (omega arith) (omega arith) (sym (free_is_ready calls counts counted r) ∙ here) (λ k lt. sym (free_is_ready calls counts counted k) ∙ sym (free k) ∙ least.1 k lt))
 
 -- a call that was read at its place, and opened
 pub found_at : (calls known : List Entered) (len i k : ℕ) (call read : Entered) → calls ≡ known → len ≡ length calls → i ≡ k → k < length known → read ≡ get_or calls i read → call ≡ read → slice_get calls i ≡ Some call
@@ -173,11 +173,11 @@ pub changed_is : (calls : List Entered) (i k : ℕ) (found : Entered) (change : 
 changed_is calls i k found change same is = rw (same, is) refl
 
 -- calls that were told and name futures as before
-counted_same : (calls after : List Entered) (counts : List ℕ) → ((future : ℕ) → is_answered after future ≡ is_answered calls future) → ((k : ℕ) → futures_of after k ≡ futures_of calls k) → AreCounted calls counts → AreCounted after counts
+counted_same : (calls after : List Entered) (counts : List ℕ) → ((future : ℕ) → is_answered after future ≡ is_answered calls future) → ((k : ℕ) → futures_at after k ≡ futures_at calls k) → AreCounted calls counts → AreCounted after counts
 counted_same calls after counts told named counted k =
-    counted k ∙ ap (missing_of calls) (sym (named k)) ∙ count_same (λ future. not (is_answered calls future)) (λ future. not (is_answered after future)) (futures_of after k) (λ future. ap not (sym (told future)))
+    counted k ∙ ap (missing_of calls) (sym (named k)) ∙ count_same (λ future. not (is_answered calls future)) (λ future. not (is_answered after future)) (futures_at after k) (λ future. ap not (sym (told future)))
 
-places_same : (calls after : List Entered) → ((future : ℕ) → is_answered after future ≡ is_answered calls future) → ((k : ℕ) → futures_of after k ≡ futures_of calls k) → (future k : ℕ) → places_for calls future k ≡ places_for after future k
+places_same : (calls after : List Entered) → ((future : ℕ) → is_answered after future ≡ is_answered calls future) → ((k : ℕ) → futures_at after k ≡ futures_at calls k) → (future k : ℕ) → places_for calls future k ≡ places_for after future k
 places_same calls after told named future k = rw (told future, named k) refl
 
 -- a call is sent
@@ -188,7 +188,7 @@ sent_fine calls counts lists ready k call fine found =
     let size = length-set calls k sent in
     let lt = slice_get_within calls k call found in
     let told : (future : ℕ) → is_answered after future ≡ is_answered calls future = λ future. field_same (λ (c : Entered). c.answered) calls k future call sent false found refl in
-    let named : (i : ℕ) → futures_of after i ≡ futures_of calls i = λ i. field_same (λ (c : Entered). c.futures) calls k i call sent [] found refl in
+    let named : (i : ℕ) → futures_at after i ≡ futures_at calls i = λ i. field_same (λ (c : Entered). c.futures) calls k i call sent [] found refl in
     record {
       size_counts = omega (arith, size, fine.size_counts);
       size_lists = omega (arith, size, fine.size_lists);
@@ -219,12 +219,12 @@ told_start calls counts lists ready k call fine found =
     let lt = slice_get_within calls k call found in
     let is : is_answered after k ≡ true = field-set_same (λ (c : Entered). c.answered) calls k told false lt in
     let others : (future : ℕ) → future ≢ k → is_answered after future ≡ is_answered calls future = λ future other. field-set_other (λ (c : Entered). c.answered) calls k future told false other in
-    let named : (i : ℕ) → futures_of after i ≡ futures_of calls i = λ i. field_same (λ (c : Entered). c.futures) calls k i call told [] found refl in
+    let named : (i : ℕ) → futures_at after i ≡ futures_at calls i = λ i. field_same (λ (c : Entered). c.futures) calls k i call told [] found refl in
     record {
       size_counts = omega (arith, size, fine.size_counts);
       size_lists = omega (arith, size, fine.size_lists);
       size_ready = omega (arith, size, fine.size_ready, length-set ready k false);
-      counted = λ i. rw (named i, fine.waits k i) (fine.counted i ∙ count_told (is_answered calls) (is_answered after) k (futures_of calls i) is others);
+      counted = λ i. rw (named i, fine.waits k i) (fine.counted i ∙ count_told (is_answered calls) (is_answered after) k (futures_at calls i) is others);
       waits = λ future i other. fine.waits future i ∙ rw (others future other, named i) refl;
       answered = is;
       free = free;
@@ -248,16 +248,16 @@ first_waits : (waiters : List ℕ) (k : ℕ) → slice_get waiters 0 ≡ Some k 
 first_waits [] k e = absurd (cc)
 first_waits (w ∷ waiters) k e = cc
 
-times-cons : (k x : ℕ) (xs : List ℕ) → times k (x ∷ xs) ≡ cond (x == k) 1 0 + times k xs
+times-cons : (k x : ℕ) (xs : List ℕ) → count_number k (x ∷ xs) ≡ cond (x == k) 1 0 + count_number k xs
 times-cons k x xs = sum_by-cons (λ y. cond (y == k) 1 0) x xs
 
 -- it has a count, so it was entered
-pub waiter_counted : (k : ℕ) (calls : List Entered) (counts : List ℕ) (lists : List (List ℕ)) (ready : List Bool) (waiter : ℕ) → IsTelling k calls counts lists ready → slice_get (waiting lists k) 0 ≡ Some waiter → 1 ≤ get_or counts waiter 0
+pub waiter_counted : (k : ℕ) (calls : List Entered) (counts : List ℕ) (lists : List (List ℕ)) (ready : List Bool) (waiter : ℕ) → IsTelling k calls counts lists ready → slice_get (waiters_of lists k) 0 ≡ Some waiter → 1 ≤ get_or counts waiter 0
 waiter_counted k calls counts lists ready waiter fine first =
-    let here : times waiter (waiting lists k) ≡ 1 + times waiter (drop 1 (waiting lists k)) = ap (times waiter) (first_waits (waiting lists k) waiter first) ∙ times-cons waiter waiter (drop 1 (waiting lists k)) ∙ rw (eq-eqb waiter waiter refl) refl in
+    let here : count_number waiter (waiters_of lists k) ≡ 1 + count_number waiter (drop 1 (waiters_of lists k)) = ap (count_number waiter) (first_waits (waiters_of lists k) waiter first) ∙ times-cons waiter waiter (drop 1 (waiters_of lists k)) ∙ rw (eq-eqb waiter waiter refl) refl in
     omega (arith, fine.counted waiter)
 
-pub waiter_entered : (k : ℕ) (calls : List Entered) (counts : List ℕ) (lists : List (List ℕ)) (ready : List Bool) (waiter : ℕ) → IsTelling k calls counts lists ready → slice_get (waiting lists k) 0 ≡ Some waiter → waiter < length calls
+pub waiter_entered : (k : ℕ) (calls : List Entered) (counts : List ℕ) (lists : List (List ℕ)) (ready : List Bool) (waiter : ℕ) → IsTelling k calls counts lists ready → slice_get (waiters_of lists k) 0 ≡ Some waiter → waiter < length calls
 waiter_entered k calls counts lists ready waiter fine first =
     elim (cases_lt waiter (length calls)) [
       | inl lt ↦ lt
@@ -272,13 +272,13 @@ told_entered calls k told =
     ]
 
 -- one place of a call that waits is told
-pub told_step : (k : ℕ) (calls : List Entered) (counts : List ℕ) (lists : List (List ℕ)) (ready : List Bool) (waiter : ℕ) → IsTelling k calls counts lists ready → slice_get (waiting lists k) 0 ≡ Some waiter → IsTelling k calls (slice_set counts waiter (get_or counts waiter 0 - 1)) (slice_set lists k (drop 1 (waiting lists k))) (slice_set ready waiter (is_free calls (slice_set counts waiter (get_or counts waiter 0 - 1)) waiter))
+pub told_step : (k : ℕ) (calls : List Entered) (counts : List ℕ) (lists : List (List ℕ)) (ready : List Bool) (waiter : ℕ) → IsTelling k calls counts lists ready → slice_get (waiters_of lists k) 0 ≡ Some waiter → IsTelling k calls (slice_set counts waiter (get_or counts waiter 0 - 1)) (slice_set lists k (drop 1 (waiters_of lists k))) (slice_set ready waiter (is_free calls (slice_set counts waiter (get_or counts waiter 0 - 1)) waiter))
 told_step k calls counts lists ready waiter fine first =
     let lt = told_entered calls k fine.answered in
-    let rest = drop 1 (waiting lists k) in
+    let rest = drop 1 (waiters_of lists k) in
     let less = get_or counts waiter 0 - 1 in
-    let is : waiting lists k ≡ waiter ∷ rest = first_waits (waiting lists k) waiter first in
-    let shorter : waiting (slice_set lists k rest) k ≡ rest = get_or-set_same lists k rest [] (omega (arith, fine.size_lists)) in
+    let is : waiters_of lists k ≡ waiter ∷ rest = first_waits (waiters_of lists k) waiter first in
+    let shorter : waiters_of (slice_set lists k rest) k ≡ rest = get_or-set_same lists k rest [] (omega (arith, fine.size_lists)) in
     let within = waiter_entered k calls counts lists ready waiter fine first in
     let counted = waiter_counted k calls counts lists ready waiter fine first in
     record {
@@ -287,10 +287,10 @@ told_step k calls counts lists ready waiter fine first =
       size_ready = omega (arith, fine.size_ready, length-set ready waiter (is_free calls (slice_set counts waiter less) waiter));
       counted = λ i. rw shorter (elim (cases_eq i waiter) [
         | inl e ↦
-            let here : times waiter (waiting lists k) ≡ 1 + times waiter rest = ap (times waiter) is ∙ times-cons waiter waiter rest ∙ rw (eq-eqb waiter waiter refl) refl in
+            let here : count_number waiter (waiters_of lists k) ≡ 1 + count_number waiter rest = ap (count_number waiter) is ∙ times-cons waiter waiter rest ∙ rw (eq-eqb waiter waiter refl) refl in
             rw (e, get_or-set_same counts waiter less 0 (omega (arith, fine.size_counts))) (omega (arith, fine.counted waiter))
         | inr other ↦
-            let here : times i (waiting lists k) ≡ 0 + times i rest = ap (times i) is ∙ times-cons i waiter rest ∙ rw (not_eqb waiter i (λ e. other (sym e))) refl in
+            let here : count_number i (waiters_of lists k) ≡ 0 + count_number i rest = ap (count_number i) is ∙ times-cons i waiter rest ∙ rw (not_eqb waiter i (λ e. other (sym e))) refl in
             rw (get_or-set_other counts waiter i less 0 other) (omega (arith, fine.counted i))
       ]);
       waits = λ future i other. rw (get_or-set_other lists k future rest [] other) (fine.waits future i other);
@@ -302,7 +302,7 @@ told_step k calls counts lists ready waiter fine first =
     }
 
 -- a call is entered
-pub entered_fine : (calls : List Entered) (counts : List ℕ) (lists after : List (List ℕ)) (ready : List Bool) (k count : ℕ) (futures : List ℕ) → IsResolver calls counts lists ready → k ≡ length calls → k < length ready → count ≡ missing_of calls futures → length after ≡ length (lists ++ [] ∷ []) → ((future call : ℕ) → times call (waiting after future) ≡ times call (waiting (lists ++ [] ∷ []) future) + cond ((call == k) && not (is_answered calls future)) (times future futures) 0) → IsResolver (calls ++ new_call futures ∷ []) (counts ++ count ∷ []) after (slice_set ready k (count == 0))
+pub entered_fine : (calls : List Entered) (counts : List ℕ) (lists after : List (List ℕ)) (ready : List Bool) (k count : ℕ) (futures : List ℕ) → IsResolver calls counts lists ready → k ≡ length calls → k < length ready → count ≡ missing_of calls futures → length after ≡ length (lists ++ [] ∷ []) → ((future call : ℕ) → count_number call (waiters_of after future) ≡ count_number call (waiters_of (lists ++ [] ∷ []) future) + cond ((call == k) && not (is_answered calls future)) (count_number future futures) 0) → IsResolver (calls ++ new_call futures ∷ []) (counts ++ count ∷ []) after (slice_set ready k (count == 0))
 entered_fine calls counts lists after ready k count futures fine next room is size waits =
     let new : Entered = new_call futures in
     let more = calls ++ new ∷ [] in
@@ -310,19 +310,19 @@ entered_fine calls counts lists after ready k count futures fine next room is si
       | inl e ↦ rw (e, get-push_here calls new, slice_get_past calls (length calls) (omega arith)) refl
       | inr other ↦ rw (get-push_other calls new future other) refl
     ] in
-    let named : (i : ℕ) → i ≢ k → futures_of more i ≡ futures_of calls i = λ i other. rw (get-push_other calls new i (λ e. other (e ∙ sym next))) refl in
-    let here : futures_of more k ≡ futures = rw (next, get-push_here calls new) refl in
-    let nothing : futures_of calls k ≡ [] = rw (slice_get_past calls k (omega arith)) refl in
+    let named : (i : ℕ) → i ≢ k → futures_at more i ≡ futures_at calls i = λ i other. rw (get-push_other calls new i (λ e. other (e ∙ sym next))) refl in
+    let here : futures_at more k ≡ futures = rw (next, get-push_here calls new) refl in
+    let nothing : futures_at calls k ≡ [] = rw (slice_get_past calls k (omega arith)) refl in
     record {
       size_counts = omega (arith, fine.size_counts, length_push calls new, length_push counts count);
       size_lists = omega (arith, fine.size_lists, length_push calls new, length_push lists []);
       size_ready = omega (arith, length_push calls new, length-set ready k (count == 0));
       counted = λ i. elim (cases_eq i k) [
         | inl e ↦ rw (e, here) (get_or_push counts count 0 k (omega (arith, fine.size_counts)) ∙ is ∙ count_same (λ future. not (is_answered calls future)) (λ future. not (is_answered more future)) futures (λ future. ap not (sym (told future))))
-        | inr other ↦ get_or-push_other counts count 0 i (λ e. other (e ∙ fine.size_counts ∙ sym next)) ∙ fine.counted i ∙ ap (missing_of calls) (sym (named i other)) ∙ count_same (λ future. not (is_answered calls future)) (λ future. not (is_answered more future)) (futures_of more i) (λ future. ap not (sym (told future)))
+        | inr other ↦ get_or-push_other counts count 0 i (λ e. other (e ∙ fine.size_counts ∙ sym next)) ∙ fine.counted i ∙ ap (missing_of calls) (sym (named i other)) ∙ count_same (λ future. not (is_answered calls future)) (λ future. not (is_answered more future)) (futures_at more i) (λ future. ap not (sym (told future)))
       ];
       waits = λ future i. waits future i ∙ rw (get_or-push_default lists [] future, told future) (elim (cases_eq i k) [
-        | inl e ↦ rw (e, eq-eqb k k refl, here, fine.waits future k, nothing) (new_places (is_answered calls future) (times future futures))
+        | inl e ↦ rw (e, eq-eqb k k refl, here, fine.waits future k, nothing) (new_places (is_answered calls future) (count_number future futures))
         | inr other ↦ rw (not_eqb i k other, named i other, fine.waits future i) (omega arith)
       ]);
       free = free;

@@ -10,7 +10,7 @@ pub record Entered : Type 0 where
   pub sent : Bool
 
 -- the calls in the order of entering, and for how many more there is room
-pub record ResolverValue : Type 0 where
+pub record ResolverView : Type 0 where
   pub calls : List Entered
   pub spare : ℕ
 
@@ -23,29 +23,29 @@ abbrev pub is_answered : List Entered → ℕ → Bool
 is_answered calls k = option_map_or (λ call. call.answered) (slice_get calls k) false
 
 -- whether call k was entered and sent
-abbrev pub is_sent : List Entered → ℕ → Bool
-is_sent calls k = option_map_or (λ call. call.sent) (slice_get calls k) false
+abbrev pub is_marked_sent : List Entered → ℕ → Bool
+is_marked_sent calls k = option_map_or (λ call. call.sent) (slice_get calls k) false
 
 -- whether call k was entered and all the futures among its arguments were answered
-abbrev pub is_known : List Entered → ℕ → Bool
-is_known calls k = option_map_or (λ call. list_all (is_answered calls) call.futures) (slice_get calls k) false
+abbrev pub is_told : List Entered → ℕ → Bool
+is_told calls k = option_map_or (λ call. list_all (is_answered calls) call.futures) (slice_get calls k) false
 
 -- whether call k may be sent: it is known, and neither sent nor itself answered
-abbrev pub is_ready : List Entered → ℕ → Bool
-is_ready calls k = is_known calls k && not (is_sent calls k) && not (is_answered calls k)
+abbrev pub is_next_ready : List Entered → ℕ → Bool
+is_next_ready calls k = is_told calls k && not (is_marked_sent calls k) && not (is_answered calls k)
 
 -- the first call, counted from 0, that is ready
-abbrev pub first_ready : List Entered → Option ℕ
-first_ready calls = find (is_ready calls) (range_with_len 0 (length calls))
+abbrev pub least_ready : List Entered → Option ℕ
+least_ready calls = find (is_next_ready calls) (range_with_len 0 (length calls))
 
 -- the calls after a change of call k
 abbrev pub changed_at : List Entered → ℕ → (Entered → Entered) → List Entered
 changed_at calls k change = option_map_or (λ call. slice_set calls k (change call)) (slice_get calls k) calls
 
 -- the calls after the answer to call k
-abbrev pub with_answered : List Entered → ℕ → List Entered
-with_answered calls k = changed_at calls k (λ call. record call { answered = true })
+abbrev pub with_told : List Entered → ℕ → List Entered
+with_told calls k = changed_at calls k (λ call. record call { answered = true })
 
 -- the calls after call k was sent
-abbrev pub with_sent : List Entered → ℕ → List Entered
-with_sent calls k = changed_at calls k (λ call. record call { sent = true })
+abbrev pub with_mark : List Entered → ℕ → List Entered
+with_mark calls k = changed_at calls k (λ call. record call { sent = true })

@@ -3,14 +3,14 @@ use Rattle.std.specs.Prelude.{ℕ, ◌+◌, ◌<◌, Option, Some, None, List, [
 use Rattle.act_resolver.specs.declared.waiters.Place.{Place}
 
 -- for each future the calls that wait for it, the latest first, and for how many more futures and places there is room
-pub record WaitersValue : Type 0 where
+pub record WaitersView : Type 0 where
   pub lists : List (List ℕ)
   pub future_room : ℕ
   pub place_room : ℕ
 
 -- the calls that wait for future k
-abbrev pub waiting : List (List ℕ) → ℕ → List ℕ
-waiting lists k = slice_index_or lists k []
+abbrev pub waiters_of : List (List ℕ) → ℕ → List ℕ
+waiters_of lists k = slice_index_or lists k []
 
 -- the calls along the chain from a place, where these are the chains from each place
 abbrev pub chain_from : List (List ℕ) → Option ℕ → List ℕ
@@ -28,7 +28,8 @@ chains_of firsts places = map (chain_from (chains_after [] places)) firsts
 
 -- each link leads to an earlier place, where so many stand before these
 abbrev pub AreLinked : ℕ → List Place → Type 0
-AreLinked before places = (i : ℕ) (d : Place) → i < length places → IfSome (slice_index_or places i d).next (λ next. next < before + i)
+AreLinked before places = (i : ℕ) (d : Place) → i < length places →
+    IfSome (slice_index_or places i d).next (λ next. next < before + i)
 
 -- each chain begins at a place
 abbrev pub AreWaiters : List (Option ℕ) → List Place → Type 0

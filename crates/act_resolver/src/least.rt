@@ -3,13 +3,13 @@
 ghost use Rattle.std.specs.Prelude.{◌≡◌, ℕ, ◌<◌, ◌≤◌, [], false, length, slice_index_or, slice_set, IsOk, OnOk};
 ghost use Rattle.act_resolver.specs.Least.{IsLeast};
 
-use crate::level::{Level, MOST_WORDS, WORD_BITS};
+use crate::level::{Level, MAX_WORDS, WORD_BITS};
 use act_types::NoMemory;
 use std::alloc::Global;
 use std::marker::Model;
 
 /// Each number below the bound fits in 32 bits.
-const HIGHEST_BOUND: usize = MOST_WORDS * WORD_BITS;
+const HIGHEST_BOUND: usize = MAX_WORDS * WORD_BITS;
 
 /// Some of the numbers below a bound. The leaves have the numbers, the inner level has the number of
 /// each word of the leaves that isn't empty, and the top that of each such word of the inner level.

@@ -12,7 +12,7 @@ use std::marker::Model;
 pub const WORD_BITS: usize = 64;
 
 /// With so many words each number is below 2^32.
-pub const MOST_WORDS: usize = 1 << 26;
+pub const MAX_WORDS: usize = 1 << 26;
 
 /// Some of the numbers below a bound, a bit for each. Contracts see the words.
 #[derive(Drop)]
@@ -22,13 +22,13 @@ pub struct Level {
 
 impl Model for Level {
     ghost use Rattle.std.specs.Prelude.{ℕ, ◌≤◌, List, length};
-    ghost use Rattle.act_resolver.specs.declared.level.TheConstants.{MOST_WORDS};
+    ghost use Rattle.act_resolver.specs.declared.level.TheConstants.{MAX_WORDS};
 
     ghost Value = { List ℕ };
 
     ghost view = { λ level. level.words.items };
 
-    ghost invariant = { λ level. length level.words.items ≤ MOST_WORDS };
+    ghost invariant = { λ level. length level.words.items ≤ MAX_WORDS };
 }
 
 impl Level {
@@ -44,14 +44,14 @@ impl Level {
     /// How many words there are.
     pub fn count(&self) -> usize
         ensures count { result ≡ length self.now }
-        ensures few { result ≤ MOST_WORDS }
+        ensures few { result ≤ MAX_WORDS }
     {
         self.words.len()
     }
 
     /// Adds empty words up to this count. Where there are as many it takes no memory.
     pub fn grow(&mut self, count: usize) -> Result<(), NoMemory>
-        requires { count ≤ MOST_WORDS }
+        requires { count ≤ MAX_WORDS }
         ensures ok { OnOk result (length self.new ≡ max count (length self.old)) }
         ensures err { OnErr result (self.new ≡ self.old) }
         ensures grows { length self.old ≤ length self.new }

@@ -2,14 +2,14 @@
 
 ghost use Rattle.std.specs.Prelude.{◌≡◌, ℕ, ◌+◌, ◌-◌, ◌<◌, ◌≤◌, ◌==◌, ◌&&◌, not, false, [], ◌∷◌, ◌++◌, if◌then◌else◌, length, All, IsOk, OnOk, OnErr, slice_get, slice_set, slice_index, slice_index_or};
 ghost use Rattle.std.specs.Option.{option_copied, option_map_or};
-ghost use Rattle.act_resolver.specs.Resolver.{new_call, is_answered, is_sent, is_known, first_ready, with_answered, with_sent};
-ghost use Rattle.act_resolver.specs.Counts.{is_free, times, missing_of};
-ghost use Rattle.act_resolver.specs.Waiters.{waiting};
+ghost use Rattle.act_resolver.specs.Resolver.{new_call, is_answered, is_marked_sent, is_told, least_ready, with_told, with_mark};
+ghost use Rattle.act_resolver.specs.Counts.{is_free, count_number, missing_of};
+ghost use Rattle.act_resolver.specs.Waiters.{waiters_of};
 
 use crate::futures::Futures;
 use crate::least::LeastSet;
 use crate::waiters::Waiters;
-use act_types::{FutureId, MOST_ARGS, NoMemory};
+use act_types::{FutureId, MAX_ARGS, NoMemory};
 use std::alloc::Global;
 use std::marker::Model;
 
@@ -42,21 +42,22 @@ pub struct Resolver {
 
 impl Model for Resolver {
     ghost use Rattle.std.specs.Prelude.{◌-◌, ◌/◌, min, length, vec_len, vec_capacity};
-    ghost use Rattle.act_types.specs.declared.limits.TheConstants.{MOST_ARGS};
+    ghost use Rattle.act_types.specs.declared.limits.TheConstants.{MAX_ARGS};
     ghost use Rattle.act_resolver.specs.Counts.{IsResolver};
-    ghost use Rattle.act_resolver.specs.Resolver.{ResolverValue};
+    ghost use Rattle.act_resolver.specs.Resolver.{ResolverView};
 
-    ghost Value = { ResolverValue };
+    ghost Value = { ResolverView };
 
     ghost view = { λ resolver. record {
       calls = resolver.calls.items;
       spare = min (min (vec_capacity resolver.calls - vec_len resolver.calls)
           (vec_capacity resolver.missing - vec_len resolver.missing))
-          (min (min resolver.waiters.future_room (resolver.waiters.place_room / MOST_ARGS))
+          (min (min resolver.waiters.future_room (resolver.waiters.place_room / MAX_ARGS))
           (length resolver.ready - vec_len resolver.calls));
     } };
 
-    ghost invariant = { λ resolver. IsResolver resolver.calls.items resolver.missing.items resolver.waiters.lists resolver.ready };
+    ghost invariant = { λ resolver.
+        IsResolver resolver.calls.items resolver.missing.items resolver.waiters.lists resolver.ready };
 }
 
 impl Resolver {
@@ -105,7 +106,7 @@ impl Resolver {
     /// aren't answered yet. Where there is room it takes no memory.
     pub fn enter(&mut self, k: FutureId, futures: &[FutureId]) -> Result<(), NoMemory>
         requires next { k ≡ length self.old.calls }
-        requires at_most_four { length futures.now ≤ MOST_ARGS }
+        requires at_most_four { length futures.now ≤ MAX_ARGS }
         requires earlier { All (λ future. future < k) futures.now }
 
         ensures ok { OnOk result (self.new.calls ≡ self.old.calls ++ new_call futures.now ∷ []) }
@@ -122,7 +123,7 @@ impl Resolver {
     pub fn enter_reserved(&mut self, k: FutureId, futures: &[FutureId])
         requires room { 1 ≤ self.old.spare }
         requires next { k ≡ length self.old.calls }
-        requires at_most_four { length futures.now ≤ MOST_ARGS }
+        requires at_most_four { length futures.now ≤ MAX_ARGS }
         requires earlier { All (λ future. future < k) futures.now }
 
         ensures calls { self.new.calls ≡ self.old.calls ++ new_call futures.now ∷ [] }
@@ -144,7 +145,7 @@ impl Resolver {
     /// for each place that waited for it.
     pub fn told(&mut self, k: FutureId)
         requires { k < length self.old.calls }
-        ensures calls { self.new.calls ≡ with_answered self.old.calls k }
+        ensures calls { self.new.calls ≡ with_told self.old.calls k }
         ensures spare { self.old.spare ≤ self.new.spare }
     {
         let place = k.number() as usize;
@@ -160,7 +161,7 @@ impl Resolver {
     /// Call `k` was sent, so it is never ready again.
     pub fn mark_sent(&mut self, k: FutureId)
         requires { k < length self.old.calls }
-        ensures calls { self.new.calls ≡ with_sent self.old.calls k }
+        ensures calls { self.new.calls ≡ with_mark self.old.calls k }
         ensures spare { self.old.spare ≤ self.new.spare }
     {
         let place = k.number() as usize;
@@ -172,21 +173,21 @@ impl Resolver {
     /// The least call that may be sent: every future among its arguments is answered, and it was
     /// neither sent nor answered itself.
     pub fn ready(&self) -> Option<FutureId>
-        ensures { result ≡ first_ready self.now.calls }
+        ensures { result ≡ least_ready self.now.calls }
     {
         self.ready.least().map(FutureId::new)
     }
 
     /// Whether call `k` was entered and sent.
     pub fn is_sent(&self, k: FutureId) -> bool
-        ensures { result ≡ is_sent self.now.calls k }
+        ensures { result ≡ is_marked_sent self.now.calls k }
     {
         self.call(k).is_some_and(|call| call.sent)
     }
 
     /// Whether call `k` was entered and every future among its arguments is answered.
     pub fn is_known(&self, k: FutureId) -> bool
-        ensures { result ≡ is_known self.now.calls k }
+        ensures { result ≡ is_told self.now.calls k }
     {
         is_zero(&self.missing, k)
     }
@@ -211,18 +212,18 @@ fn take_out(set: &mut LeastSet, k: usize, may_be_in: bool)
 
 /// Has call `k` wait at each place for whose future there is no answer yet, and counts them.
 fn add_places(calls: &[Call], waiters: &mut Waiters, k: FutureId, futures: &[FutureId]) -> u8
-    requires at_most_four { length futures.now ≤ MOST_ARGS }
+    requires at_most_four { length futures.now ≤ MAX_ARGS }
     requires earlier { All (λ future. future < length waiters.old.lists) futures.now }
-    requires room { MOST_ARGS ≤ waiters.old.place_room }
+    requires room { MAX_ARGS ≤ waiters.old.place_room }
 
     ensures count { result ≡ missing_of calls.now futures.now }
     ensures lists { (future call : ℕ) →
-        times call (waiting waiters.new.lists future)
-        ≡ times call (waiting waiters.old.lists future)
-        + (if (call == k) && not (is_answered calls.now future) then times future futures.now else 0) }
+        count_number call (waiters_of waiters.new.lists future)
+        ≡ count_number call (waiters_of waiters.old.lists future)
+        + (if (call == k) && not (is_answered calls.now future) then count_number future futures.now else 0) }
     ensures length { length waiters.new.lists ≡ length waiters.old.lists }
     ensures future_room { waiters.new.future_room ≡ waiters.old.future_room }
-    ensures place_room { waiters.old.place_room ≤ waiters.new.place_room + MOST_ARGS }
+    ensures place_room { waiters.old.place_room ≤ waiters.new.place_room + MAX_ARGS }
 {
     let mut missing = 0;
     for future in futures {

@@ -1,9 +1,9 @@
 //! Which calls wait for which answer, as chains through the places that wait.
 
 ghost use Rattle.std.specs.Prelude.{◌≡◌, ◌+◌, ◌*◌, ◌<◌, ◌≤◌, [], ◌∷◌, ◌++◌, length, drop, slice_get, slice_set, IsOk, OnOk};
-ghost use Rattle.act_resolver.specs.Waiters.{waiting};
+ghost use Rattle.act_resolver.specs.Waiters.{waiters_of};
 
-use act_types::{FutureId, MOST_ARGS, NoMemory};
+use act_types::{FutureId, MAX_ARGS, NoMemory};
 use std::alloc::Global;
 use std::marker::Model;
 
@@ -25,9 +25,9 @@ pub struct Waiters {
 
 impl Model for Waiters {
     ghost use Rattle.std.specs.Prelude.{◌-◌, min, vec_len, vec_capacity};
-    ghost use Rattle.act_resolver.specs.Waiters.{WaitersValue, AreWaiters, chains_of};
+    ghost use Rattle.act_resolver.specs.Waiters.{WaitersView, AreWaiters, chains_of};
 
-    ghost Value = { WaitersValue };
+    ghost Value = { WaitersView };
 
     ghost view = { λ waiters. record {
       lists = chains_of waiters.firsts.items waiters.places.items;
@@ -54,16 +54,16 @@ impl Waiters {
     pub fn reserve_one(&mut self) -> Result<(), NoMemory>
         ensures lists { self.new.lists ≡ self.old.lists }
         ensures future_room { OnOk result (1 ≤ self.new.future_room) }
-        ensures place_room { OnOk result (MOST_ARGS ≤ self.new.place_room) }
-        ensures room { 1 ≤ self.old.future_room → MOST_ARGS ≤ self.old.place_room → IsOk result }
+        ensures place_room { OnOk result (MAX_ARGS ≤ self.new.place_room) }
+        ensures room { 1 ≤ self.old.future_room → MAX_ARGS ≤ self.old.place_room → IsOk result }
         ensures future_room_stays { self.old.future_room ≤ self.new.future_room }
         ensures place_room_stays { self.old.place_room ≤ self.new.place_room }
     {
-        if self.places.len() + MOST_ARGS > u32::MAX as usize {
+        if self.places.len() + MAX_ARGS > u32::MAX as usize {
             return Err(NoMemory);
         }
         self.firsts.reserve(1)?;
-        self.places.reserve(MOST_ARGS)?;
+        self.places.reserve(MAX_ARGS)?;
         Ok(())
     }
 
@@ -72,17 +72,17 @@ impl Waiters {
     pub fn reserve(&mut self, count: usize) -> Result<(), NoMemory>
         ensures lists { self.new.lists ≡ self.old.lists }
         ensures future_room { OnOk result (count ≤ self.new.future_room) }
-        ensures place_room { OnOk result (MOST_ARGS * count ≤ self.new.place_room) }
-        ensures room { count ≤ self.old.future_room → MOST_ARGS * count ≤ self.old.place_room → IsOk result }
+        ensures place_room { OnOk result (MAX_ARGS * count ≤ self.new.place_room) }
+        ensures room { count ≤ self.old.future_room → MAX_ARGS * count ≤ self.old.place_room → IsOk result }
         ensures future_room_stays { self.old.future_room ≤ self.new.future_room }
         ensures place_room_stays { self.old.place_room ≤ self.new.place_room }
     {
         let places_left = (u32::MAX as usize).saturating_sub(self.places.len());
-        if count > places_left / MOST_ARGS {
+        if count > places_left / MAX_ARGS {
             return Err(NoMemory);
         }
         self.firsts.reserve(count)?;
-        self.places.reserve(MOST_ARGS * count)?;
+        self.places.reserve(MAX_ARGS * count)?;
         Ok(())
     }
 
@@ -101,7 +101,7 @@ impl Waiters {
         requires entered { future < length self.old.lists }
         requires room { 1 ≤ self.old.place_room }
         ensures lists { self.new.lists
-            ≡ slice_set self.old.lists future (call ∷ waiting self.old.lists future) }
+            ≡ slice_set self.old.lists future (call ∷ waiters_of self.old.lists future) }
         ensures future_room { self.new.future_room ≡ self.old.future_room }
         ensures place_room { self.old.place_room ≡ self.new.place_room + 1 }
     {
@@ -115,9 +115,9 @@ impl Waiters {
     /// Takes the first of the calls that wait for the future.
     pub fn pop(&mut self, future: FutureId) -> Option<FutureId>
         requires { future < length self.old.lists }
-        ensures value { result ≡ slice_get (waiting self.old.lists future) 0 }
+        ensures value { result ≡ slice_get (waiters_of self.old.lists future) 0 }
         ensures lists { self.new.lists
-            ≡ slice_set self.old.lists future (drop 1 (waiting self.old.lists future)) }
+            ≡ slice_set self.old.lists future (drop 1 (waiters_of self.old.lists future)) }
         ensures future_room { self.new.future_room ≡ self.old.future_room }
         ensures place_room { self.new.place_room ≡ self.old.place_room }
     {

@@ -2,7 +2,7 @@
 use Rattle.std.specs.Prelude.{ℕ, ◌≡◌, List, [], ◌∷◌, ◌++◌, replicate, codes}
 use Rattle.act_rules.specs.declared.script.Wrong.TheVariants.{BadPlan}
 use Rattle.act_rows.specs.Rows.{lines_text}
-use Rattle.act_rules.specs.Scripts.{played}
+use Rattle.act_rules.specs.Scripts.{output_of}
 use Rattle.act_rows.specs.ScriptRows.{Writes, HasFault}
 
 -- after the role of a counter the line is faulty
@@ -43,7 +43,7 @@ pub record FineLines : Type 0 where
   pub quotes_in_a_text : LineWrites (codes "submit c1 a1 put \"\"\" 1") (codes "0: future c1.0" ∷ codes "c1.0 a1 ?" ∷ codes "a1 live counter 0" ∷ [])
   pub comment_of_a_full_line : LineWrites (comment 512) (codes "a1 live counter 0" ∷ [])
   pub empty_line : LineWrites [] (codes "a1 live counter 0" ∷ [])
-  pub no_line_end : played (codes "actor a1 counter c1") ≡ lines_text (codes "a1 live counter 0" ∷ [])
+  pub no_line_end : output_of (codes "actor a1 counter c1") ≡ lines_text (codes "a1 live counter 0" ∷ [])
 
 pub record FaultyPlans : Type 0 where
   -- the caller with the least number comes first

@@ -7,7 +7,7 @@ use Rattle.act_types.specs.declared.call.Method.TheVariants.{Add, Get, Put, Size
 use Rattle.act_rules.specs.declared.event.Event.{Event}
 use Rattle.act_rules.specs.declared.event.Event.TheVariants.{Submit, Copy, Release, Send, Deliver, Run, Collect, AskKill, TakeKill, Tell, Retire}
 use Rattle.act_types.specs.KindState.{CounterAt, TableOf, AccountAt, ItemsOf}
-use Rattle.act_rules.specs.History.{Casting, opening}
+use Rattle.act_rules.specs.History.{ActorSpec, opening}
 use Rattle.act_rules.specs.Rules.{after_all}
 use Rattle.act_rules.specs.Report.{line, report, summary}
 
@@ -19,11 +19,11 @@ abbrev pub lines_text : List (List ℕ) → List ℕ
 lines_text lines = flat_map line lines
 
 -- the events, in a world of these actors, report these lines
-abbrev pub Reports : List Casting → List Event → List (List ℕ) → Type 0
+abbrev pub Reports : List ActorSpec → List Event → List (List ℕ) → Type 0
 Reports casts events lines = report (opening casts) events ≡ lines_text lines
 
 -- the events, in a world of these actors, leave this summary
-abbrev pub Leaves : List Casting → List Event → List (List ℕ) → Type 0
+abbrev pub Leaves : List ActorSpec → List Event → List (List ℕ) → Type 0
 Leaves casts events lines = summary (after_all (opening casts) events) ≡ lines_text lines
 
 -- the report of one call

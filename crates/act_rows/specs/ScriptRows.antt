@@ -1,6 +1,6 @@
 -- The worked rows as scripts: what they write, from bytes to bytes.
 use Rattle.std.specs.Prelude.{ℕ, ◌≡◌, ◌<◌, List, [], ◌∷◌, length, None, Ok, Err, codes, pos}
-use Rattle.act_types.specs.declared.limits.TheConstants.{MOST_ACTORS, MOST_CALLERS}
+use Rattle.act_types.specs.declared.limits.TheConstants.{MAX_ACTORS, MAX_CALLERS}
 use Rattle.act_types.specs.declared.call.Arg.TheVariants.{Plain, Fut}
 use Rattle.act_types.specs.declared.call.Method.TheVariants.{Put, Get, Deposit, Withdraw}
 use Rattle.act_types.specs.declared.value.Value.TheVariants.{Int, Text}
@@ -11,20 +11,20 @@ use Rattle.act_rules.specs.declared.script.Wrong.TheVariants.{BadPlan, TooMany}
 use Rattle.act_rules.specs.Report.{line}
 use Rattle.act_rules.specs.Plans.{kills_to}
 use Rattle.act_rules.specs.Grammar.{Script}
-use Rattle.act_rules.specs.Scripts.{played, spelled_plans, submissions_of}
+use Rattle.act_rules.specs.Scripts.{output_of, spelled_plans, submissions_of}
 use Rattle.act_rows.specs.Rows.{lines_text, one_call_report, reversed_report, repeated_report, lost_report, earlier_call_waits_report, another_caller_passes_report, failed_argument_report, one_packet_for_good_report, ran_and_yet_died_report, kill_with_held_calls_report, known_dead_report, refused_submissions_report, release_and_retire_report, nothing_there_report}
 
 -- the script of these lines writes those
 abbrev pub Writes : List (List ℕ) → List (List ℕ) → Type 0
-Writes script lines = played (lines_text script) ≡ lines_text lines
+Writes script lines = output_of (lines_text script) ≡ lines_text lines
 
 -- in threads that serve every caller and every actor the script of these lines spells these plans
 abbrev pub SpellsPlans : List (List ℕ) → Script → Type 0
-SpellsPlans script plans = spelled_plans MOST_CALLERS MOST_ACTORS (lines_text script) ≡ Ok plans
+SpellsPlans script plans = spelled_plans MAX_CALLERS MAX_ACTORS (lines_text script) ≡ Ok plans
 
 -- in such threads the script of these lines has this fault
 abbrev pub HasFault : List (List ℕ) → ℕ × Wrong → Type 0
-HasFault script fault = spelled_plans MOST_CALLERS MOST_ACTORS (lines_text script) ≡ Err fault
+HasFault script fault = spelled_plans MAX_CALLERS MAX_ACTORS (lines_text script) ≡ Err fault
 
 -- empty
 abbrev pub Empty : Type 0
@@ -201,7 +201,7 @@ StepOfThreads = Writes (
 
 -- a script that is too long
 abbrev pub TooLongScript : Type 0
-TooLongScript = (bytes : List ℕ) → 1048576 < length bytes → played bytes ≡ line (codes "line 0: TooLong")
+TooLongScript = (bytes : List ℕ) → 1048576 < length bytes → output_of bytes ≡ line (codes "line 0: TooLong")
 
 -- a submission after the release of the handle
 abbrev pub SubmitAfterRelease : Type 0

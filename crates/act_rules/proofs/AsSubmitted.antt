@@ -11,7 +11,7 @@ use Rattle.act_rules.specs.Submissions.{calls_to, is_known}
 use Rattle.act_rules.specs.Consistent.{IsAsSubmitted}
 use Rattle.act_rules.specs.declared.history.Letter.TheVariants.{Call as CallLetter}
 use Rattle.act_rules.specs.History.{History, calls_of, kept_of, ran_count, next_item}
-use Rattle.act_rules.specs.Rules.{added, after_run}
+use Rattle.act_rules.specs.Rules.{add_event, after_run}
 use Rattle.act_rules.proofs.Lists.{slice_get_front, slice_get-enumerate_from, All_more, All_weaker}
 use Rattle.act_rules.proofs.Growth.{Grows, added_grows, after_run_grows, calls_grow}
 use Rattle.act_rules.proofs.Posts.{PostsAreSound}
@@ -100,7 +100,7 @@ next_submitted a c h item l next = subst (λ (i : RunItem). IsSubmitted h (a, i)
 submitted_stay : (h g : History) → Grows h g → PostsAreSound h → AreSubmitted h → AllByRecursion (IsSubmitted g) h.ran
 submitted_stay h g grows s r = All_weaker (IsSubmitted h) (IsSubmitted g) h.ran (submitted_grows h g grows s) r
 
-pub submitted_step : (h : History) (event : Event) → PostsAreSound h → LettersAreSound h → AreSubmitted h → AreSubmitted (added h event)
+pub submitted_step : (h : History) (event : Event) → PostsAreSound h → LettersAreSound h → AreSubmitted h → AreSubmitted (add_event h event)
 submitted_step h (Submit c a method args) s l r = submitted_stay h _ (added_grows h (Submit c a method args)) s r
 submitted_step h (Copy c a) s l r = submitted_stay h _ (added_grows h (Copy c a)) s r
 submitted_step h (Release c a) s l r = submitted_stay h _ (added_grows h (Release c a)) s r

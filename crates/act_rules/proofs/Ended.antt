@@ -13,7 +13,7 @@ use Rattle.act_rules.specs.declared.outcome.HandleRefusal.TheVariants.{NoActor}
 use Rattle.act_rules.specs.RunList.{has_terminated, NothingFollowsAnEnd}
 use Rattle.act_rules.specs.Submissions.{needs}
 use Rattle.act_rules.specs.History.{History, contains, under, runs_of, is_dead, is_retired, is_ended, is_caller, names, cast_of, next_item}
-use Rattle.act_rules.specs.Rules.{refusal_of, added, after_run}
+use Rattle.act_rules.specs.Rules.{refusal_of, add_event, after_run}
 use Rattle.act_rules.proofs.Growth.{added_grows}
 use Rattle.act_rules.proofs.Terminated.{nothing_follows-push}
 use Rattle.act_rules.proofs.Steps.{IsKept}
@@ -93,12 +93,12 @@ dead_ended : (a b : Bool) → a ≡ true → (a || b) ≡ true
 dead_ended true b e = refl
 dead_ended false b e = cc
 
-pub dead_stays : (a : ℕ) (h : History) (event : Event) → refusal_of h event ≡ None → is_dead a h ≡ true → is_dead a (added h event) ≡ true
+pub dead_stays : (a : ℕ) (h : History) (event : Event) → refusal_of h event ≡ None → is_dead a h ≡ true → is_dead a (add_event h event) ≡ true
 dead_stays a h event accepted dead =
     let grows = added_grows h event in
     let same = (ended_stays a (runs_of a h) h event (record { ended = dead_ended (is_dead a h) (is_retired a h) dead; same = refl }) accepted).same in
-    subst (λ (items : List RunItem). (contains a (added h event).killed || has_terminated items) ≡ true) (sym same)
-    (more_or (contains a h.killed) (has_terminated (runs_of a h)) (contains a (added h event).killed) dead
+    subst (λ (items : List RunItem). (contains a (add_event h event).killed || has_terminated items) ≡ true) (sym same)
+    (more_or (contains a h.killed) (has_terminated (runs_of a h)) (contains a (add_event h event).killed) dead
     (λ killed. subst (λ (xs : List ℕ). contains a xs ≡ true) grows.killed.1 (contains_more a h.killed grows.killed.0 killed)))
 
 -- ---- nothing follows a `terminate`

@@ -7,22 +7,22 @@ use Rattle.act_rules.specs.declared.event.Event.TheVariants.{Submit, Copy, Relea
 use Rattle.act_rules.specs.declared.history.Submission.{Submission}
 use Rattle.act_rules.specs.Submissions.{calls_to}
 use Rattle.act_rules.specs.History.{History, under, runs_of, calls_of, next_item}
-use Rattle.act_rules.specs.Rules.{added, and_also, after_run}
-use Rattle.act_rules.specs.Consistent.{IsFront}
-use Rattle.act_rules.proofs.Lists.{whole_front, more_front, IsFront-filter, IsFront-map, IsFront-enumerate}
+use Rattle.act_rules.specs.Rules.{add_event, and_also, after_run}
+use Rattle.act_rules.specs.Consistent.{IsPrefix}
+use Rattle.act_rules.proofs.Lists.{whole_front, more_front, IsPrefix-filter, IsPrefix-map, IsPrefix-enumerate}
 
 pub record Grows (h g : History) : Type 0 where
   pub casts : g.casts ≡ h.casts
-  pub submitted : IsFront h.submitted g.submitted
-  pub released : IsFront h.released g.released
-  pub mail : IsFront h.mail g.mail
-  pub arrived : IsFront h.arrived g.arrived
-  pub ran : IsFront h.ran g.ran
-  pub posts : IsFront h.posts g.posts
-  pub collected : IsFront h.collected g.collected
-  pub killed : IsFront h.killed g.killed
+  pub submitted : IsPrefix h.submitted g.submitted
+  pub released : IsPrefix h.released g.released
+  pub mail : IsPrefix h.mail g.mail
+  pub arrived : IsPrefix h.arrived g.arrived
+  pub ran : IsPrefix h.ran g.ran
+  pub posts : IsPrefix h.posts g.posts
+  pub collected : IsPrefix h.collected g.collected
+  pub killed : IsPrefix h.killed g.killed
 
-and_also_front : {A : Type 0} (xs : List A) (x : Option A) → IsFront xs (and_also xs x)
+and_also_front : {A : Type 0} (xs : List A) (x : Option A) → IsPrefix xs (and_also xs x)
 and_also_front xs None = whole_front xs
 and_also_front xs (Some x) = more_front xs (x ∷ [])
 
@@ -30,7 +30,7 @@ pub after_run_grows : (a c : ℕ) (h : History) (o : Option RunItem) → Grows h
 after_run_grows a c h None = record { casts = refl; submitted = whole_front h.submitted; released = whole_front h.released; mail = whole_front h.mail; arrived = whole_front h.arrived; ran = whole_front h.ran; posts = whole_front h.posts; collected = whole_front h.collected; killed = whole_front h.killed }
 after_run_grows a c h (Some item) = record { casts = refl; submitted = whole_front h.submitted; released = whole_front h.released; mail = whole_front h.mail; arrived = whole_front h.arrived; ran = more_front h.ran _; posts = more_front h.posts _; collected = whole_front h.collected; killed = whole_front h.killed }
 
-pub added_grows : (h : History) (event : Event) → Grows h (added h event)
+pub added_grows : (h : History) (event : Event) → Grows h (add_event h event)
 added_grows h (Submit c a method args) = record { casts = refl; submitted = more_front h.submitted _; released = whole_front h.released; mail = whole_front h.mail; arrived = whole_front h.arrived; ran = whole_front h.ran; posts = whole_front h.posts; collected = whole_front h.collected; killed = whole_front h.killed }
 added_grows h (Copy c a) = record { casts = refl; submitted = whole_front h.submitted; released = whole_front h.released; mail = whole_front h.mail; arrived = whole_front h.arrived; ran = whole_front h.ran; posts = whole_front h.posts; collected = whole_front h.collected; killed = whole_front h.killed }
 added_grows h (Release c a) = record { casts = refl; submitted = whole_front h.submitted; released = more_front h.released _; mail = and_also_front h.mail _; arrived = whole_front h.arrived; ran = whole_front h.ran; posts = whole_front h.posts; collected = whole_front h.collected; killed = whole_front h.killed }
@@ -43,14 +43,14 @@ added_grows h (TakeKill a) = record { casts = refl; submitted = whole_front h.su
 added_grows h (Tell a c) = record { casts = refl; submitted = whole_front h.submitted; released = whole_front h.released; mail = whole_front h.mail; arrived = whole_front h.arrived; ran = whole_front h.ran; posts = more_front h.posts _; collected = whole_front h.collected; killed = whole_front h.killed }
 added_grows h (Retire a) = record { casts = refl; submitted = whole_front h.submitted; released = whole_front h.released; mail = whole_front h.mail; arrived = whole_front h.arrived; ran = whole_front h.ran; posts = whole_front h.posts; collected = whole_front h.collected; killed = whole_front h.killed }
 
-pub under_grow : {A : Type 0} (n : ℕ) (xs ys : List (ℕ × A)) → IsFront xs ys → IsFront (under n xs) (under n ys)
-under_grow {A = A} n xs ys f = IsFront-map (λ (pair : ℕ × A). pair.1) _ _ (IsFront-filter (λ (pair : ℕ × A). pair.0 == n) xs ys f)
+pub under_grow : {A : Type 0} (n : ℕ) (xs ys : List (ℕ × A)) → IsPrefix xs ys → IsPrefix (under n xs) (under n ys)
+under_grow {A = A} n xs ys f = IsPrefix-map (λ (pair : ℕ × A). pair.1) _ _ (IsPrefix-filter (λ (pair : ℕ × A). pair.0 == n) xs ys f)
 
-pub runs_grow : (a : ℕ) (h g : History) → Grows h g → IsFront (runs_of a h) (runs_of a g)
+pub runs_grow : (a : ℕ) (h g : History) → Grows h g → IsPrefix (runs_of a h) (runs_of a g)
 runs_grow a h g grows = under_grow a h.ran g.ran grows.ran
 
-pub calls_grow : (c : ℕ) (h g : History) → Grows h g → IsFront (calls_of c h) (calls_of c g)
+pub calls_grow : (c : ℕ) (h g : History) → Grows h g → IsPrefix (calls_of c h) (calls_of c g)
 calls_grow c h g grows = under_grow c h.submitted g.submitted grows.submitted
 
-pub calls_to_grow : (a : ℕ) (xs ys : List Submission) → IsFront xs ys → IsFront (calls_to a xs) (calls_to a ys)
-calls_to_grow a xs ys f = IsFront-filter (λ (call : ℕ × Submission). call.1.actor == a) _ _ (IsFront-enumerate xs ys f)
+pub calls_to_grow : (a : ℕ) (xs ys : List Submission) → IsPrefix xs ys → IsPrefix (calls_to a xs) (calls_to a ys)
+calls_to_grow a xs ys f = IsPrefix-filter (λ (call : ℕ × Submission). call.1.actor == a) _ _ (IsPrefix-enumerate xs ys f)

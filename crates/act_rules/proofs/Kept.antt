@@ -11,9 +11,9 @@ use Rattle.act_rules.specs.declared.history.Submission.{Submission}
 use Rattle.act_rules.specs.Submissions.{kept_at}
 use Rattle.act_rules.specs.declared.history.Post.{Post}
 use Rattle.act_rules.specs.declared.history.Post.TheVariants.{Reply as ReplyPost, Death as DeathPost}
-use Rattle.act_rules.specs.History.{Casting, History, runs_of, calls_of, kept_of, opening_of, answer_of, answer_in, first_answer}
-use Rattle.act_rules.specs.Rules.{added}
-use Rattle.act_rules.specs.Consistent.{IsFront}
+use Rattle.act_rules.specs.History.{ActorSpec, History, runs_of, calls_of, kept_of, opening_of, answer_of, answer_in, first_answer}
+use Rattle.act_rules.specs.Rules.{add_event}
+use Rattle.act_rules.specs.Consistent.{IsPrefix}
 use Rattle.act_rules.proofs.Lists.{slice_get_more, slice_get_front, slice_get-enumerate_from, filter_map-same, All_weaker}
 use Rattle.act_rules.proofs.Growth.{Grows, added_grows, runs_grow, calls_grow}
 use Rattle.act_rules.proofs.Steps.{IsKept}
@@ -35,7 +35,7 @@ pub length-answers_from : (state : KindState) (xs : List RunItem) → length (an
 length-answers_from state [] = refl
 length-answers_from state (x ∷ xs) = ap suc (length-answers_from (after_item state x).0 xs)
 
-pub answer_at-front : (state : KindState) (xs ys : List RunItem) (place : ℕ) (item : RunItem) → IsFront xs ys → slice_get xs place ≡ Some item → answer_at state ys place ≡ answer_at state xs place
+pub answer_at-front : (state : KindState) (xs ys : List RunItem) (place : ℕ) (item : RunItem) → IsPrefix xs ys → slice_get xs place ≡ Some item → answer_at state ys place ≡ answer_at state xs place
 answer_at-front state xs ys place item f at =
     rw (← f.1, answers_from-append) (slice_get-append_within xs (answers_from state xs) (answers_from (state_after state xs) f.0) place item (length-answers_from state xs) at)
 
@@ -48,7 +48,7 @@ answer_of_stays h g a place item grows at = ap (answered (runs_of a g)) opening_
     answered items o = option_and_then (λ (state : KindState). answer_at state items place) o
 
     opening_stays : opening_of a g ≡ opening_of a h
-    opening_stays = ap (λ (casts : List Casting). option_map (λ (cast : Casting). cast.opening) (find (λ (cast : Casting). cast.actor == a) casts)) grows.casts
+    opening_stays = ap (λ (casts : List ActorSpec). option_map (λ (cast : ActorSpec). cast.opening) (find (λ (cast : ActorSpec). cast.actor == a) casts)) grows.casts
 
     go : (o : Option KindState) → answered (runs_of a g) o ≡ answered (runs_of a h) o
     go None = refl
@@ -99,5 +99,5 @@ pub record KeepsAnswer (c k : ℕ) (answer : Answer) (h : History) : Type 0 wher
 pub kept_step : (c k : ℕ) (answer : Answer) → IsKept (KeepsAnswer c k answer)
 kept_step c k answer h event held accepted = record {
   sound = posts_step h event held.sound accepted;
-  kept = kept_stays h (added h event) c k answer (added_grows h event) held.sound held.kept;
+  kept = kept_stays h (add_event h event) c k answer (added_grows h event) held.sound held.kept;
 }

@@ -11,7 +11,7 @@ use Rattle.act_rules.specs.declared.history.RunItem.{RunItem}
 use Rattle.act_types.specs.KindState.{KindState, CounterAt, TableOf, AccountAt, ItemsOf, OwnAt}
 use Rattle.act_types.specs.Own.{Ask, after_ask}
 use Rattle.act_rules.specs.Kinds.{Reply, need, look_up, counter_reply, table_reply, account_reply, list_reply, kind_fault, told_reply, reply_of}
-use Rattle.act_rules.specs.RunList.{Answer, values_of, replied, call_reply, asked, after_item, answer_at}
+use Rattle.act_rules.specs.RunList.{Answer, values_of, step_of_reply, call_reply, step_of_call, after_item, answer_at}
 
 -- a kind's fault
 abbrev pub is_own : Fault → Bool
@@ -101,11 +101,11 @@ call_own state method values = reply_own state method values
 abbrev pub IsAlive : Answer → Type 0
 IsAlive answer = answer ≢ Err ActorDied
 
-replied_alive : (state : KindState) (reply : Reply) → OwnFault reply → IsAlive (replied state reply).1
+replied_alive : (state : KindState) (reply : Reply) → OwnFault reply → IsAlive (step_of_reply state reply).1
 replied_alive state (Ok next) own e = cc
 replied_alive state (Err fault) own e = let same : fault ≡ ActorDied = cc in let bad : false ≡ true = sym (ap is_own same) ∙ own.own fault refl in cc
 
-asked_alive : (state : KindState) (item : RunItem) (values : Result (List Value) ℕ) → IsAlive (asked state item values).1
+asked_alive : (state : KindState) (item : RunItem) (values : Result (List Value) ℕ) → IsAlive (step_of_call state item values).1
 asked_alive state item (Ok values) e = replied_alive state (call_reply state item.method values) (call_own state item.method values) e
 asked_alive state item (Err k) e = cc
 

@@ -13,7 +13,7 @@ use Rattle.act_rules.specs.Submissions.{calls_to, number_of, needs, is_known, ke
 use Rattle.act_rules.specs.declared.history.Letter.{Letter}
 use Rattle.act_rules.specs.declared.history.Letter.TheVariants.{Call as CallLetter, Note as NoteLetter}
 use Rattle.act_rules.specs.History.{History, calls_of, kept_of, is_caller, is_letter, has_letter, next_item}
-use Rattle.act_rules.specs.Rules.{refusal_of, added, and_also, after_run, call_letter, was_sent, is_last}
+use Rattle.act_rules.specs.Rules.{refusal_of, add_event, and_also, after_run, call_letter, was_sent, is_last}
 use Rattle.act_rules.proofs.Lists.{slice_get_front, slice_get-filter, slice_get-enumerate_from, All_more, All_weaker, All_at, option_map-none}
 use Rattle.act_rules.proofs.Growth.{Grows, added_grows, after_run_grows, calls_grow, calls_to_grow}
 use Rattle.act_rules.proofs.Ended.{needs-none}
@@ -72,19 +72,19 @@ letters_stay h g grows s l mail arrived = record {
   arrived = rw arrived (All_weaker (IsSoundLetter h) (IsSoundLetter g) h.arrived (letter_grows h g grows s) l.arrived);
 }
 
-pub letters_step : (h : History) (event : Event) → PostsAreSound h → LettersAreSound h → refusal_of h event ≡ None → LettersAreSound (added h event)
+pub letters_step : (h : History) (event : Event) → PostsAreSound h → LettersAreSound h → refusal_of h event ≡ None → LettersAreSound (add_event h event)
 letters_step h (Submit c a method args) s l accepted = letters_stay h _ (added_grows h (Submit c a method args)) s l refl refl
 letters_step h (Copy c a) s l accepted = letters_stay h _ (added_grows h (Copy c a)) s l refl refl
 letters_step h (Release c a) s l accepted = record {
   mail = go (is_last c a h);
-  arrived = All_weaker (IsSoundLetter h) (IsSoundLetter (added h (Release c a))) h.arrived (letter_grows h (added h (Release c a)) (added_grows h (Release c a)) s) l.arrived;
+  arrived = All_weaker (IsSoundLetter h) (IsSoundLetter (add_event h (Release c a))) h.arrived (letter_grows h (add_event h (Release c a)) (added_grows h (Release c a)) s) l.arrived;
 }
   where
-    kept : AllByRecursion (IsSoundLetter (added h (Release c a))) h.mail
-    kept = All_weaker (IsSoundLetter h) (IsSoundLetter (added h (Release c a))) h.mail (letter_grows h (added h (Release c a)) (added_grows h (Release c a)) s) l.mail
+    kept : AllByRecursion (IsSoundLetter (add_event h (Release c a))) h.mail
+    kept = All_weaker (IsSoundLetter h) (IsSoundLetter (add_event h (Release c a))) h.mail (letter_grows h (add_event h (Release c a)) (added_grows h (Release c a)) s) l.mail
 
-    go : (last : Bool) → AllByRecursion (IsSoundLetter (added h (Release c a))) (and_also h.mail (cond last (Some (NoteLetter c a (length (calls_to a (calls_of c h))))) None))
-    go true = All_more (IsSoundLetter (added h (Release c a))) h.mail (NoteLetter c a (length (calls_to a (calls_of c h)))) kept tt
+    go : (last : Bool) → AllByRecursion (IsSoundLetter (add_event h (Release c a))) (and_also h.mail (cond last (Some (NoteLetter c a (length (calls_to a (calls_of c h))))) None))
+    go true = All_more (IsSoundLetter (add_event h (Release c a))) h.mail (NoteLetter c a (length (calls_to a (calls_of c h)))) kept tt
     go false = kept
 letters_step h (Send c k) s l accepted = go (slice_get (calls_of c h) k) refl
   where

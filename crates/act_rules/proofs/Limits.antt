@@ -14,8 +14,8 @@ use Rattle.act_rules.specs.declared.outcome.WorldRefusal.TheVariants.{Submit as 
 use Rattle.act_rules.specs.declared.history.Submission.{Submission}
 use Rattle.act_rules.specs.RunList.{Answer}
 use Rattle.act_rules.specs.Submissions.{calls_to, kept_at, submit_refusal, limit_refusal}
-use Rattle.act_rules.specs.History.{Casting, History, opening, under, is_caller, calls_of, copies_of, limit_of, kept_of, next_item}
-use Rattle.act_rules.specs.Rules.{unanswered, submission_refusal, refusal_of, added, after_run, after_all}
+use Rattle.act_rules.specs.History.{ActorSpec, History, opening, under, is_caller, calls_of, copies_of, limit_of, kept_of, next_item}
+use Rattle.act_rules.specs.Rules.{unanswered, submission_refusal, refusal_of, add_event, after_run, after_all}
 use Rattle.act_rules.proofs.Steps.{IsKept, after_all_keeps}
 use Rattle.act_rules.proofs.Ended.{needs-none, under-push}
 use Rattle.act_rules.proofs.Growth.{Grows, added_grows}
@@ -51,7 +51,7 @@ abbrev pub AreWithin : History → Type 0
 AreWithin h = (c a limit : ℕ) → limit_of c a h ≡ Some limit → unanswered c a h ≤ limit
 
 pub limit_of-same : (h g : History) (c a : ℕ) → g.casts ≡ h.casts → limit_of c a g ≡ limit_of c a h
-limit_of-same h g c a casts = ap (λ (l : List Casting). limit_of c a (opening l)) casts
+limit_of-same h g c a casts = ap (λ (l : List ActorSpec). limit_of c a (opening l)) casts
 
 -- where no call is submitted
 calm : (h g : History) → Grows h g → PostsAreSound h → g.submitted ≡ h.submitted → AreWithin h → AreWithin g
@@ -69,9 +69,9 @@ below h c a limit method args accepted is =
     ltb-true (unanswered c a h) limit (needs-none (nat_lt (unanswered c a h) limit) PendingLimit None fits).0
 
 -- one call more
-grown : (h : History) (d b : ℕ) (method : Method) (args : List Arg) → PostsAreSound h → AreWithin h → refusal_of h (Submit d b method args) ≡ None → AreWithin (added h (Submit d b method args))
+grown : (h : History) (d b : ℕ) (method : Method) (args : List Arg) → PostsAreSound h → AreWithin h → refusal_of h (Submit d b method args) ≡ None → AreWithin (add_event h (Submit d b method args))
 grown h d b method args sound within accepted c a limit is =
-    let after = pending_after h (added h (Submit d b method args)) c a (added_grows h (Submit d b method args)) sound in
+    let after = pending_after h (add_event h (Submit d b method args)) c a (added_grows h (Submit d b method args)) sound in
     let few = subst (λ (calls : List Submission). length (filter (has_none (kept_of c h)) (calls_to a calls)) ≤ limit) (sym (under-push c d h.submitted call)) (go (d == c) refl) in
     omega (arith, after, few)
   where
@@ -93,22 +93,22 @@ grown h d b method args sound within accepted c a limit is =
     go true e = rw (calls_to-push a (calls_of c h) call) (inner (b == a) refl (eqb-true d c e))
     go false e = rw (append-nil (calls_of c h)) (within c a limit is)
 
-within_step : (h : History) (event : Event) → PostsAreSound h → AreWithin h → refusal_of h event ≡ None → AreWithin (added h event)
+within_step : (h : History) (event : Event) → PostsAreSound h → AreWithin h → refusal_of h event ≡ None → AreWithin (add_event h event)
 within_step h (Submit c a method args) sound within accepted = grown h c a method args sound within accepted
-within_step h (Copy c a) sound within accepted = calm h (added h (Copy c a)) (added_grows h (Copy c a)) sound refl within
-within_step h (Release c a) sound within accepted = calm h (added h (Release c a)) (added_grows h (Release c a)) sound refl within
-within_step h (Send c k) sound within accepted = calm h (added h (Send c k)) (added_grows h (Send c k)) sound refl within
-within_step h (Deliver i) sound within accepted = calm h (added h (Deliver i)) (added_grows h (Deliver i)) sound refl within
-within_step h (Run a c) sound within accepted = calm h (added h (Run a c)) (added_grows h (Run a c)) sound (go (next_item a c h)) within
+within_step h (Copy c a) sound within accepted = calm h (add_event h (Copy c a)) (added_grows h (Copy c a)) sound refl within
+within_step h (Release c a) sound within accepted = calm h (add_event h (Release c a)) (added_grows h (Release c a)) sound refl within
+within_step h (Send c k) sound within accepted = calm h (add_event h (Send c k)) (added_grows h (Send c k)) sound refl within
+within_step h (Deliver i) sound within accepted = calm h (add_event h (Deliver i)) (added_grows h (Deliver i)) sound refl within
+within_step h (Run a c) sound within accepted = calm h (add_event h (Run a c)) (added_grows h (Run a c)) sound (go (next_item a c h)) within
   where
     go : (o : Option RunItem) → (after_run a c h o).submitted ≡ h.submitted
     go None = refl
     go (Some item) = refl
-within_step h (Collect j) sound within accepted = calm h (added h (Collect j)) (added_grows h (Collect j)) sound refl within
-within_step h (AskKill c a) sound within accepted = calm h (added h (AskKill c a)) (added_grows h (AskKill c a)) sound refl within
-within_step h (TakeKill a) sound within accepted = calm h (added h (TakeKill a)) (added_grows h (TakeKill a)) sound refl within
-within_step h (Tell a c) sound within accepted = calm h (added h (Tell a c)) (added_grows h (Tell a c)) sound refl within
-within_step h (Retire a) sound within accepted = calm h (added h (Retire a)) (added_grows h (Retire a)) sound refl within
+within_step h (Collect j) sound within accepted = calm h (add_event h (Collect j)) (added_grows h (Collect j)) sound refl within
+within_step h (AskKill c a) sound within accepted = calm h (add_event h (AskKill c a)) (added_grows h (AskKill c a)) sound refl within
+within_step h (TakeKill a) sound within accepted = calm h (add_event h (TakeKill a)) (added_grows h (TakeKill a)) sound refl within
+within_step h (Tell a c) sound within accepted = calm h (add_event h (Tell a c)) (added_grows h (Tell a c)) sound refl within
+within_step h (Retire a) sound within accepted = calm h (add_event h (Retire a)) (added_grows h (Retire a)) sound refl within
 
 -- what a step relies on, and what it keeps
 record AreSoundWithin (h : History) : Type 0 where
@@ -121,7 +121,7 @@ limits_step h event limits accepted = record {
   within = within_step h event limits.sound limits.within accepted;
 }
 
-pub world_within : (casts : List Casting) (events : List Event) → AreWithin (after_all (opening casts) events)
+pub world_within : (casts : List ActorSpec) (events : List Event) → AreWithin (after_all (opening casts) events)
 world_within casts events = (after_all_keeps AreSoundWithin limits_step (opening casts) events (record {
   sound = record { posts = tt; collected = tt };
   within = λ c a limit is. omega arith;

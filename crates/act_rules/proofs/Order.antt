@@ -1,4 +1,4 @@
--- What an actor ran of a caller's calls is a front of the caller's calls to it, each as it was submitted.
+-- What an actor ran of a caller's calls is a prefix of the caller's calls to it, each as it was submitted.
 use Rattle.std.proofs.Common.{◌≡◌, ℕ, ◌+◌, Bool, true, false, cond, List, [], ◌∷◌, ◌++◌, length, Some, None, refl, ap, sym, ◌∙◌, subst, arith}
 use Rattle.std.specs.Prelude.{Option, ◌==◌, map, slice_get, option_map}
 use Rattle.std.specs.List.{enumerate_from}
@@ -11,11 +11,11 @@ use Rattle.act_rules.specs.declared.event.Event.TheVariants.{Submit, Copy, Relea
 use Rattle.act_rules.specs.RunList.{items_of}
 use Rattle.act_rules.specs.declared.history.Submission.{Submission}
 use Rattle.act_rules.specs.Submissions.{calls_to}
-use Rattle.act_rules.specs.Consistent.{IsFront}
+use Rattle.act_rules.specs.Consistent.{IsPrefix}
 use Rattle.act_rules.specs.declared.history.Letter.TheVariants.{Call as CallLetter}
 use Rattle.act_rules.specs.History.{History, under, runs_of, calls_of, kept_of, ran_count, has_letter, run_item, next_item}
-use Rattle.act_rules.specs.Rules.{added, after_run}
-use Rattle.act_rules.proofs.Lists.{front_trans, front_next, slice_get-enumerate_from, IsFront-map, IsFront-enumerate}
+use Rattle.act_rules.specs.Rules.{add_event, after_run}
+use Rattle.act_rules.proofs.Lists.{front_trans, front_next, slice_get-enumerate_from, IsPrefix-map, IsPrefix-enumerate}
 use Rattle.act_rules.proofs.Growth.{Grows, added_grows, calls_grow, calls_to_grow}
 use Rattle.act_rules.proofs.Ended.{under-push}
 use Rattle.act_rules.proofs.RunLists.{items_of-push}
@@ -47,16 +47,16 @@ abbrev pub numbers : ℕ → List Submission → List (ℕ × ℕ)
 numbers a calls = enumerate_from 0 (map (λ call. call.0) (calls_to a calls))
 
 abbrev pub InOrder : History → Type 0
-InOrder h = (a c : ℕ) → IsFront (map numbered (items_of c (runs_of a h))) (numbers a (calls_of c h))
+InOrder h = (a c : ℕ) → IsPrefix (map numbered (items_of c (runs_of a h))) (numbers a (calls_of c h))
 
-numbers_grow : (a : ℕ) (xs ys : List Submission) → IsFront xs ys → IsFront (numbers a xs) (numbers a ys)
-numbers_grow a xs ys f = IsFront-enumerate _ _ (IsFront-map (λ (call : ℕ × Submission). call.0) _ _ (calls_to_grow a xs ys f))
+numbers_grow : (a : ℕ) (xs ys : List Submission) → IsPrefix xs ys → IsPrefix (numbers a xs) (numbers a ys)
+numbers_grow a xs ys f = IsPrefix-enumerate _ _ (IsPrefix-map (λ (call : ℕ × Submission). call.0) _ _ (calls_to_grow a xs ys f))
 
 -- one item more in a run list, of its caller's next call
-order_more : (c : ℕ) (items : List RunItem) (item : RunItem) (all : List (ℕ × ℕ)) → IsFront (map numbered (items_of c items)) all → ((item.caller == c) ≡ true → slice_get all (length (items_of c items)) ≡ Some (numbered item)) → IsFront (map numbered (items_of c (items ++ item ∷ []))) all
+order_more : (c : ℕ) (items : List RunItem) (item : RunItem) (all : List (ℕ × ℕ)) → IsPrefix (map numbered (items_of c items)) all → ((item.caller == c) ≡ true → slice_get all (length (items_of c items)) ≡ Some (numbered item)) → IsPrefix (map numbered (items_of c (items ++ item ∷ []))) all
 order_more c items item all f next = rw (items_of-push c items item, map-append) (go (item.caller == c) next)
   where
-    go : (b : Bool) → (b ≡ true → slice_get all (length (items_of c items)) ≡ Some (numbered item)) → IsFront (map numbered (items_of c items) ++ map numbered (cond b (item ∷ []) [])) all
+    go : (b : Bool) → (b ≡ true → slice_get all (length (items_of c items)) ≡ Some (numbered item)) → IsPrefix (map numbered (items_of c items) ++ map numbered (cond b (item ∷ []) [])) all
     go true next = front_next (map numbered (items_of c items)) all (numbered item) f (subst (λ (n : ℕ). slice_get all n ≡ Some (numbered item)) (sym (length-map (items_of c items) numbered)) (next refl))
     go false next = rw append-nil f
 
@@ -69,10 +69,10 @@ next_number a c h item next =
     slice_get-enumerate_from 0 (map (λ (call : ℕ × Submission). call.0) calls) n
     ∙ rw (first, zero_add) (ap (λ (i : RunItem). Some (numbered i)) next.is)
 
-order_run : (a c : ℕ) (h : History) (item : RunItem) → IsNext a c h item → InOrder h → (b d : ℕ) → IsFront (map numbered (items_of d (under b (h.ran ++ (a, item) ∷ [])))) (numbers b (calls_of d h))
+order_run : (a c : ℕ) (h : History) (item : RunItem) → IsNext a c h item → InOrder h → (b d : ℕ) → IsPrefix (map numbered (items_of d (under b (h.ran ++ (a, item) ∷ [])))) (numbers b (calls_of d h))
 order_run a c h item next order b d = rw (under-push b a h.ran item) (go (a == b) refl)
   where
-    go : (same : Bool) → (a == b) ≡ same → IsFront (map numbered (items_of d (runs_of b h ++ cond same (item ∷ []) []))) (numbers b (calls_of d h))
+    go : (same : Bool) → (a == b) ≡ same → IsPrefix (map numbered (items_of d (runs_of b h ++ cond same (item ∷ []) []))) (numbers b (calls_of d h))
     go false e = rw append-nil (order b d)
     go true e = order_more d (runs_of b h) item (numbers b (calls_of d h)) (order b d) (λ is.
         let one : a ≡ b = eqb-true a b e in
@@ -84,7 +84,7 @@ order_stays : (h g : History) → Grows h g → InOrder h → g.ran ≡ h.ran �
 order_stays h g grows order ran a c =
     rw ran (front_trans _ _ _ (order a c) (numbers_grow a (calls_of c h) (calls_of c g) (calls_grow c h g grows)))
 
-pub order_step : (h : History) (event : Event) → InOrder h → InOrder (added h event)
+pub order_step : (h : History) (event : Event) → InOrder h → InOrder (add_event h event)
 order_step h (Submit c a method args) order = order_stays h _ (added_grows h (Submit c a method args)) order refl
 order_step h (Copy c a) order = order
 order_step h (Release c a) order = order

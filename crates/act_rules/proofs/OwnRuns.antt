@@ -10,7 +10,7 @@ use Rattle.act_types.specs.KindState.{KindState, OwnAt}
 use Rattle.act_types.specs.Own.{Ask, StepOf, next_state, step_answer, behaves}
 use Rattle.act_rules.specs.declared.history.RunItem.{RunItem}
 use Rattle.act_rules.specs.Kinds.{told_reply}
-use Rattle.act_rules.specs.RunList.{Answer, values_of, replied, call_reply, asked, after_item, state_after, answers_from}
+use Rattle.act_rules.specs.RunList.{Answer, values_of, step_of_reply, call_reply, step_of_call, after_item, state_after, answers_from}
 use Rattle.act_rules.specs.OwnRuns.{kind_answer, own_call, own_asked, own_after_item, own_state_after, own_answers, RunsByItsSteps, ask_of, with_answer, told_in, IsKept, HoldsInEachRun}
 
 module _ {S : Type 0} (step : StepOf S) (written : S → List ℕ) where
@@ -22,16 +22,16 @@ module _ {S : Type 0} (step : StepOf S) (written : S → List ℕ) where
 
   -- what a step leaves and answers, as an actor has it
   pub told_any : (state : S) (given : Result (S × Value) Fault)
-      → replied (at state) (told_reply (at (next_state state given)) (step_answer given)) ≡ seen (next_state state given, kind_answer (step_answer given))
+      → step_of_reply (at state) (told_reply (at (next_state state given)) (step_answer given)) ≡ seen (next_state state given, kind_answer (step_answer given))
   told_any state (Ok next) = refl
   told_any state (Err fault) = refl
 
-  call_any : (state : S) (method : Method) (values : List Value) → replied (at state) (call_reply (at state) method values) ≡ seen (own_call step state method values)
+  call_any : (state : S) (method : Method) (values : List Value) → step_of_reply (at state) (call_reply (at state) method values) ≡ seen (own_call step state method values)
   call_any state Terminate [] = refl
   call_any state Terminate (value ∷ values) = refl
   call_any state method values = told_any state (step state method values)
 
-  asked_any : (state : S) (item : RunItem) (values : Result (List Value) ℕ) → asked (at state) item values ≡ seen (own_asked step state item values)
+  asked_any : (state : S) (item : RunItem) (values : Result (List Value) ℕ) → step_of_call (at state) item values ≡ seen (own_asked step state item values)
   asked_any state item (Ok values) = call_any state item.method values
   asked_any state item (Err k) = refl
 

@@ -21,27 +21,27 @@ use Rattle.act_rules.specs.declared.script.Role.{Role}
 use Rattle.act_rules.specs.declared.script.Step.{Step}
 use Rattle.act_rules.specs.declared.script.Step.TheVariants as step
 use Rattle.act_rules.specs.Submissions.{needs, copies_held, handle_refusal, copy_refusal, submit_refusal, limit_refusal, send_refusal, is_earlier}
-use Rattle.act_rules.specs.History.{Casting, History, opening, contains, cast_of, names, actors_naming, is_caller, under, times, copies_of, limit_of, calls_of, kept_of, is_dead, is_ended, is_drained, next_item}
-use Rattle.act_rules.specs.Plans.{Progress, nothing_done, occurrences, holds, is_refused, stepped, done_by, planned, events_of, is_limit, is_held_back, let_through, is_planned_by}
-use Rattle.act_rules.specs.Rules.{actor_of, was_sent, deliver_refusal, unanswered, submission_refusal, refusal_of, added, after_by, after, after_run, after_all}
-use Rattle.act_rules.specs.Scripts.{role_casting, actors_of}
+use Rattle.act_rules.specs.History.{ActorSpec, History, opening, contains, cast_of, names, actors_naming, is_caller, under, count_pairs, copies_of, limit_of, calls_of, kept_of, is_dead, is_ended, is_drained, next_item}
+use Rattle.act_rules.specs.Plans.{Progress, nothing_done, occurrences, holds, is_refused, do_step, done_by, planned, events_of, is_limit, is_held_back, let_through, is_planned_by}
+use Rattle.act_rules.specs.Rules.{letter_actor, was_sent, deliver_refusal, unanswered, submission_refusal, refusal_of, add_event, after_by, after, after_run, after_all}
+use Rattle.act_rules.specs.Scripts.{actor_spec_of, actors_of_roles}
 use Rattle.act_rules.proofs.Growth.{added_grows}
 use Rattle.act_rules.proofs.Steps.{after_keeps}
 use Rattle.act_rules.proofs.Ended.{under-push}
 
 -- ---- the actors that know a caller
 
-abbrev Differ : List Casting → Type 0
+abbrev Differ : List ActorSpec → Type 0
 Differ casts = AllPairs (λ one other. one.actor ≢ other.actor) casts
 
 -- each of these has another actor
-abbrev IsNoneOf : ℕ → List Casting → Type 0
-IsNoneOf a casts = (i : ℕ) (d : Casting) → i < length casts → a ≢ (slice_index_or casts i d).actor
+abbrev IsNoneOf : ℕ → List ActorSpec → Type 0
+IsNoneOf a casts = (i : ℕ) (d : ActorSpec) → i < length casts → a ≢ (slice_index_or casts i d).actor
 
-first_differs : (cast : Casting) (casts : List Casting) → Differ (cast ∷ casts) → IsNoneOf cast.actor casts
+first_differs : (cast : ActorSpec) (casts : List ActorSpec) → Differ (cast ∷ casts) → IsNoneOf cast.actor casts
 first_differs cast casts differ i d within = differ 0 (suc i) d (omega arith) (omega arith)
 
-rest_differ : (cast : Casting) (casts : List Casting) → Differ (cast ∷ casts) → Differ casts
+rest_differ : (cast : ActorSpec) (casts : List ActorSpec) → Differ (cast ∷ casts) → Differ casts
 rest_differ cast casts differ i j d below within = differ (suc i) (suc j) d (omega arith) (omega arith)
 
 not_equal : (m n : ℕ) → n ≢ m → (m == n) ≡ false
@@ -52,16 +52,16 @@ not_equal m n differ = go (m == n) refl
     go false e = refl
 
 -- the numbers, where the test says whether the first is among them
-abbrev actors_by : Bool → Casting → List Casting → List ℕ
-actors_by here cast others = map (λ (x : Casting). x.actor) (cond here (cast ∷ others) others)
+abbrev actors_by : Bool → ActorSpec → List ActorSpec → List ℕ
+actors_by here cast others = map (λ (x : ActorSpec). x.actor) (cond here (cast ∷ others) others)
 
-abbrev naming : ℕ → List Casting → List Casting
-naming c casts = filter (λ (x : Casting). contains c x.callers) casts
+abbrev naming : ℕ → List ActorSpec → List ActorSpec
+naming c casts = filter (λ (x : ActorSpec). contains c x.callers) casts
 
 abbrev has : ℕ → List ℕ → Bool
 has a actors = list_any (λ b. b == a) actors
 
-no_other : (c a : ℕ) (casts : List Casting) → IsNoneOf a casts → has a (actors_naming c casts) ≡ false
+no_other : (c a : ℕ) (casts : List ActorSpec) → IsNoneOf a casts → has a (actors_naming c casts) ≡ false
 no_other c a [] apart = refl
 no_other c a (cast ∷ casts) apart = go (contains c cast.callers) (no_other c a casts (λ i d within. apart (suc i) d (omega arith)))
   where
@@ -73,7 +73,7 @@ no_other c a (cast ∷ casts) apart = go (contains c cast.callers) (no_other c a
     go false rest = rest
 
 -- the actor's cast names the caller where the actor is among those that know it
-pub names_is : (c a : ℕ) (casts : List Casting) → Differ casts → names c (find (λ cast. cast.actor == a) casts) ≡ has a (actors_naming c casts)
+pub names_is : (c a : ℕ) (casts : List ActorSpec) → Differ casts → names c (find (λ cast. cast.actor == a) casts) ≡ has a (actors_naming c casts)
 names_is c a [] differ = refl
 names_is c a (cast ∷ casts) differ = go (cast.actor == a) (contains c cast.callers) refl refl (names_is c a casts (rest_differ cast casts differ))
   where
@@ -86,7 +86,7 @@ names_is c a (cast ∷ casts) differ = go (cast.actor == a) (contains c cast.cal
     go false true e f rest = rw e rest
     go false false e f rest = rest
 
-nobody : (c : ℕ) (casts : List Casting) → list_any (λ cast. contains c cast.callers) casts ≡ false → actors_naming c casts ≡ []
+nobody : (c : ℕ) (casts : List ActorSpec) → list_any (λ cast. contains c cast.callers) casts ≡ false → actors_naming c casts ≡ []
 nobody c [] e = refl
 nobody c (cast ∷ casts) e = go (contains c cast.callers) e (nobody c casts)
   where
@@ -96,11 +96,11 @@ nobody c (cast ∷ casts) e = go (contains c cast.callers) e (nobody c casts)
 
 -- ---- a history and a progress that agree
 
-times-under : (c a : ℕ) (pairs : List (ℕ × ℕ)) → times c a pairs ≡ occurrences a (under c pairs)
+times-under : (c a : ℕ) (pairs : List (ℕ × ℕ)) → count_pairs c a pairs ≡ occurrences a (under c pairs)
 times-under c a [] = refl
 times-under c a (pair ∷ pairs) = go (pair.0 == c) (pair.1 == a) refl (times-under c a pairs)
   where
-    go : (mine here : Bool) → (pair.1 == a) ≡ here → times c a pairs ≡ occurrences a (under c pairs)
+    go : (mine here : Bool) → (pair.1 == a) ≡ here → count_pairs c a pairs ≡ occurrences a (under c pairs)
         → length (cond (mine && here) (pair ∷ filter (λ (p : ℕ × ℕ). (p.0 == c) && (p.1 == a)) pairs) (filter (λ (p : ℕ × ℕ). (p.0 == c) && (p.1 == a)) pairs))
         ≡ occurrences a (map (λ (p : ℕ × ℕ). p.1) (cond mine (pair ∷ filter (λ (p : ℕ × ℕ). p.0 == c) pairs) (filter (λ (p : ℕ × ℕ). p.0 == c) pairs)))
     go true true e same = rw e (ap suc same)
@@ -108,7 +108,7 @@ times-under c a (pair ∷ pairs) = go (pair.0 == c) (pair.1 == a) refl (times-un
     go false here e same = same
 
 -- a world of these casts, and what a caller did
-record Agrees (c : ℕ) (casts : List Casting) (h : History) (p : Progress) : Type 0 where
+record Agrees (c : ℕ) (casts : List ActorSpec) (h : History) (p : Progress) : Type 0 where
   opened : h.casts ≡ casts
   submitted : under c h.submitted ≡ p.submitted
   copied : under c h.copied ≡ p.copied
@@ -123,7 +123,7 @@ others {A = A} c d pairs x xs apart e = under-push c d pairs x ∙ rw apart (app
 
 -- what a step leaves
 abbrev next : List ℕ → Progress → Step → Progress
-next actors p s = cond (is_refused actors p s) p (stepped p s)
+next actors p s = cond (is_refused actors p s) p (do_step p s)
 
 -- what an event leaves of what the caller did
 abbrev moved : ℕ → List ℕ → Progress → Event → Progress
@@ -138,7 +138,7 @@ moved_all c actors p (event ∷ events) = moved_all c actors (moved c actors p e
 
 -- what a refused event leaves agrees with what a refused step leaves
 both_refused : (P : History → Progress → Type 0) (h g : History) (p q : Progress) (event : Event) (refused : Bool) → is_some (refusal_of h event) ≡ refused
-    → added h event ≡ g → P h p → P g q → P (after h event) (cond refused p q)
+    → add_event h event ≡ g → P h p → P g q → P (after h event) (cond refused p q)
 both_refused P h g p q event refused e same before later = go (refusal_of h event) refused e
   where
     go : (o : Option WorldRefusal) (b : Bool) → is_some o ≡ b → P (after_by h event o) (cond b p q)
@@ -174,7 +174,7 @@ held_leaves P h event e held = go (refusal_of h event) e
     go None e = cc
     go (Some refusal) e = held
 
-module _ (c : ℕ) (casts : List Casting) (differ : Differ casts) where
+module _ (c : ℕ) (casts : List ActorSpec) (differ : Differ casts) where
   copies_is : (a : ℕ) (h : History) (p : Progress) → Agrees c casts h p → copies_of c a h ≡ holds a (actors_naming c casts) p
   copies_is a h p agrees = rw (agrees.opened, names_is c a casts differ, times-under c a h.copied, times-under c a h.released, agrees.copied, agrees.released) refl
 
@@ -200,7 +200,7 @@ module _ (c : ℕ) (casts : List Casting) (differ : Differ casts) where
   own_submission : (a : ℕ) (method : Method) (args : List Arg) (h : History) (p : Progress) → is_held_back h (Submit c a method args) ≡ false → Agrees c casts h p
       → Agrees c casts (after h (Submit c a method args)) (next (actors_naming c casts) p (step.Submit a method args))
   own_submission a method args h p through agrees =
-      both_refused (Agrees c casts) h (added h (Submit c a method args)) p (stepped p (step.Submit a method args)) (Submit c a method args) _ (submission_refused a method args h p through agrees) refl agrees (record {
+      both_refused (Agrees c casts) h (add_event h (Submit c a method args)) p (do_step p (step.Submit a method args)) (Submit c a method args) _ (submission_refused a method args h p through agrees) refl agrees (record {
         opened = agrees.opened;
         submitted = own c h.submitted _ p.submitted agrees.submitted;
         copied = agrees.copied;
@@ -209,7 +209,7 @@ module _ (c : ℕ) (casts : List Casting) (differ : Differ casts) where
 
   own_copy : (a : ℕ) (h : History) (p : Progress) → Agrees c casts h p → Agrees c casts (after h (Copy c a)) (next (actors_naming c casts) p (step.Copy a))
   own_copy a h p agrees =
-      both_refused (Agrees c casts) h (added h (Copy c a)) p (stepped p (step.Copy a)) (Copy c a) _ (copy_refused a h p agrees) refl agrees (record {
+      both_refused (Agrees c casts) h (add_event h (Copy c a)) p (do_step p (step.Copy a)) (Copy c a) _ (copy_refused a h p agrees) refl agrees (record {
         opened = agrees.opened;
         submitted = agrees.submitted;
         copied = own c h.copied _ p.copied agrees.copied;
@@ -218,7 +218,7 @@ module _ (c : ℕ) (casts : List Casting) (differ : Differ casts) where
 
   own_release : (a : ℕ) (h : History) (p : Progress) → Agrees c casts h p → Agrees c casts (after h (Release c a)) (next (actors_naming c casts) p (step.Release a))
   own_release a h p agrees =
-      both_refused (Agrees c casts) h (added h (Release c a)) p (stepped p (step.Release a)) (Release c a) _ (release_refused a h p agrees) refl agrees (record {
+      both_refused (Agrees c casts) h (add_event h (Release c a)) p (do_step p (step.Release a)) (Release c a) _ (release_refused a h p agrees) refl agrees (record {
         opened = agrees.opened;
         submitted = agrees.submitted;
         copied = agrees.copied;
@@ -238,7 +238,7 @@ module _ (c : ℕ) (casts : List Casting) (differ : Differ casts) where
   run_agrees a d h p None agrees = agrees
   run_agrees a d h p (Some item) agrees = alike h (after_run a d h (Some item)) p refl refl refl refl agrees
 
-  quiet : (h : History) (event : Event) (p : Progress) → Agrees c casts h p → Agrees c casts (added h event) p → Agrees c casts (after h event) p
+  quiet : (h : History) (event : Event) (p : Progress) → Agrees c casts h p → Agrees c casts (add_event h event) p → Agrees c casts (after h event) p
   quiet h event p agrees later = after_keeps (λ g. Agrees c casts g p) h event agrees (λ _. later)
 
   -- each event that no limit holds back
@@ -337,15 +337,15 @@ moved_all-events_of c actors p (step.Await k ∷ plan) = moved_all-events_of c a
 
 -- ---- the law
 
-nothing_yet : (c : ℕ) (casts : List Casting) → Agrees c casts (opening casts) nothing_done
+nothing_yet : (c : ℕ) (casts : List ActorSpec) → Agrees c casts (opening casts) nothing_done
 nothing_yet c casts = record { opened = refl; submitted = refl; copied = refl; released = refl }
 
 -- what a world takes from a caller
-taken : (c : ℕ) (casts : List Casting) (events : List Event) → AllPairs (λ one other. one.actor ≢ other.actor) casts
+taken : (c : ℕ) (casts : List ActorSpec) (events : List Event) → AllPairs (λ one other. one.actor ≢ other.actor) casts
     → (moved_all c (actors_naming c casts) nothing_done (let_through (opening casts) events)).submitted ≡ calls_of c (after_all (opening casts) events)
 taken c casts events differ = sym (all_agree c casts differ (opening casts) events nothing_done (nothing_yet c casts)).submitted
 
-pub planned_is_taken_among_others : (casts : List Casting) (c : ℕ) (plan : List Step) (events : List Event) → AllPairs (λ one other. one.actor ≢ other.actor) casts
+pub planned_is_taken_among_others : (casts : List ActorSpec) (c : ℕ) (plan : List Step) (events : List Event) → AllPairs (λ one other. one.actor ≢ other.actor) casts
     → filter (is_planned_by c) (let_through (opening casts) events) ≡ events_of c plan → planned (actors_naming c casts) plan ≡ calls_of c (after_all (opening casts) events)
 planned_is_taken_among_others casts c plan events differ same =
     let actors : List ℕ = actors_naming c casts in
@@ -357,22 +357,22 @@ planned_is_taken_among_others casts c plan events differ same =
 -- ---- without limits
 
 -- no cast sets a limit
-abbrev AreFree : List Casting → Type 0
+abbrev AreFree : List ActorSpec → Type 0
 AreFree casts = All (λ cast. cast.pending ≡ None) casts
 
-found_free : (a : ℕ) (casts : List Casting) → AreFree casts → option_and_then (λ (cast : Casting). cast.pending) (find (λ cast. cast.actor == a) casts) ≡ None
+found_free : (a : ℕ) (casts : List ActorSpec) → AreFree casts → option_and_then (λ (cast : ActorSpec). cast.pending) (find (λ cast. cast.actor == a) casts) ≡ None
 found_free a [] free = refl
 found_free a (cast ∷ casts) free = go (cast.actor == a) (found_free a casts (λ i d within. free (suc i) d (omega arith)))
   where
-    go : (b : Bool) → option_and_then (λ (x : Casting). x.pending) (find (λ x. x.actor == a) casts) ≡ None
-        → option_and_then (λ (x : Casting). x.pending) (cond b (Some cast) (find (λ x. x.actor == a) casts)) ≡ None
+    go : (b : Bool) → option_and_then (λ (x : ActorSpec). x.pending) (find (λ x. x.actor == a) casts) ≡ None
+        → option_and_then (λ (x : ActorSpec). x.pending) (cond b (Some cast) (find (λ x. x.actor == a) casts)) ≡ None
     go true rest = free 0 cast (omega arith)
     go false rest = rest
 
 limit_free : (c a : ℕ) (h : History) → AreFree h.casts → limit_of c a h ≡ None
 limit_free c a h free = go (names c (cast_of a h))
   where
-    go : (b : Bool) → cond b (option_and_then (λ (x : Casting). x.pending) (cast_of a h)) None ≡ None
+    go : (b : Bool) → cond b (option_and_then (λ (x : ActorSpec). x.pending) (cast_of a h)) None ≡ None
     go true = found_free a h.casts free
     go false = refl
 
@@ -400,7 +400,7 @@ submit_no_limit true true true true true = refl
 
 deliver_no_limit : (o : Option Letter) (h : History) → is_limit (deliver_refusal o h) ≡ false
 deliver_no_limit None h = refl
-deliver_no_limit (Some letter) h = needs_no_limit (not (is_ended (actor_of letter) h)) ActorEnded None refl refl
+deliver_no_limit (Some letter) h = needs_no_limit (not (is_ended (letter_actor letter) h)) ActorEnded None refl refl
 
 none_held : (h : History) (event : Event) → AreFree h.casts → is_held_back h event ≡ false
 none_held h (Submit c a method args) free =
@@ -428,19 +428,19 @@ all_through h (event ∷ events) free =
     let later : AreFree (after h event).casts = after_keeps (λ g. AreFree g.casts) h event free (λ _. subst AreFree (sym (added_grows h event).casts) free) in
     rw (none_held h event free) (ap (λ (rest : List Event). event ∷ rest) (all_through (after h event) events later))
 
-pub planned_is_taken : (casts : List Casting) (c : ℕ) (plan : List Step) → AllPairs (λ one other. one.actor ≢ other.actor) casts → All (λ cast. cast.pending ≡ None) casts
+pub planned_is_taken : (casts : List ActorSpec) (c : ℕ) (plan : List Step) → AllPairs (λ one other. one.actor ≢ other.actor) casts → All (λ cast. cast.pending ≡ None) casts
     → planned (actors_naming c casts) plan ≡ calls_of c (after_all (opening casts) (events_of c plan))
 planned_is_taken casts c plan differ free =
     ap (λ (p : Progress). p.submitted) (sym (moved_all-events_of c (actors_naming c casts) nothing_done plan))
     ∙ ap (λ events. (moved_all c (actors_naming c casts) nothing_done events).submitted) (sym (all_through (opening casts) (events_of c plan) free))
     ∙ taken c casts (events_of c plan) differ
 
-pub actors_of-casting : (c : ℕ) (roles : List Role) → actors_of c roles ≡ actors_naming c (map role_casting roles)
-actors_of-casting c [] = refl
-actors_of-casting c (role ∷ roles) = go (contains c role.callers) (actors_of-casting c roles)
+pub actors_of-actor_spec : (c : ℕ) (roles : List Role) → actors_of_roles c roles ≡ actors_naming c (map actor_spec_of roles)
+actors_of-actor_spec c [] = refl
+actors_of-actor_spec c (role ∷ roles) = go (contains c role.callers) (actors_of-actor_spec c roles)
   where
-    go : (b : Bool) → actors_of c roles ≡ actors_naming c (map role_casting roles)
+    go : (b : Bool) → actors_of_roles c roles ≡ actors_naming c (map actor_spec_of roles)
         → map (λ (x : Role). x.actor) (cond b (role ∷ filter (λ (x : Role). contains c x.callers) roles) (filter (λ (x : Role). contains c x.callers) roles))
-        ≡ actors_by b (role_casting role) (naming c (map role_casting roles))
+        ≡ actors_by b (actor_spec_of role) (naming c (map actor_spec_of roles))
     go true rest = ap (λ actors. role.actor ∷ actors) rest
     go false rest = rest

@@ -14,7 +14,7 @@ use Rattle.act_rules.specs.declared.history.Letter.TheVariants.{Call as CallLett
 use Rattle.act_rules.specs.declared.history.Post.{Post}
 use Rattle.act_rules.specs.declared.history.Post.TheVariants.{Reply as ReplyPost, Death as DeathPost}
 use Rattle.act_rules.specs.History.{History, under, runs_of, calls_of, kept_of, cast_of, names, is_caller, is_dead, has_letter, ran_count, run_item, next_item}
-use Rattle.act_rules.specs.Rules.{refusal_of, added, and_also, after_run}
+use Rattle.act_rules.specs.Rules.{refusal_of, add_event, and_also, after_run}
 use Rattle.act_rules.proofs.Lists.{slice_get_front, slice_get_last, All_more, All_weaker, All_at}
 use Rattle.act_rules.proofs.Growth.{added_grows, runs_grow}
 use Rattle.act_rules.proofs.Steps.{IsKept}
@@ -29,8 +29,8 @@ pub record PostsAreSound (h : History) : Type 0 where
   pub posts : AllByRecursion (IsSoundPost h) h.posts
   pub collected : AllByRecursion (IsSoundPost h) h.collected
 
-pub sound_stays : (h : History) (event : Event) → refusal_of h event ≡ None → (post : Post) → IsSoundPost h post → IsSoundPost (added h event) post
-sound_stays h event accepted (ReplyPost c a place) s = (s.0, slice_get_front (runs_of a h) (runs_of a (added h event)) place s.0 (runs_grow a h (added h event) (added_grows h event)) s.1, s.2)
+pub sound_stays : (h : History) (event : Event) → refusal_of h event ≡ None → (post : Post) → IsSoundPost h post → IsSoundPost (add_event h event) post
+sound_stays h event accepted (ReplyPost c a place) s = (s.0, slice_get_front (runs_of a h) (runs_of a (add_event h event)) place s.0 (runs_grow a h (add_event h event) (added_grows h event)) s.1, s.2)
 sound_stays h event accepted (DeathPost c a) s = dead_stays a h event accepted s
 
 -- the next item is the caller's
@@ -53,11 +53,11 @@ tell_needs h a c e =
     (needs-none (is_dead a h) NotDead None second.1).0
 
 -- the posts that there are stay sound
-all_stay : (h : History) (event : Event) (posts : List Post) → refusal_of h event ≡ None → AllByRecursion (IsSoundPost h) posts → AllByRecursion (IsSoundPost (added h event)) posts
-all_stay h event posts accepted s = All_weaker (IsSoundPost h) (IsSoundPost (added h event)) posts (sound_stays h event accepted) s
+all_stay : (h : History) (event : Event) (posts : List Post) → refusal_of h event ≡ None → AllByRecursion (IsSoundPost h) posts → AllByRecursion (IsSoundPost (add_event h event)) posts
+all_stay h event posts accepted s = All_weaker (IsSoundPost h) (IsSoundPost (add_event h event)) posts (sound_stays h event accepted) s
 
 -- an event that adds none
-posts_stay : (h : History) (event : Event) → refusal_of h event ≡ None → PostsAreSound h → (added h event).posts ≡ h.posts → (added h event).collected ≡ h.collected → PostsAreSound (added h event)
+posts_stay : (h : History) (event : Event) → refusal_of h event ≡ None → PostsAreSound h → (add_event h event).posts ≡ h.posts → (add_event h event).collected ≡ h.collected → PostsAreSound (add_event h event)
 posts_stay h event accepted s posts collected = record {
   posts = rw posts (all_stay h event h.posts accepted s.posts);
   collected = rw collected (all_stay h event h.collected accepted s.collected);

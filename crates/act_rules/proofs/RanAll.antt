@@ -14,11 +14,11 @@ use Rattle.act_rules.specs.declared.outcome.HandleRefusal.TheVariants.{NoActor}
 use Rattle.act_rules.specs.RunList.{items_of}
 use Rattle.act_rules.specs.declared.history.Submission.{Submission}
 use Rattle.act_rules.specs.Submissions.{calls_to, needs}
-use Rattle.act_rules.specs.Consistent.{IsFront}
+use Rattle.act_rules.specs.Consistent.{IsPrefix}
 use Rattle.act_rules.specs.declared.history.Letter.{Letter}
 use Rattle.act_rules.specs.declared.history.Letter.TheVariants.{Note as NoteLetter}
-use Rattle.act_rules.specs.History.{Casting, History, opening, contains, callers_in, cast_of, names, calls_of, times, copies_of, runs_of, ran_count, has_letter, is_letter, is_done, is_drained, is_dead, is_retired, is_ended, next_item}
-use Rattle.act_rules.specs.Rules.{refusal_of, added, after_run, after_all}
+use Rattle.act_rules.specs.History.{ActorSpec, History, opening, contains, callers_in, cast_of, names, calls_of, count_pairs, copies_of, runs_of, ran_count, has_letter, is_letter, is_done, is_drained, is_dead, is_retired, is_ended, next_item}
+use Rattle.act_rules.specs.Rules.{refusal_of, add_event, after_run, after_all}
 use Rattle.act_rules.proofs.Lists.{All_more, All_at}
 use Rattle.act_rules.proofs.Growth.{Grows, added_grows}
 use Rattle.act_rules.proofs.Steps.{IsKept, after_all_keeps}
@@ -39,7 +39,7 @@ abbrev pub AllNamed : History → Type 0
 AllNamed h = AllByRecursion (IsNamed h) h.submitted
 
 pub copies_named : (c a : ℕ) (h : History) → is_some (copies_of c a h) ≡ true → names c (cast_of a h) ≡ true
-copies_named c a h e = go (names c (cast_of a h)) ((1 + times c a h.copied) - times c a h.released) e
+copies_named c a h e = go (names c (cast_of a h)) ((1 + count_pairs c a h.copied) - count_pairs c a h.released) e
   where
     go : (b : Bool) (n : ℕ) → is_some (cond b (Some n) None) ≡ true → b ≡ true
     go true n e = refl
@@ -68,13 +68,13 @@ list_all-weaker : {A : Type 0} (p q : A → Bool) (xs : List A) → ((x : A) →
 list_all-weaker p q [] f e = refl
 list_all-weaker p q (x ∷ xs) f e = let parts = and_parts (p x) (list_all p xs) e in and_from (q x) (list_all q xs) (f x parts.0) (list_all-weaker p q xs f parts.1)
 
-has_letter-more : (letter : Letter) (xs ys : List Letter) → IsFront xs ys → has_letter letter xs ≡ true → has_letter letter ys ≡ true
+has_letter-more : (letter : Letter) (xs ys : List Letter) → IsPrefix xs ys → has_letter letter xs ≡ true → has_letter letter ys ≡ true
 has_letter-more letter xs ys f e = rw (← f.1, list_any-append (is_letter letter) xs f.0, e) refl
 
 drained_grows : (a : ℕ) (h g : History) → Grows h g → runs_of a g ≡ runs_of a h → is_drained a h ≡ true → is_drained a g ≡ true
 drained_grows a h g grows same e =
-    let casts : cast_of a g ≡ cast_of a h = ap (λ (casts : List Casting). find (λ (cast : Casting). cast.actor == a) casts) grows.casts in
-    subst (λ (o : Option Casting). list_all (λ c. is_done c a g) (callers_in o) ≡ true) (sym casts)
+    let casts : cast_of a g ≡ cast_of a h = ap (λ (casts : List ActorSpec). find (λ (cast : ActorSpec). cast.actor == a) casts) grows.casts in
+    subst (λ (o : Option ActorSpec). list_all (λ c. is_done c a g) (callers_in o) ≡ true) (sym casts)
     (list_all-weaker (λ c. is_done c a h) (λ c. is_done c a g) (callers_in (cast_of a h)) (λ c done.
     let count : ran_count c a g ≡ ran_count c a h = ap (λ (items : List RunItem). length (items_of c items)) same in
     has_letter-more (NoteLetter c a (ran_count c a g)) h.arrived g.arrived grows.arrived (rw count done)) e)
@@ -88,11 +88,11 @@ retire_needs h a e =
 abbrev pub RetiredDrained : History → Type 0
 RetiredDrained h = (a : ℕ) → is_retired a h ≡ true → is_drained a h ≡ true
 
-stays_drained : (h : History) (event : Event) → refusal_of h event ≡ None → RetiredDrained h → (a : ℕ) → is_retired a h ≡ true → is_drained a (added h event) ≡ true
+stays_drained : (h : History) (event : Event) → refusal_of h event ≡ None → RetiredDrained h → (a : ℕ) → is_retired a h ≡ true → is_drained a (add_event h event) ≡ true
 stays_drained h event accepted s a retired =
     let ended = or_right (is_dead a h) (is_retired a h) retired in
     let after = ended_stays a (runs_of a h) h event (record { ended = ended; same = refl }) accepted in
-    drained_grows a h (added h event) (added_grows h event) after.same (s a retired)
+    drained_grows a h (add_event h event) (added_grows h event) after.same (s a retired)
 
 retired_or : (xs : List ℕ) (a b : ℕ) → contains a (xs ++ b ∷ []) ≡ true → (contains a xs ≡ true) ⊎ (b ≡ a)
 retired_or [] a b e = go (b == a) refl e
@@ -140,7 +140,7 @@ retires_step h event s accepted = record {
   drained = retired_step h event s.drained accepted;
 }
 
-pub world_retires : (casts : List Casting) (events : List Event) → Retires (after_all (opening casts) events)
+pub world_retires : (casts : List ActorSpec) (events : List Event) → Retires (after_all (opening casts) events)
 world_retires casts events = after_all_keeps Retires retires_step (opening casts) events (record {
   notes = record { mail = tt; arrived = tt };
   named = tt;
@@ -148,7 +148,7 @@ world_retires casts events = after_all_keeps Retires retires_step (opening casts
 })
 
 -- a front that is as long is all
-front_whole : {A : Type 0} (xs ys : List A) → IsFront xs ys → length ys ≤ length xs → xs ≡ ys
+front_whole : {A : Type 0} (xs ys : List A) → IsPrefix xs ys → length ys ≤ length xs → xs ≡ ys
 front_whole {A = A} xs ys f short = go f.0 refl
   where
     long : length xs + length f.0 ≤ length xs

@@ -17,8 +17,8 @@ use Rattle.act_rules.specs.declared.history.Submission.{Submission}
 use Rattle.act_rules.specs.Submissions.{calls_to, needs, copies_held, copy_refusal, submit_refusal, limit_refusal, is_earlier}
 use Rattle.act_rules.specs.declared.history.Letter.{Letter}
 use Rattle.act_rules.specs.declared.history.Letter.TheVariants.{Call as CallLetter, Note as NoteLetter}
-use Rattle.act_rules.specs.History.{History, cast_of, names, is_caller, calls_of, under, times, copies_of, limit_of, next_item}
-use Rattle.act_rules.specs.Rules.{unanswered, submission_refusal, refusal_of, added, and_also, after_run, call_letter, is_last}
+use Rattle.act_rules.specs.History.{History, cast_of, names, is_caller, calls_of, under, count_pairs, copies_of, limit_of, next_item}
+use Rattle.act_rules.specs.Rules.{unanswered, submission_refusal, refusal_of, add_event, and_also, after_run, call_letter, is_last}
 use Rattle.act_rules.proofs.Lists.{enumerate_from-append, All_more, All_weaker, All_at, option_map-none, option_or-none}
 use Rattle.act_rules.proofs.Steps.{IsKept}
 use Rattle.act_rules.proofs.Ended.{needs-none, under-push}
@@ -52,11 +52,11 @@ IsGone c a h = copies_held (copies_of c a h) ≡ 0
 not_holder : (n : ℕ) → n ≡ 0 → nat_lt 0 n ≡ true → ⊥
 not_holder n zero_copies holds = let bad : nat_lt 0 0 ≡ true = rw zero_copies at holds in cc
 
-pub times-push : (c a d b : ℕ) (pairs : List (ℕ × ℕ)) → times c a (pairs ++ (d, b) ∷ []) ≡ times c a pairs + cond ((d == c) && (b == a)) 1 0
+pub times-push : (c a d b : ℕ) (pairs : List (ℕ × ℕ)) → count_pairs c a (pairs ++ (d, b) ∷ []) ≡ count_pairs c a pairs + cond ((d == c) && (b == a)) 1 0
 times-push c a d b pairs =
     rw (filter-append (λ (pair : ℕ × ℕ). (pair.0 == c) && (pair.1 == a)) pairs ((d, b) ∷ []), length-append) (go ((d == c) && (b == a)))
   where
-    go : (same : Bool) → times c a pairs + length {A = ℕ × ℕ} (cond same ((d, b) ∷ []) []) ≡ times c a pairs + cond same 1 0
+    go : (same : Bool) → count_pairs c a pairs + length {A = ℕ × ℕ} (cond same ((d, b) ∷ []) []) ≡ count_pairs c a pairs + cond same 1 0
     go true = refl
     go false = refl
 
@@ -89,21 +89,21 @@ held_less false x y z e = refl
 gone_copy : (c a d b : ℕ) (h : History) → IsGone c a h → nat_lt 0 (copies_held (copies_of d b h)) ≡ true → IsGone c a (record h { copied = h.copied ++ (d, b) ∷ [] })
 gone_copy c a d b h gone holds = rw (times-push c a d b h.copied) (go ((d == c) && (b == a)) refl)
   where
-    go : (same : Bool) → ((d == c) && (b == a)) ≡ same → copies_held (cond (names c (cast_of a h)) (Some ((1 + (times c a h.copied + cond same 1 0)) - times c a h.released)) None) ≡ 0
+    go : (same : Bool) → ((d == c) && (b == a)) ≡ same → copies_held (cond (names c (cast_of a h)) (Some ((1 + (count_pairs c a h.copied + cond same 1 0)) - count_pairs c a h.released)) None) ≡ 0
     go true e =
         let parts = and_parts (d == c) (b == a) e in
         let gone' : copies_held (copies_of d b h) ≡ 0 = rw (eqb-true d c parts.0, eqb-true b a parts.1) gone in
         absurd (not_holder (copies_held (copies_of d b h)) gone' holds)
-    go false e = let z : times c a h.copied + 0 ≡ times c a h.copied = omega arith in rw z gone
+    go false e = let z : count_pairs c a h.copied + 0 ≡ count_pairs c a h.copied = omega arith in rw z gone
 
-pub gone_step : (c a : ℕ) (h : History) (event : Event) → IsGone c a h → refusal_of h event ≡ None → StaysGone c a h (added h event)
+pub gone_step : (c a : ℕ) (h : History) (event : Event) → IsGone c a h → refusal_of h event ≡ None → StaysGone c a h (add_event h event)
 gone_step c a h (Submit d b method args) gone accepted = record {
   gone = gone;
   calls = gone_submit c a d h (record { actor = b; method = method; args = args }) gone (submit_needs h d b method args accepted).1;
 }
 gone_step c a h (Copy d b) gone accepted = record { gone = gone_copy c a d b h gone (copy_needs h d b accepted); calls = refl }
 gone_step c a h (Release d b) gone accepted = record {
-  gone = rw (times-push c a d b h.released) (held_less (names c (cast_of a h)) (1 + times c a h.copied) (times c a h.released) (cond ((d == c) && (b == a)) 1 0) gone);
+  gone = rw (times-push c a d b h.released) (held_less (names c (cast_of a h)) (1 + count_pairs c a h.copied) (count_pairs c a h.released) (cond ((d == c) && (b == a)) 1 0) gone);
   calls = refl;
 }
 gone_step c a h (Send d k) gone accepted = record { gone = gone; calls = refl }
@@ -129,25 +129,25 @@ pub record NotesAreSound (h : History) : Type 0 where
   pub mail : AllByRecursion (IsSoundNote h) h.mail
   pub arrived : AllByRecursion (IsSoundNote h) h.arrived
 
-note_step : (h : History) (event : Event) → refusal_of h event ≡ None → (letter : Letter) → IsSoundNote h letter → IsSoundNote (added h event) letter
+note_step : (h : History) (event : Event) → refusal_of h event ≡ None → (letter : Letter) → IsSoundNote h letter → IsSoundNote (add_event h event) letter
 note_step h event accepted (CallLetter c a n) s = tt
 note_step h event accepted (NoteLetter c a n) s =
     let stays = gone_step c a h event s.0 accepted in
     (stays.gone, s.1 ∙ ap (λ (l : List (ℕ × Submission)). length l) (sym stays.calls))
 
-mail_stays : (h : History) (event : Event) → refusal_of h event ≡ None → (letters : List Letter) → AllByRecursion (IsSoundNote h) letters → AllByRecursion (IsSoundNote (added h event)) letters
-mail_stays h event accepted letters s = All_weaker (IsSoundNote h) (IsSoundNote (added h event)) letters (note_step h event accepted) s
+mail_stays : (h : History) (event : Event) → refusal_of h event ≡ None → (letters : List Letter) → AllByRecursion (IsSoundNote h) letters → AllByRecursion (IsSoundNote (add_event h event)) letters
+mail_stays h event accepted letters s = All_weaker (IsSoundNote h) (IsSoundNote (add_event h event)) letters (note_step h event accepted) s
 
 one_less : (named : Bool) (x y z : ℕ) → (copies_held (cond named (Some (x - y)) None) == 1) ≡ true → z ≡ 1 → copies_held (cond named (Some (x - (y + z))) None) ≡ 0
 one_less true x y z e one = let e' : x - y ≡ 1 = eqb-true (x - y) 1 e in omega arith
 one_less false x y z e one = refl
 
 -- the last release leaves no copy
-last_gone : (h : History) (c a : ℕ) → is_last c a h ≡ true → IsGone c a (added h (Release c a))
+last_gone : (h : History) (c a : ℕ) → is_last c a h ≡ true → IsGone c a (add_event h (Release c a))
 last_gone h c a last =
     let both : ((c == c) && (a == a)) ≡ true = and_from (c == c) (a == a) (eq-eqb c c refl) (eq-eqb a a refl) in
     let one : cond ((c == c) && (a == a)) 1 0 ≡ 1 = rw both refl in
-    rw (times-push c a c a h.released) (one_less (names c (cast_of a h)) (1 + times c a h.copied) (times c a h.released) (cond ((c == c) && (a == a)) 1 0) last one)
+    rw (times-push c a c a h.released) (one_less (names c (cast_of a h)) (1 + count_pairs c a h.copied) (count_pairs c a h.released) (cond ((c == c) && (a == a)) 1 0) last one)
 
 pub notes_step : IsKept NotesAreSound
 notes_step h (Submit c a method args) s accepted = record { mail = mail_stays h (Submit c a method args) accepted h.mail s.mail; arrived = mail_stays h (Submit c a method args) accepted h.arrived s.arrived }
@@ -160,8 +160,8 @@ notes_step h (Release c a) s accepted = record {
     note : Letter
     note = NoteLetter c a (length (calls_to a (calls_of c h)))
 
-    go : (last : Bool) → is_last c a h ≡ last → AllByRecursion (IsSoundNote (added h (Release c a))) (and_also h.mail (cond last (Some note) None))
-    go true e = All_more (IsSoundNote (added h (Release c a))) h.mail note (mail_stays h (Release c a) accepted h.mail s.mail) (last_gone h c a e, refl)
+    go : (last : Bool) → is_last c a h ≡ last → AllByRecursion (IsSoundNote (add_event h (Release c a))) (and_also h.mail (cond last (Some note) None))
+    go true e = All_more (IsSoundNote (add_event h (Release c a))) h.mail note (mail_stays h (Release c a) accepted h.mail s.mail) (last_gone h c a e, refl)
     go false e = mail_stays h (Release c a) accepted h.mail s.mail
 notes_step h (Send c k) s accepted = go (slice_get (calls_of c h) k)
   where

@@ -6,13 +6,13 @@ use Rattle.std.proofs.lemmas.Bool.{and_parts, and_from}
 use Rattle.act_types.specs.declared.call.Arg.{Arg}
 use Rattle.act_types.specs.declared.call.Arg.TheVariants.{Plain, Fut}
 use Rattle.act_rules.specs.RunList.{Answer}
-use Rattle.act_rules.specs.Submissions.{kept_at, is_known, settled, settled_future}
+use Rattle.act_rules.specs.Submissions.{kept_at, is_known, settle, settled_future}
 
 -- the second table keeps what the first does
 abbrev pub Extends : List (Option Answer) → List (Option Answer) → Type 0
 Extends before after = (j : ℕ) (answer : Answer) → kept_at before j ≡ Some answer → kept_at after j ≡ Some answer
 
-argument_stays : (before after : List (Option Answer)) → Extends before after → (arg : Arg) → is_known before arg ≡ true → (is_known after arg ≡ true) × (settled after arg ≡ settled before arg)
+argument_stays : (before after : List (Option Answer)) → Extends before after → (arg : Arg) → is_known before arg ≡ true → (is_known after arg ≡ true) × (settle after arg ≡ settle before arg)
 argument_stays before after more (Plain value) known = (refl, refl)
 argument_stays before after more (Fut j) known = go (kept_at before j) refl known
   where
@@ -20,7 +20,7 @@ argument_stays before after more (Fut j) known = go (kept_at before j) refl know
     go None e h = cc
     go (Some answer) e h = let there : kept_at after j ≡ Some answer = more j answer e in (rw there refl, rw (there, e) refl)
 
-pub arguments_stay : (before after : List (Option Answer)) → Extends before after → (args : List Arg) → list_all (is_known before) args ≡ true → (list_all (is_known after) args ≡ true) × (map (settled after) args ≡ map (settled before) args)
+pub arguments_stay : (before after : List (Option Answer)) → Extends before after → (args : List Arg) → list_all (is_known before) args ≡ true → (list_all (is_known after) args ≡ true) × (map (settle after) args ≡ map (settle before) args)
 arguments_stay before after more [] known = (refl, refl)
 arguments_stay before after more (arg ∷ args) known =
     let parts = and_parts (is_known before arg) (list_all (is_known before) args) known in

@@ -13,7 +13,7 @@ use Rattle.act_rules.specs.Submissions.{kept_at}
 use Rattle.act_rules.specs.Consistent.{IsAsSubmitted, IsAnswerOfRun, IsCallToDead, Consistent}
 use Rattle.act_rules.specs.declared.history.Post.{Post}
 use Rattle.act_rules.specs.declared.history.Post.TheVariants.{Reply as ReplyPost, Death as DeathPost}
-use Rattle.act_rules.specs.History.{Casting, History, opening, opening_of, under, runs_of, calls_of, kept_of, is_dead, is_call, answer_of, answer_in}
+use Rattle.act_rules.specs.History.{ActorSpec, History, opening, opening_of, under, runs_of, calls_of, kept_of, is_dead, is_item_of, answer_of, answer_in}
 use Rattle.act_rules.specs.Rules.{after_all}
 use Rattle.act_rules.proofs.Lists.{whole_front}
 use Rattle.act_rules.proofs.Steps.{IsKept, after_all_keeps}
@@ -40,7 +40,7 @@ sound_step h event s accepted = record {
   submitted = submitted_step h event s.posts s.letters s.submitted;
 }
 
-pub world_sound : (casts : List Casting) (events : List Event) → IsSound (after_all (opening casts) events)
+pub world_sound : (casts : List ActorSpec) (events : List Event) → IsSound (after_all (opening casts) events)
 world_sound casts events = after_all_keeps IsSound sound_step (opening casts) events (record {
   posts = record { posts = tt; collected = tt };
   letters = record { mail = tt; arrived = tt };
@@ -85,9 +85,9 @@ cond_some false o x e = cc
 -- a reply that answers the call names its place
 reply_place : (h : History) (c k b d a place : ℕ) (answer : Answer) → InOrder h → IsSoundPost h (ReplyPost d a place) → answer_in h c k b (ReplyPost d a place) ≡ Some answer → IsAnswerOfRun (λ x. opening_of x h) (λ x. runs_of x h) c k answer
 reply_place h c k b d a place answer order s e =
-    let parts = cond_some ((d == c) && is_call c k (slice_get (runs_of a h) place)) (answer_of a place h) answer e in
-    let tests = and_parts (d == c) (is_call c k (slice_get (runs_of a h) place)) parts.0 in
-    let call = and_parts (s.0.caller == c) (s.0.future == k) (subst (λ (o : Option RunItem). is_call c k o ≡ true) s.1 tests.1) in
+    let parts = cond_some ((d == c) && is_item_of c k (slice_get (runs_of a h) place)) (answer_of a place h) answer e in
+    let tests = and_parts (d == c) (is_item_of c k (slice_get (runs_of a h) place)) parts.0 in
+    let call = and_parts (s.0.caller == c) (s.0.future == k) (subst (λ (o : Option RunItem). is_item_of c k o ≡ true) s.1 tests.1) in
     let caller : s.0.caller ≡ c = eqb-true s.0.caller c call.0 in
     let future : s.0.future ≡ k = eqb-true s.0.future k call.1 in
     record {
@@ -103,7 +103,7 @@ reply_place h c k b d a place answer order s e =
 
 -- a reply never answers that the actor died
 reply_alive : (h : History) (c k b d a place : ℕ) (answer : Answer) → answer_in h c k b (ReplyPost d a place) ≡ Some answer → IsAlive answer
-reply_alive h c k b d a place answer e = go (opening_of a h) (cond_some ((d == c) && is_call c k (slice_get (runs_of a h) place)) (answer_of a place h) answer e).1
+reply_alive h c k b d a place answer e = go (opening_of a h) (cond_some ((d == c) && is_item_of c k (slice_get (runs_of a h) place)) (answer_of a place h) answer e).1
   where
     go : (o : Option KindState) → option_and_then (λ (state : KindState). answer_at state (runs_of a h) place) o ≡ Some answer → IsAlive answer
     go None e = cc

@@ -10,7 +10,7 @@ use Rattle.act_types.specs.GoodText.{is_good_text}
 use Rattle.act_types.specs.Texts.{caller_text, actor_text, method_text, value_text}
 use Rattle.act_rules.specs.declared.script.Wrong.{Wrong}
 use Rattle.act_rules.specs.declared.script.Wrong.TheVariants.{BadLine}
-use Rattle.act_rules.specs.Words.{Word, ◌>>=◌, found, named_by, kind_text, all_kinds, all_methods, method_at, number_at, int_at, marked_at, closed_at, caller_at, actor_at, text_at, value_at, arg_at}
+use Rattle.act_rules.specs.Words.{Word, ◌>>=◌, or_bad_line, named_by, kind_text, all_kinds, all_methods, method_at, number_at, int_at, marked_at, closed_at, caller_at, actor_at, text_at, value_at, arg_at}
 use Rattle.act_rules.specs.Laws.{HasOneSpelling, arg_text}
 use Rattle.act_rules.proofs.Numbers.{chosen, number_is_printed, int_is_printed}
 use Rattle.act_rules.proofs.Marks.{marked_is, closed_is}
@@ -27,7 +27,7 @@ refused false r y h = h
 
 -- ---- names
 
-by_name : {A : Type 0} (text : A → Word) (y : A) (ys : List A) (word : Word) (x : A) (b : Bool) → bytes_eq word (text y) ≡ b → (named_by text ys word ≡ Ok x → word ≡ text x) → found (cond b (Some y) (find (λ z. bytes_eq word (text z)) ys)) ≡ Ok x → word ≡ text x
+by_name : {A : Type 0} (text : A → Word) (y : A) (ys : List A) (word : Word) (x : A) (b : Bool) → bytes_eq word (text y) ≡ b → (named_by text ys word ≡ Ok x → word ≡ text x) → or_bad_line (cond b (Some y) (find (λ z. bytes_eq word (text z)) ys)) ≡ Ok x → word ≡ text x
 by_name text y ys word x true e later h = let same : y ≡ x = cc in (bytes_decides word (text y)).0 e ∙ ap text same
 by_name text y ys word x false e later h = later h
 

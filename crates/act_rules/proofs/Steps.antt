@@ -4,10 +4,10 @@ use Rattle.std.specs.Prelude.{Option}
 use Rattle.act_rules.specs.declared.event.Event.{Event}
 use Rattle.act_rules.specs.declared.outcome.WorldRefusal.{WorldRefusal}
 use Rattle.act_rules.specs.History.{History}
-use Rattle.act_rules.specs.Rules.{Outcome, refusal_of, added, after_by, after, after_all, outcome_of, outcomes}
+use Rattle.act_rules.specs.Rules.{Outcome, refusal_of, add_event, after_by, after, after_all, outcome_of, outcomes}
 
 -- an event leaves the history, or adds to it where nothing refuses it
-pub after_keeps : (P : History → Type 0) (h : History) (event : Event) → P h → (refusal_of h event ≡ None → P (added h event)) → P (after h event)
+pub after_keeps : (P : History → Type 0) (h : History) (event : Event) → P h → (refusal_of h event ≡ None → P (add_event h event)) → P (after h event)
 after_keeps P h event held step = go (refusal_of h event) refl
   where
     go : (r : Option WorldRefusal) → refusal_of h event ≡ r → P (after_by h event r)
@@ -16,7 +16,7 @@ after_keeps P h event held step = go (refusal_of h event) refl
 
 -- what each accepted event keeps
 abbrev pub IsKept : (History → Type 0) → Type 0
-IsKept P = (h : History) (event : Event) → P h → refusal_of h event ≡ None → P (added h event)
+IsKept P = (h : History) (event : Event) → P h → refusal_of h event ≡ None → P (add_event h event)
 
 pub after_all_keeps : (P : History → Type 0) → IsKept P → (h : History) (events : List Event) → P h → P (after_all h events)
 after_all_keeps P step h [] held = held

@@ -1,7 +1,8 @@
--- What the lines of a script say, and what a whole script spells: its roles and its events or steps, or its first fault.
+-- What the lines of a script say, and what a whole script spells: its roles and its events or steps, or its first
+-- fault.
 use Rattle.std.specs.Prelude.{ℕ, ◌+◌, ◌==◌, Bool, true, false, not, ◌&&◌, ◌||◌, if◌then◌else◌, nat_lt, nat_le, List, [], ◌∷◌, ◌++◌, length, find, Option, Some, None, Result, Ok, Err, bytes_eq, codes}
 use Rattle.std.specs.List.{list_all, list_any, slice_split}
-use Rattle.act_types.specs.declared.limits.TheConstants.{MOST_LINE_BYTES, MOST_SCRIPT_BYTES}
+use Rattle.act_types.specs.declared.limits.TheConstants.{MAX_LINE_BYTES, MAX_SCRIPT_BYTES}
 use Rattle.act_types.specs.declared.call.Method.{Method}
 use Rattle.act_types.specs.declared.call.Arg.{Arg}
 use Rattle.act_rules.specs.declared.event.Event.{Event}
@@ -16,7 +17,7 @@ use Rattle.act_rules.specs.declared.script.Line.{Line}
 use Rattle.act_rules.specs.declared.script.Line.TheVariants.{Role as RoleLine, Event as EventLine, Step as StepLine}
 use Rattle.act_rules.specs.declared.script.Wrong.{Wrong}
 use Rattle.act_rules.specs.declared.script.Wrong.TheVariants.{TooLong, BadLine, LateActor, TwiceActor, TwiceCaller}
-use Rattle.act_rules.specs.Words.{Word, ◌>>=◌, found, named_by, kind_text, all_kinds, method_at, number_at, limit_at, caller_at, actor_at, arg_at}
+use Rattle.act_rules.specs.Words.{Word, ◌>>=◌, or_bad_line, named_by, kind_text, all_kinds, method_at, number_at, limit_at, caller_at, actor_at, arg_at}
 
 -- ---- the forms of line
 
@@ -37,7 +38,8 @@ one_at f first (u ∷ []) = first u >>= λ x. Ok (f x)
 one_at f first words = Err BadLine
 
 -- what two words spell
-abbrev pub two_at : {A B C : Type 0} → (A → B → C) → (Word → Result A Wrong) → (Word → Result B Wrong) → List Word → Result C Wrong
+abbrev pub two_at : {A B C : Type 0} → (A → B → C) → (Word → Result A Wrong) → (Word → Result B Wrong) → List Word →
+    Result C Wrong
 two_at f first second (u ∷ v ∷ []) = first u >>= λ x. second v >>= λ y. Ok (f x y)
 two_at f first second words = Err BadLine
 
@@ -54,7 +56,8 @@ limited_at (number ∷ words) = limit_at number >>= λ limit. some_callers_at wo
 -- `max`, a limit and one or more callers, or the callers alone
 unfoldable pub naming_at : List Word → Result (Option ℕ × List ℕ) Wrong
 naming_at [] = Err BadLine
-naming_at (word ∷ words) = if bytes_eq word (codes "max") then limited_at words else (some_callers_at (word ∷ words) >>= λ callers. Ok (None, callers))
+naming_at (word ∷ words) = if bytes_eq word (codes "max") then limited_at words
+    else (some_callers_at (word ∷ words) >>= λ callers. Ok (None, callers))
 
 -- an actor, one of these kinds, a limit if there is one, and one or more callers
 unfoldable pub role_at : List KindName → List Word → Result Role Wrong
@@ -117,7 +120,7 @@ forms_of Threads = thread_forms
 -- what the words of a line say, by the form that the first word names
 unfoldable pub form_at : List Form → List Word → Result Line Wrong
 form_at forms [] = Err BadLine
-form_at forms (head ∷ words) = found (find (λ form. bytes_eq head form.0) forms) >>= λ form. form.1 words
+form_at forms (head ∷ words) = or_bad_line (find (λ form. bytes_eq head form.0) forms) >>= λ form. form.1 words
 
 -- a byte that prints, or a space
 abbrev pub is_plain_byte : ℕ → Bool
@@ -125,7 +128,8 @@ is_plain_byte b = nat_le 32 b && nat_le b 126
 
 -- the line itself, where it is short and plain
 abbrev pub plain_at : List ℕ → Result (List ℕ) Wrong
-plain_at text = if nat_lt MOST_LINE_BYTES (length text) then Err BadLine else (if list_all is_plain_byte text then Ok text else Err BadLine)
+plain_at text = if nat_lt MAX_LINE_BYTES (length text) then Err BadLine
+    else (if list_all is_plain_byte text then Ok text else Err BadLine)
 
 -- an empty line, and a comment
 abbrev pub is_skipped : List ℕ → Bool
@@ -170,14 +174,15 @@ unless None x = Ok x
 unless (Some wrong) x = Err wrong
 
 -- the script with what line n says
-abbrev pub added : Script → ℕ → Line → Result Script Wrong
-added script n (RoleLine role) = unless (role_fault script role) (record script { roles = script.roles ++ role ∷ [] })
-added script n (EventLine event) = Ok (record script { events = script.events ++ event ∷ [] })
-added script n (StepLine c step) = Ok (record script { steps = script.steps ++ (c, step, n) ∷ [] })
+abbrev pub add_line : Script → ℕ → Line → Result Script Wrong
+add_line script n (RoleLine role) = unless (role_fault script role)
+    (record script { roles = script.roles ++ role ∷ [] })
+add_line script n (EventLine event) = Ok (record script { events = script.events ++ event ∷ [] })
+add_line script n (StepLine c step) = Ok (record script { steps = script.steps ++ (c, step, n) ∷ [] })
 
 abbrev pub added_unless_skipped : Script → ℕ → Option Line → Result Script Wrong
 added_unless_skipped script n None = Ok script
-added_unless_skipped script n (Some line) = added script n line
+added_unless_skipped script n (Some line) = add_line script n line
 
 abbrev pub line_added : List Form → Script → ℕ → List ℕ → Result Script Wrong
 line_added forms script n line = line_at forms line >>= added_unless_skipped script n
@@ -190,7 +195,8 @@ in_line n (Err wrong) = Err (n, wrong)
 -- the script with the lines from number n on
 abbrev pub spelled_from : List Form → ℕ → Script → List (List ℕ) → Result Script (ℕ × Wrong)
 spelled_from forms n script [] = Ok script
-spelled_from forms n script (line ∷ lines) = in_line n (line_added forms script n line) >>= λ next. spelled_from forms (n + 1) next lines
+spelled_from forms n script (line ∷ lines) = in_line n (line_added forms script n line) >>= λ next.
+    spelled_from forms (n + 1) next lines
 
 -- the lines of a script: what stands between its line ends; after the last one an empty line, which is skipped
 abbrev pub lines_in : List ℕ → List (List ℕ)
@@ -198,7 +204,8 @@ lines_in bytes = slice_split (λ b. b == 10) bytes
 
 -- what bytes spell in lines of these forms, or the first fault with its line
 unfoldable pub spelled_by : List Form → List ℕ → Result Script (ℕ × Wrong)
-spelled_by forms bytes = if nat_lt MOST_SCRIPT_BYTES (length bytes) then Err (0, TooLong) else spelled_from forms 1 no_lines (lines_in bytes)
+spelled_by forms bytes = if nat_lt MAX_SCRIPT_BYTES (length bytes) then Err (0, TooLong)
+    else spelled_from forms 1 no_lines (lines_in bytes)
 
 -- what bytes spell in a mode
 abbrev pub spelled : Mode → List ℕ → Result Script (ℕ × Wrong)

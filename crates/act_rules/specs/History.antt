@@ -10,10 +10,11 @@ use Rattle.act_rules.specs.declared.history.Post.TheVariants.{Reply as ReplyPost
 use Rattle.act_types.specs.KindState.{KindState}
 use Rattle.act_rules.specs.RunList.{Answer, answer_at, items_of, has_terminated}
 use Rattle.act_rules.specs.declared.history.Submission.{Submission}
-use Rattle.act_rules.specs.Submissions.{calls_to, settled}
+use Rattle.act_rules.specs.Submissions.{calls_to, settle}
 
--- an actor, the callers that may call it, the state in which its box is opened, and how many calls of each caller may be pending there
-pub record Casting : Type 0 where
+-- an actor, the callers that may call it, the state in which its box is opened, and how many calls of each caller may
+-- be pending there
+pub record ActorSpec : Type 0 where
   pub actor : ℕ
   pub callers : List ℕ
   pub opening : KindState
@@ -22,7 +23,7 @@ pub record Casting : Type 0 where
 -- what the accepted events leave, each list in their order
 pub record History : Type 0 where
   -- the actors, with which the world was opened
-  pub casts : List Casting
+  pub casts : List ActorSpec
   -- every call, with its caller
   pub submitted : List (ℕ × Submission)
   -- the caller and the actor of each copy made and of each copy released
@@ -42,7 +43,7 @@ pub record History : Type 0 where
   pub retired : List ℕ
 
 -- a world as it is opened
-abbrev pub opening : List Casting → History
+abbrev pub opening : List ActorSpec → History
 opening casts = record {
   casts = casts;
   submitted = [];
@@ -62,20 +63,20 @@ abbrev pub contains : ℕ → List ℕ → Bool
 contains n ns = list_any (λ m. m == n) ns
 
 -- the cast of an actor
-abbrev pub cast_of : ℕ → History → Option Casting
+abbrev pub cast_of : ℕ → History → Option ActorSpec
 cast_of a h = find (λ cast. cast.actor == a) h.casts
 
 -- the callers that a cast names
-abbrev pub callers_in : Option Casting → List ℕ
+abbrev pub callers_in : Option ActorSpec → List ℕ
 callers_in None = []
 callers_in (Some cast) = cast.callers
 
 -- whether the actor's cast names the caller
-abbrev pub names : ℕ → Option Casting → Bool
+abbrev pub names : ℕ → Option ActorSpec → Bool
 names c cast = contains c (callers_in cast)
 
 -- the actors whose casts name the caller
-abbrev pub actors_naming : ℕ → List Casting → List ℕ
+abbrev pub actors_naming : ℕ → List ActorSpec → List ℕ
 actors_naming c casts = map (λ cast. cast.actor) (filter (λ cast. contains c cast.callers) casts)
 
 -- whether some cast names the caller
@@ -91,12 +92,14 @@ abbrev pub calls_of : ℕ → History → List Submission
 calls_of c h = under c h.submitted
 
 -- how often a caller and an actor stand in a list
-abbrev pub times : ℕ → ℕ → List (ℕ × ℕ) → ℕ
-times c a pairs = length (filter (λ pair. (pair.0 == c) && (pair.1 == a)) pairs)
+abbrev pub count_pairs : ℕ → ℕ → List (ℕ × ℕ) → ℕ
+count_pairs c a pairs = length (filter (λ pair. (pair.0 == c) && (pair.1 == a)) pairs)
 
--- the copies of the handle that the caller holds, where the actor's cast names it: the first, those made, without those released
+-- the copies of the handle that the caller holds, where the actor's cast names it: the first, those made, without those
+-- released
 abbrev pub copies_of : ℕ → ℕ → History → Option ℕ
-copies_of c a h = if names c (cast_of a h) then Some ((1 + times c a h.copied) - times c a h.released) else None
+copies_of c a h = if names c (cast_of a h) then Some ((1 + count_pairs c a h.copied) - count_pairs c a h.released)
+    else None
 
 -- how many of the caller's calls to the actor may have no answer, where the actor's cast names it and sets a limit
 abbrev pub limit_of : ℕ → ℕ → History → Option ℕ
@@ -119,13 +122,15 @@ abbrev pub answer_of : ℕ → ℕ → History → Option Answer
 answer_of a place h = option_and_then (λ state. answer_at state (runs_of a h) place) (opening_of a h)
 
 -- whether the item is the caller's call k
-abbrev pub is_call : ℕ → ℕ → Option RunItem → Bool
-is_call c k None = false
-is_call c k (Some item) = (item.caller == c) && (item.future == k)
+abbrev pub is_item_of : ℕ → ℕ → Option RunItem → Bool
+is_item_of c k None = false
+is_item_of c k (Some item) = (item.caller == c) && (item.future == k)
 
--- what a post answers to the caller's call k, which went to the actor b: a reply the answer at its place, a death the fault
+-- what a post answers to the caller's call k, which went to the actor b: a reply the answer at its place, a death the
+-- fault
 abbrev pub answer_in : History → ℕ → ℕ → ℕ → Post → Option Answer
-answer_in h c k b (ReplyPost d a place) = if (d == c) && is_call c k (slice_get (runs_of a h) place) then answer_of a place h else None
+answer_in h c k b (ReplyPost d a place) = if (d == c) && is_item_of c k (slice_get (runs_of a h) place)
+    then answer_of a place h else None
 answer_in h c k b (DeathPost d a) = if (d == c) && (a == b) then Some (Err ActorDied) else None
 
 -- the first of the collected posts that answers the call
@@ -162,7 +167,7 @@ run_item c number kept call = record {
   number = number;
   future = call.0;
   method = call.1.method;
-  args = map (settled kept) call.1.args;
+  args = map (settle kept) call.1.args;
 }
 
 abbrev pub next_item : ℕ → ℕ → History → Option RunItem

@@ -3,7 +3,7 @@ use Rattle.std.specs.Prelude.{ℕ, ◌-◌, ℤ, pos, negsuc, ◌+ℤ◌, ◌-�
 use Rattle.act_types.specs.KindState.{KindState, CounterAt, TableOf, AccountAt, ItemsOf, OwnAt}
 use Rattle.act_types.specs.Own.{Ask, Behaviour, after_ask}
 use Rattle.act_types.specs.GoodText.{is_good_text}
-use Rattle.act_types.specs.declared.limits.TheConstants.{MOST_ITEMS, MOST_KEYS}
+use Rattle.act_types.specs.declared.limits.TheConstants.{MAX_ITEMS, MAX_KEYS}
 use Rattle.act_types.specs.declared.value.Value.{Value}
 use Rattle.act_types.specs.declared.value.Value.TheVariants.{Unit as Nothing, Int, Text}
 use Rattle.act_types.specs.declared.fault.Fault.{Fault}
@@ -53,7 +53,8 @@ value_at key pairs = option_map (λ pair. pair.1) (find (λ pair. bytes_eq pair.
 -- a new key goes last, and a present key keeps its place
 abbrev pub with_pair : List ℕ → Value → List (List ℕ × Value) → List (List ℕ × Value)
 with_pair key value [] = (key, value) ∷ []
-with_pair key value (pair ∷ pairs) = if bytes_eq pair.0 key then (key, value) ∷ pairs else pair ∷ with_pair key value pairs
+with_pair key value (pair ∷ pairs) = if bytes_eq pair.0 key then (key, value) ∷ pairs
+    else pair ∷ with_pair key value pairs
 
 -- the pairs of the other keys
 abbrev pub without_key : List ℕ → List (List ℕ × Value) → List (List ℕ × Value)
@@ -62,10 +63,11 @@ without_key key pairs = filter (λ pair. not (bytes_eq pair.0 key)) pairs
 abbrev pub table_reply : List (List ℕ × Value) → Method → List Value → Reply
 table_reply pairs Put (Text key ∷ value ∷ []) =
     need (is_good_text key && is_storable value) BadArgs (
-    need (is_some (value_at key pairs) || nat_lt (length pairs) MOST_KEYS) KindFull (
+    need (is_some (value_at key pairs) || nat_lt (length pairs) MAX_KEYS) KindFull (
     Ok (TableOf (with_pair key value pairs), Nothing)))
 table_reply pairs Put args = Err BadArgs
-table_reply pairs Get (Text key ∷ []) = need (is_good_text key) BadArgs (look_up (TableOf pairs) NoKey (value_at key pairs))
+table_reply pairs Get (Text key ∷ []) = need (is_good_text key) BadArgs
+    (look_up (TableOf pairs) NoKey (value_at key pairs))
 table_reply pairs Get args = Err BadArgs
 table_reply pairs Del (Text key ∷ []) =
     need (is_good_text key) BadArgs (look_up (TableOf (without_key key pairs)) NoKey (value_at key pairs))
@@ -97,7 +99,7 @@ item_at (negsuc i) items = None
 abbrev pub list_reply : List Value → Method → List Value → Reply
 list_reply items Push (value ∷ []) =
     need (is_storable value) BadArgs (
-    need (nat_lt (length items) MOST_ITEMS) KindFull (
+    need (nat_lt (length items) MAX_ITEMS) KindFull (
     Ok (ItemsOf (items ++ value ∷ []), count_value (items ++ value ∷ []))))
 list_reply items Push args = Err BadArgs
 list_reply items Pop [] = look_up (ItemsOf (take (length items - 1) items)) NoItems (slice_get items (length items - 1))

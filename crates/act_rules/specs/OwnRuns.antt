@@ -23,7 +23,8 @@ kind_answer (Err fault) = Err (kind_fault fault)
 abbrev pub own_call : {S : Type 0} → StepOf S → S → Method → List Value → S × Answer
 own_call step state Terminate [] = (state, Ok Nothing)
 own_call step state Terminate (value ∷ values) = (state, Err BadArgs)
-own_call step state method values = (next_state state (step state method values), kind_answer (step_answer (step state method values)))
+own_call step state method values =
+    (next_state state (step state method values), kind_answer (step_answer (step state method values)))
 
 -- a call whose argument failed isn't asked
 abbrev pub own_asked : {S : Type 0} → StepOf S → S → RunItem → Result (List Value) ℕ → S × Answer
@@ -41,7 +42,8 @@ own_state_after step state (item ∷ items) = own_state_after step (own_after_it
 -- the answers of all items, in order
 abbrev pub own_answers : {S : Type 0} → StepOf S → S → List RunItem → List Answer
 own_answers step state [] = []
-own_answers step state (item ∷ items) = (own_after_item step state item).1 ∷ own_answers step (own_after_item step state item).0 items
+own_answers step state (item ∷ items) = (own_after_item step state item).1 ∷
+    own_answers step (own_after_item step state item).0 items
 
 -- the answer of the item at a place
 abbrev pub own_answer_at : {S : Type 0} → StepOf S → S → List RunItem → ℕ → Option Answer
@@ -49,8 +51,11 @@ own_answer_at step state items place = slice_get (own_answers step state items) 
 
 -- runs of such a kind answer by its steps, and leave the state of its steps
 pub record RunsByItsSteps {S : Type 0} (step : StepOf S) (written : S → List ℕ) : Type 0 where
-  pub answers : (state : S) (items : List RunItem) (place : ℕ) → answer_at (OwnAt (behaves step written state)) items place ≡ own_answer_at step state items place
-  pub leaves : (state : S) (items : List RunItem) → state_after (OwnAt (behaves step written state)) items ≡ OwnAt (behaves step written (own_state_after step state items))
+  pub answers : (state : S) (items : List RunItem) (place : ℕ) →
+      answer_at (OwnAt (behaves step written state)) items place ≡ own_answer_at step state items place
+  pub leaves : (state : S) (items : List RunItem) →
+      state_after (OwnAt (behaves step written state)) items
+      ≡ OwnAt (behaves step written (own_state_after step state items))
 
 -- ---- what an actor was asked
 
@@ -67,17 +72,20 @@ with_answer (Some ask) answer = (ask, answer) ∷ []
 -- what the kind was asked, and what it answered, in the order of the run list
 abbrev pub told_in : KindState → List RunItem → List (Ask × Answer)
 told_in state [] = []
-told_in state (item ∷ items) = with_answer (ask_of item.method (values_of item.args)) (after_item state item).1 ++ told_in (after_item state item).0 items
+told_in state (item ∷ items) = with_answer (ask_of item.method (values_of item.args)) (after_item state item).1
+    ++ told_in (after_item state item).0 items
 
 -- ---- what each step keeps
 
 -- a property of what was told so far, and of the state, that each step keeps
 abbrev pub IsKept : {S : Type 0} → StepOf S → (List (Ask × Answer) → S → Type 0) → Type 0
 IsKept {S} step holds = (told : List (Ask × Answer)) (state : S) (ask : Ask) → holds told state
-    → holds (told ++ (ask, kind_answer (step_answer (step state ask.method ask.args))) ∷ []) (next_state state (step state ask.method ask.args))
+    → holds (told ++ (ask, kind_answer (step_answer (step state ask.method ask.args))) ∷ [])
+    (next_state state (step state ask.method ask.args))
 
 -- what a run list left of such a kind: a state of the kind, and the property holds of it and of what was told
-pub record Left {S : Type 0} (step : StepOf S) (written : S → List ℕ) (holds : List (Ask × Answer) → S → Type 0) (opening : KindState) (items : List RunItem) : Type 0 where
+pub record Left {S : Type 0} (step : StepOf S) (written : S → List ℕ) (holds : List (Ask × Answer) → S → Type 0)
+    (opening : KindState) (items : List RunItem) : Type 0 where
   pub state : S
   pub left : state_after opening items ≡ OwnAt (behaves step written state)
   pub kept : holds (told_in opening items) state

@@ -27,7 +27,8 @@ occurrences a actors = length (filter (λ b. b == a) actors)
 
 -- the copies of a handle that the caller holds, among those of its actors
 abbrev pub holds : ℕ → List ℕ → Progress → Option ℕ
-holds a actors p = if list_any (λ b. b == a) actors then Some ((1 + occurrences a p.copied) - occurrences a p.released) else None
+holds a actors p = if list_any (λ b. b == a) actors then Some ((1 + occurrences a p.copied) - occurrences a p.released)
+    else None
 
 -- whether a step is refused
 abbrev pub is_refused : List ℕ → Progress → Step → Bool
@@ -38,17 +39,20 @@ is_refused actors p (Kill a) = is_some (handle_refusal (holds a actors p))
 is_refused actors p (Await k) = if nat_lt k (length p.submitted) then false else true
 
 -- what a step adds
-abbrev pub stepped : Progress → Step → Progress
-stepped p (Submit a method args) = record p { submitted = p.submitted ++ record { actor = a; method = method; args = args } ∷ [] }
-stepped p (Copy a) = record p { copied = p.copied ++ a ∷ [] }
-stepped p (Release a) = record p { released = p.released ++ a ∷ [] }
-stepped p (Kill a) = p
-stepped p (Await k) = p
+abbrev pub do_step : Progress → Step → Progress
+do_step p (Submit a method args) = record p {
+  submitted = p.submitted
+      ++ record { actor = a; method = method; args = args } ∷ [];
+}
+do_step p (Copy a) = record p { copied = p.copied ++ a ∷ [] }
+do_step p (Release a) = record p { released = p.released ++ a ∷ [] }
+do_step p (Kill a) = p
+do_step p (Await k) = p
 
 -- what a plan leaves: a refused step adds nothing
 abbrev pub done_by : List ℕ → Progress → List Step → Progress
 done_by actors p [] = p
-done_by actors p (step ∷ steps) = done_by actors (if is_refused actors p step then p else stepped p step) steps
+done_by actors p (step ∷ steps) = done_by actors (if is_refused actors p step then p else do_step p step) steps
 
 -- the submissions of the plan of a caller that these actors know
 abbrev pub planned : List ℕ → List Step → List Submission
@@ -57,7 +61,8 @@ planned actors plan = (done_by actors nothing_done plan).submitted
 -- the place of the first step that is refused, from n
 abbrev pub first_bad_from : ℕ → List ℕ → Progress → List Step → Option ℕ
 first_bad_from n actors p [] = None
-first_bad_from n actors p (step ∷ steps) = if is_refused actors p step then Some n else first_bad_from (n + 1) actors (stepped p step) steps
+first_bad_from n actors p (step ∷ steps) = if is_refused actors p step then Some n
+    else first_bad_from (n + 1) actors (do_step p step) steps
 
 abbrev pub first_bad : List ℕ → List Step → Option ℕ
 first_bad actors plan = first_bad_from 0 actors nothing_done plan
@@ -97,7 +102,8 @@ is_held_back h event = is_limit (refusal_of h event)
 -- these events, without the submissions that a limit held back
 abbrev pub let_through : History → List Event → List Event
 let_through h [] = []
-let_through h (event ∷ events) = if is_held_back h event then let_through (after h event) events else event ∷ let_through (after h event) events
+let_through h (event ∷ events) = if is_held_back h event then let_through (after h event) events
+    else event ∷ let_through (after h event) events
 
 -- whether an event is a submission, a copy or a release by the caller
 abbrev pub is_planned_by : ℕ → Event → Bool

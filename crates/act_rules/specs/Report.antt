@@ -1,7 +1,7 @@
 -- The text of a report: a line for each outcome, a line for each future, and the actors with their run lists.
 use Rattle.std.specs.Prelude.{ℕ, suc, zero, ◌+◌, Bool, true, false, List, [], ◌∷◌, ◌++◌, map, flat_map, Option, Some, None, option_map, Ok, Err, codes, decimal}
-use Rattle.act_types.specs.declared.limits.TheConstants.{MOST_ACTORS, MOST_CALLERS}
-use Rattle.act_types.specs.Texts.{space, spaced, caller_text, actor_text, method_text, answer_text, settled_text, state_text}
+use Rattle.act_types.specs.declared.limits.TheConstants.{MAX_ACTORS, MAX_CALLERS}
+use Rattle.act_types.specs.Texts.{space, with_spaces, caller_text, actor_text, method_text, answer_text, settled_text, state_text}
 use Rattle.act_types.specs.KindState.{KindState}
 use Rattle.act_rules.specs.declared.history.RunItem.{RunItem}
 use Rattle.act_rules.specs.declared.history.Submission.{Submission}
@@ -32,9 +32,9 @@ abbrev pub line : List ℕ → List ℕ
 line text = text ++ 10 ∷ []
 
 -- the lines of a list's members, one after another, each made of its place and the member
-abbrev pub placed : {X : Type 0} → (ℕ → X → List ℕ) → ℕ → List X → List ℕ
-placed line_of place [] = []
-placed line_of place (x ∷ xs) = line_of place x ++ placed line_of (place + 1) xs
+abbrev pub numbered_lines : {X : Type 0} → (ℕ → X → List ℕ) → ℕ → List X → List ℕ
+numbered_lines line_of place [] = []
+numbered_lines line_of place (x ∷ xs) = line_of place x ++ numbered_lines line_of (place + 1) xs
 
 -- the numbers from 1 to n
 abbrev pub one_to : ℕ → List ℕ
@@ -126,7 +126,7 @@ outcome_line place outcome = line (decimal place ++ codes ": " ++ outcome_text o
 
 -- a line for each outcome, numbered from 0
 abbrev pub outcome_lines : List Outcome → List ℕ
-outcome_lines told = placed outcome_line 0 told
+outcome_lines told = numbered_lines outcome_line 0 told
 
 -- ---- the summary
 
@@ -141,13 +141,13 @@ future_line c kept k call = line (future_text c k ++ space ++ actor_text call.ac
 
 -- a line for each future of a caller
 abbrev pub future_lines : ℕ → List Submission → List (Option Answer) → List ℕ
-future_lines c calls kept = placed (future_line c kept) 0 calls
+future_lines c calls kept = numbered_lines (future_line c kept) 0 calls
 
 -- the line of the item at a place of an actor's run list
 abbrev pub item_line : ℕ → ℕ → RunItem → List ℕ
 item_line a place item = line (
     actor_text a ++ codes "." ++ decimal place ++ space ++ future_text item.caller item.future
-    ++ space ++ method_text item.method ++ spaced (map settled_text item.args))
+    ++ space ++ method_text item.method ++ with_spaces (map settled_text item.args))
 
 -- how an actor stands: dead, retired or live
 abbrev pub stage_text : Bool → Bool → KindState → List ℕ
@@ -158,17 +158,19 @@ stage_text false false state = codes "live " ++ state_text state
 -- an actor that stands, and its run list
 abbrev pub actor_lines : ℕ → List RunItem → Option (List ℕ) → List ℕ
 actor_lines a items None = []
-actor_lines a items (Some stage) = line (actor_text a ++ space ++ stage) ++ placed (item_line a) 0 items
+actor_lines a items (Some stage) = line (actor_text a ++ space ++ stage) ++ numbered_lines (item_line a) 0 items
 
 -- the futures of each caller, and then each actor with its stage and its run list, by rising number
-abbrev pub summary_of : (ℕ → List Submission) → (ℕ → List (Option Answer)) → (ℕ → Option (List ℕ)) → (ℕ → List RunItem) → List ℕ
+abbrev pub summary_of : (ℕ → List Submission) → (ℕ → List (Option Answer)) → (ℕ → Option (List ℕ)) →
+    (ℕ → List RunItem) → List ℕ
 summary_of calls kept stages runs =
-    flat_map (λ c. future_lines c (calls c) (kept c)) (one_to MOST_CALLERS)
-    ++ flat_map (λ a. actor_lines a (runs a) (stages a)) (one_to MOST_ACTORS)
+    flat_map (λ c. future_lines c (calls c) (kept c)) (one_to MAX_CALLERS)
+    ++ flat_map (λ a. actor_lines a (runs a) (stages a)) (one_to MAX_ACTORS)
 
 -- how the actor of a history stands, with its state after its run list
 abbrev pub stage_of : ℕ → History → Option (List ℕ)
-stage_of a h = option_map (λ state. stage_text (is_dead a h) (is_retired a h) (state_after state (runs_of a h))) (opening_of a h)
+stage_of a h = option_map (λ state. stage_text (is_dead a h) (is_retired a h) (state_after state (runs_of a h)))
+    (opening_of a h)
 
 abbrev pub summary : History → List ℕ
 summary h = summary_of (λ c. calls_of c h) (λ c. kept_of c h) (λ a. stage_of a h) (λ a. runs_of a h)

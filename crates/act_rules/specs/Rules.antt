@@ -24,9 +24,9 @@ abbrev pub Outcome : Type 0
 Outcome = Result Did WorldRefusal
 
 -- the actor of a letter
-abbrev pub actor_of : Letter → ℕ
-actor_of (CallLetter c a n) = a
-actor_of (NoteLetter c a n) = a
+abbrev pub letter_actor : Letter → ℕ
+letter_actor (CallLetter c a n) = a
+letter_actor (NoteLetter c a n) = a
 
 -- the letter of the caller's call k
 abbrev pub call_letter : ℕ → ℕ → Submission → History → Letter
@@ -40,7 +40,7 @@ was_sent c k (Some call) h = has_letter (call_letter c k call h) h.mail
 -- a letter is refused once its actor has ended
 abbrev pub deliver_refusal : Option Letter → History → Option WorldRefusal
 deliver_refusal None h = Some NoMail
-deliver_refusal (Some letter) h = needs (not (is_ended (actor_of letter) h)) ActorEnded None
+deliver_refusal (Some letter) h = needs (not (is_ended (letter_actor letter) h)) ActorEnded None
 
 -- how many of the caller's calls to an actor have no answer
 abbrev pub unanswered : ℕ → ℕ → History → ℕ
@@ -88,7 +88,8 @@ is_last c a h = copies_held (copies_of c a h) == 1
 -- the reply for call k is kept where the call has no answer
 abbrev pub did_reply : ℕ → History → Option RunItem → Did
 did_reply c h None = Gap
-did_reply c h (Some item) = if is_none (kept_at (kept_of c h) item.future) then Kept c item.future else Late c item.future
+did_reply c h (Some item) = if is_none (kept_at (kept_of c h) item.future) then Kept c item.future
+    else Late c item.future
 
 abbrev pub did_collect : History → Option Post → Did
 did_collect h None = Gap
@@ -125,31 +126,40 @@ and_also xs (Some x) = xs ++ x ∷ []
 -- a run adds its item to the run list, and tells the caller
 abbrev pub after_run : ℕ → ℕ → History → Option RunItem → History
 after_run a c h None = h
-after_run a c h (Some item) = record h { ran = h.ran ++ (a, item) ∷ []; posts = h.posts ++ ReplyPost c a (length (runs_of a h)) ∷ [] }
+after_run a c h (Some item) = record h {
+  ran = h.ran ++ (a, item) ∷ [];
+  posts = h.posts ++ ReplyPost c a (length (runs_of a h)) ∷ [];
+}
 
 -- what an accepted event adds
-abbrev pub added : History → Event → History
-added h (Submit c a method args) = record h { submitted = h.submitted ++ (c, record { actor = a; method = method; args = args }) ∷ [] }
-added h (Copy c a) = record h { copied = h.copied ++ (c, a) ∷ [] }
-added h (Release c a) = record h {
+abbrev pub add_event : History → Event → History
+add_event h (Submit c a method args) = record h {
+  submitted = h.submitted
+      ++ (c, record { actor = a; method = method; args = args }) ∷ [];
+}
+add_event h (Copy c a) = record h { copied = h.copied ++ (c, a) ∷ [] }
+add_event h (Release c a) = record h {
   released = h.released ++ (c, a) ∷ [];
   mail = and_also h.mail (if is_last c a h then Some (NoteLetter c a (length (calls_to a (calls_of c h)))) else None);
 }
-added h (Send c k) = record h { mail = and_also h.mail (option_map (λ call. call_letter c k call h) (slice_get (calls_of c h) k)) }
-added h (Deliver i) = record h { arrived = and_also h.arrived (slice_get h.mail i) }
-added h (Run a c) = after_run a c h (next_item a c h)
-added h (Collect j) = record h { collected = and_also h.collected (slice_get h.posts j) }
-added h (AskKill c a) = record h { asked = h.asked ++ a ∷ [] }
-added h (TakeKill a) = record h { killed = h.killed ++ a ∷ [] }
-added h (Tell a c) = record h { posts = h.posts ++ DeathPost c a ∷ [] }
-added h (Retire a) = record h { retired = h.retired ++ a ∷ [] }
+add_event h (Send c k) = record h {
+  mail = and_also h.mail
+      (option_map (λ call. call_letter c k call h) (slice_get (calls_of c h) k));
+}
+add_event h (Deliver i) = record h { arrived = and_also h.arrived (slice_get h.mail i) }
+add_event h (Run a c) = after_run a c h (next_item a c h)
+add_event h (Collect j) = record h { collected = and_also h.collected (slice_get h.posts j) }
+add_event h (AskKill c a) = record h { asked = h.asked ++ a ∷ [] }
+add_event h (TakeKill a) = record h { killed = h.killed ++ a ∷ [] }
+add_event h (Tell a c) = record h { posts = h.posts ++ DeathPost c a ∷ [] }
+add_event h (Retire a) = record h { retired = h.retired ++ a ∷ [] }
 
 abbrev pub outcome_by : History → Event → Option WorldRefusal → Outcome
 outcome_by h event None = Ok (did h event)
 outcome_by h event (Some refusal) = Err refusal
 
 abbrev pub after_by : History → Event → Option WorldRefusal → History
-after_by h event None = added h event
+after_by h event None = add_event h event
 after_by h event (Some refusal) = h
 
 -- what is told of an event

@@ -26,9 +26,9 @@ values_of (Good value ∷ args) = with_value value (values_of args)
 values_of (Bad k ∷ args) = Err k
 
 -- the state and the answer after a reply, where a fault leaves the state
-abbrev pub replied : KindState → Reply → KindState × Answer
-replied state (Ok next) = (next.0, Ok next.1)
-replied state (Err fault) = (state, Err fault)
+abbrev pub step_of_reply : KindState → Reply → KindState × Answer
+step_of_reply state (Ok next) = (next.0, Ok next.1)
+step_of_reply state (Err fault) = (state, Err fault)
 
 -- what a call answers: the actor itself answers a `terminate`, and its kind any other method
 abbrev pub call_reply : KindState → Method → List Value → Reply
@@ -37,13 +37,13 @@ call_reply state Terminate (value ∷ values) = Err BadArgs
 call_reply state method values = reply_of state method values
 
 -- a call whose argument failed isn't asked
-abbrev pub asked : KindState → RunItem → Result (List Value) ℕ → KindState × Answer
-asked state item (Ok values) = replied state (call_reply state item.method values)
-asked state item (Err k) = (state, Err (Dependency k))
+abbrev pub step_of_call : KindState → RunItem → Result (List Value) ℕ → KindState × Answer
+step_of_call state item (Ok values) = step_of_reply state (call_reply state item.method values)
+step_of_call state item (Err k) = (state, Err (Dependency k))
 
 -- the state and the answer after one item
 abbrev pub after_item : KindState → RunItem → KindState × Answer
-after_item state item = asked state item (values_of item.args)
+after_item state item = step_of_call state item (values_of item.args)
 
 -- the state after all items
 abbrev pub state_after : KindState → List RunItem → KindState

@@ -1,7 +1,7 @@
 -- What one caller submits, and when a submission, a handle call or a sending is refused.
 use Rattle.std.specs.Prelude.{ℕ, ◌≤◌, ◌==◌, Bool, true, not, ◌||◌, if◌then◌else◌, nat_lt, nat_le, List, length, filter, take, slice_get, Option, Some, None, option_and_then, is_some, Ok}
 use Rattle.std.specs.List.{list_all, enumerate_from}
-use Rattle.act_types.specs.declared.limits.TheConstants.{MOST_ARGS, MOST_CALLS, MOST_COPIES}
+use Rattle.act_types.specs.declared.limits.TheConstants.{MAX_ARGS, MAX_CALLS, MAX_COPIES}
 use Rattle.act_types.specs.declared.call.Arg.{Arg}
 use Rattle.act_types.specs.declared.call.Arg.TheVariants.{Plain, Fut}
 use Rattle.act_types.specs.declared.call.Settled.{Settled}
@@ -36,9 +36,9 @@ abbrev pub settled_future : ℕ → Option Answer → Settled
 settled_future j (Some (Ok value)) = Good value
 settled_future j answer = Bad j
 
-abbrev pub settled : List (Option Answer) → Arg → Settled
-settled kept (Plain value) = Good value
-settled kept (Fut j) = settled_future j (kept_at kept j)
+abbrev pub settle : List (Option Answer) → Arg → Settled
+settle kept (Plain value) = Good value
+settle kept (Fut j) = settled_future j (kept_at kept j)
 
 -- whether the argument's answer is kept
 abbrev pub is_known : List (Option Answer) → Arg → Bool
@@ -66,16 +66,16 @@ abbrev pub copy_refusal : Option ℕ → Option HandleRefusal
 copy_refusal copies =
     needs (is_some copies) NoActor (
     needs (nat_lt 0 (copies_held copies)) NoHandle (
-    needs (nat_lt (copies_held copies) MOST_COPIES) TooManyCopies None))
+    needs (nat_lt (copies_held copies) MAX_COPIES) TooManyCopies None))
 
 -- a submission, after count others
 abbrev pub submit_refusal : Option ℕ → ℕ → List Arg → Option SubmitRefusal
 submit_refusal copies count args =
     needs (is_some copies) NoSuchActor (
     needs (nat_lt 0 (copies_held copies)) NoCopy (
-    needs (nat_le (length args) MOST_ARGS) TooManyArgs (
+    needs (nat_le (length args) MAX_ARGS) TooManyArgs (
     needs (list_all (is_earlier count) args) BadFuture (
-    needs (nat_lt count MOST_CALLS) TooManyCalls None))))
+    needs (nat_lt count MAX_CALLS) TooManyCalls None))))
 
 -- one call more to an actor, while so many have no answer: refused where the actor's limit is reached
 abbrev pub limit_refusal : Option ℕ → ℕ → Option SubmitRefusal
@@ -85,7 +85,7 @@ limit_refusal (Some limit) pending = needs (nat_lt pending limit) PendingLimit N
 -- no limit, or one from 1 to 65,536
 abbrev pub IsLimit : Option ℕ → Type 0
 IsLimit None = Unit {0}
-IsLimit (Some limit) = (1 ≤ limit) × (limit ≤ MOST_CALLS)
+IsLimit (Some limit) = (1 ≤ limit) × (limit ≤ MAX_CALLS)
 
 -- the sending of call k, which was sent before or wasn't
 abbrev pub send_refusal : List (Option Answer) → ℕ → Bool → Option Submission → Option SendRefusal

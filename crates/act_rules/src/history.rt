@@ -1,6 +1,6 @@
 //! What accepted events leave behind.
 
-use act_types::{ActorId, Arg, CallerId, FewOf, FutureId, ListOf, Method, Settled};
+use act_types::{ActorId, Arg, CallerId, FutureId, ListOf, Method, Settled, SmallList};
 
 /// An accepted submission of a caller. Its place among the caller's submissions is its future.
 #[derive(Debug, Drop)]
@@ -18,7 +18,7 @@ pub struct RunItem {
     pub number: u32,
     pub future: FutureId,
     pub method: Method,
-    pub args: FewOf<Settled>,
+    pub args: SmallList<Settled>,
 }
 
 /// What a letter of the mail is: two letters that are equal in this are one.

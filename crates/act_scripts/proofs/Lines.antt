@@ -9,7 +9,7 @@ use Rattle.act_rules.specs.Grammar.{Form, Script, lines_in, spelled_from, line_a
 use Rattle.act_scripts.specs.declared.line.LineFault.{LineFault}
 use Rattle.act_scripts.specs.declared.line.LineFault.TheVariants as faults
 use Rattle.act_scripts.specs.Gives.{Fails}
-use Rattle.act_scripts.specs.Spelled.{FailsAt, numbered}
+use Rattle.act_scripts.specs.Spelled.{FailsAt, fault_at_line}
 
 -- a text has at most one line more than it has bytes
 pub count_of_lines : (bs : List ℕ) → length (lines_in bs) ≤ length bs + 1
@@ -27,7 +27,7 @@ turn forms n script lines i line read at h =
 pub goes_on : (forms : List Form) (n : ℕ) (script next : Script) (lines : List (List ℕ)) (i : ℕ) (line : List ℕ) (total : Result Script (ℕ × Wrong)) → (i < length lines) × (line ≡ get_or lines i line) → line_added forms script n line ≡ Ok next → spelled_from forms n script (drop i lines) ≡ total → spelled_from forms (n + 1) next (drop (i + 1) lines) ≡ total
 goes_on forms n script next lines i line total at h so_far = sym (turn forms n script lines i line (Ok next) at h) ∙ so_far
 
-pub ends : (forms : List Form) (n : ℕ) (script : Script) (lines : List (List ℕ)) (i : ℕ) (line : List ℕ) (fault : LineFault) (total : Result Script (ℕ × Wrong)) → (i < length lines) × (line ≡ get_or lines i line) → Fails fault (line_added forms script n line) → spelled_from forms n script (drop i lines) ≡ total → FailsAt (numbered n fault) total
+pub ends : (forms : List Form) (n : ℕ) (script : Script) (lines : List (List ℕ)) (i : ℕ) (line : List ℕ) (fault : LineFault) (total : Result Script (ℕ × Wrong)) → (i < length lines) × (line ≡ get_or lines i line) → Fails fault (line_added forms script n line) → spelled_from forms n script (drop i lines) ≡ total → FailsAt (fault_at_line n fault) total
 ends forms n script lines i line faults.Memory total at h so_far = tt
 ends forms n script lines i line (faults.Wrong wrong) total at h so_far = sym so_far ∙ turn forms n script lines i line (Err wrong) at h
 

@@ -18,7 +18,8 @@ use Rattle.act_scripts.specs.declared.script.Items.TheVariants.{Events, Steps}
 use Rattle.act_scripts.specs.declared.script.Script.{Script}
 use Rattle.act_scripts.specs.Gives.{Fails}
 
--- a script of this mode may have the line: a role whose limit is good stands in both, an event in a play, a step in threads
+-- a script of this mode may have the line: a role whose limit is good stands in both, an event in a play, a step in
+-- threads
 abbrev pub IsLineOf : Mode → Line → Type 0
 IsLineOf mode (RoleLine role) = IsLimit role.pending
 IsLineOf mode (EventLine event) = mode ≡ Play
@@ -35,27 +36,31 @@ count_of (Events events) = length events
 count_of (Steps steps) = length steps
 
 -- the events and the steps among items of either mode
-abbrev pub events_of : Items → List Event
-events_of (Events events) = events
-events_of (Steps steps) = []
+abbrev pub events_among : Items → List Event
+events_among (Events events) = events
+events_among (Steps steps) = []
 
-abbrev pub steps_of : Items → List (ℕ × Step × ℕ)
-steps_of (Events events) = []
-steps_of (Steps steps) = steps
+abbrev pub steps_among : Items → List (ℕ × Step × ℕ)
+steps_among (Events events) = []
+steps_among (Steps steps) = steps
 
 -- a script that was read, as the rules speak of it
 abbrev pub spelled_script : Script → Spelled
-spelled_script script = record { roles = script.casts; events = events_of script.items; steps = steps_of script.items }
+spelled_script script = record {
+  roles = script.casts;
+  events = events_among script.items;
+  steps = steps_among script.items;
+}
 
 -- what an addition left in a script, unless memory was refused
-abbrev pub Leaves : {T : Type 0} → Result T LineFault → Script → Result Spelled Wrong → Type 0
-Leaves (Ok done) new read = read ≡ Ok (spelled_script new)
-Leaves (Err fault) new read = Fails fault read
+abbrev pub LeavesScript : {T : Type 0} → Result T LineFault → Script → Result Spelled Wrong → Type 0
+LeavesScript (Ok done) new read = read ≡ Ok (spelled_script new)
+LeavesScript (Err fault) new read = Fails fault read
 
 -- a line's fault, as the script's
-abbrev pub numbered : ℕ → LineFault → ScriptFault
-numbered n of_lines.Memory = faults.NoMemory
-numbered n (of_lines.Wrong wrong) = faults.Line n wrong
+abbrev pub fault_at_line : ℕ → LineFault → ScriptFault
+fault_at_line n of_lines.Memory = faults.NoMemory
+fault_at_line n (of_lines.Wrong wrong) = faults.Line n wrong
 
 -- the fault is the first one with its line, or want of memory
 abbrev pub FailsAt : {Y : Type 0} → ScriptFault → Result Y (ℕ × Wrong) → Type 0

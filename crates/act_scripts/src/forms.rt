@@ -122,7 +122,8 @@ fn call_of(
 
 /// A submission, from the words after `submit`.
 fn submit_of(alloc: Global, words: &[&str]) -> Result<Line, LineFault>
-    ensures said { Gives (λ x. x) result (submit_at (λ c a m args. Line.Event (Event.Submit c a m args)) (map (λ w. w.now) words.now)) }
+    ensures said { Gives (λ x. x) result
+        (submit_at (λ c a m args. Line.Event (Event.Submit c a m args)) (map (λ w. w.now) words.now)) }
     ensures of_mode { IfOk result (IsLineOf Play) }
 {
     let (caller, actor, method, args) = call_of(alloc, words)?;
@@ -131,7 +132,8 @@ fn submit_of(alloc: Global, words: &[&str]) -> Result<Line, LineFault>
 
 /// The caller and the actor of a form that has these two words.
 fn caller_and_actor(words: &[&str]) -> Result<(CallerId, ActorId), LineFault>
-    ensures { (f : ℕ → ℕ → Line) → Gives (λ pair. f pair.0 pair.1) result (two_at f caller_at actor_at (map (λ w. w.now) words.now)) }
+    ensures { (f : ℕ → ℕ → Line) →
+        Gives (λ pair. f pair.0 pair.1) result (two_at f caller_at actor_at (map (λ w. w.now) words.now)) }
 {
     match words {
         [caller, actor] => {
@@ -145,7 +147,8 @@ fn caller_and_actor(words: &[&str]) -> Result<(CallerId, ActorId), LineFault>
 
 /// The actor and the caller of a form that has these two words.
 fn actor_and_caller(words: &[&str]) -> Result<(ActorId, CallerId), LineFault>
-    ensures { (f : ℕ → ℕ → Line) → Gives (λ pair. f pair.0 pair.1) result (two_at f actor_at caller_at (map (λ w. w.now) words.now)) }
+    ensures { (f : ℕ → ℕ → Line) →
+        Gives (λ pair. f pair.0 pair.1) result (two_at f actor_at caller_at (map (λ w. w.now) words.now)) }
 {
     match words {
         [actor, caller] => {
@@ -179,7 +182,8 @@ fn only_actor(words: &[&str]) -> Result<ActorId, LineFault>
 
 /// A copy, from the words after `copy`.
 fn copy_of(words: &[&str]) -> Result<Line, LineFault>
-    ensures { Gives (λ x. x) result (two_at (λ c a. Line.Event (Event.Copy c a)) caller_at actor_at (map (λ w. w.now) words.now)) }
+    ensures { Gives (λ x. x) result
+        (two_at (λ c a. Line.Event (Event.Copy c a)) caller_at actor_at (map (λ w. w.now) words.now)) }
 {
     let (caller, actor) = caller_and_actor(words)?;
     Ok(Line::Event(Event::Copy(caller, actor)))
@@ -187,7 +191,8 @@ fn copy_of(words: &[&str]) -> Result<Line, LineFault>
 
 /// A release, from the words after `release`.
 fn release_of(words: &[&str]) -> Result<Line, LineFault>
-    ensures { Gives (λ x. x) result (two_at (λ c a. Line.Event (Event.Release c a)) caller_at actor_at (map (λ w. w.now) words.now)) }
+    ensures { Gives (λ x. x) result
+        (two_at (λ c a. Line.Event (Event.Release c a)) caller_at actor_at (map (λ w. w.now) words.now)) }
 {
     let (caller, actor) = caller_and_actor(words)?;
     Ok(Line::Event(Event::Release(caller, actor)))
@@ -195,7 +200,8 @@ fn release_of(words: &[&str]) -> Result<Line, LineFault>
 
 /// The asking for a kill, from the words after `kill`.
 fn kill_of(words: &[&str]) -> Result<Line, LineFault>
-    ensures { Gives (λ x. x) result (two_at (λ c a. Line.Event (Event.AskKill c a)) caller_at actor_at (map (λ w. w.now) words.now)) }
+    ensures { Gives (λ x. x) result
+        (two_at (λ c a. Line.Event (Event.AskKill c a)) caller_at actor_at (map (λ w. w.now) words.now)) }
 {
     let (caller, actor) = caller_and_actor(words)?;
     Ok(Line::Event(Event::AskKill(caller, actor)))
@@ -203,7 +209,8 @@ fn kill_of(words: &[&str]) -> Result<Line, LineFault>
 
 /// The caller and the future of a form that has these two words.
 fn caller_and_future(words: &[&str]) -> Result<(CallerId, FutureId), LineFault>
-    ensures { (f : ℕ → ℕ → Line) → Gives (λ pair. f pair.0 pair.1) result (two_at f caller_at number_at (map (λ w. w.now) words.now)) }
+    ensures { (f : ℕ → ℕ → Line) →
+        Gives (λ pair. f pair.0 pair.1) result (two_at f caller_at number_at (map (λ w. w.now) words.now)) }
 {
     match words {
         [caller, future] => {
@@ -217,7 +224,8 @@ fn caller_and_future(words: &[&str]) -> Result<(CallerId, FutureId), LineFault>
 
 /// A sending, from the words after `send`.
 fn send_of(words: &[&str]) -> Result<Line, LineFault>
-    ensures { Gives (λ x. x) result (two_at (λ c k. Line.Event (Event.Send c k)) caller_at number_at (map (λ w. w.now) words.now)) }
+    ensures { Gives (λ x. x) result
+        (two_at (λ c k. Line.Event (Event.Send c k)) caller_at number_at (map (λ w. w.now) words.now)) }
 {
     let (caller, future) = caller_and_future(words)?;
     Ok(Line::Event(Event::Send(caller, future)))
@@ -225,14 +233,16 @@ fn send_of(words: &[&str]) -> Result<Line, LineFault>
 
 /// A delivery, from the words after `deliver`.
 fn deliver_of(words: &[&str]) -> Result<Line, LineFault>
-    ensures { Gives (λ x. x) result (one_at (λ i. Line.Event (Event.Deliver i)) number_at (map (λ w. w.now) words.now)) }
+    ensures { Gives (λ x. x) result
+        (one_at (λ i. Line.Event (Event.Deliver i)) number_at (map (λ w. w.now) words.now)) }
 {
     Ok(Line::Event(Event::Deliver(only_number(words)?)))
 }
 
 /// A run, from the words after `run`.
 fn run_of(words: &[&str]) -> Result<Line, LineFault>
-    ensures { Gives (λ x. x) result (two_at (λ a c. Line.Event (Event.Run a c)) actor_at caller_at (map (λ w. w.now) words.now)) }
+    ensures { Gives (λ x. x) result
+        (two_at (λ a c. Line.Event (Event.Run a c)) actor_at caller_at (map (λ w. w.now) words.now)) }
 {
     let (actor, caller) = actor_and_caller(words)?;
     Ok(Line::Event(Event::Run(actor, caller)))
@@ -240,21 +250,24 @@ fn run_of(words: &[&str]) -> Result<Line, LineFault>
 
 /// A collection, from the words after `collect`.
 fn collect_of(words: &[&str]) -> Result<Line, LineFault>
-    ensures { Gives (λ x. x) result (one_at (λ j. Line.Event (Event.Collect j)) number_at (map (λ w. w.now) words.now)) }
+    ensures { Gives (λ x. x) result
+        (one_at (λ j. Line.Event (Event.Collect j)) number_at (map (λ w. w.now) words.now)) }
 {
     Ok(Line::Event(Event::Collect(only_number(words)?)))
 }
 
 /// The taking of a kill, from the words after `take`.
 fn take_of(words: &[&str]) -> Result<Line, LineFault>
-    ensures { Gives (λ x. x) result (one_at (λ a. Line.Event (Event.TakeKill a)) actor_at (map (λ w. w.now) words.now)) }
+    ensures { Gives (λ x. x) result
+        (one_at (λ a. Line.Event (Event.TakeKill a)) actor_at (map (λ w. w.now) words.now)) }
 {
     Ok(Line::Event(Event::TakeKill(only_actor(words)?)))
 }
 
 /// The telling of a death, from the words after `tell`.
 fn tell_of(words: &[&str]) -> Result<Line, LineFault>
-    ensures { Gives (λ x. x) result (two_at (λ a c. Line.Event (Event.Tell a c)) actor_at caller_at (map (λ w. w.now) words.now)) }
+    ensures { Gives (λ x. x) result
+        (two_at (λ a c. Line.Event (Event.Tell a c)) actor_at caller_at (map (λ w. w.now) words.now)) }
 {
     let (actor, caller) = actor_and_caller(words)?;
     Ok(Line::Event(Event::Tell(actor, caller)))
@@ -269,7 +282,8 @@ fn retire_of(words: &[&str]) -> Result<Line, LineFault>
 
 /// A step that submits, from the words after `submit`.
 fn submit_step_of(alloc: Global, words: &[&str]) -> Result<Line, LineFault>
-    ensures said { Gives (λ x. x) result (submit_at (λ c a m args. Line.Step c (Step.Submit a m args)) (map (λ w. w.now) words.now)) }
+    ensures said { Gives (λ x. x) result
+        (submit_at (λ c a m args. Line.Step c (Step.Submit a m args)) (map (λ w. w.now) words.now)) }
     ensures of_mode { IfOk result (IsLineOf Threads) }
 {
     let (caller, actor, method, args) = call_of(alloc, words)?;
@@ -278,7 +292,8 @@ fn submit_step_of(alloc: Global, words: &[&str]) -> Result<Line, LineFault>
 
 /// A step that copies, from the words after `copy`.
 fn copy_step_of(words: &[&str]) -> Result<Line, LineFault>
-    ensures { Gives (λ x. x) result (two_at (λ c a. Line.Step c (Step.Copy a)) caller_at actor_at (map (λ w. w.now) words.now)) }
+    ensures { Gives (λ x. x) result
+        (two_at (λ c a. Line.Step c (Step.Copy a)) caller_at actor_at (map (λ w. w.now) words.now)) }
 {
     let (caller, actor) = caller_and_actor(words)?;
     Ok(Line::Step(caller, Step::Copy(actor)))
@@ -286,7 +301,8 @@ fn copy_step_of(words: &[&str]) -> Result<Line, LineFault>
 
 /// A step that releases, from the words after `release`.
 fn release_step_of(words: &[&str]) -> Result<Line, LineFault>
-    ensures { Gives (λ x. x) result (two_at (λ c a. Line.Step c (Step.Release a)) caller_at actor_at (map (λ w. w.now) words.now)) }
+    ensures { Gives (λ x. x) result
+        (two_at (λ c a. Line.Step c (Step.Release a)) caller_at actor_at (map (λ w. w.now) words.now)) }
 {
     let (caller, actor) = caller_and_actor(words)?;
     Ok(Line::Step(caller, Step::Release(actor)))
@@ -294,7 +310,8 @@ fn release_step_of(words: &[&str]) -> Result<Line, LineFault>
 
 /// A step that asks for a kill, from the words after `kill`.
 fn kill_step_of(words: &[&str]) -> Result<Line, LineFault>
-    ensures { Gives (λ x. x) result (two_at (λ c a. Line.Step c (Step.Kill a)) caller_at actor_at (map (λ w. w.now) words.now)) }
+    ensures { Gives (λ x. x) result
+        (two_at (λ c a. Line.Step c (Step.Kill a)) caller_at actor_at (map (λ w. w.now) words.now)) }
 {
     let (caller, actor) = caller_and_actor(words)?;
     Ok(Line::Step(caller, Step::Kill(actor)))
@@ -302,7 +319,8 @@ fn kill_step_of(words: &[&str]) -> Result<Line, LineFault>
 
 /// A step that waits, from the words after `await`.
 fn await_step_of(words: &[&str]) -> Result<Line, LineFault>
-    ensures { Gives (λ x. x) result (two_at (λ c k. Line.Step c (Step.Await k)) caller_at number_at (map (λ w. w.now) words.now)) }
+    ensures { Gives (λ x. x) result
+        (two_at (λ c k. Line.Step c (Step.Await k)) caller_at number_at (map (λ w. w.now) words.now)) }
 {
     let (caller, future) = caller_and_future(words)?;
     Ok(Line::Step(caller, Step::Await(future)))

@@ -3,17 +3,17 @@
 ghost use Rattle.std.specs.Prelude.{◌≡◌, ◌==◌, ◌||◌, true, ◌≤◌, ◌<◌, ◌^◌, ◌+◌, ℕ, map, IfOk, OnOk, IfSome, length};
 ghost use Rattle.std.specs.List.{list_all, list_any};
 ghost use Rattle.act_scripts.specs.Gives.{Gives};
-ghost use Rattle.act_scripts.specs.Spelled.{IsLineOf, Leaves, GivesScript, mode_of, count_of, spelled_script, numbered};
+ghost use Rattle.act_scripts.specs.Spelled.{IsLineOf, LeavesScript, GivesScript, mode_of, count_of, spelled_script, fault_at_line};
 ghost use Rattle.act_rules.specs.Submissions.{IsLimit};
-ghost use Rattle.act_rules.specs.Scripts.{role_casting};
+ghost use Rattle.act_rules.specs.Scripts.{actor_spec_of};
 ghost use Rattle.act_scripts.specs.Roles.{AreFitting, AreSound};
 ghost use Rattle.act_rules.specs.declared.script.Mode.TheVariants.{Play, Threads};
-ghost use Rattle.act_rules.specs.Grammar.{is_plain_byte, plain_at, words_in, line_at, forms_of, no_lines, has_twice, role_fault, added, line_added, lines_in, spelled_from, spelled};
+ghost use Rattle.act_rules.specs.Grammar.{is_plain_byte, plain_at, words_in, line_at, forms_of, no_lines, has_twice, role_fault, add_line, line_added, lines_in, spelled_from, spelled};
 
 use crate::forms::form_of;
 use crate::line::{BAD_LINE, LineFault, ScriptFault};
 use act_rules::{Event, Line, Mode, Role, Step, Wrong};
-use act_types::{ActorId, CallerId, ListOf, MOST_ACTORS, MOST_LINE_BYTES, MOST_SCRIPT_BYTES};
+use act_types::{ActorId, CallerId, ListOf, MAX_ACTORS, MAX_LINE_BYTES, MAX_SCRIPT_BYTES};
 use std::alloc::{AllocError, Global};
 
 /// What a script spells beside its roles.
@@ -79,7 +79,7 @@ fn check_plain(line: &[u8], is_known: bool) -> Result<(), LineFault>
     requires { is_known ≡ true → list_all is_plain_byte line.now ≡ true }
     ensures { Gives (λ _. line.now) result (plain_at line.now) }
 {
-    if line.len() > MOST_LINE_BYTES {
+    if line.len() > MAX_LINE_BYTES {
         return Err(BAD_LINE);
     }
     if !is_known && !are_plain(line) {
@@ -183,12 +183,12 @@ fn empty(alloc: Global, mode: Mode) -> Script
 /// Adds a role, unless something refuses it.
 fn add_role(script: &mut Script, role: Role) -> Result<(), LineFault>
     requires { IsLimit role.pending }
-    ensures sound { AreSound (map role_casting script.old.casts) → AreSound (map role_casting script.new.casts) }
-    ensures read { (n : ℕ) → Leaves result script.new (added (spelled_script script.old) n (Line.Role role)) }
+    ensures sound { AreSound (map actor_spec_of script.old.casts) → AreSound (map actor_spec_of script.new.casts) }
+    ensures read { (n : ℕ) → LeavesScript result script.new (add_line (spelled_script script.old) n (Line.Role role)) }
     ensures items { script.new.items ≡ script.old.items }
 {
     // A script has no more actors than there are numbers for them.
-    prove!(1 <= role.actor.number() && role.actor.number() <= MOST_ACTORS);
+    prove!(1 <= role.actor.number() && role.actor.number() <= MAX_ACTORS);
     if let Some(wrong) = fault_of(script, &role) {
         return Err(LineFault::Wrong(wrong));
     }
@@ -201,7 +201,8 @@ fn add_event(script: &mut Script, event: Event) -> Result<(), LineFault>
     requires { mode_of script.old.items ≡ Play }
     ensures casts { script.new.casts ≡ script.old.casts }
     ensures mode { mode_of script.new.items ≡ Play }
-    ensures read { (n : ℕ) → Leaves result script.new (added (spelled_script script.old) n (Line.Event event)) }
+    ensures read { (n : ℕ) →
+        LeavesScript result script.new (add_line (spelled_script script.old) n (Line.Event event)) }
     ensures few { count_of script.new.items ≤ count_of script.old.items + 1 }
 {
     let Items::Events(events) = &mut script.items else {
@@ -216,7 +217,8 @@ fn add_step(script: &mut Script, caller: CallerId, step: Step, number: u32) -> R
     requires { mode_of script.old.items ≡ Threads }
     ensures casts { script.new.casts ≡ script.old.casts }
     ensures mode { mode_of script.new.items ≡ Threads }
-    ensures read { Leaves result script.new (added (spelled_script script.old) number (Line.Step caller step)) }
+    ensures read { LeavesScript result script.new
+        (add_line (spelled_script script.old) number (Line.Step caller step)) }
     ensures few { count_of script.new.items ≤ count_of script.old.items + 1 }
 {
     let Items::Steps(steps) = &mut script.items else {
@@ -229,9 +231,9 @@ fn add_step(script: &mut Script, caller: CallerId, step: Step, number: u32) -> R
 /// Adds what the line of this number says.
 fn add(script: &mut Script, line: Line, number: u32) -> Result<(), LineFault>
     requires { IsLineOf (mode_of script.old.items) line }
-    ensures sound { AreSound (map role_casting script.old.casts) → AreSound (map role_casting script.new.casts) }
+    ensures sound { AreSound (map actor_spec_of script.old.casts) → AreSound (map actor_spec_of script.new.casts) }
     ensures mode { mode_of script.new.items ≡ mode_of script.old.items }
-    ensures read { Leaves result script.new (added (spelled_script script.old) number line) }
+    ensures read { LeavesScript result script.new (add_line (spelled_script script.old) number line) }
     ensures few { count_of script.new.items ≤ count_of script.old.items + 1 }
 {
     match line {
@@ -253,9 +255,10 @@ fn add_line<'a>(
 ) -> Result<(), LineFault>
     requires mode { mode_of script.old.items ≡ mode }
     requires plain { is_plain ≡ true → list_all is_plain_byte line.now ≡ true }
-    ensures sound { AreSound (map role_casting script.old.casts) → AreSound (map role_casting script.new.casts) }
+    ensures sound { AreSound (map actor_spec_of script.old.casts) → AreSound (map actor_spec_of script.new.casts) }
     ensures mode { mode_of script.new.items ≡ mode }
-    ensures read { Leaves result script.new (line_added (forms_of mode) (spelled_script script.old) number line.now) }
+    ensures read { LeavesScript result script.new
+        (line_added (forms_of mode) (spelled_script script.old) number line.now) }
     ensures few { count_of script.new.items ≤ count_of script.old.items + 1 }
 {
     match line_of(alloc, mode, words, line, is_plain)? {
@@ -266,7 +269,7 @@ fn add_line<'a>(
 
 /// A line's fault, as the script's.
 fn fault_in(line: u32, fault: LineFault) -> ScriptFault
-    ensures { result ≡ numbered line fault }
+    ensures { result ≡ fault_at_line line fault }
 {
     match fault {
         LineFault::Wrong(wrong) => ScriptFault::Line(line, wrong),
@@ -276,8 +279,8 @@ fn fault_in(line: u32, fault: LineFault) -> ScriptFault
 
 /// What the lines of a script of this mode spell, or their first fault.
 fn read_lines(alloc: Global, bytes: &[u8], mode: Mode) -> Result<Script, ScriptFault>
-    requires { length bytes.now ≤ MOST_SCRIPT_BYTES }
-    ensures sound { IfOk result (λ script. AreSound (map role_casting script.casts)) }
+    requires { length bytes.now ≤ MAX_SCRIPT_BYTES }
+    ensures sound { IfOk result (λ script. AreSound (map actor_spec_of script.casts)) }
     ensures spelled { GivesScript spelled_script result (spelled_from (forms_of mode) 1 no_lines (lines_in bytes.now)) }
     ensures mode { IfOk result (λ script. mode_of script.items ≡ mode) }
     ensures few { IfOk result (λ script. count_of script.items < 2 ^ 32) }
@@ -304,10 +307,10 @@ pub fn read_script(alloc: Global, bytes: &[u8], mode: Mode) -> Result<Script, Sc
     // The items are those of the mode: events of a play, steps in threads.
     ensures mode { IfOk result (λ script. mode_of script.items ≡ mode) }
     // The roles can be opened: their actors are distinct, and the callers of each; the limits are good.
-    ensures roles { IfOk result (λ script. AreFitting (map role_casting script.casts)) }
+    ensures roles { IfOk result (λ script. AreFitting (map actor_spec_of script.casts)) }
     ensures few { IfOk result (λ script. count_of script.items < 2 ^ 32) }
 {
-    if bytes.len() > MOST_SCRIPT_BYTES {
+    if bytes.len() > MAX_SCRIPT_BYTES {
         return Err(ScriptFault::Line(0, Wrong::TooLong));
     }
     read_lines(alloc, bytes, mode)

@@ -10,7 +10,7 @@ ghost use Rattle.act_rules.specs.Words.{named_by, kind_text, all_kinds, method_a
 use crate::line::{BAD_LINE, LineFault};
 use act_rules::KindName;
 use act_types::{
-    ActorId, Arg, CallerId, FutureId, MOST_ACTORS, MOST_CALLERS, MOST_CALLS, Method, Text, Value,
+    ActorId, Arg, CallerId, FutureId, MAX_ACTORS, MAX_CALLERS, MAX_CALLS, Method, Text, Value,
     is_good_text,
 };
 use std::alloc::Global;
@@ -107,7 +107,7 @@ pub(crate) fn limit_of(word: &str) -> Result<u32, LineFault>
     ensures limit { IfOk result (λ limit. IsLimit (Some limit)) }
 {
     let number = number_of(word)?;
-    if number < 1 || number > MOST_CALLS {
+    if number < 1 || number > MAX_CALLS {
         return Err(BAD_LINE);
     }
     Ok(number)
@@ -166,7 +166,7 @@ pub fn caller_of(word: &str) -> Result<CallerId, LineFault>
     ensures { Gives (λ x. x) result (caller_at word.now) }
 {
     let number = number_of(marked(word, 'c')?)?;
-    if number < 1 || number > MOST_CALLERS as u32 {
+    if number < 1 || number > MAX_CALLERS as u32 {
         return Err(BAD_LINE);
     }
     match CallerId::new(number as u8) {
@@ -181,7 +181,7 @@ pub fn actor_of(word: &str) -> Result<ActorId, LineFault>
     ensures { Gives (λ x. x) result (actor_at word.now) }
 {
     let number = number_of(marked(word, 'a')?)?;
-    if number < 1 || number > MOST_ACTORS as u32 {
+    if number < 1 || number > MAX_ACTORS as u32 {
         return Err(BAD_LINE);
     }
     match ActorId::new(number as u8) {

@@ -1,12 +1,12 @@
--- One seat, as it is opened.
+-- One endpoint, as it is opened.
 use Rattle.std.proofs.Common.{arith, ◌≡◌, ℕ, zero, suc, ◌<◌, List, [], ◌∷◌, length, get_or, refl, sym, subst}
-use Rattle.act_mailbox.specs.Notices.{RepliesValue, ReplyExecValue, new_exec}
-use Rattle.act_seats.specs.declared.seat.Seat.{Seat}
-use Rattle.act_serve.specs.Served.{callers_of}
-use Rattle.act_serve.specs.Turns.{IsSeated}
+use Rattle.act_mailbox.specs.Notices.{RepliesView, ReplyExecView, new_exec}
+use Rattle.act_mailbox.specs.declared.endpoint.Endpoint.{Endpoint}
+use Rattle.act_serve.specs.Served.{endpoint_callers}
+use Rattle.act_serve.specs.Turns.{IsAtItsEndpoint}
 
-opened_seat : (line : RepliesValue) → IsSeated (line ∷ []) 1 [] (record { place = 0; pass = new_exec line.line 1 })
-opened_seat line = record {
+opened_endpoint : (line : RepliesView) → IsAtItsEndpoint (line ∷ []) 1 [] (record { place = 0; pass = new_exec line.line 1 })
+opened_endpoint line = record {
   below = omega arith;
   line = λ d. refl;
   actor_is = refl;
@@ -14,18 +14,18 @@ opened_seat line = record {
   alive = λ k d below. absurd (omega arith);
 }
 
-at_one : (line : RepliesValue) (pass : ReplyExecValue) → pass ≡ new_exec line.line 1 → (k : ℕ) (d : Seat ReplyExecValue) → k < 1 → IsSeated (line ∷ []) 1 [] (get_or (record { place = 0; pass = pass } ∷ []) k d)
-at_one line pass is zero d below = subst (λ (p : ReplyExecValue). IsSeated (line ∷ []) 1 [] (record { place = 0; pass = p })) (sym is) (opened_seat line)
+at_one : (line : RepliesView) (pass : ReplyExecView) → pass ≡ new_exec line.line 1 → (k : ℕ) (d : Endpoint ReplyExecView) → k < 1 → IsAtItsEndpoint (line ∷ []) 1 [] (get_or (record { place = 0; pass = pass } ∷ []) k d)
+at_one line pass is zero d below = subst (λ (p : ReplyExecView). IsAtItsEndpoint (line ∷ []) 1 [] (record { place = 0; pass = p })) (sym is) (opened_endpoint line)
 at_one line pass is (suc k) d below = absurd (omega arith)
 
--- the seat's pass is the line's, and gave nothing
-pub seated_alone : (line : RepliesValue) (pass : ReplyExecValue) (seats : List (Seat ReplyExecValue)) → pass ≡ new_exec line.line 1 → seats ≡ record { place = 0; pass = pass } ∷ []
-    → (k : ℕ) (d : Seat ReplyExecValue) → k < length seats → IsSeated (line ∷ []) 1 [] (get_or seats k d)
-seated_alone line pass seats is one = subst (λ (xs : List (Seat ReplyExecValue)). (k : ℕ) (d : Seat ReplyExecValue) → k < length xs → IsSeated (line ∷ []) 1 [] (get_or xs k d)) (sym one) (at_one line pass is)
+-- the endpoint's pass is the line's, and gave nothing
+pub alone_at_endpoint : (line : RepliesView) (pass : ReplyExecView) (endpoints : List (Endpoint ReplyExecView)) → pass ≡ new_exec line.line 1 → endpoints ≡ record { place = 0; pass = pass } ∷ []
+    → (k : ℕ) (d : Endpoint ReplyExecView) → k < length endpoints → IsAtItsEndpoint (line ∷ []) 1 [] (get_or endpoints k d)
+alone_at_endpoint line pass endpoints is one = subst (λ (xs : List (Endpoint ReplyExecView)). (k : ℕ) (d : Endpoint ReplyExecView) → k < length xs → IsAtItsEndpoint (line ∷ []) 1 [] (get_or xs k d)) (sym one) (at_one line pass is)
 
--- one caller has one seat
-pub alone_differs : (line : RepliesValue) (pass : ReplyExecValue) (seats : List (Seat ReplyExecValue)) → seats ≡ record { place = 0; pass = pass } ∷ []
-    → (i j d : ℕ) → i < j → j < length (callers_of (line ∷ []) seats) → get_or (callers_of (line ∷ []) seats) i d ≡ get_or (callers_of (line ∷ []) seats) j d → ⊥
-alone_differs line pass seats one =
-    subst (λ (xs : List (Seat ReplyExecValue)). (i j d : ℕ) → i < j → j < length (callers_of (line ∷ []) xs) → get_or (callers_of (line ∷ []) xs) i d ≡ get_or (callers_of (line ∷ []) xs) j d → ⊥) (sym one)
+-- one caller has one endpoint
+pub alone_differs : (line : RepliesView) (pass : ReplyExecView) (endpoints : List (Endpoint ReplyExecView)) → endpoints ≡ record { place = 0; pass = pass } ∷ []
+    → (i j d : ℕ) → i < j → j < length (endpoint_callers (line ∷ []) endpoints) → get_or (endpoint_callers (line ∷ []) endpoints) i d ≡ get_or (endpoint_callers (line ∷ []) endpoints) j d → ⊥
+alone_differs line pass endpoints one =
+    subst (λ (xs : List (Endpoint ReplyExecView)). (i j d : ℕ) → i < j → j < length (endpoint_callers (line ∷ []) xs) → get_or (endpoint_callers (line ∷ []) xs) i d ≡ get_or (endpoint_callers (line ∷ []) xs) j d → ⊥) (sym one)
     (λ i j d less below same. absurd (omega arith))

@@ -8,14 +8,14 @@ use Rattle.act_types.specs.declared.message.Notice.{Notice}
 use Rattle.act_types.specs.declared.message.Notice.TheVariants.{Answered}
 use Rattle.act_rules.specs.declared.history.RunItem.{RunItem}
 use Rattle.act_rules.specs.RunList.{Answer, after_item, answers_from, answer_at}
-use Rattle.act_serve.specs.Served.{replies_to, IsAnswer, place_of, RepliesAreDue}
+use Rattle.act_serve.specs.Served.{replies_to, IsReplyOf, place_of, RepliesAreDue}
 use Rattle.act_serve.proofs.Logs.{Tells, same, other, tells, replies_from}
 
 module _ (opening : KindState) (a c : ℕ) (log : List RunItem) where
   all_from : (n : ℕ) (state : KindState) (xs : List RunItem)
       → ((j : ℕ) (item : RunItem) → slice_get xs j ≡ Some item → slice_get log (n + j) ≡ Some item)
       → ((j : ℕ) (answer : Answer) → slice_get (answers_from state xs) j ≡ Some answer → answer_at opening log (n + j) ≡ Some answer)
-      → All (IsAnswer opening a c log) (replies_from a c n state xs)
+      → All (IsReplyOf opening a c log) (replies_from a c n state xs)
   all_from n state [] items answers = λ k d lt. absurd (omega (arith, lt))
   all_from n state (x ∷ xs) items answers = go (tells x.caller c) (all_from (n + 1) (after_item state x).0 xs
       (λ j item e. let m : n + suc j ≡ (n + 1) + j = omega arith in subst (λ (k : ℕ). slice_get log k ≡ Some item) m (items (suc j) item e))
@@ -30,7 +30,7 @@ module _ (opening : KindState) (a c : ℕ) (log : List RunItem) where
       rest : List Notice
       rest = replies_from a c (n + 1) next xs
 
-      here : x.caller ≡ c → IsAnswer opening a c log notice
+      here : x.caller ≡ c → IsReplyOf opening a c log notice
       here mine = let m : n + 0 ≡ n = omega arith in record {
         item = x;
         at = subst (λ (k : ℕ). slice_get log k ≡ Some x) m (items 0 x refl);
@@ -39,11 +39,11 @@ module _ (opening : KindState) (a c : ℕ) (log : List RunItem) where
         answered = subst (λ (k : ℕ). answer_at opening log k ≡ Some (after_item state x).1) m (answers 0 (after_item state x).1 refl);
       }
 
-      go : Tells x.caller c → All (IsAnswer opening a c log) rest → All (IsAnswer opening a c log) (cons_option (cond (x.caller == c) (Some notice) None) rest)
-      go (same b e) more = subst (λ (t : Bool). All (IsAnswer opening a c log) (cons_option (cond t (Some notice) None) rest)) (sym b) (All-cons (IsAnswer opening a c log) notice rest (here e) more)
-      go (other b ne) more = subst (λ (t : Bool). All (IsAnswer opening a c log) (cons_option (cond t (Some notice) None) rest)) (sym b) more
+      go : Tells x.caller c → All (IsReplyOf opening a c log) rest → All (IsReplyOf opening a c log) (cons_option (cond (x.caller == c) (Some notice) None) rest)
+      go (same b e) more = subst (λ (t : Bool). All (IsReplyOf opening a c log) (cons_option (cond t (Some notice) None) rest)) (sym b) (All-cons (IsReplyOf opening a c log) notice rest (here e) more)
+      go (other b ne) more = subst (λ (t : Bool). All (IsReplyOf opening a c log) (cons_option (cond t (Some notice) None) rest)) (sym b) more
 
-  pub replies_answer : All (IsAnswer opening a c log) (replies_to opening a log c)
+  pub replies_answer : All (IsReplyOf opening a c log) (replies_to opening a log c)
   replies_answer = all_from 0 opening log
       (λ j item e. let m : 0 + j ≡ j = omega arith in subst (λ (k : ℕ). slice_get log k ≡ Some item) (sym m) e)
       (λ j answer e. let m : 0 + j ≡ j = omega arith in subst (λ (k : ℕ). answer_at opening log k ≡ Some answer) (sym m) e)

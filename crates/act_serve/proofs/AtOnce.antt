@@ -15,18 +15,18 @@ use Rattle.act_rules.specs.declared.outcome.Arrival.{Arrival}
 use Rattle.act_rules.specs.declared.outcome.Arrival.TheVariants.{New, Stranger}
 use Rattle.act_rules.specs.RunList.{has_terminated, NothingFollowsAnEnd}
 use Rattle.act_rules.proofs.Terminated.{nothing_follows-push}
-use Rattle.act_inbox.specs.Inbox.{is_call, is_listed, handed_of, was_handed, next_of, arrival_of, holding, HoldsNone}
+use Rattle.act_inbox.specs.Inbox.{is_packet_of, is_listed, handed_of, was_handed, next_of, arrival_of, holding, HoldsNone}
 use Rattle.act_inbox.proofs.Packets.{new_listed, waits_holding}
-use Rattle.act_actor.specs.View.{ActorSeen}
-use Rattle.act_actor.specs.Actor.{item_of, reply_to, with_call, RunsAtOnce, HasRun}
+use Rattle.act_actor.specs.View.{ActorView}
+use Rattle.act_actor.specs.Actor.{item_of, reply_of_run, with_packet, RunsAtOnce, HasRunCall}
 use Rattle.act_mailbox.specs.declared.mail.Letter.{Letter}
 use Rattle.act_mailbox.specs.declared.mail.Letter.TheVariants.{Call}
-use Rattle.act_mailbox.specs.Notices.{RepliesValue, ReplyExecValue}
-use Rattle.act_seats.specs.declared.seat.Seat.{Seat}
-use Rattle.act_serve.specs.Served.{bare, caller_at}
-use Rattle.act_serve.specs.Turns.{IsFed, IsSeated, IsServing, SeatsDiffer, HasReplied, GoesOn, has_next, is_seat_of, replied_to}
+use Rattle.act_mailbox.specs.Notices.{RepliesView, ReplyExecView}
+use Rattle.act_mailbox.specs.declared.endpoint.Endpoint.{Endpoint}
+use Rattle.act_serve.specs.Served.{without_given, caller_at}
+use Rattle.act_serve.specs.Turns.{IsFed, IsAtItsEndpoint, IsServing, EndpointsDiffer, HasReplied, ActorGoesOn, has_next, is_endpoint_of, replied_to}
 use Rattle.act_serve.proofs.Logs.{fed_arrive, fed_run}
-use Rattle.act_serve.proofs.Seats.{seat_on, seat_given}
+use Rattle.act_serve.proofs.Endpoints.{endpoint_on, endpoint_given}
 use Rattle.act_serve.proofs.Serving.{serving_run, caller_here}
 
 -- ---- an actor that holds no call
@@ -38,11 +38,11 @@ under false true false o none = none
 under false false d o none = refl
 
 -- it has no next call
-pub none_next : (lines : List RepliesValue) (actor : ActorSeen) (seat : Seat ReplyExecValue) → HoldsNone actor.inbox → has_next lines actor seat ≡ false
-none_next lines actor seat none =
-    let caller = caller_at lines seat.place in
+pub none_next : (lines : List RepliesView) (actor : ActorView) (endpoint : Endpoint ReplyExecView) → HoldsNone actor.inbox → has_next lines actor endpoint ≡ false
+none_next lines actor endpoint none =
+    let caller = caller_at lines endpoint.place in
     let count = handed_of actor.inbox caller in
-    ap is_some (under (has_terminated actor.log) (is_listed actor.inbox caller) (was_handed actor.inbox caller count) (find (is_call caller count) actor.inbox.held) (ap (find (is_call caller count)) none))
+    ap is_some (under (has_terminated actor.log) (is_listed actor.inbox caller) (was_handed actor.inbox caller count) (find (is_packet_of caller count) actor.inbox.held) (ap (find (is_packet_of caller count)) none))
 
 -- ---- a call that runs at once
 
@@ -50,7 +50,7 @@ at_actor : (b : Bool) (arrival : Arrival) → cond b arrival Stranger ≡ New �
 at_actor true arrival e = e
 at_actor false arrival e = absurd (cc)
 
-module _ (packet : Packet) (before : ActorSeen) (may : RunsAtOnce packet before.id before.log before.inbox) where
+module _ (packet : Packet) (before : ActorView) (may : RunsAtOnce packet before.id before.log before.inbox) where
   is_new : arrival_of before.inbox packet ≡ New
   is_new = at_actor (packet.actor == before.id) (arrival_of before.inbox packet) may.is_new
 
@@ -64,17 +64,17 @@ module _ (packet : Packet) (before : ActorSeen) (may : RunsAtOnce packet before.
         eq-eqb packet.number (handed_of before.inbox packet.caller) may.numbered,
       ) refl
 
-  fed_held : (callers : List ℕ) (letters : List Letter) → IsFed callers letters before → IsFed callers (letters ++ Call packet ∷ []) (with_call packet before)
+  fed_held : (callers : List ℕ) (letters : List Letter) → IsFed callers letters before → IsFed callers (letters ++ Call packet ∷ []) (with_packet packet before)
   fed_held callers letters h =
       fed_arrive callers letters packet before (holding packet before.inbox) (Ok New) refl (λ _. refl) (sym may.is_new)
       (λ caller number. waits_holding before.inbox packet is_new caller number) tt h
 
-  pub serving_held : (opening : KindState) (callers : List ℕ) (lines : List RepliesValue) (letters : List Letter) (seats : List (Seat ReplyExecValue))
-      → IsServing opening callers lines letters before seats → IsServing opening callers lines (letters ++ Call packet ∷ []) (with_call packet before) seats
-  serving_held opening callers lines letters seats h = record { fed = fed_held callers letters h.fed; follows = h.follows; given = h.given }
+  pub serving_held : (opening : KindState) (callers : List ℕ) (lines : List RepliesView) (letters : List Letter) (endpoints : List (Endpoint ReplyExecView))
+      → IsServing opening callers lines letters before endpoints → IsServing opening callers lines (letters ++ Call packet ∷ []) (with_packet packet before) endpoints
+  serving_held opening callers lines letters endpoints h = record { fed = fed_held callers letters h.fed; follows = h.follows; given = h.given }
 
-  pub replied_now : {E : Type 0} (after : ActorSeen) (result : Result Reply E) → IfOk result (λ reply. reply ≡ reply_to (with_call packet before) packet)
-      → OnOk result (HasRun packet.caller packet (with_call packet before) after) → IfOk result (λ reply. HasReplied packet.caller reply (with_call packet before) after)
+  pub replied_now : {E : Type 0} (after : ActorView) (result : Result Reply E) → IfOk result (λ reply. reply ≡ reply_of_run (with_packet packet before) packet)
+      → OnOk result (HasRunCall packet.caller packet (with_packet packet before) after) → IfOk result (λ reply. HasReplied packet.caller reply (with_packet packet before) after)
   replied_now after (Err error) is ran = tt
   replied_now after (Ok reply) is ran = record {
     lived = may.lives;
@@ -84,14 +84,14 @@ module _ (packet : Packet) (before : ActorSeen) (may : RunsAtOnce packet before.
     of_caller = refl;
     reply_is = is;
     state = ran.state;
-    fed = fed_run packet.caller packet (with_call packet before) after next_held ran;
+    fed = fed_run packet.caller packet (with_packet packet before) after next_held ran;
   }
 
 -- a call for which memory was refused came, and waits no more
-pub serving_refused : (opening : KindState) (callers : List ℕ) (lines : List RepliesValue) (letters : List Letter) (packet : Packet) (before after : ActorSeen) (seats : List (Seat ReplyExecValue))
-    → after ≡ before → IsServing opening callers lines letters before seats → IsServing opening callers lines (letters ++ Call packet ∷ []) after seats
-serving_refused opening callers lines letters packet before after seats same h =
-    subst (λ (actor : ActorSeen). IsServing opening callers lines (letters ++ Call packet ∷ []) actor seats) (sym same) (record {
+pub serving_refused : (opening : KindState) (callers : List ℕ) (lines : List RepliesView) (letters : List Letter) (packet : Packet) (before after : ActorView) (endpoints : List (Endpoint ReplyExecView))
+    → after ≡ before → IsServing opening callers lines letters before endpoints → IsServing opening callers lines (letters ++ Call packet ∷ []) after endpoints
+serving_refused opening callers lines letters packet before after endpoints same h =
+    subst (λ (actor : ActorView). IsServing opening callers lines (letters ++ Call packet ∷ []) actor endpoints) (sym same) (record {
       fed = fed_arrive callers letters packet before before.inbox (Err packet) refl (λ _. refl) tt tt refl h.fed;
       follows = h.follows;
       given = h.given;
@@ -99,7 +99,7 @@ serving_refused opening callers lines letters packet before after seats same h =
 
 -- ---- an actor that replied
 
-pub goes_on : (caller : ℕ) (reply : Reply) (before after : ActorSeen) → HasReplied caller reply before after → GoesOn before after
+pub goes_on : (caller : ℕ) (reply : Reply) (before after : ActorView) → HasReplied caller reply before after → ActorGoesOn before after
 goes_on caller reply before after ran = record {
   id = ran.id;
   front = (ran.item ∷ [], sym ran.log);
@@ -107,38 +107,38 @@ goes_on caller reply before after ran = record {
   last = λ before_it. subst NothingFollowsAnEnd (sym ran.log) (nothing_follows-push before.log ran.item before_it ran.lived);
 }
 
-pub one_longer : (caller : ℕ) (reply : Reply) (before after : ActorSeen) → HasReplied caller reply before after → length after.log ≡ length before.log + 1
+pub one_longer : (caller : ℕ) (reply : Reply) (before after : ActorView) → HasReplied caller reply before after → length after.log ≡ length before.log + 1
 one_longer caller reply before after ran = ap (λ (l : List RunItem). length l) ran.log ∙ length-append before.log (ran.item ∷ [])
 
-pub seats_on : (lines : List RepliesValue) (caller : ℕ) (reply : Reply) (before after : ActorSeen) (seats : List (Seat ReplyExecValue)) → HasReplied caller reply before after
-    → All (IsSeated lines before.id before.log) seats → All (IsSeated lines after.id after.log) seats
-seats_on lines caller reply before after seats ran all k d lt = seat_on lines before.id after.id before.log after.log (get_or seats k d) ran.id (ran.item ∷ [], sym ran.log) (all k d lt)
+pub endpoints_on : (lines : List RepliesView) (caller : ℕ) (reply : Reply) (before after : ActorView) (endpoints : List (Endpoint ReplyExecView)) → HasReplied caller reply before after
+    → All (IsAtItsEndpoint lines before.id before.log) endpoints → All (IsAtItsEndpoint lines after.id after.log) endpoints
+endpoints_on lines caller reply before after endpoints ran all k d lt = endpoint_on lines before.id after.id before.log after.log (get_or endpoints k d) ran.id (ran.item ∷ [], sym ran.log) (all k d lt)
 
 -- ---- a reply that was given
 
-module _ (lines : List RepliesValue) (seats : List (Seat ReplyExecValue)) (at : ℕ) (seat : Seat ReplyExecValue) (here : (d : Seat ReplyExecValue) → get_or seats at d ≡ seat) (reply : Reply) where
-  pub seats_given : (id : ℕ) (log : List RunItem) → All (IsSeated lines id log) seats → at < length seats → All (IsSeated lines id log) (set seats at (replied_to log reply seat))
-  seats_given id log all below =
-      All-set (IsSeated lines id log) seats at (replied_to log reply seat)
-      (seat_given lines id id log log seat.place seat.pass (replied_to log reply seat).pass (Answered reply) refl tt (subst (IsSeated lines id log) (here seat) (all at seat below)) refl) all
+module _ (lines : List RepliesView) (endpoints : List (Endpoint ReplyExecView)) (at : ℕ) (endpoint : Endpoint ReplyExecView) (here : (d : Endpoint ReplyExecView) → get_or endpoints at d ≡ endpoint) (reply : Reply) where
+  pub endpoints_given : (id : ℕ) (log : List RunItem) → All (IsAtItsEndpoint lines id log) endpoints → at < length endpoints → All (IsAtItsEndpoint lines id log) (set endpoints at (replied_to log reply endpoint))
+  endpoints_given id log all below =
+      All-set (IsAtItsEndpoint lines id log) endpoints at (replied_to log reply endpoint)
+      (endpoint_given lines id id log log endpoint.place endpoint.pass (replied_to log reply endpoint).pass (Answered reply) refl tt (subst (IsAtItsEndpoint lines id log) (here endpoint) (all at endpoint below)) refl) all
 
-  pub bare_given : (log : List RunItem) → map bare (set seats at (replied_to log reply seat)) ≡ map bare seats
-  bare_given log = map-set_same bare seats at (replied_to log reply seat) seat (ap bare (sym (here seat)))
+  pub bare_given : (log : List RunItem) → map without_given (set endpoints at (replied_to log reply endpoint)) ≡ map without_given endpoints
+  bare_given log = map-set_same without_given endpoints at (replied_to log reply endpoint) endpoint (ap without_given (sym (here endpoint)))
 
-  pub serving_given : (opening : KindState) (callers : List ℕ) (letters : List Letter) (caller : ℕ) (before after : ActorSeen)
-      → HasReplied caller reply before after → at < length seats → caller ≡ caller_at lines seat.place → SeatsDiffer lines seats
-      → IsServing opening callers lines letters before seats → IsServing opening callers lines letters after (set seats at (replied_to after.log reply seat))
+  pub serving_given : (opening : KindState) (callers : List ℕ) (letters : List Letter) (caller : ℕ) (before after : ActorView)
+      → HasReplied caller reply before after → at < length endpoints → caller ≡ caller_at lines endpoint.place → EndpointsDiffer lines endpoints
+      → IsServing opening callers lines letters before endpoints → IsServing opening callers lines letters after (set endpoints at (replied_to after.log reply endpoint))
   serving_given opening callers letters caller before after ran below mine differ h =
-      serving_run opening callers lines letters caller reply before after seats at seat (replied_to after.log reply seat).pass ran below here mine refl differ h
+      serving_run opening callers lines letters caller reply before after endpoints at endpoint (replied_to after.log reply endpoint).pass ran below here mine refl differ h
 
--- ---- the caller's seat
+-- ---- the caller's endpoint
 
-pub seat_is : (lines : List RepliesValue) (caller : ℕ) (seats : List (Seat ReplyExecValue)) (k : ℕ) (d seat : Seat ReplyExecValue) (line : RepliesValue) (named : ℕ) (b : Bool)
-    → k < length seats → seat ≡ get_or seats k seat → seat.place < length lines → line ≡ get_or lines seat.place line → named ≡ line.caller → (named == caller) ≡ b
-    → is_seat_of lines caller (get_or seats k d) ≡ b
-seat_is lines caller seats k d seat line named b lt here below is name so =
-    ap (is_seat_of lines caller) (get_or_default seats k d seat lt ∙ sym here)
-    ∙ ap (λ c. c == caller) (sym (name ∙ caller_here lines seat.place line below is))
+pub endpoint_is : (lines : List RepliesView) (caller : ℕ) (endpoints : List (Endpoint ReplyExecView)) (k : ℕ) (d endpoint : Endpoint ReplyExecView) (line : RepliesView) (named : ℕ) (b : Bool)
+    → k < length endpoints → endpoint ≡ get_or endpoints k endpoint → endpoint.place < length lines → line ≡ get_or lines endpoint.place line → named ≡ line.caller → (named == caller) ≡ b
+    → is_endpoint_of lines caller (get_or endpoints k d) ≡ b
+endpoint_is lines caller endpoints k d endpoint line named b lt here below is name so =
+    ap (is_endpoint_of lines caller) (get_or_default endpoints k d endpoint lt ∙ sym here)
+    ∙ ap (λ c. c == caller) (sym (name ∙ caller_here lines endpoint.place line below is))
     ∙ so
 
 -- what stands at a place
@@ -151,18 +151,18 @@ found_below : {X : Type 0} (p : X → Bool) (xs : List X) (at : ℕ) → positio
 found_below p [] at found = absurd (cc)
 found_below p (x ∷ xs) at found = (position-Some p (x ∷ xs) at x found).0
 
--- the caller's seat, where it was found
-pub record IsFound (lines : List RepliesValue) (caller at : ℕ) (seats : List (Seat ReplyExecValue)) : Type 0 where
-  pub seat : Seat ReplyExecValue
-  pub here : (d : Seat ReplyExecValue) → get_or seats at d ≡ seat
-  pub below : at < length seats
-  pub mine : caller ≡ caller_at lines seat.place
+-- the caller's endpoint, where it was found
+pub record IsFound (lines : List RepliesView) (caller at : ℕ) (endpoints : List (Endpoint ReplyExecView)) : Type 0 where
+  pub endpoint : Endpoint ReplyExecView
+  pub here : (d : Endpoint ReplyExecView) → get_or endpoints at d ≡ endpoint
+  pub below : at < length endpoints
+  pub mine : caller ≡ caller_at lines endpoint.place
 
-pub found : (lines : List RepliesValue) (caller at : ℕ) (seats shown : List (Seat ReplyExecValue)) → shown ≡ seats → position (is_seat_of lines caller) shown ≡ Some at → IsFound lines caller at seats
-found lines caller at seats shown same is =
-    let at_it : position (is_seat_of lines caller) seats ≡ Some at = subst (λ l. position (is_seat_of lines caller) l ≡ Some at) same is in
-    let below = found_below (is_seat_of lines caller) seats at at_it in
-    let one = there seats at below in
-    let passes : is_seat_of lines caller (get_or seats at one.0) ≡ true = (position-Some (is_seat_of lines caller) seats at one.0 at_it).1 in
-    let mine : is_seat_of lines caller one.0 ≡ true = subst (λ seat. is_seat_of lines caller seat ≡ true) (one.1 one.0) passes in
-    record { seat = one.0; here = one.1; below = below; mine = sym (eqb-true _ _ mine) }
+pub found : (lines : List RepliesView) (caller at : ℕ) (endpoints shown : List (Endpoint ReplyExecView)) → shown ≡ endpoints → position (is_endpoint_of lines caller) shown ≡ Some at → IsFound lines caller at endpoints
+found lines caller at endpoints shown same is =
+    let at_it : position (is_endpoint_of lines caller) endpoints ≡ Some at = subst (λ l. position (is_endpoint_of lines caller) l ≡ Some at) same is in
+    let below = found_below (is_endpoint_of lines caller) endpoints at at_it in
+    let one = there endpoints at below in
+    let passes : is_endpoint_of lines caller (get_or endpoints at one.0) ≡ true = (position-Some (is_endpoint_of lines caller) endpoints at one.0 at_it).1 in
+    let mine : is_endpoint_of lines caller one.0 ≡ true = subst (λ endpoint. is_endpoint_of lines caller endpoint ≡ true) (one.1 one.0) passes in
+    record { endpoint = one.0; here = one.1; below = below; mine = sym (eqb-true _ _ mine) }

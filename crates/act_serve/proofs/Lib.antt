@@ -1,4 +1,4 @@
-pub mod Seats
+pub mod Endpoints
 pub mod Logs
 pub mod Serving
 pub mod Answered

@@ -20,12 +20,12 @@ use Rattle.act_rules.specs.RunList.{Answer, after_item, state_after, answers_fro
 use Rattle.act_rules.specs.History.{contains}
 use Rattle.act_rules.proofs.Lists.{eq_turned, range_push}
 use Rattle.act_rules.proofs.RunLists.{items_of-push}
-use Rattle.act_inbox.specs.Inbox.{InboxValue, is_call, is_listed, handed_of, was_handed, waiting, waiting_after, next_of, note_of, note_after, note_arrival, came as came_before}
-use Rattle.act_actor.specs.View.{ActorSeen}
-use Rattle.act_actor.specs.Actor.{item_of, arrival_at, note_arrival_at, HasRun}
+use Rattle.act_inbox.specs.Inbox.{InboxView, is_packet_of, is_listed, handed_of, was_handed, waiting_packet, waiting_after, next_of, note_of, note_after, note_arrival, has_come as came_before}
+use Rattle.act_actor.specs.View.{ActorView}
+use Rattle.act_actor.specs.Actor.{item_of, arrival_at, note_arrival_at, HasRunCall}
 use Rattle.act_mailbox.specs.declared.mail.Letter.{Letter}
 use Rattle.act_mailbox.specs.declared.mail.Letter.TheVariants.{Call, Note}
-use Rattle.act_serve.specs.Served.{packet_of, IsLogOf, note_in, first_note, reply_to, replies_to}
+use Rattle.act_serve.specs.Served.{packet_of_item, IsLogOf, note_in, first_note, reply_notice, replies_to}
 use Rattle.act_serve.specs.Turns.{IsFed}
 
 -- two numbers are one, or they are not
@@ -83,7 +83,7 @@ abbrev pub last_reply : ℕ → ℕ → RunItem → ℕ → Answer → List Noti
 last_reply a c item place answer = cond (item.caller == c) (Answered (record { actor = a; caller = item.caller; future = item.future; place = place; answer = answer }) ∷ []) []
 
 abbrev pub replies_from : ℕ → ℕ → ℕ → KindState → List RunItem → List Notice
-replies_from a c n state log = filter_map (reply_to a c) (zip (enumerate_from n log) (answers_from state log))
+replies_from a c n state log = filter_map (reply_notice a c) (zip (enumerate_from n log) (answers_from state log))
 
 cons_option-append : {X : Type 0} (o : Option X) (xs ys : List X) → cons_option o (xs ++ ys) ≡ cons_option o xs ++ ys
 cons_option-append None xs ys = refl
@@ -99,7 +99,7 @@ replies_from-push a c n state [] item = let e : n + 0 ≡ n = omega arith in rw 
 replies_from-push a c n state (x ∷ log) item =
     let e : (n + 1) + length log ≡ n + suc (length log) = omega arith in
     let next : KindState = (after_item state x).0 in
-    let here : Option Notice = reply_to a c ((n, x), (after_item state x).1) in
+    let here : Option Notice = reply_notice a c ((n, x), (after_item state x).1) in
     ap (cons_option here) (replies_from-push a c (n + 1) next log item ∙ ap (λ (m : ℕ). replies_from a c (n + 1) next log ++ last_reply a c item m (after_item (state_after next log) item).1) e)
     ∙ cons_option-append here (replies_from a c (n + 1) next log) (last_reply a c item (n + suc (length log)) (after_item (state_after next log) item).1)
 
@@ -131,10 +131,10 @@ more_letters a callers letters letter log h = record {
 }
 
 -- what waits came before, or is this packet
-arrived_waits : (id : ℕ) (packet : Packet) (inbox : InboxValue) (arrival : Arrival) (c n : ℕ) (p : Packet) (P : Packet → Type 0)
+arrived_waits : (id : ℕ) (packet : Packet) (inbox : InboxView) (arrival : Arrival) (c n : ℕ) (p : Packet) (P : Packet → Type 0)
     → arrival ≡ arrival_at id inbox packet → waiting_after arrival packet inbox c n ≡ Some p
-    → (waiting inbox c n ≡ Some p → P p) → (packet.actor ≡ id → P packet) → P p
-arrived_waits id packet inbox New c n p P is e old new = go (is_call c n packet) refl
+    → (waiting_packet inbox c n ≡ Some p → P p) → (packet.actor ≡ id → P packet) → P p
+arrived_waits id packet inbox New c n p P is e old new = go (is_packet_of c n packet) refl
   where
     actor : Tells packet.actor id → packet.actor ≡ id
     actor (same b f) = f
@@ -142,16 +142,16 @@ arrived_waits id packet inbox New c n p P is e old new = go (is_call c n packet)
         let no : New ≡ Stranger = is ∙ ap (λ (x : Bool). cond x (cond (is_listed inbox packet.caller && nat_lt packet.number 65536) (cond (came_before inbox packet.caller packet.number) Repeat New) Stranger) Stranger) b in
         cc
 
-    go : (b : Bool) → is_call c n packet ≡ b → P p
+    go : (b : Bool) → is_packet_of c n packet ≡ b → P p
     go true f = let whole : packet ≡ p = cc in subst P whole (new (actor (tells packet.actor id)))
-    go false f = old (ap (λ (b : Bool). cond b (Some packet) (waiting inbox c n)) (sym f) ∙ e)
+    go false f = old (ap (λ (b : Bool). cond b (Some packet) (waiting_packet inbox c n)) (sym f) ∙ e)
 arrived_waits id packet inbox Repeat c n p P is e old new = old e
 arrived_waits id packet inbox Stranger c n p P is e old new = old e
 
-pub fed_arrive : (callers : List ℕ) (letters : List Letter) (packet : Packet) (before : ActorSeen) (inbox : InboxValue) (result : Result Arrival Packet)
+pub fed_arrive : (callers : List ℕ) (letters : List Letter) (packet : Packet) (before : ActorView) (inbox : InboxView) (result : Result Arrival Packet)
     → inbox.lanes ≡ before.inbox.lanes → ((c : ℕ) → note_of inbox c ≡ note_of before.inbox c)
     → IfOk result (λ arrival. arrival ≡ arrival_at before.id before.inbox packet)
-    → IfOk result (λ arrival. (c n : ℕ) → waiting inbox c n ≡ waiting_after arrival packet before.inbox c n)
+    → IfOk result (λ arrival. (c n : ℕ) → waiting_packet inbox c n ≡ waiting_after arrival packet before.inbox c n)
     → OnErr result (inbox ≡ before.inbox)
     → IsFed callers letters before → IsFed callers (letters ++ Call packet ∷ []) (record before { inbox = inbox })
 fed_arrive callers letters packet before inbox result lanes notes is waits err h = record {
@@ -162,17 +162,17 @@ fed_arrive callers letters packet before inbox result lanes notes is waits err h
   log = more_letters before.id callers letters (Call packet) before.log h.log;
 }
   where
-    old : (c n : ℕ) (p : Packet) → waiting before.inbox c n ≡ Some p → Contains (letters ++ Call packet ∷ []) (Call p) × (p.actor ≡ before.id)
+    old : (c n : ℕ) (p : Packet) → waiting_packet before.inbox c n ≡ Some p → Contains (letters ++ Call packet ∷ []) (Call p) × (p.actor ≡ before.id)
     old c n p e = (Contains-append_left letters (Call packet ∷ []) (Call p) (h.waits c n p e).0, (h.waits c n p e).1)
 
     by : (r : Result Arrival Packet) → IfOk r (λ arrival. arrival ≡ arrival_at before.id before.inbox packet)
-        → IfOk r (λ arrival. (c n : ℕ) → waiting inbox c n ≡ waiting_after arrival packet before.inbox c n)
-        → OnErr r (inbox ≡ before.inbox) → (c n : ℕ) (p : Packet) → waiting inbox c n ≡ Some p → Contains (letters ++ Call packet ∷ []) (Call p) × (p.actor ≡ before.id)
+        → IfOk r (λ arrival. (c n : ℕ) → waiting_packet inbox c n ≡ waiting_after arrival packet before.inbox c n)
+        → OnErr r (inbox ≡ before.inbox) → (c n : ℕ) (p : Packet) → waiting_packet inbox c n ≡ Some p → Contains (letters ++ Call packet ∷ []) (Call p) × (p.actor ≡ before.id)
     by (Ok arrival) is waits err c n p e =
         arrived_waits before.id packet before.inbox arrival c n p (λ q. Contains (letters ++ Call packet ∷ []) (Call q) × (q.actor ≡ before.id)) is (sym (waits c n) ∙ e) (old c n p) (λ f. (Contains-push letters (Call packet), f))
-    by (Err back) is waits err c n p e = old c n p (ap (λ (x : InboxValue). waiting x c n) (sym err) ∙ e)
+    by (Err back) is waits err c n p e = old c n p (ap (λ (x : InboxView). waiting_packet x c n) (sym err) ∙ e)
 
-noted : (note : ReleaseNote) (inbox : InboxValue) (id c : ℕ) (arrival : Arrival) → arrival ≡ note_arrival_at id inbox note → is_listed inbox c ≡ true
+noted : (note : ReleaseNote) (inbox : InboxView) (id c : ℕ) (arrival : Arrival) → arrival ≡ note_arrival_at id inbox note → is_listed inbox c ≡ true
     → note_after arrival note inbox c ≡ option_or (note_of inbox c) (note_in id c (Note note))
 noted note inbox id c arrival is listed = go (tells note.actor id) (tells note.caller c)
   where
@@ -208,7 +208,7 @@ noted note inbox id c arrival is listed = go (tells note.actor id) (tells note.c
         ∙ within (note_of inbox c)
         ∙ (λ i. option_or (note_of inbox c) (cond (sym d i && sym b i) (Some note.after) None))
 
-pub fed_note : (callers : List ℕ) (letters : List Letter) (note : ReleaseNote) (before : ActorSeen) (inbox : InboxValue) (arrival : Arrival)
+pub fed_note : (callers : List ℕ) (letters : List Letter) (note : ReleaseNote) (before : ActorView) (inbox : InboxView) (arrival : Arrival)
     → arrival ≡ note_arrival_at before.id before.inbox note → inbox.lanes ≡ before.inbox.lanes → inbox.held ≡ before.inbox.held
     → ((c : ℕ) → note_of inbox c ≡ note_after arrival note before.inbox c)
     → IsFed callers letters before → IsFed callers (letters ++ Note note ∷ []) (record before { inbox = inbox })
@@ -216,7 +216,7 @@ fed_note callers letters note before inbox arrival is lanes held notes h = recor
   listed = λ c. (λ i. is_listed (record { lanes = lanes i; held = inbox.held; notes = inbox.notes }) c) ∙ h.listed c;
   handed = λ c. (λ i. handed_of (record { lanes = lanes i; held = inbox.held; notes = inbox.notes }) c) ∙ h.handed c;
   waits = λ c n p e.
-      let old = h.waits c n p ((λ i. waiting (record { lanes = sym lanes i; held = sym held i; notes = inbox.notes }) c n) ∙ e) in
+      let old = h.waits c n p ((λ i. waiting_packet (record { lanes = sym lanes i; held = sym held i; notes = inbox.notes }) c n) ∙ e) in
       (Contains-append_left letters (Note note ∷ []) (Call p) old.0, old.1);
   notes = λ c l.
       notes c ∙ noted note before.inbox before.id c arrival is (h.listed c ∙ l) ∙ ap (λ (o : Option ℕ). option_or o (note_in before.id c (Note note))) (h.notes c l) ∙ sym (first_note_more before.id c letters (Note note));
@@ -225,7 +225,7 @@ fed_note callers letters note before inbox arrival is lanes held notes h = recor
 
 -- ---- a call runs
 
-pub fed_run : (caller : ℕ) (packet : Packet) (before after : ActorSeen) → next_of before.inbox caller ≡ Some packet → HasRun caller packet before after
+pub fed_run : (caller : ℕ) (packet : Packet) (before after : ActorView) → next_of before.inbox caller ≡ Some packet → HasRunCall caller packet before after
     → (callers : List ℕ) (letters : List Letter) → IsFed callers letters before → IsFed callers letters after
 fed_run caller packet before after next ran callers letters h = record {
   listed = λ c. ran.taken.listed c ∙ h.listed c;
@@ -235,21 +235,21 @@ fed_run caller packet before after next ran callers letters h = record {
   log = subst (λ (a : ℕ). IsLogOf a callers letters after.log) (sym ran.id) (subst (λ (l : List RunItem). IsLogOf before.id callers letters l) (sym ran.log) more);
 }
   where
-    by : (b : Bool) (c n : ℕ) (p : Packet) → cond b None (waiting before.inbox c n) ≡ Some p → Contains letters (Call p) × (p.actor ≡ after.id)
+    by : (b : Bool) (c n : ℕ) (p : Packet) → cond b None (waiting_packet before.inbox c n) ≡ Some p → Contains letters (Call p) × (p.actor ≡ after.id)
     by true c n p e = cc
     by false c n p e = ((h.waits c n p e).0, (h.waits c n p e).1 ∙ sym ran.id)
 
-    came : (b : Bool) → is_listed before.inbox caller ≡ b → (is_listed before.inbox caller ≡ true) × (waiting before.inbox caller (handed_of before.inbox caller) ≡ Some packet)
-    came true e = (e, ap (λ (b : Bool). cond b (waiting before.inbox caller (handed_of before.inbox caller)) None) (sym e) ∙ next)
+    came : (b : Bool) → is_listed before.inbox caller ≡ b → (is_listed before.inbox caller ≡ true) × (waiting_packet before.inbox caller (handed_of before.inbox caller) ≡ Some packet)
+    came true e = (e, ap (λ (b : Bool). cond b (waiting_packet before.inbox caller (handed_of before.inbox caller)) None) (sym e) ∙ next)
     came false e =
-        let no : None ≡ Some packet = ap (λ (b : Bool). cond b (waiting before.inbox caller (handed_of before.inbox caller)) None) (sym e) ∙ next in
+        let no : None ≡ Some packet = ap (λ (b : Bool). cond b (waiting_packet before.inbox caller (handed_of before.inbox caller)) None) (sym e) ∙ next in
         cc
 
     more : IsLogOf before.id callers letters (before.log ++ item_of packet ∷ [])
     more =
         let here = came (is_listed before.inbox caller) refl in
         let old = h.waits caller (handed_of before.inbox caller) packet here.1 in record {
-          taken = All-push (λ (item : RunItem). Contains letters (Call (packet_of before.id item))) before.log (item_of packet) h.log.taken (subst (λ (a : ℕ). Contains letters (Call (packet_of a (item_of packet)))) old.1 old.0);
+          taken = All-push (λ (item : RunItem). Contains letters (Call (packet_of_item before.id item))) before.log (item_of packet) h.log.taken (subst (λ (a : ℕ). Contains letters (Call (packet_of_item a (item_of packet)))) old.1 old.0);
           listed = All-push (λ (item : RunItem). contains item.caller callers ≡ true) before.log (item_of packet) h.log.listed (ap (λ (c : ℕ). contains c callers) ran.taken.of_caller ∙ sym (h.listed caller) ∙ here.0);
           numbered = λ c. numbered_more c before.log (item_of packet) (ran.taken.numbered ∙ h.handed caller ∙ ap (λ (d : ℕ). length (items_of d before.log)) (sym ran.taken.of_caller)) (h.log.numbered c);
         }

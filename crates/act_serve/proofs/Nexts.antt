@@ -1,4 +1,4 @@
--- The first seat whose caller's next call came.
+-- The first endpoint whose caller's next call came.
 use Rattle.std.proofs.Common.{◌≡◌, ℕ, ◌+◌, ◌<◌, ◌≤◌, List, [], ◌∷◌, ◌++◌, length, Option, Some, None, is_some, Bool, true, false, cond, nat_lt, refl, sym, ◌∙◌, ap, subst, get_or, find, position, arith, All}
 use Rattle.std.specs.List.{position_or_len}
 use Rattle.std.proofs.lemmas.Bool.{lt-ltb, le-ltb}
@@ -11,13 +11,13 @@ use Rattle.act_types.specs.declared.message.Notice.TheVariants.{Answered}
 use Rattle.act_rules.specs.declared.history.RunItem.{RunItem}
 use Rattle.act_rules.proofs.Lists.{slice_get_last}
 use Rattle.act_rules.proofs.Finding.{find-None}
-use Rattle.act_actor.specs.View.{ActorSeen}
+use Rattle.act_actor.specs.View.{ActorView}
 use Rattle.act_actor.specs.Actor.{next_call}
 use Rattle.act_mailbox.specs.declared.mail.Letter.{Letter}
-use Rattle.act_mailbox.specs.Passes.{TakerValue}
-use Rattle.act_mailbox.specs.Notices.{RepliesValue, ReplyExecValue, NamesPlace}
-use Rattle.act_seats.specs.declared.seat.Seat.{Seat}
-use Rattle.act_serve.specs.declared.letter.Came.TheVariants.{Nothing}
+use Rattle.act_mailbox.specs.Passes.{TakerView}
+use Rattle.act_mailbox.specs.Notices.{RepliesView, ReplyExecView, NamesPlace}
+use Rattle.act_mailbox.specs.declared.endpoint.Endpoint.{Endpoint}
+use Rattle.act_serve.specs.declared.letter.Received.TheVariants.{Nothing}
 use Rattle.act_serve.specs.Turns.{HasReplied, HasCome, has_next, HasGone}
 use Rattle.act_serve.proofs.Logs.{Tells, same, other, tells}
 use Rattle.act_serve.proofs.Serving.{caller_here}
@@ -45,13 +45,13 @@ position_nowhere p (x ∷ xs) n le none =
     let at : position_or_len p (x ∷ xs) ≡ long = position_or_len_is p (x ∷ xs) long x (omega arith) (λ k lt. none k x (omega (arith, lt, le))) (λ lt. absurd (omega (arith, lt))) in
     sym (ap (λ n. cond (nat_lt n long) (Some n) None) at ∙ ap (λ b. cond b (Some long) None) (le-ltb long long (omega arith)))
 
--- whether the call of a seat's caller came, where the caller is known
-pub next_is : (lines : List RepliesValue) (actor : ActorSeen) (seats : List (Seat ReplyExecValue)) (k : ℕ) (d seat : Seat ReplyExecValue) (line : RepliesValue) (caller : ℕ) (told b : Bool)
-    → k < length seats → seat ≡ get_or seats k seat → seat.place < length lines → line ≡ get_or lines seat.place line → caller ≡ line.caller → told ≡ is_some (next_call actor.log actor.inbox caller) → told ≡ b
-    → has_next lines actor (get_or seats k d) ≡ b
-next_is lines actor seats k d seat line caller told b lt here below is named came so =
-    ap (has_next lines actor) (get_or_default seats k d seat lt ∙ sym here)
-    ∙ ap (λ c. is_some (next_call actor.log actor.inbox c)) (sym (named ∙ caller_here lines seat.place line below is))
+-- whether the call of an endpoint's caller came, where the caller is known
+pub next_is : (lines : List RepliesView) (actor : ActorView) (endpoints : List (Endpoint ReplyExecView)) (k : ℕ) (d endpoint : Endpoint ReplyExecView) (line : RepliesView) (caller : ℕ) (told b : Bool)
+    → k < length endpoints → endpoint ≡ get_or endpoints k endpoint → endpoint.place < length lines → line ≡ get_or lines endpoint.place line → caller ≡ line.caller → told ≡ is_some (next_call actor.log actor.inbox caller) → told ≡ b
+    → has_next lines actor (get_or endpoints k d) ≡ b
+next_is lines actor endpoints k d endpoint line caller told b lt here below is named came so =
+    ap (has_next lines actor) (get_or_default endpoints k d endpoint lt ∙ sym here)
+    ∙ ap (λ c. is_some (next_call actor.log actor.inbox c)) (sym (named ∙ caller_here lines endpoint.place line below is))
     ∙ sym came
     ∙ so
 
@@ -63,29 +63,29 @@ none_found : {X : Type 0} (p : X → Bool) (xs : List X) → find p xs ≡ None 
 none_found p [] e = λ k d lt. absurd (omega (arith, lt))
 none_found p (x ∷ xs) e = let later = not_first (p x) x (find p xs) e in All-cons (λ y. p y ≡ false) x xs later.0 (none_found p xs later.1)
 
--- no seat has a next call
+-- no endpoint has a next call
 pub nowhere : {X : Type 0} (p : X → Bool) (xs ys : List X) (found : Option ℕ) → found ≡ position p xs → xs ≡ ys → found ≡ None → All (λ x. p x ≡ false) ys
 nowhere p xs ys found is alike none = subst (λ l. All (λ x. p x ≡ false) l) alike (none_found p xs (find-None p xs (sym is ∙ none)))
 
--- the seat that was found has one
+-- the endpoint that was found has one
 pub somewhere : {X : Type 0} (p : X → Bool) (xs ys : List X) (found : Option ℕ) (i : ℕ) (d : X) → found ≡ position p xs → xs ≡ ys → found ≡ Some i → p (get_or ys i d) ≡ true
 somewhere p xs ys found i d is alike some = subst (λ l. p (get_or l i d) ≡ true) alike (position-Some p xs i d (sym is ∙ some)).1
 
 -- the reply names the place where its call ran
-pub replied_place : (caller : ℕ) (reply : Reply) (before after : ActorSeen) (log : List RunItem) → HasReplied caller reply before after → log ≡ after.log → NamesPlace log (Answered reply)
+pub replied_place : (caller : ℕ) (reply : Reply) (before after : ActorView) (log : List RunItem) → HasReplied caller reply before after → log ≡ after.log → NamesPlace log (Answered reply)
 replied_place caller reply before after log ran shown =
     subst (λ (l : List RunItem). NamesPlace l (Answered reply)) (sym (shown ∙ ran.log))
     (subst (λ (r : Reply). NamesPlace (before.log ++ ran.item ∷ []) (Answered r)) (sym ran.reply_is) (ran.item, slice_get_last before.log ran.item, refl, refl))
 
 -- no letter came, and no call ran
-pub idle_turn : (lines : List RepliesValue) (seats given : List (Seat ReplyExecValue)) (old new : TakerValue Letter (Unit {0})) (before between after : ActorSeen)
-    → new ≡ record old { taken = new.taken } → HasCome Nothing old.taken new.taken seats given before between → HasGone false lines given between after
-    → (new ≡ old) × HasGone false lines seats before after
-idle_turn lines seats given old new before between after letters none still = (
+pub idle_turn : (lines : List RepliesView) (endpoints given : List (Endpoint ReplyExecView)) (old new : TakerView Letter (Unit {0})) (before between after : ActorView)
+    → new ≡ record old { taken = new.taken } → HasCome Nothing old.taken new.taken endpoints given before between → HasGone false lines given between after
+    → (new ≡ old) × HasGone false lines endpoints before after
+idle_turn lines endpoints given old new before between after letters none still = (
   letters ∙ ap (λ (l : List Letter). record old { taken = l }) none.0,
   (
     still.0 ∙ none.2,
-    subst (λ (l : List (Seat ReplyExecValue)). All (λ seat. has_next lines before seat ≡ false) l) none.1
-        (subst (λ (s : ActorSeen). All (λ seat. has_next lines s seat ≡ false) given) none.2 still.1),
+    subst (λ (l : List (Endpoint ReplyExecView)). All (λ endpoint. has_next lines before endpoint ≡ false) l) none.1
+        (subst (λ (s : ActorView). All (λ endpoint. has_next lines s endpoint ≡ false) given) none.2 still.1),
   ),
 )

@@ -10,45 +10,52 @@ use Rattle.act_types.specs.declared.message.Notice.TheVariants.{Answered, Death}
 use Rattle.act_rules.specs.declared.history.RunItem.{RunItem}
 use Rattle.act_rules.specs.RunList.{Answer, state_after, answer_at, answers_from, items_of, has_terminated, NothingFollowsAnEnd}
 use Rattle.act_rules.specs.History.{contains}
-use Rattle.act_actor.specs.View.{DeadValue, RetiredSeen}
-use Rattle.act_actor.specs.StateViews.{retired_seen}
+use Rattle.act_actor.specs.View.{DeadView, RetiredView}
+use Rattle.act_actor.specs.StateViews.{retired_view}
 use Rattle.act_mailbox.specs.declared.control.Asked.{Asked}
 use Rattle.act_mailbox.specs.declared.mail.Letter.{Letter}
 use Rattle.act_mailbox.specs.declared.mail.Letter.TheVariants.{Call, Note}
-use Rattle.act_mailbox.specs.Controls.{ControlExecValue}
-use Rattle.act_mailbox.specs.Notices.{RepliesValue, ReplyExecValue}
-use Rattle.act_serve.specs.declared.seat.Ended.{Ended}
-use Rattle.act_serve.specs.declared.seat.Ended.TheVariants as ended
-use Rattle.act_seats.specs.declared.seat.Seat.{Seat}
-use Rattle.act_serve.specs.declared.seat.ExecPasses.{ExecPasses}
+use Rattle.act_mailbox.specs.Controls.{ControlExecView}
+use Rattle.act_mailbox.specs.Notices.{RepliesView, ReplyExecView}
+use Rattle.act_serve.specs.declared.endpoint.Ended.{Ended}
+use Rattle.act_serve.specs.declared.endpoint.Ended.TheVariants as ended
+use Rattle.act_mailbox.specs.declared.endpoint.Endpoint.{Endpoint}
+use Rattle.act_serve.specs.declared.endpoint.ExecPasses.{ExecPasses}
 
-pub data EndSeen : Type 0 where
-  Killed : (dead : DeadValue) → EndSeen
-  Retired : (retired : RetiredSeen) → EndSeen
-  Starved : (dead : DeadValue) → EndSeen
+pub data EndView : Type 0 where
+  Killed : (dead : DeadView) → EndView
+  Retired : (retired : RetiredView) → EndView
+  Starved : (dead : DeadView) → EndView
 
-abbrev pub end_seen : {K : Type 0} → (K → KindState) → Ended K → EndSeen
-end_seen state (ended.Killed dead) = Killed dead
-end_seen state (ended.Retired retired) = Retired (retired_seen state retired)
-end_seen state (ended.Starved dead) = Starved dead
+abbrev pub end_view : {K : Type 0} → (K → KindState) → Ended K → EndView
+end_view state (ended.Killed dead) = Killed dead
+end_view state (ended.Retired retired) = Retired (retired_view state retired)
+end_view state (ended.Starved dead) = Starved dead
 
-abbrev pub id_of : EndSeen → ℕ
-id_of (Killed dead) = dead.id
-id_of (Retired retired) = retired.id
-id_of (Starved dead) = dead.id
+abbrev pub end_id : EndView → ℕ
+end_id (Killed dead) = dead.id
+end_id (Retired retired) = retired.id
+end_id (Starved dead) = dead.id
 
-abbrev pub log_of : EndSeen → List RunItem
-log_of (Killed dead) = dead.log
-log_of (Retired retired) = retired.log
-log_of (Starved dead) = dead.log
+abbrev pub end_log : EndView → List RunItem
+end_log (Killed dead) = dead.log
+end_log (Retired retired) = retired.log
+end_log (Starved dead) = dead.log
 
 -- the packet that an item of an actor's log was
-abbrev pub packet_of : ℕ → RunItem → Packet
-packet_of a item = record { caller = item.caller; actor = a; number = item.number; future = item.future; method = item.method; args = item.args }
+abbrev pub packet_of_item : ℕ → RunItem → Packet
+packet_of_item a item = record {
+  caller = item.caller;
+  actor = a;
+  number = item.number;
+  future = item.future;
+  method = item.method;
+  args = item.args;
+}
 
 -- the log's items are calls of letters, each of a listed caller, and each caller's are numbered from 0 on
 pub record IsLogOf (a : ℕ) (callers : List ℕ) (letters : List Letter) (log : List RunItem) : Type 0 where
-  pub taken : All (λ item. Contains letters (Call (packet_of a item))) log
+  pub taken : All (λ item. Contains letters (Call (packet_of_item a item))) log
   pub listed : All (λ item. contains item.caller callers ≡ true) log
   pub numbered : (c : ℕ) → map (λ item. item.number) (items_of c log) ≡ range_with_len 0 (length (items_of c log))
 
@@ -63,12 +70,19 @@ first_note a c [] = None
 first_note a c (letter ∷ letters) = option_or (note_in a c letter) (first_note a c letters)
 
 -- the notice of an item's answer, where the item stands at a place and is the caller's
-abbrev pub reply_to : ℕ → ℕ → (ℕ × RunItem) × Answer → Option Notice
-reply_to a c ran = if ran.0.1.caller == c then Some (Answered (record { actor = a; caller = ran.0.1.caller; future = ran.0.1.future; place = ran.0.0; answer = ran.1 })) else None
+abbrev pub reply_notice : ℕ → ℕ → (ℕ × RunItem) × Answer → Option Notice
+reply_notice a c ran = if ran.0.1.caller == c
+    then Some (Answered (record {
+      actor = a;
+      caller = ran.0.1.caller;
+      future = ran.0.1.future;
+      place = ran.0.0;
+      answer = ran.1;
+    })) else None
 
 -- the replies at the places of a caller's items, in order
 abbrev pub replies_to : KindState → ℕ → List RunItem → ℕ → List Notice
-replies_to opening a log c = filter_map (reply_to a c) (zip (enumerate_from 0 log) (answers_from opening log))
+replies_to opening a log c = filter_map (reply_notice a c) (zip (enumerate_from 0 log) (answers_from opening log))
 
 -- the notice is the actor's reply to this caller, of the item at its place, with the answer there
 pub record IsAnswerOf (opening : KindState) (a c : ℕ) (log : List RunItem) (reply : Reply) : Type 0 where
@@ -78,9 +92,9 @@ pub record IsAnswerOf (opening : KindState) (a c : ℕ) (log : List RunItem) (re
   pub names : (reply.actor ≡ a) × (reply.caller ≡ item.caller) × (reply.future ≡ item.future)
   pub answered : answer_at opening log reply.place ≡ Some reply.answer
 
-abbrev pub IsAnswer : KindState → ℕ → ℕ → List RunItem → Notice → Type 0
-IsAnswer opening a c log (Answered reply) = IsAnswerOf opening a c log reply
-IsAnswer opening a c log (Death actor) = ⊥
+abbrev pub IsReplyOf : KindState → ℕ → ℕ → List RunItem → Notice → Type 0
+IsReplyOf opening a c log (Answered reply) = IsAnswerOf opening a c log reply
+IsReplyOf opening a c log (Death actor) = ⊥
 
 -- the places of a caller's items, in order
 abbrev pub places_of : ℕ → List RunItem → List ℕ
@@ -91,81 +105,93 @@ abbrev pub place_of : Notice → Option ℕ
 place_of (Answered reply) = Some reply.place
 place_of (Death actor) = None
 
--- the replies that are due stand for the places of the caller's items, one for each, in order, each with the answer there
+-- the replies that are due stand for the places of the caller's items, one for each, in order, each with the answer
+-- there
 pub record AreReplies (opening : KindState) (a c : ℕ) (log : List RunItem) (notices : List Notice) : Type 0 where
   pub places : map place_of notices ≡ map (λ place. Some place) (places_of c log)
-  pub answers : All (IsAnswer opening a c log) notices
+  pub answers : All (IsReplyOf opening a c log) notices
 
 abbrev pub RepliesAreDue : Type 0
-RepliesAreDue = (opening : KindState) (a c : ℕ) (log : List RunItem) → AreReplies opening a c log (replies_to opening a log c)
+RepliesAreDue = (opening : KindState) (a c : ℕ) (log : List RunItem) →
+    AreReplies opening a c log (replies_to opening a log c)
 
 -- the notice of an actor's end
-abbrev pub deaths : ℕ → EndSeen → List Notice
+abbrev pub deaths : ℕ → EndView → List Notice
 deaths a (Killed dead) = Death a ∷ []
 deaths a (Retired retired) = []
 deaths a (Starved dead) = Death a ∷ []
 
 -- the caller whose line stands at a place
-abbrev pub caller_at : List RepliesValue → ℕ → ℕ
+abbrev pub caller_at : List RepliesView → ℕ → ℕ
 caller_at lines place = slice_index_or (map (λ line. line.caller) lines) place 0
 
--- the callers of an executor's seats
-abbrev pub callers_of : List RepliesValue → List (Seat ReplyExecValue) → List ℕ
-callers_of lines seats = map (λ seat. caller_at lines seat.place) seats
+-- the callers of an executor's endpoints
+abbrev pub endpoint_callers : List RepliesView → List (Endpoint ReplyExecView) → List ℕ
+endpoint_callers lines endpoints = map (λ endpoint. caller_at lines endpoint.place) endpoints
 
 -- no kill was taken
-abbrev pub IsUntaken : ControlExecValue → Type 0
+abbrev pub IsUntaken : ControlExecView → Type 0
 IsUntaken kills = (kills.taken ≡ []) × (kills.lengths ≡ [])
 
 -- one kill was taken, of an asker that has a pass, when the log was as it was in the end
-abbrev pub IsTakenAt : List RunItem → ControlExecValue → Type 0
-IsTakenAt log kills = (kill : Asked) × (kills.taken ≡ kill ∷ []) × Contains kills.askers kill.asker × (kills.lengths ≡ length log ∷ [])
+abbrev pub IsTakenAt : List RunItem → ControlExecView → Type 0
+IsTakenAt log kills = (kill : Asked) × (kills.taken ≡ kill ∷ []) × Contains kills.askers kill.asker
+    × (kills.lengths ≡ length log ∷ [])
 
 -- why an actor died: it took a kill, or it ran a `terminate` and took none
-abbrev pub KillsOfDead : Bool → List RunItem → ControlExecValue → Type 0
+abbrev pub KillsOfDead : Bool → List RunItem → ControlExecView → Type 0
 KillsOfDead true log kills = IsUntaken kills
 KillsOfDead false log kills = IsTakenAt log kills
 
 -- it was killed exactly where it took a kill or ran a `terminate`
-abbrev pub KillsTaken : ControlExecValue → EndSeen → Type 0
+abbrev pub KillsTaken : ControlExecView → EndView → Type 0
 KillsTaken kills (Killed dead) = KillsOfDead (has_terminated dead.log) dead.log kills
 KillsTaken kills (Retired retired) = IsUntaken kills × (has_terminated retired.log ≡ false)
 KillsTaken kills (Starved dead) = IsUntaken kills × (has_terminated dead.log ≡ false)
 
 -- where deaths were given, the log that was shown with them is the last
-abbrev pub IsShown : EndSeen → List RunItem → Type 0
-IsShown (Killed dead) seen = seen ≡ dead.log
-IsShown (Retired retired) seen = Unit {0}
-IsShown (Starved dead) seen = seen ≡ dead.log
+abbrev pub HasShownLog : EndView → List RunItem → Type 0
+HasShownLog (Killed dead) seen = seen ≡ dead.log
+HasShownLog (Retired retired) seen = Unit {0}
+HasShownLog (Starved dead) seen = seen ≡ dead.log
 
 -- a retired actor is in the state after its log, and ran of each caller as many calls as its first note says
-pub record HasDrained (opening : KindState) (callers : List ℕ) (letters : List Letter) (retired : RetiredSeen) : Type 0 where
+pub record HasDrained (opening : KindState) (callers : List ℕ) (letters : List Letter)
+    (retired : RetiredView) : Type 0 where
   pub state : retired.state ≡ state_after opening retired.log
-  pub notes : (c : ℕ) → contains c callers ≡ true → first_note retired.id c letters ≡ Some (length (items_of c retired.log))
+  pub notes : (c : ℕ) → contains c callers ≡ true →
+      first_note retired.id c letters ≡ Some (length (items_of c retired.log))
 
-abbrev pub IfRetired : EndSeen → (RetiredSeen → Type 0) → Type 0
+abbrev pub IfRetired : EndView → (RetiredView → Type 0) → Type 0
 IfRetired (Killed dead) P = Unit {0}
 IfRetired (Retired retired) P = P retired
 IfRetired (Starved dead) P = Unit {0}
 
--- a seat without what was given there
-abbrev pub bare : Seat ReplyExecValue → Seat ReplyExecValue
-bare seat = record seat { pass = record seat.pass { given = []; seen = [] } }
+-- an endpoint without what was given there
+abbrev pub without_given : Endpoint ReplyExecView → Endpoint ReplyExecView
+without_given endpoint = record endpoint { pass = record endpoint.pass { given = []; seen = [] } }
 
 -- the passes are of the same lines, for the same actor, with those that put into them
-pub record PassesStay (old new : ExecPasses) : Type 0 where
+pub record ExecPassesStay (old new : ExecPasses) : Type 0 where
   pub letters : new.letters ≡ record old.letters { taken = new.letters.taken }
-  pub kills : new.kills ≡ record old.kills { taken = new.kills.taken; lengths = new.kills.lengths; looked = new.kills.looked }
-  pub seats : map bare new.notices.items ≡ map bare old.notices.items
+  pub kills : new.kills ≡ record old.kills {
+    taken = new.kills.taken;
+    lengths = new.kills.lengths;
+    looked = new.kills.looked;
+  }
+  pub endpoints : map without_given new.notices.items ≡ map without_given old.notices.items
 
 -- what an actor of this opening state leaves, whose callers have these lines and these passes before
-pub record HasServed (opening : KindState) (a : ℕ) (lines : List RepliesValue) (before : ExecPasses) (end : EndSeen) (passes : ExecPasses) : Type 0 where
-  pub id : id_of end ≡ a
-  pub stay : PassesStay before passes
-  pub log : IsLogOf a (callers_of lines before.notices.items) passes.letters.taken (log_of end)
-  pub last : NothingFollowsAnEnd (log_of end)
-  pub given : All (λ seat. seat.pass.given ≡ replies_to opening a (log_of end) (caller_at lines seat.place) ++ deaths a end) passes.notices.items
-  pub shown : All (λ seat. IsShown end seat.pass.seen) passes.notices.items
+pub record HasServed (opening : KindState) (a : ℕ) (lines : List RepliesView) (before : ExecPasses) (end : EndView)
+    (passes : ExecPasses) : Type 0 where
+  pub id : end_id end ≡ a
+  pub stay : ExecPassesStay before passes
+  pub log : IsLogOf a (endpoint_callers lines before.notices.items) passes.letters.taken (end_log end)
+  pub last : NothingFollowsAnEnd (end_log end)
+  pub given : All (λ endpoint.
+      endpoint.pass.given ≡ replies_to opening a (end_log end) (caller_at lines endpoint.place)
+      ++ deaths a end) passes.notices.items
+  pub shown : All (λ endpoint. HasShownLog end endpoint.pass.seen) passes.notices.items
   pub kills : KillsTaken passes.kills end
-  pub looked : length (log_of end) ≤ passes.kills.looked
-  pub drained : IfRetired end (HasDrained opening (callers_of lines before.notices.items) passes.letters.taken)
+  pub looked : length (end_log end) ≤ passes.kills.looked
+  pub drained : IfRetired end (HasDrained opening (endpoint_callers lines before.notices.items) passes.letters.taken)

@@ -8,131 +8,164 @@ use Rattle.act_types.specs.declared.message.Notice.TheVariants.{Answered, Death}
 use Rattle.act_rules.specs.declared.history.RunItem.{RunItem}
 use Rattle.act_rules.specs.RunList.{after_item, items_of, has_terminated, NothingFollowsAnEnd}
 use Rattle.act_rules.specs.History.{contains}
-use Rattle.act_inbox.specs.Inbox.{is_listed, handed_of, waiting, waiting_after, note_of, note_after, IsOpened}
-use Rattle.act_actor.specs.View.{ActorSeen}
+use Rattle.act_inbox.specs.Inbox.{is_listed, handed_of, waiting_packet, waiting_after, note_of, note_after, IsOpened}
+use Rattle.act_actor.specs.View.{ActorView}
 use Rattle.act_actor.specs.Actor.{HasRunFrom, RunsAtOnce, arrival_at, note_arrival_at, next_call}
 use Rattle.act_mailbox.specs.declared.mail.Letter.{Letter}
 use Rattle.act_mailbox.specs.declared.mail.Letter.TheVariants.{Call, Note}
-use Rattle.act_rules.specs.Consistent.{IsFront}
-use Rattle.act_mailbox.specs.Controls.{ControlExecValue, looked_after}
-use Rattle.act_mailbox.specs.Notices.{RepliesValue, ReplyExecValue, IsReply}
-use Rattle.act_seats.specs.declared.seat.Seat.{Seat}
-use Rattle.act_serve.specs.declared.letter.Came.{Came}
-use Rattle.act_serve.specs.declared.letter.Came.TheVariants.{Nothing, Held, Ran}
-use Rattle.act_serve.specs.declared.seat.ExecLines.{ExecLines}
-use Rattle.act_serve.specs.declared.seat.ExecPasses.{ExecPasses}
-use Rattle.act_serve.specs.Served.{IsLogOf, first_note, replies_to, caller_at, callers_of, KillsOfDead}
+use Rattle.act_rules.specs.Consistent.{IsPrefix}
+use Rattle.act_mailbox.specs.Controls.{ControlExecView, looked_after}
+use Rattle.act_mailbox.specs.Notices.{RepliesView, ReplyExecView, IsNoDeath}
+use Rattle.act_mailbox.specs.declared.endpoint.Endpoint.{Endpoint}
+use Rattle.act_serve.specs.declared.letter.Received.{Received}
+use Rattle.act_serve.specs.declared.letter.Received.TheVariants.{Nothing, Held, Ran}
+use Rattle.act_serve.specs.declared.endpoint.ExecLines.{ExecLines}
+use Rattle.act_serve.specs.declared.endpoint.ExecPasses.{ExecPasses}
+use Rattle.act_serve.specs.Served.{IsLogOf, first_note, replies_to, caller_at, endpoint_callers, KillsOfDead}
 
 -- a pass is of the line at its place, and gave only what this actor's log shows
-pub record IsSeated (lines : List RepliesValue) (actor : ℕ) (log : List RunItem) (seat : Seat ReplyExecValue) : Type 0 where
-  pub below : seat.place < length lines
-  pub line : (d : RepliesValue) → (slice_index_or lines seat.place d).line ≡ seat.pass.line
-  pub actor_is : seat.pass.actor ≡ actor
-  pub grown : IsFront seat.pass.seen log
-  pub alive : All IsReply seat.pass.given
+pub record IsAtItsEndpoint (lines : List RepliesView) (actor : ℕ) (log : List RunItem)
+    (endpoint : Endpoint ReplyExecView) : Type 0 where
+  pub below : endpoint.place < length lines
+  pub line : (d : RepliesView) → (slice_index_or lines endpoint.place d).line ≡ endpoint.pass.line
+  pub actor_is : endpoint.pass.actor ≡ actor
+  pub grown : IsPrefix endpoint.pass.seen log
+  pub alive : All IsNoDeath endpoint.pass.given
 
--- no caller has two seats
-abbrev pub SeatsDiffer : List RepliesValue → List (Seat ReplyExecValue) → Type 0
-SeatsDiffer lines seats = AllPairs (λ one other. one ≢ other) (callers_of lines seats)
+-- no caller has two endpoints
+abbrev pub EndpointsDiffer : List RepliesView → List (Endpoint ReplyExecView) → Type 0
+EndpointsDiffer lines endpoints = AllPairs (λ one other. one ≢ other) (endpoint_callers lines endpoints)
 
 -- the passes are of these lines, and an actor with this name and log may go on with them
-pub record PassesFit (mail control : TableId) (replies : List RepliesValue) (actor : ℕ) (log : List RunItem) (passes : ExecPasses) : Type 0 where
+pub record PassesFit (mail control : TableId) (replies : List RepliesView) (actor : ℕ) (log : List RunItem)
+    (passes : ExecPasses) : Type 0 where
   pub mail_is : passes.letters.line ≡ mail
   pub control_is : passes.kills.line ≡ control
   pub actor_is : passes.kills.actor ≡ actor
   pub looked : length log ≤ passes.kills.looked
-  pub seats : All (IsSeated replies actor log) passes.notices.items
-  pub differ : SeatsDiffer replies passes.notices.items
+  pub endpoints : All (IsAtItsEndpoint replies actor log) passes.notices.items
+  pub differ : EndpointsDiffer replies passes.notices.items
 
 abbrev pub PassesOf : ExecLines → ℕ → List RunItem → ExecPasses → Type 0
 PassesOf lines actor log passes = PassesFit lines.mail.now.line lines.control.now.line lines.replies.now actor log passes
 
 -- passes for these callers with which nothing was done
-pub record IsUnused (lines : List RepliesValue) (callers : List ℕ) (passes : ExecPasses) : Type 0 where
-  pub callers_are : callers_of lines passes.notices.items ≡ callers
+pub record IsUnusedExec (lines : List RepliesView) (callers : List ℕ) (passes : ExecPasses) : Type 0 where
+  pub callers_are : endpoint_callers lines passes.notices.items ≡ callers
   pub letters : passes.letters.taken ≡ []
   pub kills : (passes.kills.taken ≡ []) × (passes.kills.lengths ≡ [])
-  pub given : All (λ seat. seat.pass.given ≡ []) passes.notices.items
+  pub given : All (λ endpoint. endpoint.pass.given ≡ []) passes.notices.items
 
 -- an actor that ran nothing, with such passes
-pub record IsFresh (lines : List RepliesValue) (actor : ActorSeen) (passes : ExecPasses) : Type 0 where
+pub record IsFreshExec (lines : List RepliesView) (actor : ActorView) (passes : ExecPasses) : Type 0 where
   pub log : actor.log ≡ []
-  pub inbox : IsOpened (callers_of lines passes.notices.items) actor.inbox
-  pub passes_fresh : IsUnused lines (callers_of lines passes.notices.items) passes
+  pub inbox : IsOpened (endpoint_callers lines passes.notices.items) actor.inbox
+  pub passes_fresh : IsUnusedExec lines (endpoint_callers lines passes.notices.items) passes
 
 -- the actor holds what these letters brought, and ran nothing else
-pub record IsFed (callers : List ℕ) (letters : List Letter) (actor : ActorSeen) : Type 0 where
+pub record IsFed (callers : List ℕ) (letters : List Letter) (actor : ActorView) : Type 0 where
   pub listed : (c : ℕ) → is_listed actor.inbox c ≡ contains c callers
   pub handed : (c : ℕ) → handed_of actor.inbox c ≡ length (items_of c actor.log)
-  pub waits : (c n : ℕ) (packet : Packet) → waiting actor.inbox c n ≡ Some packet → Contains letters (Call packet) × (packet.actor ≡ actor.id)
+  pub waits : (c n : ℕ) (packet : Packet) → waiting_packet actor.inbox c n ≡ Some packet →
+      Contains letters (Call packet) × (packet.actor ≡ actor.id)
   pub notes : (c : ℕ) → contains c callers ≡ true → note_of actor.inbox c ≡ first_note actor.id c letters
   pub log : IsLogOf actor.id callers letters actor.log
 
 -- the letter is in the actor's inbox
-abbrev pub IsIn : Letter → ActorSeen → ActorSeen → Type 0
-IsIn (Call packet) old new = (c n : ℕ) → waiting new.inbox c n ≡ waiting_after (arrival_at old.id old.inbox packet) packet old.inbox c n
-IsIn (Note note) old new = (c : ℕ) → note_of new.inbox c ≡ note_after (note_arrival_at old.id old.inbox note) note old.inbox c
+abbrev pub IsIn : Letter → ActorView → ActorView → Type 0
+IsIn (Call packet) old new = (c n : ℕ) →
+    waiting_packet new.inbox c n ≡ waiting_after (arrival_at old.id old.inbox packet) packet old.inbox c n
+IsIn (Note note) old new = (c : ℕ) →
+    note_of new.inbox c ≡ note_after (note_arrival_at old.id old.inbox note) note old.inbox c
 
 -- no letter came and nothing changed, one more was taken into the actor's inbox, or it was a call that ran at once
-abbrev pub HasCome : Came → List Letter → List Letter → List (Seat ReplyExecValue) → List (Seat ReplyExecValue) → ActorSeen → ActorSeen → Type 0
-HasCome Nothing before after seats given old new = (after ≡ before) × (given ≡ seats) × (new ≡ old)
-HasCome Held before after seats given old new = ((letter : Letter) × (after ≡ before ++ letter ∷ []) × IsIn letter old new) × (given ≡ seats) × (new ≡ record old { inbox = new.inbox })
-HasCome Ran before after seats given old new = ((packet : Packet) × (after ≡ before ++ Call packet ∷ []) × RunsAtOnce packet old.id old.log old.inbox) × (length new.log ≡ length old.log + 1)
+abbrev pub HasCome : Received → List Letter → List Letter → List (Endpoint ReplyExecView) →
+    List (Endpoint ReplyExecView) → ActorView → ActorView → Type 0
+HasCome Nothing before after endpoints given old new = (after ≡ before) × (given ≡ endpoints) × (new ≡ old)
+HasCome Held before after endpoints given old new =
+    ((letter : Letter) × (after ≡ before ++ letter ∷ []) × IsIn letter old new) × (given ≡ endpoints)
+    × (new ≡ record old { inbox = new.inbox })
+HasCome Ran before after endpoints given old new =
+    ((packet : Packet) × (after ≡ before ++ Call packet ∷ []) × RunsAtOnce packet old.id old.log old.inbox)
+    × (length new.log ≡ length old.log + 1)
 
--- the seat is the caller's
-abbrev pub is_seat_of : List RepliesValue → ℕ → Seat ReplyExecValue → Bool
-is_seat_of lines caller seat = caller_at lines seat.place == caller
+-- the endpoint is the caller's
+abbrev pub is_endpoint_of : List RepliesView → ℕ → Endpoint ReplyExecView → Bool
+is_endpoint_of lines caller endpoint = caller_at lines endpoint.place == caller
 
--- the seat after a reply was given
-abbrev pub replied_to : List RunItem → Reply → Seat ReplyExecValue → Seat ReplyExecValue
-replied_to log reply seat = record seat { pass = record seat.pass { given = seat.pass.given ++ Answered reply ∷ []; seen = log } }
+-- the endpoint after a reply was given
+abbrev pub replied_to : List RunItem → Reply → Endpoint ReplyExecView → Endpoint ReplyExecView
+replied_to log reply endpoint = record endpoint {
+  pass = record endpoint.pass {
+    given = endpoint.pass.given
+        ++ Answered reply ∷ [];
+    seen = log;
+  };
+}
 
--- whether the next call of the seat's caller came, at an actor that did not terminate
-abbrev pub has_next : List RepliesValue → ActorSeen → Seat ReplyExecValue → Bool
-has_next lines actor seat = is_some (next_call actor.log actor.inbox (caller_at lines seat.place))
+-- whether the next call of the endpoint's caller came, at an actor that did not terminate
+abbrev pub has_next : List RepliesView → ActorView → Endpoint ReplyExecView → Bool
+has_next lines actor endpoint = is_some (next_call actor.log actor.inbox (caller_at lines endpoint.place))
 
--- the seat's caller was given its replies
-abbrev pub HasReplies : KindState → List RepliesValue → ℕ → List RunItem → Seat ReplyExecValue → Type 0
-HasReplies opening lines a log seat = seat.pass.given ≡ replies_to opening a log (caller_at lines seat.place)
+-- the endpoint's caller was given its replies
+abbrev pub HasReplies : KindState → List RepliesView → ℕ → List RunItem → Endpoint ReplyExecView → Type 0
+HasReplies opening lines a log endpoint = endpoint.pass.given
+    ≡ replies_to opening a log (caller_at lines endpoint.place)
 
 -- an actor of this opening state that serves these callers
-pub record IsServing (opening : KindState) (callers : List ℕ) (lines : List RepliesValue) (letters : List Letter) (actor : ActorSeen) (seats : List (Seat ReplyExecValue)) : Type 0 where
+pub record IsServing (opening : KindState) (callers : List ℕ) (lines : List RepliesView) (letters : List Letter)
+    (actor : ActorView) (endpoints : List (Endpoint ReplyExecView)) : Type 0 where
   pub fed : IsFed callers letters actor
   pub follows : HasRunFrom opening actor
-  pub given : All (HasReplies opening lines actor.id actor.log) seats
+  pub given : All (HasReplies opening lines actor.id actor.log) endpoints
 
 -- the actor, which did not terminate, ran a call of the caller, and this is its reply
-pub record HasReplied (caller : ℕ) (reply : Reply) (old new : ActorSeen) : Type 0 where
+pub record HasReplied (caller : ℕ) (reply : Reply) (old new : ActorView) : Type 0 where
   pub lived : has_terminated old.log ≡ false
   pub item : RunItem
   pub log : new.log ≡ old.log ++ item ∷ []
   pub id : new.id ≡ old.id
   pub of_caller : item.caller ≡ caller
-  pub reply_is : reply ≡ record { actor = old.id; caller = item.caller; future = item.future; place = length old.log; answer = (after_item old.state item).1 }
+  pub reply_is : reply ≡ record {
+    actor = old.id;
+    caller = item.caller;
+    future = item.future;
+    place = length old.log;
+    answer = (after_item old.state item).1;
+  }
   pub state : new.state ≡ (after_item old.state item).0
   pub fed : (callers : List ℕ) (letters : List Letter) → IsFed callers letters old → IsFed callers letters new
 
 -- the same actor went on from there, by one call at most, and keeps what was promised
-pub record GoesOn (old new : ActorSeen) : Type 0 where
+pub record ActorGoesOn (old new : ActorView) : Type 0 where
   pub id : new.id ≡ old.id
-  pub front : IsFront old.log new.log
+  pub front : IsPrefix old.log new.log
   pub long : length new.log ≤ length old.log + 1
   pub last : NothingFollowsAnEnd old.log → NothingFollowsAnEnd new.log
 
--- one more call ran, or no seat's caller had one and nothing changed
-abbrev pub HasGone : Bool → List RepliesValue → List (Seat ReplyExecValue) → ActorSeen → ActorSeen → Type 0
-HasGone true lines seats old new = length new.log ≡ length old.log + 1
-HasGone false lines seats old new = (new ≡ old) × All (λ seat. has_next lines old seat ≡ false) seats
+-- one more call ran, or no endpoint's caller had one and nothing changed
+abbrev pub HasGone : Bool → List RepliesView → List (Endpoint ReplyExecView) → ActorView → ActorView → Type 0
+HasGone true lines endpoints old new = length new.log ≡ length old.log + 1
+HasGone false lines endpoints old new = (new ≡ old) × All (λ endpoint. has_next lines old endpoint ≡ false) endpoints
 
--- the call that ran is of the first seat whose caller had one
-abbrev pub RanFirst : List RepliesValue → List (Seat ReplyExecValue) → ActorSeen → ActorSeen → Type 0
-RanFirst lines seats old new = (at : ℕ) × (position (has_next lines old) seats ≡ Some at) × (item : RunItem) × (new.log ≡ old.log ++ item ∷ []) × ((seat : Seat ReplyExecValue) → item.caller ≡ caller_at lines (slice_index_or seats at seat).place)
+-- the call that ran is of the first endpoint whose caller had one
+abbrev pub RanFirst : List RepliesView → List (Endpoint ReplyExecView) → ActorView → ActorView → Type 0
+RanFirst lines endpoints old new = (at : ℕ) × (position (has_next lines old) endpoints ≡ Some at) × (item : RunItem)
+    × (new.log ≡ old.log ++ item ∷ [])
+    × ((endpoint : Endpoint ReplyExecView) → item.caller ≡ caller_at lines (slice_index_or endpoints at endpoint).place)
 
 -- why the actor died, or that it did not terminate and no kill was taken after a look
-abbrev pub HasLooked : Bool → List RunItem → ControlExecValue → ControlExecValue → Type 0
+abbrev pub HasLooked : Bool → List RunItem → ControlExecView → ControlExecView → Type 0
 HasLooked true log old new = KillsOfDead (has_terminated log) log new
-HasLooked false log old new = (has_terminated log ≡ false) × (new ≡ record old { looked = looked_after old.looked (length log) })
+HasLooked false log old new = (has_terminated log ≡ false)
+    × (new ≡ record old { looked = looked_after old.looked (length log) })
 
--- the seat after a death was given
-abbrev pub told : ℕ → List RunItem → Seat ReplyExecValue → Seat ReplyExecValue
-told a log seat = record seat { pass = record seat.pass { given = seat.pass.given ++ Death a ∷ []; seen = log } }
+-- the endpoint after a death was given
+abbrev pub with_death_given : ℕ → List RunItem → Endpoint ReplyExecView → Endpoint ReplyExecView
+with_death_given a log endpoint = record endpoint {
+  pass = record endpoint.pass {
+    given = endpoint.pass.given
+        ++ Death a ∷ [];
+    seen = log;
+  };
+}

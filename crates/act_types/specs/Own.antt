@@ -17,7 +17,11 @@ pub record Behaviour : Type 0 where
 
 -- the behaviour from a call on
 abbrev pub after_ask : Ask → Behaviour → Behaviour
-after_ask ask behaviour = record { told = λ asks. behaviour.told (ask ∷ asks); text = λ asks. behaviour.text (ask ∷ asks) }
+after_ask ask behaviour = record {
+  told = λ asks. behaviour.told (ask ∷ asks);
+  text = λ asks.
+      behaviour.text (ask ∷ asks);
+}
 
 -- ---- a kind that is given by its steps
 
@@ -30,7 +34,8 @@ abbrev pub on_call : {S C : Type 0} → (S → C → Result (S × Value) Fault) 
 on_call does state (Ok call) = does state call
 on_call does state (Err fault) = Err fault
 
-abbrev pub by_calls : {S C : Type 0} → (Method → List Value → Result C Fault) → (S → C → Result (S × Value) Fault) → StepOf S
+abbrev pub by_calls : {S C : Type 0} → (Method → List Value → Result C Fault) → (S → C → Result (S × Value) Fault) →
+    StepOf S
 by_calls call_at does state method args = on_call does state (call_at method args)
 
 -- a call that takes no values

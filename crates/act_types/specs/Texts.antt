@@ -15,8 +15,8 @@ abbrev pub space : List ℕ
 space = codes " "
 
 -- the parts with a space before each
-abbrev pub spaced : List (List ℕ) → List ℕ
-spaced parts = flat_map (λ part. space ++ part) parts
+abbrev pub with_spaces : List (List ℕ) → List ℕ
+with_spaces parts = flat_map (λ part. space ++ part) parts
 
 -- `c1`
 abbrev pub caller_text : ℕ → List ℕ
@@ -88,7 +88,7 @@ one_line text = map shown_byte text
 -- the state of a kind: its name, and what it holds
 abbrev pub state_text : KindState → List ℕ
 state_text (CounterAt n) = codes "counter " ++ signed_decimal n
-state_text (TableOf pairs) = codes "table" ++ spaced (map pair_text pairs)
+state_text (TableOf pairs) = codes "table" ++ with_spaces (map pair_text pairs)
 state_text (AccountAt n) = codes "account " ++ signed_decimal n
-state_text (ItemsOf items) = codes "list" ++ spaced (map value_text items)
+state_text (ItemsOf items) = codes "list" ++ with_spaces (map value_text items)
 state_text (OwnAt behaviour) = one_line (behaviour.text [])

@@ -83,7 +83,7 @@ pub enum Settled {
     Bad(FutureId),
 }
 
-/// What an empty place of a `FewOf` holds.
+/// What an empty place of a `SmallList` holds.
 impl Default for Settled {
     fn default() -> Settled {
         Settled::Good(Value::Unit)

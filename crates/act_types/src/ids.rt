@@ -3,7 +3,7 @@
 ghost use Rattle.std.specs.Prelude.{◌≡◌, ℕ, ◌≤◌, ◌↔◌, IsSome, IfSome, Some, decimal};
 ghost use Rattle.act_types.specs.Texts.{caller_text, actor_text};
 
-use crate::{MOST_ACTORS, MOST_CALLERS};
+use crate::{MAX_ACTORS, MAX_CALLERS};
 use std::fmt;
 use std::marker::Model;
 
@@ -15,13 +15,13 @@ pub struct CallerId {
 
 impl Model for CallerId {
     ghost use Rattle.std.specs.Prelude.{ℕ, ◌≤◌};
-    ghost use Rattle.act_types.specs.declared.limits.TheConstants.{MOST_CALLERS};
+    ghost use Rattle.act_types.specs.declared.limits.TheConstants.{MAX_CALLERS};
 
     ghost Value = { ℕ };
 
     ghost view = { λ id. id.number };
 
-    ghost invariant = { λ id. (1 ≤ id.number) × (id.number ≤ MOST_CALLERS) };
+    ghost invariant = { λ id. (1 ≤ id.number) × (id.number ≤ MAX_CALLERS) };
 
     ghost inverse = { λ number. record { number = number } };
 }
@@ -29,11 +29,11 @@ impl Model for CallerId {
 impl CallerId {
     /// The caller of a number from 1 to 16.
     pub fn new(number: u8) -> Option<CallerId>
-        ensures valid { IsSome result ↔ ((1 ≤ number) × (number ≤ MOST_CALLERS)) }
+        ensures valid { IsSome result ↔ ((1 ≤ number) × (number ≤ MAX_CALLERS)) }
         ensures value { IfSome result (λ id. id ≡ number) }
     {
         match number {
-            1..=MOST_CALLERS => Some(CallerId { number }),
+            1..=MAX_CALLERS => Some(CallerId { number }),
             _ => None,
         }
     }
@@ -41,7 +41,7 @@ impl CallerId {
     /// The caller's number.
     pub fn number(self) -> u8
         ensures value { result ≡ self }
-        ensures valid { (1 ≤ self) × (self ≤ MOST_CALLERS) }
+        ensures valid { (1 ≤ self) × (self ≤ MAX_CALLERS) }
     {
         let CallerId { number } = self;
         number
@@ -65,13 +65,13 @@ pub struct ActorId {
 
 impl Model for ActorId {
     ghost use Rattle.std.specs.Prelude.{ℕ, ◌≤◌};
-    ghost use Rattle.act_types.specs.declared.limits.TheConstants.{MOST_ACTORS};
+    ghost use Rattle.act_types.specs.declared.limits.TheConstants.{MAX_ACTORS};
 
     ghost Value = { ℕ };
 
     ghost view = { λ id. id.number };
 
-    ghost invariant = { λ id. (1 ≤ id.number) × (id.number ≤ MOST_ACTORS) };
+    ghost invariant = { λ id. (1 ≤ id.number) × (id.number ≤ MAX_ACTORS) };
 
     ghost inverse = { λ number. record { number = number } };
 }
@@ -79,11 +79,11 @@ impl Model for ActorId {
 impl ActorId {
     /// The actor of a number from 1 to 8.
     pub fn new(number: u8) -> Option<ActorId>
-        ensures valid { IsSome result ↔ ((1 ≤ number) × (number ≤ MOST_ACTORS)) }
+        ensures valid { IsSome result ↔ ((1 ≤ number) × (number ≤ MAX_ACTORS)) }
         ensures value { IfSome result (λ id. id ≡ number) }
     {
         match number {
-            1..=MOST_ACTORS => Some(ActorId { number }),
+            1..=MAX_ACTORS => Some(ActorId { number }),
             _ => None,
         }
     }
@@ -91,7 +91,7 @@ impl ActorId {
     /// The actor's number.
     pub fn number(self) -> u8
         ensures value { result ≡ self }
-        ensures valid { (1 ≤ self) × (self ≤ MOST_ACTORS) }
+        ensures valid { (1 ≤ self) × (self ≤ MAX_ACTORS) }
     {
         let ActorId { number } = self;
         number

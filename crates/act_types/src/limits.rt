@@ -1,34 +1,34 @@
 //! How much the service takes. Code, contracts and definitions all cite these.
 
 /// The callers are numbered from 1 to this.
-pub const MOST_CALLERS: u8 = 16;
+pub const MAX_CALLERS: u8 = 16;
 
 /// The actors are numbered from 1 to this.
-pub const MOST_ACTORS: u8 = 8;
+pub const MAX_ACTORS: u8 = 8;
 
 /// A caller submits at most this many calls.
-pub const MOST_CALLS: u32 = 65_536;
+pub const MAX_CALLS: u32 = 65_536;
 
 /// A caller holds at most this many copies of a handle.
-pub const MOST_COPIES: u32 = 65_535;
+pub const MAX_COPIES: u32 = 65_535;
 
 /// A call has at most this many arguments.
-pub const MOST_ARGS: usize = 4;
+pub const MAX_ARGS: usize = 4;
 
 /// A table holds at most this many keys.
-pub const MOST_KEYS: usize = 1_024;
+pub const MAX_KEYS: usize = 1_024;
 
 /// A list holds at most this many items.
-pub const MOST_ITEMS: usize = 4_096;
+pub const MAX_ITEMS: usize = 4_096;
 
 /// A text that is a key, or that is kept, has at most this many bytes.
-pub const MOST_TEXT_BYTES: usize = 64;
+pub const MAX_TEXT_BYTES: usize = 64;
 
 /// A name of a method or a fault of a kind of one's own has at most this many bytes.
-pub const MOST_NAME_BYTES: usize = 18;
+pub const MAX_NAME_BYTES: usize = 18;
 
 /// A line of a script has at most this many bytes.
-pub const MOST_LINE_BYTES: usize = 512;
+pub const MAX_LINE_BYTES: usize = 512;
 
 /// A script has at most this many bytes.
-pub const MOST_SCRIPT_BYTES: usize = 1_048_576;
+pub const MAX_SCRIPT_BYTES: usize = 1_048_576;

@@ -2,7 +2,7 @@
 
 ghost use Rattle.std.specs.Prelude.{◌≡◌, IfOk};
 
-use crate::{ActorId, Answer, CallerId, CopyOf, FewOf, FutureId, Method, NoMemory, Settled};
+use crate::{ActorId, Answer, CallerId, CopyOf, FutureId, Method, NoMemory, Settled, SmallList};
 use std::alloc::Global;
 
 /// A call on its way to its actor.
@@ -14,7 +14,7 @@ pub struct Packet {
     pub number: u32,
     pub future: FutureId,
     pub method: Method,
-    pub args: FewOf<Settled>,
+    pub args: SmallList<Settled>,
 }
 
 impl CopyOf for Packet {

@@ -4,7 +4,7 @@ ghost use Rattle.std.specs.Prelude.{◌≡◌, ◌≤◌, ◌-◌, ◌++◌, ◌
 ghost use Rattle.std.specs.List.{list_all};
 ghost use Rattle.act_types.specs.Names.{is_name as is_good, is_taken, is_one_of, is_name_byte, begins_with_letter, method_words, answer_words, script_words, kind_words};
 
-use crate::MOST_NAME_BYTES;
+use crate::MAX_NAME_BYTES;
 use std::marker::Model;
 use std::{fmt, str};
 
@@ -12,14 +12,14 @@ use std::{fmt, str};
 #[derive(Clone, Copy, PartialEq, Eq)]
 pub struct Name {
     /// The name's bytes, and zeros behind them.
-    bytes: [u8; MOST_NAME_BYTES],
+    bytes: [u8; MAX_NAME_BYTES],
     len: u8,
 }
 
 impl Model for Name {
     ghost use Rattle.std.specs.Prelude.{ℕ, List, ◌-◌, ◌++◌, take, length, replicate};
     ghost use Rattle.std.proofs.Common.{ap, ◌∙◌};
-    ghost use Rattle.act_types.specs.declared.limits.TheConstants.{MOST_NAME_BYTES};
+    ghost use Rattle.act_types.specs.declared.limits.TheConstants.{MAX_NAME_BYTES};
     ghost use Rattle.act_types.specs.Names.{IsNameIn};
 
     ghost Value = { List ℕ };
@@ -28,10 +28,11 @@ impl Model for Name {
 
     ghost invariant = { λ name. IsNameIn name.len name.bytes };
 
-    ghost inverse = { λ text. record { bytes = text ++ replicate (MOST_NAME_BYTES - length text) 0; len = length text } };
+    ghost inverse = { λ text.
+        record { bytes = text ++ replicate (MAX_NAME_BYTES - length text) 0; len = length text } };
 
     ghost inverse_ok = { λ name is_in i. record {
-      bytes = (ap (λ len. take name.len name.bytes ++ replicate (MOST_NAME_BYTES - len) 0) is_in.whole ∙ is_in.zeros) i;
+      bytes = (ap (λ len. take name.len name.bytes ++ replicate (MAX_NAME_BYTES - len) 0) is_in.whole ∙ is_in.zeros) i;
       len = is_in.whole i;
     } };
 }
@@ -137,16 +138,16 @@ pub fn is_name(text: &str) -> bool
     let bytes = text.as_bytes();
     starts_with_letter(bytes)
         && are_name_bytes(bytes)
-        && bytes.len() <= MOST_NAME_BYTES
+        && bytes.len() <= MAX_NAME_BYTES
         && !is_taken_word(text)
 }
 
 /// The bytes of a text, and zeros behind them.
-fn padded(text: &[u8]) -> [u8; MOST_NAME_BYTES]
+fn padded(text: &[u8]) -> [u8; MAX_NAME_BYTES]
     requires { length text.now ≤ 18 }
     ensures { result ≡ text.now ++ replicate (18 - length text.now) 0 }
 {
-    let mut bytes = [0; MOST_NAME_BYTES];
+    let mut bytes = [0; MAX_NAME_BYTES];
     bytes[..text.len()].copy_from_slice(text);
     bytes
 }

@@ -9,7 +9,7 @@ ghost use Rattle.act_types.specs.GoodText.{is_good_byte, is_good_text as is_good
 ghost use Rattle.std.proofs.Common.{rules};
 ghost use Rattle.std.specs.Cmp.Rules.{comparing, hashing};
 
-use crate::{CopyOf, MOST_TEXT_BYTES, NoMemory};
+use crate::{CopyOf, MAX_TEXT_BYTES, NoMemory};
 use std::alloc::Global;
 use std::fmt;
 use std::hash::{Hash, Hasher};
@@ -38,7 +38,7 @@ fn are_good_bytes(bytes: &[u8]) -> bool
 pub fn is_good_text(text: &str) -> bool
     ensures { result ≡ is_good text.now }
 {
-    (1..=MOST_TEXT_BYTES).contains(&text.len()) && are_good_bytes(text.as_bytes())
+    (1..=MAX_TEXT_BYTES).contains(&text.len()) && are_good_bytes(text.as_bytes())
 }
 
 impl Text {

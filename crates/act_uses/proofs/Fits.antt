@@ -8,13 +8,13 @@ use Rattle.std.proofs.lemmas.List.Elements.{All-cons, All-nil}
 use Rattle.std.proofs.lemmas.List.Kept.{AllPairs-cons}
 use Rattle.act_types.specs.KindState.{KindState}
 use Rattle.act_rules.specs.declared.script.Step.{Step}
-use Rattle.act_rules.specs.History.{Casting, contains}
+use Rattle.act_rules.specs.History.{ActorSpec, contains}
 use Rattle.act_rules.specs.Submissions.{IsLimit}
 use Rattle.act_actor.specs.declared.cast.Cast.{Cast}
 use Rattle.act_actor.specs.Cast.{CallersDiffer, IsFitting}
-use Rattle.act_actor.specs.Casts.{casting}
+use Rattle.act_actor.specs.Casts.{actor_spec}
 use Rattle.act_plans.specs.Parts.{PlansFit, most_steps}
-use Rattle.act_executor.specs.Runs.{plan_seen, IsFault}
+use Rattle.act_executor.specs.Runs.{plan_view, IsFault}
 use Rattle.act_uses.specs.declared.peaceful.Kinds.{Kinds}
 use Rattle.act_uses.specs.declared.peaceful.PeaceFault.{PeaceFault}
 use Rattle.act_uses.specs.declared.peaceful.PeaceFault.TheVariants.{EndsAnActor, Unfit, Run}
@@ -45,17 +45,17 @@ apart : (x y m n : ℕ) → x ≡ m → y ≡ n → m < n → x ≢ y
 apart x y m n is that less same = absurd (omega (arith, is, that, less, same))
 
 module _ {K : Type 0} (state : K → KindState) (c : ℕ) where
-  callers_differ : (n : ℕ) (s : KindState) (cast : Cast K) → casting state cast ≡ cast_for c n s → CallersDiffer cast.callers
-  callers_differ n s cast is = subst CallersDiffer (sym (ap (λ (it : Casting). it.callers) is)) (one_differs (λ (x y : ℕ). x ≢ y) c)
+  callers_differ : (n : ℕ) (s : KindState) (cast : Cast K) → actor_spec state cast ≡ cast_for c n s → CallersDiffer cast.callers
+  callers_differ n s cast is = subst CallersDiffer (sym (ap (λ (it : ActorSpec). it.callers) is)) (one_differs (λ (x y : ℕ). x ≢ y) c)
 
-  unlimited : (n : ℕ) (s : KindState) (cast : Cast K) → casting state cast ≡ cast_for c n s → IsLimit cast.pending
-  unlimited n s cast is = subst IsLimit (sym (ap (λ (it : Casting). it.pending) is)) tt
+  unlimited : (n : ℕ) (s : KindState) (cast : Cast K) → actor_spec state cast ≡ cast_for c n s → IsLimit cast.pending
+  unlimited n s cast is = subst IsLimit (sym (ap (λ (it : ActorSpec). it.pending) is)) tt
 
   four_fit : (s1 s2 s3 s4 : KindState) (one two three four : Cast K) →
-      casting state one ≡ cast_for c 1 s1 → casting state two ≡ cast_for c 2 s2 → casting state three ≡ cast_for c 3 s3 → casting state four ≡ cast_for c 4 s4 →
+      actor_spec state one ≡ cast_for c 1 s1 → actor_spec state two ≡ cast_for c 2 s2 → actor_spec state three ≡ cast_for c 3 s3 → actor_spec state four ≡ cast_for c 4 s4 →
       IsFitting (one ∷ two ∷ three ∷ four ∷ [])
   four_fit s1 s2 s3 s4 one two three four e1 e2 e3 e4 =
-      let actor = λ (it : Casting). it.actor in
+      let actor = λ (it : ActorSpec). it.actor in
       let n1 : one.actor ≡ 1 = ap actor e1 in
       let n2 : two.actor ≡ 2 = ap actor e2 in
       let n3 : three.actor ≡ 3 = ap actor e3 in
@@ -70,30 +70,30 @@ module _ {K : Type 0} (state : K → KindState) (c : ℕ) where
             (unlimited 1 s1 one e1) (unlimited 2 s2 two e2) (unlimited 3 s3 three e3) (unlimited 4 s4 four e4);
       }
 
-  casts_fit : (kinds : Kinds K) (casts : List (Cast K)) → map (casting state) casts ≡ casts_for state c kinds → IsFitting casts
+  casts_fit : (kinds : Kinds K) (casts : List (Cast K)) → map (actor_spec state) casts ≡ casts_for state c kinds → IsFitting casts
   casts_fit kinds [] same = let lengths = ap length same in absurd (omega (arith, lengths))
   casts_fit kinds (one ∷ []) same = let lengths = ap length same in absurd (omega (arith, lengths))
   casts_fit kinds (one ∷ two ∷ []) same = let lengths = ap length same in absurd (omega (arith, lengths))
   casts_fit kinds (one ∷ two ∷ three ∷ []) same = let lengths = ap length same in absurd (omega (arith, lengths))
   casts_fit kinds (one ∷ two ∷ three ∷ four ∷ []) same =
-      let d = casting state one in
+      let d = actor_spec state one in
       four_fit (state kinds.counter) (state kinds.table) (state kinds.account) (state kinds.list) one two three four
-      (ap (λ (l : List Casting). get_or l 0 d) same) (ap (λ (l : List Casting). get_or l 1 d) same)
-      (ap (λ (l : List Casting). get_or l 2 d) same) (ap (λ (l : List Casting). get_or l 3 d) same)
+      (ap (λ (l : List ActorSpec). get_or l 0 d) same) (ap (λ (l : List ActorSpec). get_or l 1 d) same)
+      (ap (λ (l : List ActorSpec). get_or l 2 d) same) (ap (λ (l : List ActorSpec). get_or l 3 d) same)
   casts_fit kinds (one ∷ two ∷ three ∷ four ∷ five ∷ more) same = let lengths = ap length same in absurd (omega (arith, lengths))
 
   -- the casts name the caller
   contained : (callers : List ℕ) → callers ≡ c ∷ [] → contains c callers ≡ true
   contained callers is = rw (is, eq-eqb c c refl) refl
 
-  named : (kinds : Kinds K) (casts : List (Cast K)) → map (casting state) casts ≡ casts_for state c kinds → list_any (λ (cast : Cast K). contains c cast.callers) casts ≡ true
+  named : (kinds : Kinds K) (casts : List (Cast K)) → map (actor_spec state) casts ≡ casts_for state c kinds → list_any (λ (cast : Cast K). contains c cast.callers) casts ≡ true
   named kinds [] same = let lengths = ap length same in absurd (omega (arith, lengths))
   named kinds (one ∷ more) same =
-      let d = casting state one in
-      let is : contains c one.callers ≡ true = contained one.callers (ap (λ (l : List Casting). (get_or l 0 d).callers) same) in
+      let d = actor_spec state one in
+      let is : contains c one.callers ≡ true = contained one.callers (ap (λ (l : List ActorSpec). (get_or l 0 d).callers) same) in
       rw is refl
 
-  plans_fit : (kinds : Kinds K) (casts : List (Cast K)) (plan : Vec Step) → map (casting state) casts ≡ casts_for state c kinds → length plan.items < most_steps → PlansFit casts ((c, plan) ∷ [])
+  plans_fit : (kinds : Kinds K) (casts : List (Cast K)) (plan : Vec Step) → map (actor_spec state) casts ≡ casts_for state c kinds → length plan.items < most_steps → PlansFit casts ((c, plan) ∷ [])
   plans_fit kinds casts plan same short = record {
     differ = one_differs (λ (one other : ℕ × Vec Step). one.0 ≢ other.0) (c, plan);
     named = All-cons (λ (it : ℕ × Vec Step). list_any (λ (cast : Cast K). contains it.0 cast.callers) casts ≡ true) (c, plan) [] (named kinds casts same) (All-nil _);
@@ -106,7 +106,7 @@ module _ {K : Type 0} (state : K → KindState) (c : ℕ) where
   peaceful_one plan peace = rw peace refl
 
   pub served : (kinds : Kinds K) (casts : List (Cast K)) (plans : List (ℕ × Vec Step)) (plan : Vec Step) →
-      map (casting state) casts ≡ casts_for state c kinds → plans ≡ (c, plan) ∷ [] → list_all is_peaceful plan.items ≡ true → length plan.items < most_steps →
+      map (actor_spec state) casts ≡ casts_for state c kinds → plans ≡ (c, plan) ∷ [] → list_all is_peaceful plan.items ≡ true → length plan.items < most_steps →
       (fault : PeaceFault) → IsPeaceFault state casts plans fault → IsServeFault (casts_for state c kinds) c plan.items fault
   served kinds casts plans plan same is peace short EndsAnActor wild =
       let calm = ap are_peaceful is ∙ peaceful_one plan peace in
@@ -117,6 +117,6 @@ module _ {K : Type 0} (state : K → KindState) (c : ℕ) where
   served kinds casts plans plan same is peace short (Run fault) ran = (
     peace,
     short,
-    subst (λ (l : List (ℕ × List Step)). IsFault (casts_for state c kinds) l fault) (ap (map plan_seen) is)
-        (subst (λ (l : List Casting). IsFault l (map plan_seen plans) fault) same ran.3),
+    subst (λ (l : List (ℕ × List Step)). IsFault (casts_for state c kinds) l fault) (ap (map plan_view) is)
+        (subst (λ (l : List ActorSpec). IsFault l (map plan_view plans) fault) same ran.3),
   )

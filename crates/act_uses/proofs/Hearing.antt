@@ -11,13 +11,13 @@ use Rattle.act_rules.specs.declared.history.RunItem.{RunItem}
 use Rattle.act_rules.specs.RunList.{Answer, after_item}
 use Rattle.act_rules.specs.Submissions.{kept_at}
 use Rattle.act_rules.proofs.KindFaults.{answer_alive}
-use Rattle.act_owner.specs.Owner.{OwnerValue, after_collect, is_death}
+use Rattle.act_owner.specs.Owner.{OwnerView, after_collect, is_death}
 use Rattle.act_world.proofs.Answering.{alive_is}
 use Rattle.act_actor.specs.Actor.{item_of}
-use Rattle.act_uses.specs.OneCall.{asking, question, asked}
+use Rattle.act_uses.specs.OneCall.{asking, question, step_of_question}
 
 -- no kind answers that the actor died
-answers_alive : (state : KindState) (method : Method) (value : Value) → is_death (asked state method value).1 ≡ false
+answers_alive : (state : KindState) (method : Method) (value : Value) → is_death (step_of_question state method value).1 ≡ false
 answers_alive state method value =
     let item : RunItem = record { caller = 1; number = 0; future = 0; method = method; args = Good value ∷ [] } in
     alive_is (after_item state item).1 (answer_alive state (item ∷ []) 0 (after_item state item).1 refl)
@@ -29,8 +29,8 @@ reply_for state packet = record { actor = 1; caller = 1; future = packet.future;
 first : (method : Method) (value : Value) (answer : Answer) → is_death answer ≡ false → kept_at (after_collect (asking method value) (Answered (record { actor = 1; caller = 1; future = 0; place = 0; answer = answer }))).kept 0 ≡ Some answer
 first method value answer alive = rw alive refl
 
-pub heard : (old new : OwnerValue) (packet : Packet) (reply : Reply) (state : KindState) (method : Method) (value : Value) → old ≡ asking method value → packet ≡ question method value → reply ≡ reply_for state packet
-    → new ≡ after_collect old (Answered reply) → kept_at new.kept 0 ≡ Some (asked state method value).1
+pub heard : (old new : OwnerView) (packet : Packet) (reply : Reply) (state : KindState) (method : Method) (value : Value) → old ≡ asking method value → packet ≡ question method value → reply ≡ reply_for state packet
+    → new ≡ after_collect old (Answered reply) → kept_at new.kept 0 ≡ Some (step_of_question state method value).1
 heard old new packet reply state method value sent carried told after =
-    ap (λ (owner : OwnerValue). kept_at owner.kept 0) (after ∙ ap (λ (owner : OwnerValue). after_collect owner (Answered reply)) sent ∙ ap (λ (r : Reply). after_collect (asking method value) (Answered r)) (told ∙ ap (reply_for state) carried))
-    ∙ first method value (asked state method value).1 (answers_alive state method value)
+    ap (λ (owner : OwnerView). kept_at owner.kept 0) (after ∙ ap (λ (owner : OwnerView). after_collect owner (Answered reply)) sent ∙ ap (λ (r : Reply). after_collect (asking method value) (Answered r)) (told ∙ ap (reply_for state) carried))
+    ∙ first method value (step_of_question state method value).1 (answers_alive state method value)

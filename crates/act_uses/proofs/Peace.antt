@@ -14,12 +14,12 @@ use Rattle.act_rules.specs.declared.history.Submission.{Submission}
 use Rattle.act_rules.specs.RunList.{Answer, is_end, ends_actor, has_terminated}
 use Rattle.act_rules.specs.Submissions.{kept_at}
 use Rattle.act_rules.specs.Consistent.{IsAsSubmitted}
-use Rattle.act_rules.specs.History.{Casting, actors_naming}
-use Rattle.act_rules.specs.Plans.{Progress, nothing_done, is_refused, stepped, done_by, kills_to}
+use Rattle.act_rules.specs.History.{ActorSpec, actors_naming}
+use Rattle.act_rules.specs.Plans.{Progress, nothing_done, is_refused, do_step, done_by, kills_to}
 use Rattle.act_rules.proofs.Lists.{All_at, All_more}
-use Rattle.act_plans.specs.Runs.{plan_of, steps_of}
-use Rattle.act_owner.specs.Owner.{OwnerValue}
-use Rattle.act_serve.specs.Served.{EndSeen}
+use Rattle.act_plans.specs.Runs.{plan_of, steps_of_plan}
+use Rattle.act_owner.specs.Owner.{OwnerView}
+use Rattle.act_serve.specs.Served.{EndView}
 use Rattle.act_executor.specs.Joined.{IsJoined, calls_in, kept_in, log_in, killed_in}
 use Rattle.act_uses.specs.Peaceful.{is_mild, is_peaceful, AllRan}
 
@@ -28,7 +28,7 @@ use Rattle.act_uses.specs.Peaceful.{is_mild, is_peaceful, AllRan}
 abbrev IsMild : Submission → Type 0
 IsMild call = is_mild call.method ≡ true
 
-step_mild : (p : Progress) (step : Step) → is_peaceful step ≡ true → AllByRecursion IsMild p.submitted → AllByRecursion IsMild (stepped p step).submitted
+step_mild : (p : Progress) (step : Step) → is_peaceful step ≡ true → AllByRecursion IsMild p.submitted → AllByRecursion IsMild (do_step p step).submitted
 step_mild p (Submit a m args) peace mild = All_more IsMild p.submitted (record { actor = a; method = m; args = args }) mild peace
 step_mild p (Copy a) peace mild = mild
 step_mild p (Release a) peace mild = mild
@@ -37,12 +37,12 @@ step_mild p (Await k) peace mild = mild
 
 done_mild : (actors : List ℕ) (p : Progress) (steps : List Step) → list_all is_peaceful steps ≡ true → AllByRecursion IsMild p.submitted → AllByRecursion IsMild (done_by actors p steps).submitted
 done_mild actors p [] peace mild = mild
-done_mild actors p (step ∷ steps) peace mild = done_mild actors (cond (is_refused actors p step) p (stepped p step)) steps both.1 (go (is_refused actors p step))
+done_mild actors p (step ∷ steps) peace mild = done_mild actors (cond (is_refused actors p step) p (do_step p step)) steps both.1 (go (is_refused actors p step))
   where
     both : (is_peaceful step ≡ true) × (list_all is_peaceful steps ≡ true)
     both = and_parts (is_peaceful step) (list_all is_peaceful steps) peace
 
-    go : (refused : Bool) → AllByRecursion IsMild (cond refused p (stepped p step)).submitted
+    go : (refused : Bool) → AllByRecursion IsMild (cond refused p (do_step p step)).submitted
     go true = mild
     go false = step_mild p step both.0 mild
 
@@ -64,7 +64,7 @@ peaceful_plan c (plan ∷ plans) peace =
     let both = and_parts (list_all is_peaceful plan.1) (list_all (λ plan. list_all is_peaceful plan.1) plans) peace in
     go (plan.0 == c) (find (λ other. other.0 == c) plans) both.0 (peaceful_plan c plans both.1)
   where
-    go : (mine : Bool) (other : Option (ℕ × List Step)) → list_all is_peaceful plan.1 ≡ true → list_all is_peaceful (steps_of other) ≡ true → list_all is_peaceful (steps_of (cond mine (Some plan) other)) ≡ true
+    go : (mine : Bool) (other : Option (ℕ × List Step)) → list_all is_peaceful plan.1 ≡ true → list_all is_peaceful (steps_of_plan other) ≡ true → list_all is_peaceful (steps_of_plan (cond mine (Some plan) other)) ≡ true
     go true other here there = here
     go false other here there = there
 
@@ -95,7 +95,7 @@ ended : (o : Option RunItem) → ends_actor o ≡ true → (item : RunItem) × (
 ended None e = absurd (cc)
 ended (Some item) e = (item, refl, e)
 
-module _ (casts : List Casting) (plans : List (ℕ × List Step)) (owners : List OwnerValue) (ends : List EndSeen) (joined : IsJoined casts plans owners ends) (peace : list_all (λ plan. list_all is_peaceful plan.1) plans ≡ true) where
+module _ (casts : List ActorSpec) (plans : List (ℕ × List Step)) (owners : List OwnerView) (ends : List EndView) (joined : IsJoined casts plans owners ends) (peace : list_all (λ plan. list_all is_peaceful plan.1) plans ≡ true) where
   calls_mild : (c : ℕ) → AllByRecursion IsMild (calls_in owners c)
   calls_mild c = subst (AllByRecursion IsMild) (sym (joined.submitted c)) (done_mild (actors_naming c casts) nothing_done (plan_of c plans) (peaceful_plan c plans peace) tt)
 
@@ -130,10 +130,10 @@ module _ (casts : List Casting) (plans : List (ℕ × List Step)) (owners : List
   }
 
 -- the same casts and plans by other names
-pub ran_with : {casts same : List Casting} {owners : List OwnerValue} {ends : List EndSeen} → casts ≡ same → AllRan casts owners ends → AllRan same owners ends
-ran_with {owners = owners} {ends = ends} is ran = subst (λ (l : List Casting). AllRan l owners ends) is ran
+pub ran_with : {casts same : List ActorSpec} {owners : List OwnerView} {ends : List EndView} → casts ≡ same → AllRan casts owners ends → AllRan same owners ends
+ran_with {owners = owners} {ends = ends} is ran = subst (λ (l : List ActorSpec). AllRan l owners ends) is ran
 
-pub joined_with : {casts same : List Casting} {plans others : List (ℕ × List Step)} {owners : List OwnerValue} {ends : List EndSeen} →
+pub joined_with : {casts same : List ActorSpec} {plans others : List (ℕ × List Step)} {owners : List OwnerView} {ends : List EndView} →
     casts ≡ same → plans ≡ others → IsJoined casts plans owners ends → IsJoined same others owners ends
 joined_with {same = same} {plans = plans} {owners = owners} {ends = ends} is told joined =
-    subst (λ (l : List (ℕ × List Step)). IsJoined same l owners ends) told (subst (λ (l : List Casting). IsJoined l plans owners ends) is joined)
+    subst (λ (l : List (ℕ × List Step)). IsJoined same l owners ends) told (subst (λ (l : List ActorSpec). IsJoined l plans owners ends) is joined)

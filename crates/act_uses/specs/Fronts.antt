@@ -3,13 +3,13 @@ use Rattle.std.specs.Prelude.{ℕ, List, map}
 use Rattle.std.specs.List.{enumerate_from}
 use Rattle.act_rules.specs.RunList.{items_of}
 use Rattle.act_rules.specs.Submissions.{calls_to}
-use Rattle.act_world.specs.Headline.{calls_in, log_in}
-use Rattle.act_world.specs.View.{WorldSeen}
+use Rattle.act_world.specs.Headline.{world_calls, world_log}
+use Rattle.act_world.specs.View.{WorldView}
 
 -- what an actor ran of a caller's calls, each by its number and its future
-abbrev pub ran_in : WorldSeen → ℕ → ℕ → List (ℕ × ℕ)
-ran_in world a c = map (λ item. (item.number, item.future)) (items_of c (log_in world a))
+abbrev pub ran_in : WorldView → ℕ → ℕ → List (ℕ × ℕ)
+ran_in world a c = map (λ item. (item.number, item.future)) (items_of c (world_log world a))
 
 -- what the caller submitted to the actor, each by its number and its future
-abbrev pub submitted_in : WorldSeen → ℕ → ℕ → List (ℕ × ℕ)
-submitted_in world a c = enumerate_from 0 (map (λ call. call.0) (calls_to a (calls_in world c)))
+abbrev pub submitted_in : WorldView → ℕ → ℕ → List (ℕ × ℕ)
+submitted_in world a c = enumerate_from 0 (map (λ call. call.0) (calls_to a (world_calls world c)))

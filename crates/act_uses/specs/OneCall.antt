@@ -6,17 +6,24 @@ use Rattle.act_types.specs.declared.call.Method.{Method}
 use Rattle.act_types.specs.declared.call.Arg.TheVariants.{Plain}
 use Rattle.act_types.specs.declared.call.Settled.TheVariants.{Good}
 use Rattle.act_types.specs.declared.message.Packet.{Packet}
-use Rattle.act_rules.specs.RunList.{Answer, call_reply, replied}
-use Rattle.act_owner.specs.Owner.{OwnerValue, opened, with_call, with_sent}
+use Rattle.act_rules.specs.RunList.{Answer, call_reply, step_of_reply}
+use Rattle.act_owner.specs.Owner.{OwnerView, open_owner, with_submission, with_sent}
 
 -- a caller that submitted one call, and sent it
-abbrev pub asking : Method → Value → OwnerValue
-asking method value = with_sent (with_call (opened 1 (1 ∷ [])) 1 method (Plain value ∷ [])) 0
+abbrev pub asking : Method → Value → OwnerView
+asking method value = with_sent (with_submission (open_owner 1 (1 ∷ [])) 1 method (Plain value ∷ [])) 0
 
 -- the packet of that call
 abbrev pub question : Method → Value → Packet
-question method value = record { caller = 1; actor = 1; number = 0; future = 0; method = method; args = Good value ∷ [] }
+question method value = record {
+  caller = 1;
+  actor = 1;
+  number = 0;
+  future = 0;
+  method = method;
+  args = Good value ∷ [];
+}
 
 -- the state and the answer of an actor in this state that runs it
-abbrev pub asked : KindState → Method → Value → KindState × Answer
-asked state method value = replied state (call_reply state method (value ∷ []))
+abbrev pub step_of_question : KindState → Method → Value → KindState × Answer
+step_of_question state method value = step_of_reply state (call_reply state method (value ∷ []))

@@ -10,15 +10,15 @@ use Rattle.act_rules.specs.declared.script.Step.TheVariants.{Submit, Kill}
 use Rattle.act_rules.specs.RunList.{Answer}
 use Rattle.act_rules.specs.Submissions.{kept_at}
 use Rattle.act_rules.specs.Consistent.{IsAnswerOfRun}
-use Rattle.act_rules.specs.History.{Casting, opening, opening_of}
-use Rattle.act_owner.specs.Owner.{OwnerValue}
+use Rattle.act_rules.specs.History.{ActorSpec, opening, opening_of}
+use Rattle.act_owner.specs.Owner.{OwnerView}
 use Rattle.act_actor.specs.declared.cast.Cast.{Cast}
 use Rattle.act_actor.specs.Cast.{IsFitting}
-use Rattle.act_actor.specs.Casts.{casting}
+use Rattle.act_actor.specs.Casts.{actor_spec}
 use Rattle.act_plans.specs.Parts.{PlansFit, most_steps}
-use Rattle.act_serve.specs.Served.{EndSeen}
+use Rattle.act_serve.specs.Served.{EndView}
 use Rattle.act_executor.specs.Joined.{calls_in, kept_in, log_in}
-use Rattle.act_executor.specs.Runs.{plan_seen, IsFault}
+use Rattle.act_executor.specs.Runs.{plan_view, IsFault}
 use Rattle.act_uses.specs.declared.peaceful.Kinds.{Kinds}
 use Rattle.act_uses.specs.declared.peaceful.PeaceFault.{PeaceFault}
 use Rattle.act_uses.specs.declared.peaceful.PeaceFault.TheVariants.{EndsAnActor, Unfit, Run}
@@ -39,27 +39,33 @@ abbrev pub are_peaceful : List (ℕ × Vec Step) → Bool
 are_peaceful plans = list_all (λ plan. list_all is_peaceful plan.1.items) plans
 
 -- each call of each caller has an answer, which its actor gave at the one place where it ran the call
-pub record AllRan (casts : List Casting) (owners : List OwnerValue) (ends : List EndSeen) : Type 0 where
+pub record AllRan (casts : List ActorSpec) (owners : List OwnerView) (ends : List EndView) : Type 0 where
   pub answered : (c k : ℕ) → k < length (calls_in owners c) →
-      (answer : Answer) × (kept_at (kept_in owners c) k ≡ Some answer) × IsAnswerOfRun (λ a. opening_of a (opening casts)) (log_in ends) c k answer
+      (answer : Answer) × (kept_at (kept_in owners c) k ≡ Some answer)
+      × IsAnswerOfRun (λ a. opening_of a (opening casts)) (log_in ends) c k answer
 
 -- the cast of an actor of this state, for one caller
-abbrev pub cast_for : ℕ → ℕ → KindState → Casting
+abbrev pub cast_for : ℕ → ℕ → KindState → ActorSpec
 cast_for c a state = record { actor = a; callers = c ∷ []; opening = state; pending = None }
 
 -- the casts of a counter, a table, an account and a list, for one caller
-abbrev pub casts_for : {K : Type 0} → (K → KindState) → ℕ → Kinds K → List Casting
-casts_for state c kinds = cast_for c 1 (state kinds.counter) ∷ cast_for c 2 (state kinds.table) ∷ cast_for c 3 (state kinds.account) ∷ cast_for c 4 (state kinds.list) ∷ []
+abbrev pub casts_for : {K : Type 0} → (K → KindState) → ℕ → Kinds K → List ActorSpec
+casts_for state c kinds = cast_for c 1 (state kinds.counter) ∷ cast_for c 2 (state kinds.table) ∷
+    cast_for c 3 (state kinds.account) ∷ cast_for c 4 (state kinds.list) ∷ []
 
--- which fault comes in peace: that a step ends an actor comes first, then that casts or plans don't fit, and then a fault of the run
+-- which fault comes in peace: that a step ends an actor comes first, then that casts or plans don't fit, and then a
+-- fault of the run
 abbrev pub IsPeaceFault : {K : Type 0} → (K → KindState) → List (Cast K) → List (ℕ × Vec Step) → PeaceFault → Type 0
 IsPeaceFault state casts plans EndsAnActor = are_peaceful plans ≡ false
 IsPeaceFault state casts plans Unfit = (are_peaceful plans ≡ true) × (IsFitting casts → PlansFit casts plans → ⊥)
 IsPeaceFault state casts plans (Run fault) =
-    (are_peaceful plans ≡ true) × IsFitting casts × PlansFit casts plans × IsFault (map (casting state) casts) (map plan_seen plans) fault
+    (are_peaceful plans ≡ true) × IsFitting casts × PlansFit casts plans
+    × IsFault (map (actor_spec state) casts) (map plan_view plans) fault
 
--- which fault comes where one caller does a plan with these actors, which fit: the plan is unfit where it has too many steps
-abbrev pub IsServeFault : List Casting → ℕ → List Step → PeaceFault → Type 0
+-- which fault comes where one caller does a plan with these actors, which fit: the plan is unfit where it has too many
+-- steps
+abbrev pub IsServeFault : List ActorSpec → ℕ → List Step → PeaceFault → Type 0
 IsServeFault casts c plan EndsAnActor = list_all is_peaceful plan ≡ false
 IsServeFault casts c plan Unfit = (list_all is_peaceful plan ≡ true) × (most_steps ≤ length plan)
-IsServeFault casts c plan (Run fault) = (list_all is_peaceful plan ≡ true) × (length plan < most_steps) × IsFault casts ((c, plan) ∷ []) fault
+IsServeFault casts c plan (Run fault) = (list_all is_peaceful plan ≡ true) × (length plan < most_steps)
+    × IsFault casts ((c, plan) ∷ []) fault

@@ -4,8 +4,8 @@ use Rattle.act_rules.specs.declared.script.Wrong.{Wrong}
 use Rattle.act_rules.specs.Grammar.{Script as Spelled}
 use Rattle.act_rules.specs.Rules.{Outcome}
 use Rattle.act_scripts.specs.Spelled.{FailsAt}
-use Rattle.act_world.specs.Stands.{Played}
-use Rattle.act_world.specs.View.{WorldSeen}
+use Rattle.act_world.specs.IsReachedBy.{HasPlayed}
+use Rattle.act_world.specs.View.{WorldView}
 use Rattle.act_uses.specs.declared.played.PartFault.{PartFault}
 use Rattle.act_uses.specs.declared.played.PartFault.TheVariants.{Script, NoRoom, Stopped}
 
@@ -16,7 +16,9 @@ IsFaultOf NoRoom read = Unit {0}
 IsFaultOf (Stopped place) read = Unit {0}
 
 -- of the first events of a script those before the place were played, and with another fault nothing was
-abbrev pub PlayedBefore : PartFault → Result Spelled (ℕ × Wrong) → ℕ → WorldSeen → WorldSeen → List Outcome → List Outcome → Type 0
+abbrev pub PlayedBefore : PartFault → Result Spelled (ℕ × Wrong) → ℕ → WorldView → WorldView → List Outcome →
+    List Outcome → Type 0
 PlayedBefore (Script fault) read count old new told told_new = (new ≡ old) × (told_new ≡ told)
 PlayedBefore NoRoom read count old new told told_new = (new ≡ old) × (told_new ≡ told)
-PlayedBefore (Stopped place) read count old new told told_new = (script : Spelled) → read ≡ Ok script → Played (take place (take count script.events)) old new told told_new
+PlayedBefore (Stopped place) read count old new told told_new = (script : Spelled) → read ≡ Ok script →
+    HasPlayed (take place (take count script.events)) old new told told_new

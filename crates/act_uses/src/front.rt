@@ -1,14 +1,14 @@
 //! What an actor has run of a caller's calls, read off a world after any events.
 
 ghost use Rattle.std.specs.Prelude.{◌≡◌, ℕ, List, map, OnOk, IfOk, ◌++◌, ◌∷◌, []};
-ghost use Rattle.act_rules.specs.History.{Casting};
-ghost use Rattle.act_rules.specs.Consistent.{IsFront};
+ghost use Rattle.act_rules.specs.History.{ActorSpec};
+ghost use Rattle.act_rules.specs.Consistent.{IsPrefix};
 ghost use Rattle.act_rules.specs.declared.event.Event.{Event as Happening};
 ghost use Rattle.act_actor.specs.Cast.{IsFitting};
-ghost use Rattle.act_actor.specs.Casts.{casting};
-ghost use Rattle.act_world.specs.Headline.{log_of};
-ghost use Rattle.act_world.specs.Stands.{Stands};
-ghost use Rattle.act_world.specs.View.{stage_seen, world_seen};
+ghost use Rattle.act_actor.specs.Casts.{actor_spec};
+ghost use Rattle.act_world.specs.Headline.{slot_log};
+ghost use Rattle.act_world.specs.IsReachedBy.{IsReachedBy};
+ghost use Rattle.act_world.specs.View.{stage_view, world_view};
 ghost use Rattle.act_uses.specs.Fronts.{ran_in, submitted_in};
 
 use act_kinds::Actor;
@@ -19,9 +19,9 @@ use std::alloc::Global;
 
 /// Does one event where there is room for it. A refused event is one that happened, too.
 fn step<K: Actor>(world: &mut World<K>, event: &Event) -> Result<(), NoMemory>
-    ensures { OnOk result ((casts : List Casting) (before : List Happening) →
-        Stands casts before (world_seen K.state world.old) →
-        Stands casts (before ++ event.now ∷ []) (world_seen K.state world.new)) }
+    ensures { OnOk result ((casts : List ActorSpec) (before : List Happening) →
+        IsReachedBy casts before (world_view K.state world.old) →
+        IsReachedBy casts (before ++ event.now ∷ []) (world_view K.state world.new)) }
 {
     if !world.has_room(1) {
         return Err(NoMemory);
@@ -40,7 +40,8 @@ pub fn world_after<K: Actor>(
     events: &[Event],
 ) -> Result<World<K>, NoMemory>
     requires fit { IsFitting casts.items }
-    ensures { IfOk result (λ world. Stands (map (casting K.state) casts.items) events.now (world_seen K.state world)) }
+    ensures { IfOk result (λ world.
+        IsReachedBy (map (actor_spec K.state) casts.items) events.now (world_view K.state world)) }
 {
     let mut world = World::open(alloc, casts)?;
     for event in events {
@@ -51,7 +52,7 @@ pub fn world_after<K: Actor>(
 
 /// What an actor ran, whatever state it is in.
 fn log_of<'a, K: Actor>(stage: Stage<'a, K>) -> &'a [RunItem]
-    ensures { result.now ≡ log_of (stage_seen K.state stage.entry) }
+    ensures { result.now ≡ slot_log (stage_view K.state stage.entry) }
 {
     match stage {
         Stage::Live(live) => live.log(),
@@ -67,7 +68,7 @@ fn listed<K: Actor>(
     a: ActorId,
     c: CallerId,
 ) -> Result<Vec<(u32, FutureId)>, NoMemory>
-    ensures { IfOk result (λ ran. ran.items ≡ ran_in (world_seen K.state world.now) a c) }
+    ensures { IfOk result (λ ran. ran.items ≡ ran_in (world_view K.state world.now) a c) }
 {
     let Some(stage) = world.stage(a) else {
         return Ok(Vec::new(alloc));
@@ -88,11 +89,11 @@ pub fn ran_of<K: Actor>(
     a: ActorId,
     c: CallerId,
 ) -> Result<Vec<(u32, FutureId)>, NoMemory>
-    ensures ran { IfOk result (λ ran. ran.items ≡ ran_in (world_seen K.state world.now) a c) }
-    // They are a front of those that the caller submitted: in order, with no gap, and each once.
-    ensures front { IfOk result (λ ran. (casts : List Casting) (events : List Happening) →
-        Stands casts events (world_seen K.state world.now) →
-        IsFront ran.items (submitted_in (world_seen K.state world.now) a c)) }
+    ensures ran { IfOk result (λ ran. ran.items ≡ ran_in (world_view K.state world.now) a c) }
+    // They are a prefix of those that the caller submitted: in order, with no gap, and each once.
+    ensures front { IfOk result (λ ran. (casts : List ActorSpec) (events : List Happening) →
+        IsReachedBy casts events (world_view K.state world.now) →
+        IsPrefix ran.items (submitted_in (world_view K.state world.now) a c)) }
 {
     world.consistent();
     let ran = listed(alloc, world, a, c)?;

@@ -3,10 +3,10 @@
 ghost use Rattle.std.specs.Prelude.{◌≡◌, [], ◌∷◌, Some, IfOk, OnOk};
 ghost use Rattle.act_rules.specs.RunList.{after_item};
 ghost use Rattle.act_rules.specs.Submissions.{kept_at};
-ghost use Rattle.act_owner.specs.Owner.{opened};
+ghost use Rattle.act_owner.specs.Owner.{open_owner};
 ghost use Rattle.act_actor.specs.Actor.{item_of};
-ghost use Rattle.act_actor.specs.StateViews.{live_seen};
-ghost use Rattle.act_uses.specs.OneCall.{asking, question, asked};
+ghost use Rattle.act_actor.specs.StateViews.{live_view};
+ghost use Rattle.act_uses.specs.OneCall.{asking, question, step_of_question};
 
 use act_actor::Live;
 use act_kinds::Actor;
@@ -23,7 +23,7 @@ pub struct Heard<K> {
 
 /// A new caller submits the call and sends it.
 fn posed(alloc: Global, owner: &mut Owner, method: Method, value: Value) -> Result<Packet, NoMemory>
-    requires { owner.old ≡ opened 1 (1 ∷ []) }
+    requires { owner.old ≡ open_owner 1 (1 ∷ []) }
     ensures owner { OnOk result (owner.new ≡ asking method value) }
     ensures packet { IfOk result (λ packet. packet ≡ question method value) }
 {
@@ -56,7 +56,8 @@ fn ran<K: Actor>(alloc: Global, kind: K, packet: Packet) -> Result<(Live<K>, Rep
     requires caller { packet.caller ≡ 1 }
     requires actor { packet.actor ≡ 1 }
     requires first { packet.number ≡ 0 }
-    ensures state { IfOk result (λ ran. (live_seen K.state ran.0).state ≡ (after_item (K.state kind) (item_of packet)).0) }
+    ensures state { IfOk result (λ ran.
+        (live_view K.state ran.0).state ≡ (after_item (K.state kind) (item_of packet)).0) }
     ensures reply { IfOk result (λ ran. ran.1 ≡
         record {
           actor = 1;
@@ -85,8 +86,10 @@ pub fn ask_once<K: Actor>(
     value: Value,
 ) -> Result<Heard<K>, NoMemory>
     // What the caller keeps is what the kind answers in the state that it came with.
-    ensures answer { IfOk result (λ heard. kept_at heard.owner.kept 0 ≡ Some (asked (K.state kind) method value).1) }
-    ensures state { IfOk result (λ heard. (live_seen K.state heard.live).state ≡ (asked (K.state kind) method value).0) }
+    ensures answer { IfOk result (λ heard.
+        kept_at heard.owner.kept 0 ≡ Some (step_of_question (K.state kind) method value).1) }
+    ensures state { IfOk result (λ heard.
+        (live_view K.state heard.live).state ≡ (step_of_question (K.state kind) method value).0) }
 {
     let (mut owner, packet) = sent(alloc, method, value)?;
     let (live, reply) = ran(alloc, kind, packet)?;

@@ -1,8 +1,8 @@
 //! A play that goes on where memory was refused, and ends where it would have ended.
 
 ghost use Rattle.std.specs.Prelude.{take, OnOk, IfErr};
-ghost use Rattle.act_world.specs.Stands.{Played};
-ghost use Rattle.act_world.specs.View.{world_seen};
+ghost use Rattle.act_world.specs.IsReachedBy.{HasPlayed};
+ghost use Rattle.act_world.specs.View.{world_view};
 
 use act_kinds::Actor;
 use act_world::{Event, Outcome, World};
@@ -16,11 +16,11 @@ pub fn play_patiently<K: Actor>(
     tries: u32,
 ) -> Result<(), usize>
     // The same as if memory had never been refused: no event is lost, and none is done twice.
-    ensures ok { OnOk result (Played events.now (world_seen K.state world.old)
-        (world_seen K.state world.new) told.old.items told.new.items) }
+    ensures ok { OnOk result (HasPlayed events.now (world_view K.state world.old)
+        (world_view K.state world.new) told.old.items told.new.items) }
     ensures err { IfErr result (λ place.
-        Played (take place events.now) (world_seen K.state world.old)
-        (world_seen K.state world.new) told.old.items told.new.items) }
+        HasPlayed (take place events.now) (world_view K.state world.old)
+        (world_view K.state world.new) told.old.items told.new.items) }
 {
     let mut place: usize = 0;
     for _attempt in 0..tries {

@@ -2,16 +2,16 @@
 
 ghost use Rattle.std.specs.Prelude.{◌≡◌, ◌≤◌, ◌∷◌, [], map, IfOk, IfErr};
 ghost use Rattle.std.specs.List.{list_all};
-ghost use Rattle.act_actor.specs.Casts.{casting};
-ghost use Rattle.act_serve.specs.Served.{end_seen};
+ghost use Rattle.act_actor.specs.Casts.{actor_spec};
+ghost use Rattle.act_serve.specs.Served.{end_view};
 ghost use Rattle.act_executor.specs.Joined.{IsJoined};
-ghost use Rattle.act_executor.specs.Runs.{plan_seen};
+ghost use Rattle.act_executor.specs.Runs.{plan_view};
 ghost use Rattle.act_uses.specs.Peaceful.{AllRan, IsPeaceFault, IsServeFault, are_peaceful, is_peaceful, cast_for, casts_for};
 
 use act_actor::{Cast, cast_fits};
 use act_executor::{Joined, NoGate, Plan, RunFault, plans_fit, run_plans};
 use act_kinds::{Actor, Boxed};
-use act_plans::MOST_STEPS;
+use act_plans::MAX_STEPS;
 use act_rules::Step;
 use act_types::{ActorId, CallerId, ListOf, Method, NoMemory};
 use std::alloc::{AllocError, AllocFailed, Global};
@@ -104,12 +104,12 @@ pub fn run_in_peace<R: Threads + Wait + Sync, K: Actor + Send>(
     plans: Vec<(CallerId, Plan)>,
 ) -> Result<Joined<K>, PeaceFault>
     ensures joined { IfOk result (λ joined.
-        IsJoined (map (casting K.state) casts.items) (map plan_seen plans.items) joined.owners.items
-        (map (λ actor. end_seen K.state actor.ended) joined.actors.items)) }
+        IsJoined (map (actor_spec K.state) casts.items) (map plan_view plans.items) joined.owners.items
+        (map (λ actor. end_view K.state actor.ended) joined.actors.items)) }
     // No answer is a death: each call of each caller ran, and its answer is its kind's.
     ensures answered { IfOk result (λ joined.
-        AllRan (map (casting K.state) casts.items) joined.owners.items
-        (map (λ actor. end_seen K.state actor.ended) joined.actors.items)) }
+        AllRan (map (actor_spec K.state) casts.items) joined.owners.items
+        (map (λ actor. end_view K.state actor.ended) joined.actors.items)) }
     ensures fault { IfErr result (IsPeaceFault K.state casts.items plans.items) }
 {
     if !are_peaceful(plans.as_slice()) {
@@ -134,7 +134,7 @@ pub struct Kinds<K = Boxed> {
 /// The cast of an actor of this kind, for one caller.
 fn cast_of<K: Actor>(alloc: Global, c: CallerId, number: u8, kind: K) -> Result<Cast<K>, NoMemory>
     requires number { (1 ≤ number) × (number ≤ 8) }
-    ensures { IfOk result (λ cast. casting K.state cast ≡ cast_for c number (K.state kind)) }
+    ensures { IfOk result (λ cast. actor_spec K.state cast ≡ cast_for c number (K.state kind)) }
 {
     let mut callers = ListOf::new(alloc);
     callers.push(c)?;
@@ -148,7 +148,7 @@ fn cast_of<K: Actor>(alloc: Global, c: CallerId, number: u8, kind: K) -> Result<
 
 /// The casts of these kinds, for one caller.
 fn casts_of<K: Actor>(alloc: Global, c: CallerId, kinds: Kinds<K>) -> Result<Vec<Cast<K>>, NoMemory>
-    ensures { IfOk result (λ casts. map (casting K.state) casts.items ≡ casts_for K.state c kinds) }
+    ensures { IfOk result (λ casts. map (actor_spec K.state) casts.items ≡ casts_for K.state c kinds) }
 {
     let Kinds {
         counter,
@@ -184,17 +184,17 @@ pub fn serve_each_kind<R: Threads + Wait + Sync, K: Actor + Send>(
 ) -> Result<Joined<K>, PeaceFault>
     ensures joined { IfOk result (λ joined.
         IsJoined (casts_for K.state c kinds) ((c, plan.items) ∷ []) joined.owners.items
-        (map (λ actor. end_seen K.state actor.ended) joined.actors.items)) }
+        (map (λ actor. end_view K.state actor.ended) joined.actors.items)) }
     ensures answered { IfOk result (λ joined.
         AllRan (casts_for K.state c kinds) joined.owners.items
-        (map (λ actor. end_seen K.state actor.ended) joined.actors.items)) }
+        (map (λ actor. end_view K.state actor.ended) joined.actors.items)) }
     // Want of memory comes last.
     ensures fault { IfErr result (IsServeFault (casts_for K.state c kinds) c plan.items) }
 {
     if !is_peaceful_plan(&plan) {
         return Err(PeaceFault::EndsAnActor);
     }
-    if plan.len() >= MOST_STEPS {
+    if plan.len() >= MAX_STEPS {
         return Err(PeaceFault::Unfit);
     }
     let casts = casts_of(alloc, c, kinds)?;

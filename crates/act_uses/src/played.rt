@@ -4,8 +4,8 @@ ghost use Rattle.std.specs.Prelude.{◌≡◌, take, IfOk, OnOk, IfErr, Ok};
 ghost use Rattle.act_rules.specs.Grammar.{spelled, Script as Spelled};
 ghost use Rattle.act_rules.specs.declared.script.Mode.TheVariants.{Play};
 ghost use Rattle.act_scripts.specs.Spelled.{FailsAt};
-ghost use Rattle.act_world.specs.Stands.{Played};
-ghost use Rattle.act_world.specs.View.{world_seen};
+ghost use Rattle.act_world.specs.IsReachedBy.{HasPlayed};
+ghost use Rattle.act_world.specs.View.{world_view};
 ghost use Rattle.act_uses.specs.Scripts.{IsFaultOf, PlayedBefore};
 
 use act_kinds::Actor;
@@ -39,7 +39,8 @@ impl From<ScriptFault> for PartFault {
 
 /// The events that bytes spell.
 fn events_in(alloc: Global, bytes: &[u8]) -> Result<ListOf<Event>, ScriptFault>
-    ensures events { IfOk result (λ events. (script : Spelled) → spelled Play bytes.now ≡ Ok script → events ≡ script.events) }
+    ensures events { IfOk result (λ events. (script : Spelled) → spelled Play bytes.now ≡ Ok script →
+        events ≡ script.events) }
     ensures fault { IfErr result (λ fault. FailsAt fault (spelled Play bytes.now)) }
 {
     let script = read_script(alloc, bytes, Mode::Play)?;
@@ -70,12 +71,12 @@ pub fn play_part<K: Actor>(
     told: &mut Vec<Outcome>,
 ) -> Result<(), PartFault>
     ensures ok { OnOk result ((script : Spelled) → spelled Play bytes.now ≡ Ok script →
-        Played (take count script.events) (world_seen K.state world.old)
-        (world_seen K.state world.new) told.old.items told.new.items) }
+        HasPlayed (take count script.events) (world_view K.state world.old)
+        (world_view K.state world.new) told.old.items told.new.items) }
     // A stop at a place has played the events before it, and any other `Err` none.
     ensures err { IfErr result (λ fault.
-        PlayedBefore fault (spelled Play bytes.now) count (world_seen K.state world.old)
-        (world_seen K.state world.new) told.old.items told.new.items) }
+        PlayedBefore fault (spelled Play bytes.now) count (world_view K.state world.old)
+        (world_view K.state world.new) told.old.items told.new.items) }
     // A fault with its line is the script's first one.
     ensures fault { IfErr result (λ fault. IsFaultOf fault (spelled Play bytes.now)) }
 {

@@ -18,18 +18,18 @@ use Rattle.act_rules.specs.declared.outcome.Did.{Did}
 use Rattle.act_rules.specs.declared.outcome.Did.TheVariants.{Kept, Late as DidLate}
 use Rattle.act_rules.specs.RunList.{Answer, answer_at}
 use Rattle.act_rules.specs.Submissions.{kept_at}
-use Rattle.act_rules.specs.History.{History, calls_of, kept_of, runs_of, opening_of, answer_of, answer_in, is_call, first_answer}
+use Rattle.act_rules.specs.History.{History, calls_of, kept_of, runs_of, opening_of, answer_of, answer_in, is_item_of, first_answer}
 use Rattle.act_rules.specs.Rules.{outcome_of, did_reply, did_collect, after, was_sent}
 use Rattle.act_rules.proofs.KindFaults.{answer_alive}
 use Rattle.act_rules.proofs.Unique.{held_submission}
 use Rattle.act_rules.proofs.Table.{or_else, kept_of-collected}
 use Rattle.act_owner.specs.declared.owner.Collected.{Collected}
 use Rattle.act_owner.specs.declared.owner.Collected.TheVariants.{First, Late, Stray}
-use Rattle.act_owner.specs.Owner.{OwnerValue, is_sent, is_to, is_death, is_of_call, collected_reply, after_reply_that}
+use Rattle.act_owner.specs.Owner.{OwnerView, is_sent, is_to, is_death, is_of_call, collected_reply, after_reply_that}
 use Rattle.act_owner.proofs.Told.{is_death-only}
-use Rattle.act_world.specs.Exchange.{ExchangeValue, told_collected}
-use Rattle.act_world.specs.View.{SlotSeen}
-use Rattle.act_world.specs.Ties.{IsOwnerOf, is_death_to, reply_as, Ties}
+use Rattle.act_world.specs.Network.{NetworkView, told_collected}
+use Rattle.act_world.specs.View.{SlotView}
+use Rattle.act_world.specs.Refines.{IsOwnerOf, is_death_to, reply_as, Refines}
 use Rattle.act_world.proofs.Lawful.{IsLawful}
 use Rattle.act_world.proofs.Pending.{kept_long}
 use Rattle.act_world.proofs.Sending.{seen_owner}
@@ -57,7 +57,7 @@ no_run_dies h a place answer e = alive_is answer (go (opening_of a h) e)
 all_four : (p q r s : Bool) → p ≡ true → q ≡ true → r ≡ true → s ≡ false → (p && q && r && not s) ≡ true
 all_four p q r s e f g k = rw (e, f, g, k) refl
 
-is_mine : (h : History) (c a place : ℕ) (item : RunItem) (answer : Answer) (owner : OwnerValue) → IsLawful h → IsOwnerOf h c owner → slice_get (runs_of a h) place ≡ Some item → item.caller ≡ c → answer_of a place h ≡ Some answer → is_of_call owner (reply_as c a place item answer) ≡ true
+is_mine : (h : History) (c a place : ℕ) (item : RunItem) (answer : Answer) (owner : OwnerView) → IsLawful h → IsOwnerOf h c owner → slice_get (runs_of a h) place ≡ Some item → item.caller ≡ c → answer_of a place h ≡ Some answer → is_of_call owner (reply_as c a place item answer) ≡ true
 is_mine h c a place item answer owner lawful is at caller answered =
     let call = held_submission h a c item.future place item lawful.sound.order at caller refl in
     let there : slice_get owner.calls item.future ≡ Some call.0 = ap (λ (calls : List Submission). slice_get calls item.future) is.calls ∙ call.1 in
@@ -74,7 +74,7 @@ answers_one : (h : History) (c a place j b : ℕ) (item : RunItem) (answer : Ans
 answers_one h c a place j b item answer at caller answered =
     let mine : (c == c) ≡ true = eq-eqb c c refl in
     let his : (item.caller == c) ≡ true = eq-eqb item.caller c caller in
-    ap (λ (o : Option RunItem). cond ((c == c) && is_call c j o) (answer_of a place h) None) at
+    ap (λ (o : Option RunItem). cond ((c == c) && is_item_of c j o) (answer_of a place h) None) at
     ∙ ap (λ (o : Option Answer). cond ((c == c) && ((item.caller == c) && (item.future == j))) o None) answered
     ∙ rw (mine, his) refl
 
@@ -131,7 +131,7 @@ late_table h c a place item answer earlier at caller answered full =
 -- ---- the caller after a reply
 
 -- nothing but the table changes
-answered_owner : (h : History) (c a place : ℕ) (owner : OwnerValue) (kept : List (Option Answer)) → IsOwnerOf h c owner → kept ≡ kept_of c (heard h (ReplyPost c a place)) → IsOwnerOf (heard h (ReplyPost c a place)) c (record owner { kept = kept })
+answered_owner : (h : History) (c a place : ℕ) (owner : OwnerView) (kept : List (Option Answer)) → IsOwnerOf h c owner → kept ≡ kept_of c (heard h (ReplyPost c a place)) → IsOwnerOf (heard h (ReplyPost c a place)) c (record owner { kept = kept })
 answered_owner h c a place owner kept is kept_is = record {
   id = is.id;
   copies = is.copies;
@@ -148,7 +148,7 @@ answered_owner h c a place owner kept is kept_is = record {
     same_sent k None = refl
     same_sent k (Some call) = refl
 
-collected_as : (owner : OwnerValue) (reply : Reply) (o : Option Answer) → is_of_call owner reply ≡ true → kept_at owner.kept reply.future ≡ o → collected_reply owner reply ≡ cond (is_some o) (Late reply.future) (First reply.future)
+collected_as : (owner : OwnerView) (reply : Reply) (o : Option Answer) → is_of_call owner reply ≡ true → kept_at owner.kept reply.future ≡ o → collected_reply owner reply ≡ cond (is_some o) (Late reply.future) (First reply.future)
 collected_as owner reply o mine kept =
     ap (λ (b : Bool). cond b (cond (is_some (kept_at owner.kept reply.future)) (Late reply.future) (First reply.future)) Stray) mine
     ∙ ap (λ (found : Option Answer). cond (is_some found) (Late reply.future) (First reply.future)) kept
@@ -156,15 +156,15 @@ collected_as owner reply o mine kept =
 did_reply_as : (h : History) (c a place : ℕ) (item : RunItem) (o : Option Answer) → slice_get (runs_of a h) place ≡ Some item → kept_at (kept_of c h) item.future ≡ o → did_collect h (Some (ReplyPost c a place)) ≡ cond (is_none o) (Kept c item.future) (DidLate c item.future)
 did_reply_as h c a place item o at kept = ap (did_reply c h) at ∙ ap (λ (found : Option Answer). cond (is_none found) (Kept c item.future) (DidLate c item.future)) kept
 
-pub reply_collects : (h : History) (exchange : ExchangeValue) (slots : List SlotSeen) (j c a place : ℕ) (item : RunItem) (answer : Answer) → IsLawful h → Ties h (record { exchange = exchange; slots = slots }) → slice_get h.posts j ≡ Some (ReplyPost c a place)
-    → slice_get (runs_of a h) place ≡ Some item → item.caller ≡ c → answer_of a place h ≡ Some answer → Collects h exchange slots j (record { caller = c; notice = Answered (reply_as c a place item answer) })
-reply_collects h exchange slots j c a place item answer lawful ties post_at at caller answered spot owner new told sees told_is new_is known = go (kept_at (kept_of c h) item.future) refl
+pub reply_collects : (h : History) (network : NetworkView) (slots : List SlotView) (j c a place : ℕ) (item : RunItem) (answer : Answer) → IsLawful h → Refines h (record { network = network; slots = slots }) → slice_get h.posts j ≡ Some (ReplyPost c a place)
+    → slice_get (runs_of a h) place ≡ Some item → item.caller ≡ c → answer_of a place h ≡ Some answer → Collects h network slots j (record { caller = c; notice = Answered (reply_as c a place item answer) })
+reply_collects h network slots j c a place item answer lawful refines post_at at caller answered spot owner new told sees told_is new_is known = go (kept_at (kept_of c h) item.future) refl
   where
     reply : Reply
     reply = reply_as c a place item answer
 
     is : IsOwnerOf h c owner
-    is = (seen_owner h exchange slots c spot owner ties sees).1
+    is = (seen_owner h network slots c spot owner refines sees).1
 
     becomes : (o : Option Answer) → kept_at (kept_of c h) item.future ≡ o → collected_reply owner (reply_as c a place item answer) ≡ cond (is_some o) (Late item.future) (First item.future)
     becomes o kept = collected_as owner (reply_as c a place item answer) o (is_mine h c a place item answer owner lawful is at caller answered) (ap (λ (answers : List (Option Answer)). kept_at answers item.future) is.kept ∙ kept)
@@ -172,14 +172,14 @@ reply_collects h exchange slots j c a place item answer lawful ties post_at at c
     after_as : (o : Option Answer) → kept_at (kept_of c h) item.future ≡ o → new ≡ after_reply_that (cond (is_some o) (Late item.future) (First item.future)) owner (reply_as c a place item answer)
     after_as o kept = new_is ∙ ap (λ (what : Collected). after_reply_that what owner (reply_as c a place item answer)) (becomes o kept)
 
-    go : (o : Option Answer) → kept_at (kept_of c h) item.future ≡ o → (told ≡ outcome_of h (Collect j)) × Ties (after h (Collect j)) (record { exchange = record exchange { owners = slice_set exchange.owners spot new }; slots = slots })
-    go None kept = finish h j (ReplyPost c a place) told (record { exchange = record exchange { owners = slice_set exchange.owners spot new }; slots = slots }) post_at
+    go : (o : Option Answer) → kept_at (kept_of c h) item.future ≡ o → (told ≡ outcome_of h (Collect j)) × Refines (after h (Collect j)) (record { network = record network { owners = slice_set network.owners spot new }; slots = slots })
+    go None kept = finish h j (ReplyPost c a place) told (record { network = record network { owners = slice_set network.owners spot new }; slots = slots }) post_at
         (told_is ∙ ap (told_collected c) (becomes None kept) ∙ ap (λ (did : Did). Ok did) (sym (did_reply_as h c a place item None at kept)))
-        (heard_ties h exchange slots (ReplyPost c a place) spot owner new lawful (heard_grows h j (ReplyPost c a place) post_at) ties sees
+        (heard_ties h network slots (ReplyPost c a place) spot owner new lawful (heard_grows h j (ReplyPost c a place) post_at) refines sees
         (subst (IsOwnerOf (heard h (ReplyPost c a place)) c) (sym (after_as None kept))
         (answered_owner h c a place owner (slice_set owner.kept item.future (Some answer)) is (ap (λ (answers : List (Option Answer)). slice_set answers item.future (Some answer)) is.kept ∙ first_table h c a place item answer at caller answered kept))))
-    go (Some earlier) kept = finish h j (ReplyPost c a place) told (record { exchange = record exchange { owners = slice_set exchange.owners spot new }; slots = slots }) post_at
+    go (Some earlier) kept = finish h j (ReplyPost c a place) told (record { network = record network { owners = slice_set network.owners spot new }; slots = slots }) post_at
         (told_is ∙ ap (told_collected c) (becomes (Some earlier) kept) ∙ ap (λ (did : Did). Ok did) (sym (did_reply_as h c a place item (Some earlier) at kept)))
-        (heard_ties h exchange slots (ReplyPost c a place) spot owner new lawful (heard_grows h j (ReplyPost c a place) post_at) ties sees
+        (heard_ties h network slots (ReplyPost c a place) spot owner new lawful (heard_grows h j (ReplyPost c a place) post_at) refines sees
         (subst (IsOwnerOf (heard h (ReplyPost c a place)) c) (sym (after_as (Some earlier) kept))
         (answered_owner h c a place owner owner.kept is (is.kept ∙ late_table h c a place item answer earlier at caller answered kept))))

@@ -14,13 +14,13 @@ use Rattle.act_rules.specs.declared.outcome.HandleRefusal.{HandleRefusal}
 use Rattle.act_rules.specs.declared.outcome.WorldRefusal.TheVariants.{Handle}
 use Rattle.act_rules.specs.Submissions.{handle_refusal}
 use Rattle.act_rules.specs.History.{History, contains}
-use Rattle.act_rules.specs.Rules.{outcome_of, added, after}
+use Rattle.act_rules.specs.Rules.{outcome_of, add_event, after}
 use Rattle.act_rules.proofs.Growth.{added_grows}
 use Rattle.act_handles.specs.Handles.{copies_in}
-use Rattle.act_owner.specs.Owner.{OwnerValue, kill_told}
-use Rattle.act_world.specs.Exchange.{ExchangeValue, is_owner}
-use Rattle.act_world.specs.View.{SlotSeen}
-use Rattle.act_world.specs.Ties.{Ties}
+use Rattle.act_owner.specs.Owner.{OwnerView, kill_told}
+use Rattle.act_world.specs.Network.{NetworkView, is_owner}
+use Rattle.act_world.specs.View.{SlotView}
+use Rattle.act_world.specs.Refines.{Refines}
 use Rattle.act_world.proofs.Changes.{refused_follows, accepted_follows}
 use Rattle.act_world.proofs.Lawful.{IsLawful}
 use Rattle.act_world.proofs.Frames.{same_caller, owners_stay, mail_stays}
@@ -40,22 +40,22 @@ asked_after asked numbers a within all b = unwrap_or-slice_get (slice_set asked 
       ∙ sym (contains-push b a numbers ∙ rw (ne_eqb a b f.1) (or-false (contains b numbers)))
 ]
 
-pub ask_follows : (h : History) (old : ExchangeValue) (slots : List SlotSeen) (c a place : ℕ) (note : KillNote) (owner : OwnerValue) → IsLawful h → Ties h (record { exchange = old; slots = slots })
+pub ask_follows : (h : History) (old : NetworkView) (slots : List SlotView) (c a place : ℕ) (note : KillNote) (owner : OwnerView) → IsLawful h → Refines h (record { network = old; slots = slots })
     → position (is_owner c) old.owners ≡ Some place → owner ≡ get_or old.owners place owner → Ok note ≡ kill_told owner a → a < length old.asked
-    → (Ok Asked ≡ outcome_of h (AskKill c a)) × Ties (after h (AskKill c a)) (record { exchange = record old { asked = slice_set old.asked a true }; slots = slots })
-ask_follows h old slots c a place note owner lawful ties at owner_is told within =
-    let here = caller_here h old slots c place owner ties at owner_is in
+    → (Ok Asked ≡ outcome_of h (AskKill c a)) × Refines (after h (AskKill c a)) (record { network = record old { asked = slice_set old.asked a true }; slots = slots })
+ask_follows h old slots c a place note owner lawful refines at owner_is told within =
+    let here = caller_here h old slots c place owner refines at owner_is in
     let accepted = or_else-Ok (handle_refusal (copies_in a owner.handles)) (record { caller = owner.id; actor = a }) note told in
     let grows = added_grows h (AskKill c a) in
     accepted_follows h (AskKill c a) Asked _ (handle_refused h c a owner None here accepted.0) refl
-    (callers_tie h (added h (AskKill c a)) old _ slots lawful ties (record { grows = grows; arrived = refl; ran = refl; posts = refl; killed = refl; retired = refl })
-    (owners_stay h (added h (AskKill c a)) old.owners refl (λ d. same_caller d h (added h (AskKill c a)) lawful grows refl refl refl refl refl) ties.owners)
-    (mail_stays h (added h (AskKill c a)) old.mail lawful grows ties.mail) ties.mail_count refl
-    (asked_after old.asked h.asked a within ties.asked))
+    (callers_tie h (add_event h (AskKill c a)) old _ slots lawful refines (record { grows = grows; arrived = refl; ran = refl; posts = refl; killed = refl; retired = refl })
+    (owners_stay h (add_event h (AskKill c a)) old.owners refl (λ d. same_caller d h (add_event h (AskKill c a)) lawful grows refl refl refl refl refl) refines.owners)
+    (mail_stays h (add_event h (AskKill c a)) old.mail lawful grows refines.mail) refines.mail_count refl
+    (asked_after old.asked h.asked a within refines.asked))
 
-pub ask_refused_follows : (h : History) (old : ExchangeValue) (slots : List SlotSeen) (c a place : ℕ) (refusal : HandleRefusal) (owner : OwnerValue) → Ties h (record { exchange = old; slots = slots })
+pub ask_refused_follows : (h : History) (old : NetworkView) (slots : List SlotView) (c a place : ℕ) (refusal : HandleRefusal) (owner : OwnerView) → Refines h (record { network = old; slots = slots })
     → position (is_owner c) old.owners ≡ Some place → owner ≡ get_or old.owners place owner → Err refusal ≡ kill_told owner a
-    → (Err (Handle refusal) ≡ outcome_of h (AskKill c a)) × Ties (after h (AskKill c a)) (record { exchange = old; slots = slots })
-ask_refused_follows h old slots c a place refusal owner ties at owner_is told =
-    let here = caller_here h old slots c place owner ties at owner_is in
-    refused_follows h (AskKill c a) (Handle refusal) _ (handle_refused h c a owner (Some refusal) here (or_else-Err (handle_refusal (copies_in a owner.handles)) (record { caller = owner.id; actor = a }) refusal told)) ties
+    → (Err (Handle refusal) ≡ outcome_of h (AskKill c a)) × Refines (after h (AskKill c a)) (record { network = old; slots = slots })
+ask_refused_follows h old slots c a place refusal owner refines at owner_is told =
+    let here = caller_here h old slots c place owner refines at owner_is in
+    refused_follows h (AskKill c a) (Handle refusal) _ (handle_refused h c a owner (Some refusal) here (or_else-Err (handle_refusal (copies_in a owner.handles)) (record { caller = owner.id; actor = a }) refusal told)) refines

@@ -19,10 +19,10 @@ use Rattle.act_rules.specs.Rules.{was_sent}
 use Rattle.act_rules.proofs.Lists.{All_at, length-zip_same, eq_turned}
 use Rattle.act_rules.proofs.Table.{or_else, kept_of-collected}
 use Rattle.act_handles.specs.Handles.{copies_in}
-use Rattle.act_owner.specs.Owner.{OwnerValue, is_dead as knows_dead, collected, with_death, waits_for, answer_after_death}
-use Rattle.act_world.specs.Exchange.{ExchangeValue, told_collected}
-use Rattle.act_world.specs.View.{SlotSeen}
-use Rattle.act_world.specs.Ties.{IsOwnerOf, is_death_to, Ties}
+use Rattle.act_owner.specs.Owner.{OwnerView, is_known_dead as knows_dead, collect_result, with_death, call_waits_for, answer_after_death}
+use Rattle.act_world.specs.Network.{NetworkView, told_collected}
+use Rattle.act_world.specs.View.{SlotView}
+use Rattle.act_world.specs.Refines.{IsOwnerOf, is_death_to, Refines}
 use Rattle.act_world.proofs.Lawful.{IsLawful, IsNamedPost}
 use Rattle.act_world.proofs.Pending.{kept_long, unanswered_is}
 use Rattle.act_world.proofs.Seeing.{is_named}
@@ -48,7 +48,7 @@ one_death h c a j x None =
     go true = refl
     go false = refl
 
-death_table : (h : History) (c a : ℕ) (owner : OwnerValue) → IsOwnerOf h c owner → map (answer_after_death a) (zip owner.calls owner.kept) ≡ kept_of c (heard h (DeathPost c a))
+death_table : (h : History) (c a : ℕ) (owner : OwnerView) → IsOwnerOf h c owner → map (answer_after_death a) (zip owner.calls owner.kept) ≡ kept_of c (heard h (DeathPost c a))
 death_table h c a owner is = rw (is.calls, is.kept) (table ∙ sym (kept_of-collected h c (DeathPost c a)))
   where
     after : ℕ × Submission → Option Answer
@@ -61,7 +61,7 @@ death_table h c a owner is = rw (is.calls, is.kept) (table ∙ sym (kept_of-coll
         ∙ ap (λ (o : Option Answer). Some o) (one_death h c a j x (first_answer h c (j, x))))
 
 -- who knows of which death
-death_known : (h : History) (c a b : ℕ) (owner : OwnerValue) → IsOwnerOf h c owner → knows_dead (with_death owner a) a ≡ true → knows_dead (with_death owner a) b ≡ list_any (is_death_to c b) (h.collected ++ DeathPost c a ∷ [])
+death_known : (h : History) (c a b : ℕ) (owner : OwnerView) → IsOwnerOf h c owner → knows_dead (with_death owner a) a ≡ true → knows_dead (with_death owner a) b ≡ list_any (is_death_to c b) (h.collected ++ DeathPost c a ∷ [])
 death_known h c a b owner is known = elim (eqb_tells a b) [
   | inl t ↦ subst (λ (x : ℕ). knows_dead (with_death owner a) x ≡ list_any (is_death_to c x) (h.collected ++ DeathPost c a ∷ [])) t.1 (known ∙ sym itself)
   | inr f ↦ ap (λ (o : Option Bool). unwrap_or o false) (get_set-other owner.dead a b true f.1) ∙ is.deaths b ∙ sym (other f.0)
@@ -76,7 +76,7 @@ death_known h c a b owner is known = elim (eqb_tells a b) [
     other : (a == b) ≡ false → list_any (is_death_to c b) (h.collected ++ DeathPost c a ∷ []) ≡ list_any (is_death_to c b) h.collected
     other apart = list_any-append (is_death_to c b) h.collected (DeathPost c a ∷ []) ∙ rw (mine, apart) (or-false (list_any (is_death_to c b) h.collected))
 
-bereaved : (h : History) (c a : ℕ) (owner : OwnerValue) → IsOwnerOf h c owner → knows_dead (with_death owner a) a ≡ true → IsOwnerOf (heard h (DeathPost c a)) c (with_death owner a)
+bereaved : (h : History) (c a : ℕ) (owner : OwnerView) → IsOwnerOf h c owner → knows_dead (with_death owner a) a ≡ true → IsOwnerOf (heard h (DeathPost c a)) c (with_death owner a)
 bereaved h c a owner is known = record {
   id = is.id;
   copies = is.copies;
@@ -95,14 +95,14 @@ bereaved h c a owner is known = record {
 
 -- ---- what is asked of each notice
 
-pub death_collects : (h : History) (exchange : ExchangeValue) (slots : List SlotSeen) (j c a : ℕ) → IsLawful h → Ties h (record { exchange = exchange; slots = slots }) → slice_get h.posts j ≡ Some (DeathPost c a) → Collects h exchange slots j (record { caller = c; notice = Death a })
-death_collects h exchange slots j c a lawful ties at place owner new told sees told_is new_is known =
-    finish h j (DeathPost c a) told (record { exchange = record exchange { owners = slice_set exchange.owners place new }; slots = slots }) at
+pub death_collects : (h : History) (network : NetworkView) (slots : List SlotView) (j c a : ℕ) → IsLawful h → Refines h (record { network = network; slots = slots }) → slice_get h.posts j ≡ Some (DeathPost c a) → Collects h network slots j (record { caller = c; notice = Death a })
+death_collects h network slots j c a lawful refines at place owner new told sees told_is new_is known =
+    finish h j (DeathPost c a) told (record { network = record network { owners = slice_set network.owners place new }; slots = slots }) at
     (told_is ∙ told_death ∙ ap (λ (n : ℕ). Ok (DidDie n)) (unanswered_is h c a owner is))
-    (heard_ties h exchange slots (DeathPost c a) place owner new lawful (heard_grows h j (DeathPost c a) at) ties sees (subst (IsOwnerOf (heard h (DeathPost c a)) c) (sym there) (bereaved h c a owner is (subst (λ (o : OwnerValue). knows_dead o a ≡ true) there (known listed)))))
+    (heard_ties h network slots (DeathPost c a) place owner new lawful (heard_grows h j (DeathPost c a) at) refines sees (subst (IsOwnerOf (heard h (DeathPost c a)) c) (sym there) (bereaved h c a owner is (subst (λ (o : OwnerView). knows_dead o a ≡ true) there (known listed)))))
   where
     is : IsOwnerOf h c owner
-    is = (seen_owner h exchange slots c place owner ties sees).1
+    is = (seen_owner h network slots c place owner refines sees).1
 
     listed : is_some (copies_in a owner.handles) ≡ true
     listed = is_named h c a owner is ∙ All_at (IsNamedPost h) h.posts j (DeathPost c a) lawful.named.posts at
@@ -110,5 +110,5 @@ death_collects h exchange slots j c a lawful ties at place owner new told sees t
     there : new ≡ with_death owner a
     there = new_is ∙ rw listed refl
 
-    told_death : told_collected c (collected owner (Death a)) ≡ Ok (DidDie (count_by (waits_for a) (zip owner.calls owner.kept)))
+    told_death : told_collected c (collect_result owner (Death a)) ≡ Ok (DidDie (count_by (call_waits_for a) (zip owner.calls owner.kept)))
     told_death = rw listed refl

@@ -13,11 +13,11 @@ use Rattle.act_rules.specs.declared.outcome.Arrival.TheVariants.{New, Repeat, St
 use Rattle.act_rules.specs.Submissions.{calls_to}
 use Rattle.act_rules.specs.History.{History, cast_of, names, calls_of, ran_count, has_letter}
 use Rattle.act_rules.proofs.Lists.{length-filter_least}
-use Rattle.act_inbox.specs.Inbox.{is_call, handed_of, waiting, came, arrival_of, waiting_after}
-use Rattle.act_actor.specs.View.{ActorSeen}
+use Rattle.act_inbox.specs.Inbox.{is_packet_of, handed_of, waiting_packet, has_come, arrival_of, waiting_after}
+use Rattle.act_actor.specs.View.{ActorView}
 use Rattle.act_actor.specs.Actor.{arrival_at}
-use Rattle.act_world.specs.Slots.{HasTaken}
-use Rattle.act_world.specs.Ties.{packet_as, packet_of, held_packet, is_note, IsLive}
+use Rattle.act_world.specs.Slots.{HasTakenPacket}
+use Rattle.act_world.specs.Refines.{packet_as, packet_by_number, held_packet, is_note_of, IsLive}
 use Rattle.act_world.proofs.Lawful.{IsLawful}
 use Rattle.act_world.proofs.Mail.{has_other, has_again, has_last, brought, held_same}
 
@@ -30,24 +30,24 @@ number_small h c a n call lawful at =
     lt-ltb n 65536 (omega arith)
 
 -- the actor knows whether the call came
-call_came : (h : History) (c a n : ℕ) (call : ℕ × Submission) (live : ActorSeen) → IsLawful h → IsLive h a live → names c (cast_of a h) ≡ true → slice_get (calls_to a (calls_of c h)) n ≡ Some call
-    → came live.inbox c n ≡ has_letter (CallLetter c a n) h.arrived
+call_came : (h : History) (c a n : ℕ) (call : ℕ × Submission) (live : ActorView) → IsLawful h → IsLive h a live → names c (cast_of a h) ≡ true → slice_get (calls_to a (calls_of c h)) n ≡ Some call
+    → has_come live.inbox c n ≡ has_letter (CallLetter c a n) h.arrived
 call_came h c a n call live lawful is named at =
     ap (λ (o : Option Packet). nat_lt n (handed_of live.inbox c) || is_some o) (is.waits c n named)
     ∙ ap (λ (m : ℕ). nat_lt n m || is_some (held_packet h a c n)) (is.handed c named)
     ∙ go (nat_lt n (ran_count c a h)) (has_letter (CallLetter c a n) h.arrived) refl refl
   where
-    go : (low has : Bool) → nat_lt n (ran_count c a h) ≡ low → has_letter (CallLetter c a n) h.arrived ≡ has → (low || is_some (cond low None (cond has (packet_of h c a n) None))) ≡ has
+    go : (low has : Bool) → nat_lt n (ran_count c a h) ≡ low → has_letter (CallLetter c a n) h.arrived ≡ has → (low || is_some (cond low None (cond has (packet_by_number h c a n) None))) ≡ has
     go true has below there = sym (lawful.came a c n (ltb-true n (ran_count c a h) below)) ∙ there
     go false true below there = rw at refl
     go false false below there = refl
 
-pub call_arrival : (h : History) (c a n : ℕ) (call : ℕ × Submission) (live : ActorSeen) → IsLawful h → IsLive h a live → names c (cast_of a h) ≡ true → slice_get (calls_to a (calls_of c h)) n ≡ Some call
+pub call_arrival : (h : History) (c a n : ℕ) (call : ℕ × Submission) (live : ActorView) → IsLawful h → IsLive h a live → names c (cast_of a h) ≡ true → slice_get (calls_to a (calls_of c h)) n ≡ Some call
     → arrival_at live.id live.inbox (packet_as h c a n call) ≡ cond (has_letter (CallLetter c a n) h.arrived) Repeat New
 call_arrival h c a n call live lawful is named at =
     ap (λ (b : Bool). cond b (arrival_of live.inbox (packet_as h c a n call)) Stranger) (eq-eqb a live.id (sym is.id))
-    ∙ ap (λ (b : Bool). cond (b && nat_lt n 65536) (cond (came live.inbox c n) Repeat New) Stranger) (is.listed c ∙ named)
-    ∙ ap (λ (b : Bool). cond b (cond (came live.inbox c n) Repeat New) Stranger) (number_small h c a n call lawful at)
+    ∙ ap (λ (b : Bool). cond (b && nat_lt n 65536) (cond (has_come live.inbox c n) Repeat New) Stranger) (is.listed c ∙ named)
+    ∙ ap (λ (b : Bool). cond b (cond (has_come live.inbox c n) Repeat New) Stranger) (number_small h c a n call lawful at)
     ∙ ap (λ (b : Bool). cond b Repeat New) (call_came h c a n call live lawful is named at)
 
 -- what did not come was not run
@@ -59,11 +59,11 @@ not_ran h c a n lawful absent = go (nat_lt n (ran_count c a h)) refl
     go false below = refl
 
 -- what the actor holds once the call's letter came
-call_waits : (h : History) (c a n : ℕ) (call : ℕ × Submission) (live : ActorSeen) → IsLawful h → IsLive h a live → slice_get (calls_to a (calls_of c h)) n ≡ Some call
+call_waits : (h : History) (c a n : ℕ) (call : ℕ × Submission) (live : ActorView) → IsLawful h → IsLive h a live → slice_get (calls_to a (calls_of c h)) n ≡ Some call
     → (was : Bool) → has_letter (CallLetter c a n) h.arrived ≡ was → (d k : ℕ) → names d (cast_of a h) ≡ true
     → waiting_after (cond was Repeat New) (packet_as h c a n call) live.inbox d k ≡ held_packet (brought h (CallLetter c a n)) a d k
 call_waits h c a n call live lawful is at true there d k named = is.waits d k named ∙ held_same h (CallLetter c a n) a d k (has_again (CallLetter d a k) (CallLetter c a n) h.arrived there)
-call_waits h c a n call live lawful is at false there d k named = go (is_call d k (packet_as h c a n call)) refl
+call_waits h c a n call live lawful is at false there d k named = go (is_packet_of d k (packet_as h c a n call)) refl
   where
     packet : Packet
     packet = packet_as h c a n call
@@ -71,10 +71,10 @@ call_waits h c a n call live lawful is at false there d k named = go (is_call d 
     here : Some (packet_as h c a n call) ≡ held_packet (brought h (CallLetter c a n)) a c n
     here =
         sym (ap (λ (o : Option (ℕ × Submission)). option_map (packet_as h c a n) o) at)
-        ∙ ap (λ (b : Bool). cond b (packet_of h c a n) None) (sym (has_last (CallLetter c a n) h.arrived))
-        ∙ ap (λ (b : Bool). cond b None (cond (has_letter (CallLetter c a n) (h.arrived ++ CallLetter c a n ∷ [])) (packet_of h c a n) None)) (sym (not_ran h c a n lawful there))
+        ∙ ap (λ (b : Bool). cond b (packet_by_number h c a n) None) (sym (has_last (CallLetter c a n) h.arrived))
+        ∙ ap (λ (b : Bool). cond b None (cond (has_letter (CallLetter c a n) (h.arrived ++ CallLetter c a n ∷ [])) (packet_by_number h c a n) None)) (sym (not_ran h c a n lawful there))
 
-    go : (b : Bool) → is_call d k (packet_as h c a n call) ≡ b → cond b (Some (packet_as h c a n call)) (waiting live.inbox d k) ≡ held_packet (brought h (CallLetter c a n)) a d k
+    go : (b : Bool) → is_packet_of d k (packet_as h c a n call) ≡ b → cond b (Some (packet_as h c a n call)) (waiting_packet live.inbox d k) ≡ held_packet (brought h (CallLetter c a n)) a d k
     go true e =
         let parts = and_parts (c == d) (n == k) e in
         subst (λ (x : ℕ). Some (packet_as h c a n call) ≡ held_packet (brought h (CallLetter c a n)) a x k) (eqb-true c d parts.0)
@@ -86,19 +86,19 @@ call_waits h c a n call live lawful is at false there d k named = go (is_call d 
         let bad : true ≡ false = sym both ∙ e in
         cc))
 
-pub live_taken : (h : History) (c a n : ℕ) (call : ℕ × Submission) (arrival : Arrival) (live new : ActorSeen) → IsLawful h → IsLive h a live → slice_get (calls_to a (calls_of c h)) n ≡ Some call
-    → arrival ≡ cond (has_letter (CallLetter c a n) h.arrived) Repeat New → HasTaken (packet_as h c a n call) arrival live new → IsLive (brought h (CallLetter c a n)) a new
+pub live_taken : (h : History) (c a n : ℕ) (call : ℕ × Submission) (arrival : Arrival) (live new : ActorView) → IsLawful h → IsLive h a live → slice_get (calls_to a (calls_of c h)) n ≡ Some call
+    → arrival ≡ cond (has_letter (CallLetter c a n) h.arrived) Repeat New → HasTakenPacket (packet_as h c a n call) arrival live new → IsLive (brought h (CallLetter c a n)) a new
 live_taken h c a n call arrival live new lawful is at told taken = record {
   cast = is.cast;
   cast_is = is.cast_is;
   runs = is.runs;
-  id = ap (λ (l : ActorSeen). l.id) taken.same ∙ is.id;
-  log = ap (λ (l : ActorSeen). l.log) taken.same ∙ is.log;
-  state = ap (λ (l : ActorSeen). l.state) taken.same ∙ is.state;
+  id = ap (λ (l : ActorView). l.id) taken.same ∙ is.id;
+  log = ap (λ (l : ActorView). l.log) taken.same ∙ is.log;
+  state = ap (λ (l : ActorView). l.state) taken.same ∙ is.state;
   listed = λ d. rw taken.taken.lanes (is.listed d);
   handed = λ d named. rw taken.taken.lanes (is.handed d named);
   waits = λ d k named. taken.taken.waits d k
       ∙ ap (λ (x : Arrival). waiting_after x (packet_as h c a n call) live.inbox d k) told
       ∙ call_waits h c a n call live lawful is at (has_letter (CallLetter c a n) h.arrived) refl d k named;
-  notes = λ d k named. ap (λ (all : List (Option ℕ)). is_note k (slice_index_or all d None)) taken.taken.notes ∙ is.notes d k named ∙ sym (has_other (NoteLetter d a k) (CallLetter c a n) h.arrived (λ e. cc));
+  notes = λ d k named. ap (λ (all : List (Option ℕ)). is_note_of k (slice_index_or all d None)) taken.taken.notes ∙ is.notes d k named ∙ sym (has_other (NoteLetter d a k) (CallLetter c a n) h.arrived (λ e. cc));
 }

@@ -6,24 +6,24 @@ use Rattle.std.proofs.lemmas.Option.{slice_get-map, slice_get-get_or, get_or_fro
 use Rattle.act_rules.specs.declared.event.Event.{Event}
 use Rattle.act_rules.specs.declared.outcome.Did.{Did}
 use Rattle.act_rules.specs.declared.outcome.WorldRefusal.{WorldRefusal}
-use Rattle.act_rules.specs.History.{Casting, History, cast_of, names, is_ended}
-use Rattle.act_rules.specs.Rules.{refusal_of, did, added, outcome_of, after}
-use Rattle.act_world.specs.View.{SlotSeen, Runs, Died, Ended, Vacant, WorldSeen}
-use Rattle.act_world.specs.Slots.{is_live_seen}
-use Rattle.act_world.specs.Ties.{IsStage, Ties}
+use Rattle.act_rules.specs.History.{ActorSpec, History, cast_of, names, is_ended}
+use Rattle.act_rules.specs.Rules.{refusal_of, did, add_event, outcome_of, after}
+use Rattle.act_world.specs.View.{SlotView, Runs, Died, Ended, Vacant, WorldView}
+use Rattle.act_world.specs.Slots.{is_live_slot}
+use Rattle.act_world.specs.Refines.{IsStage, Refines}
 use Rattle.act_world.proofs.Lists.{get_set-same, get_set-other}
 
 -- ---- what is told, and what stands after
 
 -- an event that is refused leaves the world as it was
-pub refused_follows : (h : History) (event : Event) (refusal : WorldRefusal) (world : WorldSeen) → refusal_of h event ≡ Some refusal → Ties h world
-    → (Err refusal ≡ outcome_of h event) × Ties (after h event) world
-refused_follows h event refusal world refused ties = rw refused (refl, ties)
+pub refused_follows : (h : History) (event : Event) (refusal : WorldRefusal) (world : WorldView) → refusal_of h event ≡ Some refusal → Refines h world
+    → (Err refusal ≡ outcome_of h event) × Refines (after h event) world
+refused_follows h event refusal world refused refines = rw refused (refl, refines)
 
 -- an event that nothing refuses
-pub accepted_follows : (h : History) (event : Event) (told : Did) (world : WorldSeen) → refusal_of h event ≡ None → told ≡ did h event → Ties (added h event) world
-    → (Ok told ≡ outcome_of h event) × Ties (after h event) world
-accepted_follows h event told world accepted same ties = rw accepted (ap Ok same, ties)
+pub accepted_follows : (h : History) (event : Event) (told : Did) (world : WorldView) → refusal_of h event ≡ None → told ≡ did h event → Refines (add_event h event) world
+    → (Ok told ≡ outcome_of h event) × Refines (after h event) world
+accepted_follows h event told world accepted same refines = rw accepted (ap Ok same, refines)
 
 -- what holds holds of an error
 pub on_err : {A E P : Type 0} (result : Result A E) → P → OnErr result P
@@ -33,22 +33,22 @@ on_err (Err error) holds = holds
 -- ---- slots
 
 -- one actor changes, and none of the others
-pub stages_change : (h g : History) (slots : List SlotSeen) (a : ℕ) (old new : SlotSeen) → ((b : ℕ) → IsStage h b (slice_get slots b)) → slice_get slots a ≡ Some old → IsStage g a (Some new)
-    → ((b : ℕ) (stage : Option SlotSeen) → a ≢ b → IsStage h b stage → IsStage g b stage) → (b : ℕ) → IsStage g b (slice_get (slice_set slots a new) b)
+pub stages_change : (h g : History) (slots : List SlotView) (a : ℕ) (old new : SlotView) → ((b : ℕ) → IsStage h b (slice_get slots b)) → slice_get slots a ≡ Some old → IsStage g a (Some new)
+    → ((b : ℕ) (stage : Option SlotView) → a ≢ b → IsStage h b stage → IsStage g b stage) → (b : ℕ) → IsStage g b (slice_get (slice_set slots a new) b)
 stages_change h g slots a old new all at is others b = elim (eqb_tells a b) [
   | inl t ↦ subst (λ (x : ℕ). IsStage g x (slice_get (slice_set slots a new) x)) t.1 (subst (IsStage g a) (sym (get_set-same slots a old new at)) is)
   | inr f ↦ subst (IsStage g b) (sym (get_set-other slots a b new f.1)) (others b (slice_get slots b) f.1 (all b))
 ]
 
 -- an actor with a cast that doesn't run has ended
-pub has_ended : (h : History) (a : ℕ) (slot : SlotSeen) → IsStage h a (Some slot) → is_live_seen slot ≡ false → (cast_of a h ≡ None → ⊥) → is_ended a h ≡ true
+pub has_ended : (h : History) (a : ℕ) (slot : SlotView) → IsStage h a (Some slot) → is_live_slot slot ≡ false → (cast_of a h ≡ None → ⊥) → is_ended a h ≡ true
 has_ended h a (Runs live) is off cast = cc
 has_ended h a (Died dead) is off cast = rw is.died refl
 has_ended h a (Ended retired) is off cast = rw (is.lived, is.ended) refl
 has_ended h a Vacant is off cast = absurd (cast is)
 
 -- an actor that runs has not
-pub not_ended : (h : History) (a : ℕ) (slot : SlotSeen) → IsStage h a (Some slot) → is_live_seen slot ≡ true → is_ended a h ≡ false
+pub not_ended : (h : History) (a : ℕ) (slot : SlotView) → IsStage h a (Some slot) → is_live_slot slot ≡ true → is_ended a h ≡ false
 not_ended h a (Runs live) is on = is.runs
 not_ended h a (Died dead) is on = cc
 not_ended h a (Ended retired) is on = cc
@@ -56,12 +56,12 @@ not_ended h a Vacant is on = cc
 
 -- an actor whose cast names a caller has a cast
 pub named_cast : (c a : ℕ) (h : History) → names c (cast_of a h) ≡ true → cast_of a h ≡ None → ⊥
-named_cast c a h named none = let bad : names c None ≡ true = subst (λ (o : Option Casting). names c o ≡ true) none named in cc
+named_cast c a h named none = let bad : names c None ≡ true = subst (λ (o : Option ActorSpec). names c o ≡ true) none named in cc
 
 -- ---- what is seen of slots
 
 -- the slot of an actor that has a cast
-pub slot_there : {S : Type 0} (f : S → SlotSeen) (slots : List S) (h : History) (a : ℕ) (x : S) → ((b : ℕ) → IsStage h b (slice_get (map f slots) b)) → (cast_of a h ≡ None → ⊥) → x ≡ get_or slots a x
+pub slot_there : {S : Type 0} (f : S → SlotView) (slots : List S) (h : History) (a : ℕ) (x : S) → ((b : ℕ) → IsStage h b (slice_get (map f slots) b)) → (cast_of a h ≡ None → ⊥) → x ≡ get_or slots a x
     → slice_get (map f slots) a ≡ Some (f x)
 slot_there {S = S} f slots h a x all cast is = slice_get-map f slots a ∙ ap (option_map f) (there (slice_get slots a) refl)
   where
@@ -70,5 +70,5 @@ slot_there {S = S} f slots h a x all cast is = slice_get-map f slots a ∙ ap (o
     there (Some y) e = e ∙ ap (λ (z : S). Some z) (sym (get_or_from_slice_get slots a y x e) ∙ sym is)
 
 -- the slot of an actor, in a list that is long enough
-pub slot_within : {S : Type 0} (f : S → SlotSeen) (slots : List S) (a : ℕ) (x : S) → a < length slots → x ≡ get_or slots a x → slice_get (map f slots) a ≡ Some (f x)
+pub slot_within : {S : Type 0} (f : S → SlotView) (slots : List S) (a : ℕ) (x : S) → a < length slots → x ≡ get_or slots a x → slice_get (map f slots) a ≡ Some (f x)
 slot_within {S = S} f slots a x within is = slice_get-map f slots a ∙ ap (option_map f) (slice_get-get_or slots a x within) ∙ ap (λ (y : S). Some (f y)) (sym is)

@@ -21,12 +21,12 @@ use Rattle.act_rules.proofs.Posts.{IsSoundPost}
 use Rattle.act_handles.specs.Handles.{copies_in}
 use Rattle.act_owner.specs.declared.owner.Collected.{Collected}
 use Rattle.act_owner.specs.declared.owner.Collected.TheVariants.{First, Late, Stray, Died}
-use Rattle.act_owner.specs.Owner.{OwnerValue, collected, after_collect, after_reply_that, waits_for, KnowsDeath}
-use Rattle.act_world.specs.declared.exchange.Posted.{Posted}
-use Rattle.act_world.specs.Exchange.{ExchangeValue, is_owner, IsReply, told_collected}
+use Rattle.act_owner.specs.Owner.{OwnerView, collect_result, after_collect, after_reply_that, call_waits_for, KnowsDeath}
+use Rattle.act_world.specs.declared.network.Posted.{Posted}
+use Rattle.act_world.specs.Network.{NetworkView, is_owner, IsReplyNotice, told_collected}
 use Rattle.act_world.specs.Memory.{takes_memory}
-use Rattle.act_world.specs.View.{SlotSeen}
-use Rattle.act_world.specs.Ties.{reply_as, reply_at, posted, Ties}
+use Rattle.act_world.specs.View.{SlotView}
+use Rattle.act_world.specs.Refines.{reply_as, reply_at, posted_notice, Refines}
 use Rattle.act_world.proofs.Lawful.{IsLawful, IsNamedPost, named_caller}
 use Rattle.act_world.proofs.Frames.{owner_absent}
 use Rattle.act_world.proofs.Sending.{SeesOwner}
@@ -40,70 +40,70 @@ use Rattle.act_world.proofs.Lists.{set-same}
 record HasPost (h : History) (j : ℕ) (notice : Posted) : Type 0 where
   post : Post
   at : slice_get h.posts j ≡ Some post
-  is : posted h post ≡ Some notice
+  is : posted_notice h post ≡ Some notice
 
-has_post : (h : History) (exchange : ExchangeValue) (slots : List SlotSeen) (j : ℕ) (notice : Posted) → Ties h (record { exchange = exchange; slots = slots }) → slice_get exchange.replies j ≡ Some notice → HasPost h j notice
-has_post h exchange slots j notice ties e = go (slice_get h.posts j) refl (sym (ties.replies j) ∙ e)
+has_post : (h : History) (network : NetworkView) (slots : List SlotView) (j : ℕ) (notice : Posted) → Refines h (record { network = network; slots = slots }) → slice_get network.replies j ≡ Some notice → HasPost h j notice
+has_post h network slots j notice refines e = go (slice_get h.posts j) refl (sym (refines.replies j) ∙ e)
   where
-    go : (o : Option Post) → slice_get h.posts j ≡ o → option_and_then (posted h) o ≡ Some notice → HasPost h j notice
+    go : (o : Option Post) → slice_get h.posts j ≡ o → option_and_then (posted_notice h) o ≡ Some notice → HasPost h j notice
     go None at e = cc
     go (Some post) at e = record { post = post; at = at; is = e }
 
 abbrev told_to : ℕ → Reply → Posted
 told_to c reply = record { caller = c; notice = Answered reply }
 
-by_reply : (h : History) (exchange : ExchangeValue) (slots : List SlotSeen) (j c a place : ℕ) (notice : Posted) → IsLawful h → Ties h (record { exchange = exchange; slots = slots }) → slice_get h.posts j ≡ Some (ReplyPost c a place) → IsSoundPost h (ReplyPost c a place) → posted h (ReplyPost c a place) ≡ Some notice
-    → Collects h exchange slots j notice
-by_reply h exchange slots j c a place notice lawful ties at sound is = go (answer_of a place h) refl (sym (ap (λ (o : Option RunItem). option_map (told_to c) (reply_at h c a place o)) sound.1) ∙ is)
+by_reply : (h : History) (network : NetworkView) (slots : List SlotView) (j c a place : ℕ) (notice : Posted) → IsLawful h → Refines h (record { network = network; slots = slots }) → slice_get h.posts j ≡ Some (ReplyPost c a place) → IsSoundPost h (ReplyPost c a place) → posted_notice h (ReplyPost c a place) ≡ Some notice
+    → Collects h network slots j notice
+by_reply h network slots j c a place notice lawful refines at sound is = go (answer_of a place h) refl (sym (ap (λ (o : Option RunItem). option_map (told_to c) (reply_at h c a place o)) sound.1) ∙ is)
   where
-    go : (o : Option Answer) → answer_of a place h ≡ o → option_map (told_to c) (option_map (reply_as c a place sound.0) o) ≡ Some notice → Collects h exchange slots j notice
+    go : (o : Option Answer) → answer_of a place h ≡ o → option_map (told_to c) (option_map (reply_as c a place sound.0) o) ≡ Some notice → Collects h network slots j notice
     go None answered e = cc
     go (Some answer) answered e =
         let same : told_to c (reply_as c a place sound.0 answer) ≡ notice = cc in
-        subst (Collects h exchange slots j) same (reply_collects h exchange slots j c a place sound.0 answer lawful ties at sound.1 sound.2 answered)
+        subst (Collects h network slots j) same (reply_collects h network slots j c a place sound.0 answer lawful refines at sound.1 sound.2 answered)
 
-by_post : (h : History) (exchange : ExchangeValue) (slots : List SlotSeen) (j : ℕ) (notice : Posted) (post : Post) → IsLawful h → Ties h (record { exchange = exchange; slots = slots }) → slice_get h.posts j ≡ Some post → posted h post ≡ Some notice → Collects h exchange slots j notice
-by_post h exchange slots j notice (DeathPost c a) lawful ties at is =
+by_post : (h : History) (network : NetworkView) (slots : List SlotView) (j : ℕ) (notice : Posted) (post : Post) → IsLawful h → Refines h (record { network = network; slots = slots }) → slice_get h.posts j ≡ Some post → posted_notice h post ≡ Some notice → Collects h network slots j notice
+by_post h network slots j notice (DeathPost c a) lawful refines at is =
     let same : ◌≡◌ {A = Posted} (record { caller = c; notice = Death a }) notice = cc in
-    subst (Collects h exchange slots j) same (death_collects h exchange slots j c a lawful ties at)
-by_post h exchange slots j notice (ReplyPost c a place) lawful ties at is =
-    by_reply h exchange slots j c a place notice lawful ties at (All_at (IsSoundPost h) h.posts j (ReplyPost c a place) lawful.sound.posts.posts at) is
+    subst (Collects h network slots j) same (death_collects h network slots j c a lawful refines at)
+by_post h network slots j notice (ReplyPost c a place) lawful refines at is =
+    by_reply h network slots j c a place notice lawful refines at (All_at (IsSoundPost h) h.posts j (ReplyPost c a place) lawful.sound.posts.posts at) is
 
-pub collect_follows : (h : History) (exchange : ExchangeValue) (slots : List SlotSeen) (j : ℕ) (notice : Posted) → IsLawful h → Ties h (record { exchange = exchange; slots = slots }) → slice_get exchange.replies j ≡ Some notice → Collects h exchange slots j notice
-collect_follows h exchange slots j notice lawful ties e =
-    let found = has_post h exchange slots j notice ties e in
-    by_post h exchange slots j notice found.post lawful ties found.at found.is
+pub collect_follows : (h : History) (network : NetworkView) (slots : List SlotView) (j : ℕ) (notice : Posted) → IsLawful h → Refines h (record { network = network; slots = slots }) → slice_get network.replies j ≡ Some notice → Collects h network slots j notice
+collect_follows h network slots j notice lawful refines e =
+    let found = has_post h network slots j notice refines e in
+    by_post h network slots j notice found.post lawful refines found.at found.is
 
 -- ---- an answer that comes late
 
 -- it leaves its caller as it was
-late_same : (owner : OwnerValue) (notice : Notice) (k : ℕ) → collected owner notice ≡ Late k → (after_collect owner notice ≡ owner) × KnowsDeath notice owner owner
+late_same : (owner : OwnerView) (notice : Notice) (k : ℕ) → collect_result owner notice ≡ Late k → (after_collect owner notice ≡ owner) × KnowsDeath notice owner owner
 late_same owner (Answered reply) k e = (ap (λ (told : Collected). after_reply_that told owner reply) e, tt)
 late_same owner (Death a) k e = go (is_some (copies_in a owner.handles)) e
   where
-    go : (listed : Bool) → cond listed (Died (count_by (waits_for a) (zip owner.calls owner.kept))) Stray ≡ Late k → (after_collect owner (Death a) ≡ owner) × KnowsDeath (Death a) owner owner
+    go : (listed : Bool) → cond listed (Died (count_by (call_waits_for a) (zip owner.calls owner.kept))) Stray ≡ Late k → (after_collect owner (Death a) ≡ owner) × KnowsDeath (Death a) owner owner
     go true e = cc
     go false e = cc
 
-pub late_follows : (h : History) (exchange : ExchangeValue) (slots : List SlotSeen) (j : ℕ) (notice : Posted) (place k : ℕ) (owner : OwnerValue) → IsLawful h → Ties h (record { exchange = exchange; slots = slots }) → slice_get exchange.replies j ≡ Some notice
-    → SeesOwner exchange notice.caller place owner → collected owner notice.notice ≡ Late k → (Ok (DidLate notice.caller k) ≡ outcome_of h (Collect j)) × Ties (after h (Collect j)) (record { exchange = exchange; slots = slots })
-late_follows h exchange slots j notice place k owner lawful ties e sees late =
+pub late_follows : (h : History) (network : NetworkView) (slots : List SlotView) (j : ℕ) (notice : Posted) (place k : ℕ) (owner : OwnerView) → IsLawful h → Refines h (record { network = network; slots = slots }) → slice_get network.replies j ≡ Some notice
+    → SeesOwner network notice.caller place owner → collect_result owner notice.notice ≡ Late k → (Ok (DidLate notice.caller k) ≡ outcome_of h (Collect j)) × Refines (after h (Collect j)) (record { network = network; slots = slots })
+late_follows h network slots j notice place k owner lawful refines e sees late =
     let same = late_same owner notice.notice k late in
-    let follows = collect_follows h exchange slots j notice lawful ties e place owner owner (Ok (DidLate notice.caller k)) sees (sym (ap (told_collected notice.caller) late)) (sym same.0) same.1 in
-    (follows.0, subst (λ (owners : List OwnerValue). Ties (after h (Collect j)) (record { exchange = record exchange { owners = owners }; slots = slots })) stays follows.1)
+    let follows = collect_follows h network slots j notice lawful refines e place owner owner (Ok (DidLate notice.caller k)) sees (sym (ap (told_collected notice.caller) late)) (sym same.0) same.1 in
+    (follows.0, subst (λ (owners : List OwnerView). Refines (after h (Collect j)) (record { network = record network { owners = owners }; slots = slots })) stays follows.1)
   where
-    within : place < length exchange.owners
-    within = (position-Some (is_owner notice.caller) exchange.owners place owner sees.place_is).0
+    within : place < length network.owners
+    within = (position-Some (is_owner notice.caller) network.owners place owner sees.place_is).0
 
-    here : slice_get exchange.owners place ≡ Some owner
-    here = slice_get-get_or exchange.owners place owner within ∙ ap (λ (o : OwnerValue). Some o) (sym sees.owner_is)
+    here : slice_get network.owners place ≡ Some owner
+    here = slice_get-get_or network.owners place owner within ∙ ap (λ (o : OwnerView). Some o) (sym sees.owner_is)
 
-    stays : slice_set exchange.owners place owner ≡ exchange.owners
-    stays = set-same exchange.owners place owner here
+    stays : slice_set network.owners place owner ≡ network.owners
+    stays = set-same network.owners place owner here
 
 -- ---- a notice is for a caller
 
-posted_caller : (h : History) (post : Post) (notice : Posted) → posted h post ≡ Some notice → notice.caller ≡ caller_of post
+posted_caller : (h : History) (post : Post) (notice : Posted) → posted_notice h post ≡ Some notice → notice.caller ≡ caller_of post
 posted_caller h (DeathPost c a) notice e = let same : ◌≡◌ {A = Posted} (record { caller = c; notice = Death a }) notice = cc in ap (λ (p : Posted). p.caller) (sym same)
 posted_caller h (ReplyPost c a place) notice e = go (reply_at h c a place (slice_get (runs_of a h) place)) e
   where
@@ -115,17 +115,17 @@ post_caller : (h : History) (post : Post) → IsNamedPost h post → is_caller (
 post_caller h (ReplyPost c a place) named = named_caller c a h named
 post_caller h (DeathPost c a) named = named_caller c a h named
 
-pub collect_owned : (h : History) (exchange : ExchangeValue) (slots : List SlotSeen) (j : ℕ) (notice : Posted) → IsLawful h → Ties h (record { exchange = exchange; slots = slots }) → slice_get exchange.replies j ≡ Some notice → position (is_owner notice.caller) exchange.owners ≡ None → ⊥
-collect_owned h exchange slots j notice lawful ties e none =
-    let found = has_post h exchange slots j notice ties e in
+pub collect_owned : (h : History) (network : NetworkView) (slots : List SlotView) (j : ℕ) (notice : Posted) → IsLawful h → Refines h (record { network = network; slots = slots }) → slice_get network.replies j ≡ Some notice → position (is_owner notice.caller) network.owners ≡ None → ⊥
+collect_owned h network slots j notice lawful refines e none =
+    let found = has_post h network slots j notice refines e in
     let caller : is_caller notice.caller h ≡ true = ap (λ (c : ℕ). is_caller c h) (posted_caller h found.post notice found.is) ∙ post_caller h found.post (All_at (IsNamedPost h) h.posts j found.post lawful.named.posts found.at) in
-    let absent : is_caller notice.caller h ≡ false = owner_absent h exchange.owners notice.caller ties.owners none in
+    let absent : is_caller notice.caller h ≡ false = owner_absent h network.owners notice.caller refines.owners none in
     let bad : true ≡ false = sym caller ∙ absent in cc
 
 -- ---- an answer that comes first
 
 -- a reply makes no death known
-no_death_known : (notice : Notice) (owner new : OwnerValue) → IsReply notice → KnowsDeath notice owner new
+no_death_known : (notice : Notice) (owner new : OwnerView) → IsReplyNotice notice → KnowsDeath notice owner new
 no_death_known (Answered reply) owner new is = tt
 no_death_known (Death a) owner new is = absurd is
 
@@ -137,17 +137,17 @@ told_late to c k (Died n) other e = cc
 told_late to c k Stray other e = cc
 
 -- a reply that isn't late takes memory
-pub reply_takes : (h : History) (exchange : ExchangeValue) (slots : List SlotSeen) (j place : ℕ) (notice : Posted) (owner : OwnerValue) → IsLawful h → Ties h (record { exchange = exchange; slots = slots }) → slice_get exchange.replies j ≡ Some notice
-    → SeesOwner exchange notice.caller place owner → IsReply notice.notice → ((k : ℕ) → collected owner notice.notice ≢ Late k) → takes_memory (Collect j) h ≡ true
-reply_takes h exchange slots j place notice owner lawful ties e sees reply other =
-    let found = has_post h exchange slots j notice ties e in
+pub reply_takes : (h : History) (network : NetworkView) (slots : List SlotView) (j place : ℕ) (notice : Posted) (owner : OwnerView) → IsLawful h → Refines h (record { network = network; slots = slots }) → slice_get network.replies j ≡ Some notice
+    → SeesOwner network notice.caller place owner → IsReplyNotice notice.notice → ((k : ℕ) → collect_result owner notice.notice ≢ Late k) → takes_memory (Collect j) h ≡ true
+reply_takes h network slots j place notice owner lawful refines e sees reply other =
+    let found = has_post h network slots j notice refines e in
     by_kind found.post found.at found.is
   where
     what : Collected
-    what = collected owner notice.notice
+    what = collect_result owner notice.notice
 
-    told : told_collected notice.caller (collected owner notice.notice) ≡ outcome_of h (Collect j)
-    told = (collect_follows h exchange slots j notice lawful ties e place owner (after_collect owner notice.notice) (told_collected notice.caller what) sees refl refl (no_death_known notice.notice owner (after_collect owner notice.notice) reply)).0
+    told : told_collected notice.caller (collect_result owner notice.notice) ≡ outcome_of h (Collect j)
+    told = (collect_follows h network slots j notice lawful refines e place owner (after_collect owner notice.notice) (told_collected notice.caller what) sees refl refl (no_death_known notice.notice owner (after_collect owner notice.notice) reply)).0
 
     by_item : (c a n : ℕ) (item : RunItem) → slice_get h.posts j ≡ Some (ReplyPost c a n) → slice_get (runs_of a h) n ≡ Some item → (first : Bool) → is_none (kept_at (kept_of c h) item.future) ≡ first → first ≡ true
     by_item c a n item at ran true is = refl
@@ -159,11 +159,11 @@ reply_takes h exchange slots j place notice owner lawful ties e sees reply other
         let late : outcome_of h (Collect j) ≡ Ok (DidLate c item.future) = accepted ∙ of_post ∙ of_item in
         absurd (told_late notice.caller c item.future what other (told ∙ late))
 
-    by_kind : (post : Post) → slice_get h.posts j ≡ Some post → posted h post ≡ Some notice → takes_memory (Collect j) h ≡ true
+    by_kind : (post : Post) → slice_get h.posts j ≡ Some post → posted_notice h post ≡ Some notice → takes_memory (Collect j) h ≡ true
     by_kind (ReplyPost c a n) at is =
         let sound = All_at (IsSoundPost h) h.posts j (ReplyPost c a n) lawful.sound.posts.posts at in
         let first = by_item c a n sound.0 at sound.1 (is_none (kept_at (kept_of c h) sound.0.future)) refl in
         rw (at, sound.1) first
     by_kind (DeathPost c a) at is =
         let same : ◌≡◌ {A = Posted} (record { caller = c; notice = Death a }) notice = cc in
-        absurd (subst (λ (p : Posted). IsReply p.notice) (sym same) reply)
+        absurd (subst (λ (p : Posted). IsReplyNotice p.notice) (sym same) reply)

@@ -9,24 +9,24 @@ use Rattle.act_rules.specs.declared.outcome.HandleRefusal.{HandleRefusal}
 use Rattle.act_rules.specs.declared.outcome.HandleRefusal.TheVariants.{NoActor, NoHandle, TooManyCopies}
 use Rattle.act_rules.specs.declared.outcome.WorldRefusal.TheVariants.{NoCaller, Handle}
 use Rattle.act_rules.specs.Submissions.{needs, copies_held, copy_refusal}
-use Rattle.act_rules.specs.History.{History, is_caller, times, cast_of, names, calls_of, copies_of}
-use Rattle.act_rules.specs.Rules.{refusal_of, outcome_of, added, after}
+use Rattle.act_rules.specs.History.{History, is_caller, count_pairs, cast_of, names, calls_of, copies_of}
+use Rattle.act_rules.specs.Rules.{refusal_of, outcome_of, add_event, after}
 use Rattle.act_rules.proofs.Ended.{needs-none}
 use Rattle.act_rules.proofs.Growth.{added_grows}
 use Rattle.act_rules.proofs.Table.{kept_of-same}
-use Rattle.act_handles.specs.Handles.{copies_in, copied, with_copy}
+use Rattle.act_handles.specs.Handles.{copies_in, copy_answer, with_copy}
 use Rattle.act_handles.proofs.Lookups.{copies-with_copy, copies-with_copy-other, given-with_copy}
-use Rattle.act_owner.specs.Owner.{OwnerValue, with_handles}
-use Rattle.act_world.specs.Exchange.{ExchangeValue, is_owner}
-use Rattle.act_world.specs.View.{SlotSeen}
-use Rattle.act_world.specs.Ties.{Ties, IsOwnerOf}
+use Rattle.act_owner.specs.Owner.{OwnerView, with_handles}
+use Rattle.act_world.specs.Network.{NetworkView, is_owner}
+use Rattle.act_world.specs.View.{SlotView}
+use Rattle.act_world.specs.Refines.{Refines, IsOwnerOf}
 use Rattle.act_world.proofs.Changes.{refused_follows, accepted_follows}
 use Rattle.act_world.proofs.Lawful.{IsLawful}
 use Rattle.act_world.proofs.Frames.{SameCaller, owners_change, mail_stays}
 use Rattle.act_world.proofs.OneCaller.{needs_holds, or_else-Ok, or_else-Err, IsHere, caller_here, written_back, callers_tie, sent_stays, times-same, times-other_caller, times-other_actor}
 
 -- a copy is refused as the handles say
-copy_refused : (h : History) (c a : ℕ) (owner : OwnerValue) (refusal : Option HandleRefusal) → IsHere h c owner → copy_refusal (copies_in a owner.handles) ≡ refusal → refusal_of h (Copy c a) ≡ option_map Handle refusal
+copy_refused : (h : History) (c a : ℕ) (owner : OwnerView) (refusal : Option HandleRefusal) → IsHere h c owner → copy_refusal (copies_in a owner.handles) ≡ refusal → refusal_of h (Copy c a) ≡ option_map Handle refusal
 copy_refused h c a owner refusal here e =
     needs_holds (is_caller c h) NoCaller (option_map Handle (copy_refusal (copies_of c a h))) here.caller
     ∙ ap (λ (copies : Option ℕ). option_map Handle (copy_refusal copies)) (sym (here.is.copies a))
@@ -43,17 +43,17 @@ one_more true made gone held = let less : 0 < (1 + made) - gone = held in let e 
 one_more false made gone held = refl
 
 -- the copies that the caller holds after one is made
-copies_after : (h : History) (c a : ℕ) (owner : OwnerValue) → IsOwnerOf h c owner → 0 < copies_held (copies_in a owner.handles) → (b : ℕ) → copies_in b (with_copy a owner.handles) ≡ copies_of c b (added h (Copy c a))
+copies_after : (h : History) (c a : ℕ) (owner : OwnerView) → IsOwnerOf h c owner → 0 < copies_held (copies_in a owner.handles) → (b : ℕ) → copies_in b (with_copy a owner.handles) ≡ copies_of c b (add_event h (Copy c a))
 copies_after h c a owner is held b = elim (eqb_tells a b) [
-  | inl t ↦ subst (λ (x : ℕ). copies_in x (with_copy a owner.handles) ≡ copies_of c x (added h (Copy c a))) t.1
+  | inl t ↦ subst (λ (x : ℕ). copies_in x (with_copy a owner.handles) ≡ copies_of c x (add_event h (Copy c a))) t.1
       (copies-with_copy a owner.handles ∙ ap (option_map (λ copies. copies + 1)) (is.copies a)
-      ∙ one_more (names c (cast_of a h)) (times c a h.copied) (times c a h.released) (subst (λ (copies : Option ℕ). 0 < copies_held copies) (is.copies a) held)
-      ∙ ap (λ (made : ℕ). cond (names c (cast_of a h)) (Some ((1 + made) - times c a h.released)) None) (sym (times-same c a h.copied)))
+      ∙ one_more (names c (cast_of a h)) (count_pairs c a h.copied) (count_pairs c a h.released) (subst (λ (copies : Option ℕ). 0 < copies_held copies) (is.copies a) held)
+      ∙ ap (λ (made : ℕ). cond (names c (cast_of a h)) (Some ((1 + made) - count_pairs c a h.released)) None) (sym (times-same c a h.copied)))
   | inr f ↦ copies-with_copy-other a b owner.handles f.1 ∙ is.copies b
-      ∙ ap (λ (made : ℕ). cond (names c (cast_of b h)) (Some ((1 + made) - times c b h.released)) None) (sym (times-other_actor c a b h.copied f.1))
+      ∙ ap (λ (made : ℕ). cond (names c (cast_of b h)) (Some ((1 + made) - count_pairs c b h.released)) None) (sym (times-other_actor c a b h.copied f.1))
 ]
 
-copied_owner : (h : History) (c a : ℕ) (owner : OwnerValue) → IsLawful h → IsOwnerOf h c owner → 0 < copies_held (copies_in a owner.handles) → IsOwnerOf (added h (Copy c a)) c (with_handles owner (with_copy a owner.handles))
+copied_owner : (h : History) (c a : ℕ) (owner : OwnerView) → IsLawful h → IsOwnerOf h c owner → 0 < copies_held (copies_in a owner.handles) → IsOwnerOf (add_event h (Copy c a)) c (with_handles owner (with_copy a owner.handles))
 copied_owner h c a owner lawful is held = record {
   id = is.id;
   copies = copies_after h c a owner is held;
@@ -61,38 +61,38 @@ copied_owner h c a owner lawful is held = record {
   given = λ b. given-with_copy a b owner.handles ∙ is.given b;
   calls = is.calls;
   marks = is.marks;
-  sent = λ k. is.sent k ∙ sym (sent_stays h (added h (Copy c a)) c k (slice_get (calls_of c h) k) refl (λ b n. refl));
-  kept = is.kept ∙ sym (kept_of-same h (added h (Copy c a)) c (added_grows h (Copy c a)) lawful.sound.posts refl refl);
+  sent = λ k. is.sent k ∙ sym (sent_stays h (add_event h (Copy c a)) c k (slice_get (calls_of c h) k) refl (λ b n. refl));
+  kept = is.kept ∙ sym (kept_of-same h (add_event h (Copy c a)) c (added_grows h (Copy c a)) lawful.sound.posts refl refl);
   deaths = is.deaths;
 }
 
 -- nothing of another caller's changes
-others_stay : (h : History) (c a d : ℕ) → IsLawful h → c ≢ d → SameCaller d h (added h (Copy c a))
+others_stay : (h : History) (c a d : ℕ) → IsLawful h → c ≢ d → SameCaller d h (add_event h (Copy c a))
 others_stay h c a d lawful apart = record {
   calls = refl;
-  copies = λ b. ap (λ (made : ℕ). cond (names d (cast_of b h)) (Some ((1 + made) - times d b h.released)) None) (times-other_caller c a d b h.copied apart);
-  sent = λ k. sent_stays h (added h (Copy c a)) d k (slice_get (calls_of d h) k) refl (λ b n. refl);
-  kept = kept_of-same h (added h (Copy c a)) d (added_grows h (Copy c a)) lawful.sound.posts refl refl;
+  copies = λ b. ap (λ (made : ℕ). cond (names d (cast_of b h)) (Some ((1 + made) - count_pairs d b h.released)) None) (times-other_caller c a d b h.copied apart);
+  sent = λ k. sent_stays h (add_event h (Copy c a)) d k (slice_get (calls_of d h) k) refl (λ b n. refl);
+  kept = kept_of-same h (add_event h (Copy c a)) d (added_grows h (Copy c a)) lawful.sound.posts refl refl;
   deaths = λ b. refl;
 }
 
-pub copy_follows : (h : History) (old : ExchangeValue) (slots : List SlotSeen) (c a place copies : ℕ) (owner new : OwnerValue) → IsLawful h → Ties h (record { exchange = old; slots = slots })
-    → position (is_owner c) old.owners ≡ Some place → owner ≡ get_or old.owners place owner → Ok copies ≡ copied a owner.handles → new ≡ with_handles owner (with_copy a owner.handles)
-    → (Ok (Copies copies) ≡ outcome_of h (Copy c a)) × Ties (after h (Copy c a)) (record { exchange = record old { owners = slice_set old.owners place new }; slots = slots })
-copy_follows h old slots c a place copies owner new lawful ties at owner_is told new_is =
-    let here = caller_here h old slots c place owner ties at owner_is in
+pub copy_follows : (h : History) (old : NetworkView) (slots : List SlotView) (c a place copies : ℕ) (owner new : OwnerView) → IsLawful h → Refines h (record { network = old; slots = slots })
+    → position (is_owner c) old.owners ≡ Some place → owner ≡ get_or old.owners place owner → Ok copies ≡ copy_answer a owner.handles → new ≡ with_handles owner (with_copy a owner.handles)
+    → (Ok (Copies copies) ≡ outcome_of h (Copy c a)) × Refines (after h (Copy c a)) (record { network = record old { owners = slice_set old.owners place new }; slots = slots })
+copy_follows h old slots c a place copies owner new lawful refines at owner_is told new_is =
+    let here = caller_here h old slots c place owner refines at owner_is in
     let accepted = or_else-Ok (copy_refusal (copies_in a owner.handles)) (copies_held (copies_in a owner.handles) + 1) copies told in
     let held = copy_held (copies_in a owner.handles) accepted.0 in
-    let now : IsOwnerOf (added h (Copy c a)) c new = subst (IsOwnerOf (added h (Copy c a)) c) (sym new_is) (copied_owner h c a owner lawful here.is held) in
+    let now : IsOwnerOf (add_event h (Copy c a)) c new = subst (IsOwnerOf (add_event h (Copy c a)) c) (sym new_is) (copied_owner h c a owner lawful here.is held) in
     accepted_follows h (Copy c a) (Copies copies) _ (copy_refused h c a owner None here accepted.0) (ap Copies (accepted.1 ∙ ap (λ (o : Option ℕ). copies_held o + 1) (here.is.copies a)))
-    (callers_tie h (added h (Copy c a)) old _ slots lawful ties (record { grows = added_grows h (Copy c a); arrived = refl; ran = refl; posts = refl; killed = refl; retired = refl })
-    (owners_change h (added h (Copy c a)) old.owners c place new refl ties.owners at now (λ d apart. others_stay h c a d lawful apart))
-    (mail_stays h (added h (Copy c a)) old.mail lawful (added_grows h (Copy c a)) ties.mail) ties.mail_count refl ties.asked)
+    (callers_tie h (add_event h (Copy c a)) old _ slots lawful refines (record { grows = added_grows h (Copy c a); arrived = refl; ran = refl; posts = refl; killed = refl; retired = refl })
+    (owners_change h (add_event h (Copy c a)) old.owners c place new refl refines.owners at now (λ d apart. others_stay h c a d lawful apart))
+    (mail_stays h (add_event h (Copy c a)) old.mail lawful (added_grows h (Copy c a)) refines.mail) refines.mail_count refl refines.asked)
 
-pub copy_refused_follows : (h : History) (old : ExchangeValue) (slots : List SlotSeen) (c a place : ℕ) (refusal : HandleRefusal) (owner new : OwnerValue) → Ties h (record { exchange = old; slots = slots })
-    → position (is_owner c) old.owners ≡ Some place → owner ≡ get_or old.owners place owner → Err refusal ≡ copied a owner.handles → new ≡ owner
-    → (Err (Handle refusal) ≡ outcome_of h (Copy c a)) × Ties (after h (Copy c a)) (record { exchange = record old { owners = slice_set old.owners place new }; slots = slots })
-copy_refused_follows h old slots c a place refusal owner new ties at owner_is told new_is =
-    let here = caller_here h old slots c place owner ties at owner_is in
+pub copy_refused_follows : (h : History) (old : NetworkView) (slots : List SlotView) (c a place : ℕ) (refusal : HandleRefusal) (owner new : OwnerView) → Refines h (record { network = old; slots = slots })
+    → position (is_owner c) old.owners ≡ Some place → owner ≡ get_or old.owners place owner → Err refusal ≡ copy_answer a owner.handles → new ≡ owner
+    → (Err (Handle refusal) ≡ outcome_of h (Copy c a)) × Refines (after h (Copy c a)) (record { network = record old { owners = slice_set old.owners place new }; slots = slots })
+copy_refused_follows h old slots c a place refusal owner new refines at owner_is told new_is =
+    let here = caller_here h old slots c place owner refines at owner_is in
     refused_follows h (Copy c a) (Handle refusal) _ (copy_refused h c a owner (Some refusal) here (or_else-Err (copy_refusal (copies_in a owner.handles)) (copies_held (copies_in a owner.handles) + 1) refusal told))
-    (written_back h old slots place owner new owner_is new_is ties)
+    (written_back h old slots place owner new owner_is new_is refines)

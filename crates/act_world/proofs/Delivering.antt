@@ -13,18 +13,18 @@ use Rattle.act_rules.specs.declared.outcome.WorldRefusal.TheVariants.{ActorEnded
 use Rattle.act_rules.specs.Laws.{history}
 use Rattle.act_rules.specs.Submissions.{needs, calls_to}
 use Rattle.act_rules.specs.History.{History, cast_of, names, calls_of, is_ended, has_letter}
-use Rattle.act_rules.specs.Rules.{Outcome, actor_of, deliver_refusal, refusal_of, did, did_deliver, outcome_of, after, and_also, was_sent}
+use Rattle.act_rules.specs.Rules.{Outcome, letter_actor, deliver_refusal, refusal_of, did, did_deliver, outcome_of, after, and_also, was_sent}
 use Rattle.act_rules.proofs.Letters.{IsSoundLetter}
 use Rattle.act_rules.proofs.Retired.{IsSoundNote}
-use Rattle.act_owner.specs.Owner.{OwnerValue}
-use Rattle.act_actor.specs.View.{ActorSeen}
-use Rattle.act_world.specs.declared.exchange.Mailed.{Mailed}
-use Rattle.act_world.specs.declared.exchange.Mailed.TheVariants.{Call as MailedCall, Note as MailedNote}
-use Rattle.act_world.specs.Exchange.{ExchangeValue, is_owner, mailed_to}
-use Rattle.act_world.specs.View.{SlotSeen, Runs, WorldSeen}
-use Rattle.act_world.specs.Slots.{is_live_seen, HasTaken, HasTakenCall, HasNoted, HasArrived, IsNewCall, IsBrought}
-use Rattle.act_world.specs.Ties.{IsOwnerAt, packet_as, note_as, mailed, IsLive, IsStage, Ties}
-use Rattle.act_world.specs.Stands.{Follows, IsUnrefused}
+use Rattle.act_owner.specs.Owner.{OwnerView}
+use Rattle.act_actor.specs.View.{ActorView}
+use Rattle.act_world.specs.declared.network.MailEntry.{MailEntry}
+use Rattle.act_world.specs.declared.network.MailEntry.TheVariants.{Call as CallEntry, Note as NoteEntry}
+use Rattle.act_world.specs.Network.{NetworkView, is_owner, entry_actor}
+use Rattle.act_world.specs.View.{SlotView, Runs, WorldView}
+use Rattle.act_world.specs.Slots.{is_live_slot, HasTakenPacket, HasTakenCall, HasNoted, HasArrived, IsNewCall, IsBrought}
+use Rattle.act_world.specs.Refines.{IsOwnerAt, packet_as, call_key, mail_entry, IsLive, IsStage, Refines}
+use Rattle.act_world.specs.IsReachedBy.{FollowsRules, IsUnrefused}
 use Rattle.act_world.specs.Memory.{is_new_call, takes_memory, TakesMemory}
 use Rattle.act_world.proofs.Lawful.{IsLawful, world_lawful, IsNamedLetter}
 use Rattle.act_world.proofs.Frames.{owners_stay}
@@ -38,36 +38,36 @@ use Rattle.act_world.proofs.Lists.{set-same}
 -- ---- either letter
 
 -- what the actor tells is what the history tells, and it goes on with it
-pub record HasCome (h : History) (letter : Letter) (arrival : Arrival) (new : ActorSeen) : Type 0 where
+pub record HasCome (h : History) (letter : Letter) (arrival : Arrival) (new : ActorView) : Type 0 where
   pub told : arrival ≡ cond (has_letter letter h.arrived) Repeat New
-  pub live : IsLive (brought h letter) (actor_of letter) new
+  pub live : IsLive (brought h letter) (letter_actor letter) new
 
-letter_came : (h : History) (owners : List OwnerValue) (letter : Letter) (m : Mailed) (arrival : Arrival) (live new : ActorSeen) → IsLawful h → ((c : ℕ) → IsOwnerAt h c (find (is_owner c) owners))
+letter_came : (h : History) (owners : List OwnerView) (letter : Letter) (m : MailEntry) (arrival : Arrival) (live new : ActorView) → IsLawful h → ((c : ℕ) → IsOwnerAt h c (find (is_owner c) owners))
     → IsSoundLetter h letter → IsNamedLetter h letter → IsSoundNote h letter
-    → mailed h letter ≡ Some m → IsLive h (actor_of letter) live → HasArrived owners m arrival live new → HasCome h letter arrival new
+    → mail_entry h letter ≡ Some m → IsLive h (letter_actor letter) live → HasArrived owners m arrival live new → HasCome h letter arrival new
 letter_came h owners (CallLetter c a n) m arrival live new lawful all sound named note carries is arrived =
-    let some : Some (MailedCall (note_as c a n sound.0)) ≡ Some m = rw sound.1 at carries in
-    let same : MailedCall (note_as c a n sound.0) ≡ m = cc in
-    let took : HasTakenCall owners (note_as c a n sound.0) arrival live new = subst (λ (x : Mailed). HasArrived owners x arrival live new) (sym same) arrived in
-    let taken : HasTaken (packet_as h c a n sound.0) arrival live new = took (packet_as h c a n sound.0) (made_there h owners c a n sound.0 all named sound.1) in
+    let some : Some (CallEntry (call_key c a n sound.0)) ≡ Some m = rw sound.1 at carries in
+    let same : CallEntry (call_key c a n sound.0) ≡ m = cc in
+    let took : HasTakenCall owners (call_key c a n sound.0) arrival live new = subst (λ (x : MailEntry). HasArrived owners x arrival live new) (sym same) arrived in
+    let taken : HasTakenPacket (packet_as h c a n sound.0) arrival live new = took (packet_as h c a n sound.0) (made_there h owners c a n sound.0 all named sound.1) in
     let told : arrival ≡ cond (has_letter (CallLetter c a n) h.arrived) Repeat New = taken.arrival_is ∙ call_arrival h c a n sound.0 live lawful is named sound.1 in
     record { told = told; live = live_taken h c a n sound.0 arrival live new lawful is sound.1 told taken }
 letter_came h owners (NoteLetter c a n) m arrival live new lawful all sound named note carries is arrived =
-    let same : MailedNote (record { caller = c; actor = a; after = n }) ≡ m = cc in
-    let noted : HasNoted (record { caller = c; actor = a; after = n }) arrival live new = subst (λ (x : Mailed). HasArrived owners x arrival live new) (sym same) arrived in
+    let same : NoteEntry (record { caller = c; actor = a; after = n }) ≡ m = cc in
+    let noted : HasNoted (record { caller = c; actor = a; after = n }) arrival live new = subst (λ (x : MailEntry). HasArrived owners x arrival live new) (sym same) arrived in
     let told : arrival ≡ cond (has_letter (NoteLetter c a n) h.arrived) Repeat New = noted.arrival_is ∙ note_arrives h c a n live lawful is named note in
     record { told = told; live = live_noted h c a n arrival live new lawful is named note told noted }
 
-brought_ties : (h : History) (letter : Letter) (old : WorldSeen) (slot new : SlotSeen) → Ties h old → slice_get old.slots (actor_of letter) ≡ Some slot → IsStage (brought h letter) (actor_of letter) (Some new)
-    → Ties (brought h letter) (record { exchange = old.exchange; slots = slice_set old.slots (actor_of letter) new })
-brought_ties h letter old slot new ties at is = record {
-  owners = owners_stay h (brought h letter) old.exchange.owners refl (λ c. record { calls = refl; copies = λ a. refl; sent = λ k. sent (slice_get (calls_of c h) k) c k; kept = refl; deaths = λ a. refl }) ties.owners;
-  actors = stages_change h (brought h letter) old.slots (actor_of letter) slot new ties.actors at is (stage_past h letter);
-  mail = ties.mail;
-  mail_count = ties.mail_count;
-  replies = ties.replies;
-  reply_count = ties.reply_count;
-  asked = ties.asked;
+brought_ties : (h : History) (letter : Letter) (old : WorldView) (slot new : SlotView) → Refines h old → slice_get old.slots (letter_actor letter) ≡ Some slot → IsStage (brought h letter) (letter_actor letter) (Some new)
+    → Refines (brought h letter) (record { network = old.network; slots = slice_set old.slots (letter_actor letter) new })
+brought_ties h letter old slot new refines at is = record {
+  owners = owners_stay h (brought h letter) old.network.owners refl (λ c. record { calls = refl; copies = λ a. refl; sent = λ k. sent (slice_get (calls_of c h) k) c k; kept = refl; deaths = λ a. refl }) refines.owners;
+  actors = stages_change h (brought h letter) old.slots (letter_actor letter) slot new refines.actors at is (stage_past h letter);
+  mail = refines.mail;
+  mail_count = refines.mail_count;
+  replies = refines.replies;
+  reply_count = refines.reply_count;
+  asked = refines.asked;
 }
   where
     sent : (call : Option Submission) (c k : ℕ) → was_sent c k call (brought h letter) ≡ was_sent c k call h
@@ -77,128 +77,128 @@ brought_ties h letter old slot new ties at is = record {
 -- ---- the event
 
 -- the letter's actor doesn't run
-pub deliver_ended : (h : History) (world : WorldSeen) (i : ℕ) (m : Mailed) (slot : SlotSeen) → IsLawful h → Ties h world → slice_get world.exchange.mail i ≡ Some m
-    → slice_get world.slots (mailed_to m) ≡ Some slot → is_live_seen slot ≡ false → (Err ActorEnded ≡ outcome_of h (Deliver i)) × Ties (after h (Deliver i)) world
-deliver_ended h world i m slot lawful ties is at off =
-    let here = letter_at h world i m lawful ties is in
-    let to : actor_of here.letter ≡ mailed_to m = carried_to h here.letter m here.sound here.carries in
-    let there : slice_get world.slots (actor_of here.letter) ≡ Some slot = ap (slice_get world.slots) to ∙ at in
-    let stage : IsStage h (actor_of here.letter) (Some slot) = subst (IsStage h (actor_of here.letter)) there (ties.actors (actor_of here.letter)) in
-    let ended : is_ended (actor_of here.letter) h ≡ true = has_ended h (actor_of here.letter) slot stage off (letter_cast h here.letter here.named) in
-    refused_follows h (Deliver i) ActorEnded world (ap (λ (o : Option Letter). deliver_refusal o h) here.at ∙ ap (λ (b : Bool). needs (not b) ActorEnded None) ended) ties
+pub deliver_ended : (h : History) (world : WorldView) (i : ℕ) (m : MailEntry) (slot : SlotView) → IsLawful h → Refines h world → slice_get world.network.mail i ≡ Some m
+    → slice_get world.slots (entry_actor m) ≡ Some slot → is_live_slot slot ≡ false → (Err ActorEnded ≡ outcome_of h (Deliver i)) × Refines (after h (Deliver i)) world
+deliver_ended h world i m slot lawful refines is at off =
+    let here = letter_at h world i m lawful refines is in
+    let to : letter_actor here.letter ≡ entry_actor m = carried_to h here.letter m here.sound here.carries in
+    let there : slice_get world.slots (letter_actor here.letter) ≡ Some slot = ap (slice_get world.slots) to ∙ at in
+    let stage : IsStage h (letter_actor here.letter) (Some slot) = subst (IsStage h (letter_actor here.letter)) there (refines.actors (letter_actor here.letter)) in
+    let ended : is_ended (letter_actor here.letter) h ≡ true = has_ended h (letter_actor here.letter) slot stage off (letter_cast h here.letter here.named) in
+    refused_follows h (Deliver i) ActorEnded world (ap (λ (o : Option Letter). deliver_refusal o h) here.at ∙ ap (λ (b : Bool). needs (not b) ActorEnded None) ended) refines
 
 -- the letter was brought
-pub deliver_follows : (h : History) (old : WorldSeen) (i : ℕ) (m : Mailed) (slot new : SlotSeen) (told : Outcome) → IsLawful h → Ties h old → slice_get old.exchange.mail i ≡ Some m
-    → slice_get old.slots (mailed_to m) ≡ Some slot → IsBrought old.exchange.owners m slot new told
-    → (told ≡ outcome_of h (Deliver i)) × Ties (after h (Deliver i)) (record { exchange = old.exchange; slots = slice_set old.slots (mailed_to m) new })
-deliver_follows h old i m slot new told lawful ties is at went = go slot new told at went
+pub deliver_follows : (h : History) (old : WorldView) (i : ℕ) (m : MailEntry) (slot new : SlotView) (told : Outcome) → IsLawful h → Refines h old → slice_get old.network.mail i ≡ Some m
+    → slice_get old.slots (entry_actor m) ≡ Some slot → IsBrought old.network.owners m slot new told
+    → (told ≡ outcome_of h (Deliver i)) × Refines (after h (Deliver i)) (record { network = old.network; slots = slice_set old.slots (entry_actor m) new })
+deliver_follows h old i m slot new told lawful refines is at went = go slot new told at went
   where
     here : IsLetterAt h i m
-    here = letter_at h old i m lawful ties is
+    here = letter_at h old i m lawful refines is
 
-    to : actor_of here.letter ≡ mailed_to m
+    to : letter_actor here.letter ≡ entry_actor m
     to = carried_to h here.letter m here.sound here.carries
 
-    by_live : (live new : ActorSeen) (arrival : Arrival) → slice_get old.slots (mailed_to m) ≡ Some (Runs live) → HasArrived old.exchange.owners m arrival live new
-        → (Ok (Arrived arrival) ≡ outcome_of h (Deliver i)) × Ties (after h (Deliver i)) (record { exchange = old.exchange; slots = slice_set old.slots (mailed_to m) (Runs new) })
+    by_live : (live new : ActorView) (arrival : Arrival) → slice_get old.slots (entry_actor m) ≡ Some (Runs live) → HasArrived old.network.owners m arrival live new
+        → (Ok (Arrived arrival) ≡ outcome_of h (Deliver i)) × Refines (after h (Deliver i)) (record { network = old.network; slots = slice_set old.slots (entry_actor m) (Runs new) })
     by_live live new arrival at arrived =
-        let there : slice_get old.slots (actor_of here.letter) ≡ Some (Runs live) = ap (slice_get old.slots) to ∙ at in
-        let lives : IsLive h (actor_of here.letter) live = subst (IsStage h (actor_of here.letter)) there (ties.actors (actor_of here.letter)) in
-        let come = letter_came h old.exchange.owners here.letter m arrival live new lawful ties.owners here.sound here.named here.note here.carries lives arrived in
+        let there : slice_get old.slots (letter_actor here.letter) ≡ Some (Runs live) = ap (slice_get old.slots) to ∙ at in
+        let lives : IsLive h (letter_actor here.letter) live = subst (IsStage h (letter_actor here.letter)) there (refines.actors (letter_actor here.letter)) in
+        let come = letter_came h old.network.owners here.letter m arrival live new lawful refines.owners here.sound here.named here.note here.carries lives arrived in
         let told : Arrived arrival ≡ did h (Deliver i) = ap (λ (x : Arrival). Arrived x) come.told ∙ ap (did_deliver h) (sym here.at) in
         let free : refusal_of h (Deliver i) ≡ None = ap (λ (o : Option Letter). deliver_refusal o h) here.at ∙ ap (λ (b : Bool). needs (not b) ActorEnded None) lives.runs in
-        let after_it : Ties (brought h here.letter) (record { exchange = old.exchange; slots = slice_set old.slots (actor_of here.letter) (Runs new) }) = brought_ties h here.letter old (Runs live) (Runs new) ties there come.live in
-        accepted_follows h (Deliver i) (Arrived arrival) (record { exchange = old.exchange; slots = slice_set old.slots (mailed_to m) (Runs new) }) free told
-        (subst (λ (o : Option Letter). Ties (record h { arrived = and_also h.arrived o }) (record { exchange = old.exchange; slots = slice_set old.slots (mailed_to m) (Runs new) })) (sym here.at)
-        (subst (λ (a : ℕ). Ties (brought h here.letter) (record { exchange = old.exchange; slots = slice_set old.slots a (Runs new) })) to after_it))
+        let after_it : Refines (brought h here.letter) (record { network = old.network; slots = slice_set old.slots (letter_actor here.letter) (Runs new) }) = brought_ties h here.letter old (Runs live) (Runs new) refines there come.live in
+        accepted_follows h (Deliver i) (Arrived arrival) (record { network = old.network; slots = slice_set old.slots (entry_actor m) (Runs new) }) free told
+        (subst (λ (o : Option Letter). Refines (record h { arrived = and_also h.arrived o }) (record { network = old.network; slots = slice_set old.slots (entry_actor m) (Runs new) })) (sym here.at)
+        (subst (λ (a : ℕ). Refines (brought h here.letter) (record { network = old.network; slots = slice_set old.slots a (Runs new) })) to after_it))
 
-    by_ended : (slot new : SlotSeen) (told : Outcome) → slice_get old.slots (mailed_to m) ≡ Some slot → is_live_seen slot ≡ false → (new ≡ slot) × (told ≡ Err ActorEnded)
-        → (told ≡ outcome_of h (Deliver i)) × Ties (after h (Deliver i)) (record { exchange = old.exchange; slots = slice_set old.slots (mailed_to m) new })
+    by_ended : (slot new : SlotView) (told : Outcome) → slice_get old.slots (entry_actor m) ≡ Some slot → is_live_slot slot ≡ false → (new ≡ slot) × (told ≡ Err ActorEnded)
+        → (told ≡ outcome_of h (Deliver i)) × Refines (after h (Deliver i)) (record { network = old.network; slots = slice_set old.slots (entry_actor m) new })
     by_ended slot new told at off went =
-        let ended = deliver_ended h old i m slot lawful ties is at off in
-        let stays : slice_set old.slots (mailed_to m) new ≡ old.slots = ap (slice_set old.slots (mailed_to m)) went.0 ∙ set-same old.slots (mailed_to m) slot at in
-        (went.1 ∙ ended.0, subst (λ (slots : List SlotSeen). Ties (after h (Deliver i)) (record { exchange = old.exchange; slots = slots })) (sym stays) ended.1)
+        let ended = deliver_ended h old i m slot lawful refines is at off in
+        let stays : slice_set old.slots (entry_actor m) new ≡ old.slots = ap (slice_set old.slots (entry_actor m)) went.0 ∙ set-same old.slots (entry_actor m) slot at in
+        (went.1 ∙ ended.0, subst (λ (slots : List SlotView). Refines (after h (Deliver i)) (record { network = old.network; slots = slots })) (sym stays) ended.1)
 
-    go : (slot new : SlotSeen) (told : Outcome) → slice_get old.slots (mailed_to m) ≡ Some slot → IsBrought old.exchange.owners m slot new told
-        → (told ≡ outcome_of h (Deliver i)) × Ties (after h (Deliver i)) (record { exchange = old.exchange; slots = slice_set old.slots (mailed_to m) new })
+    go : (slot new : SlotView) (told : Outcome) → slice_get old.slots (entry_actor m) ≡ Some slot → IsBrought old.network.owners m slot new told
+        → (told ≡ outcome_of h (Deliver i)) × Refines (after h (Deliver i)) (record { network = old.network; slots = slice_set old.slots (entry_actor m) new })
     go (Runs live) (Runs next) (Ok (Arrived arrival)) at went = by_live live next arrival at went
     go (Runs live) next told at went = absurd went
     go slot next told at went = by_ended slot next told at refl went
 
 -- nothing refuses the letter where its actor runs
-pub deliver_free : (h : History) (world : WorldSeen) (i : ℕ) (m : Mailed) (slot : SlotSeen) → IsLawful h → Ties h world → slice_get world.exchange.mail i ≡ Some m
-    → slice_get world.slots (mailed_to m) ≡ Some slot → is_live_seen slot ≡ true → refusal_of h (Deliver i) ≡ None
-deliver_free h world i m slot lawful ties is at on =
-    let here = letter_at h world i m lawful ties is in
-    let to : actor_of here.letter ≡ mailed_to m = carried_to h here.letter m here.sound here.carries in
-    let there : slice_get world.slots (actor_of here.letter) ≡ Some slot = ap (slice_get world.slots) to ∙ at in
-    let stage : IsStage h (actor_of here.letter) (Some slot) = subst (IsStage h (actor_of here.letter)) there (ties.actors (actor_of here.letter)) in
-    ap (λ (o : Option Letter). deliver_refusal o h) here.at ∙ ap (λ (b : Bool). needs (not b) ActorEnded None) (not_ended h (actor_of here.letter) slot stage on)
+pub deliver_free : (h : History) (world : WorldView) (i : ℕ) (m : MailEntry) (slot : SlotView) → IsLawful h → Refines h world → slice_get world.network.mail i ≡ Some m
+    → slice_get world.slots (entry_actor m) ≡ Some slot → is_live_slot slot ≡ true → refusal_of h (Deliver i) ≡ None
+deliver_free h world i m slot lawful refines is at on =
+    let here = letter_at h world i m lawful refines is in
+    let to : letter_actor here.letter ≡ entry_actor m = carried_to h here.letter m here.sound here.carries in
+    let there : slice_get world.slots (letter_actor here.letter) ≡ Some slot = ap (slice_get world.slots) to ∙ at in
+    let stage : IsStage h (letter_actor here.letter) (Some slot) = subst (IsStage h (letter_actor here.letter)) there (refines.actors (letter_actor here.letter)) in
+    ap (λ (o : Option Letter). deliver_refusal o h) here.at ∙ ap (λ (b : Bool). needs (not b) ActorEnded None) (not_ended h (letter_actor here.letter) slot stage on)
 
 not_arrived : (b : Bool) → cond b Repeat New ≡ New → not b ≡ true
 not_arrived true e = cc
 not_arrived false e = refl
 
 -- a letter that the actor takes in as a new call takes memory
-pub deliver_takes : (h : History) (world : WorldSeen) (i : ℕ) (m : Mailed) (slot : SlotSeen) → IsLawful h → Ties h world → slice_get world.exchange.mail i ≡ Some m
-    → slice_get world.slots (mailed_to m) ≡ Some slot → IsNewCall m slot → takes_memory (Deliver i) h ≡ true
-deliver_takes h world i m slot lawful ties is at new =
-    let here = letter_at h world i m lawful ties is in
+pub deliver_takes : (h : History) (world : WorldView) (i : ℕ) (m : MailEntry) (slot : SlotView) → IsLawful h → Refines h world → slice_get world.network.mail i ≡ Some m
+    → slice_get world.slots (entry_actor m) ≡ Some slot → IsNewCall m slot → takes_memory (Deliver i) h ≡ true
+deliver_takes h world i m slot lawful refines is at new =
+    let here = letter_at h world i m lawful refines is in
     by_letter here.letter here.at here.carries here.sound here.named
   where
-    by_call : (c a n : ℕ) (call : ℕ × Submission) (slot : SlotSeen) → slice_get h.mail i ≡ Some (CallLetter c a n) → slice_get (calls_to a (calls_of c h)) n ≡ Some call → names c (cast_of a h) ≡ true
-        → slice_get world.slots a ≡ Some slot → IsNewCall (MailedCall (note_as c a n call)) slot → takes_memory (Deliver i) h ≡ true
+    by_call : (c a n : ℕ) (call : ℕ × Submission) (slot : SlotView) → slice_get h.mail i ≡ Some (CallLetter c a n) → slice_get (calls_to a (calls_of c h)) n ≡ Some call → names c (cast_of a h) ≡ true
+        → slice_get world.slots a ≡ Some slot → IsNewCall (CallEntry (call_key c a n call)) slot → takes_memory (Deliver i) h ≡ true
     by_call c a n call (Runs live) found made named there new =
-        let lives : IsLive h a live = subst (IsStage h a) there (ties.actors a) in
+        let lives : IsLive h a live = subst (IsStage h a) there (refines.actors a) in
         let told : cond (has_letter (CallLetter c a n) h.arrived) Repeat New ≡ New = sym (call_arrival h c a n call live lawful lives named made) ∙ new in
         ap (λ (o : Option Letter). is_new_call o h) found ∙ not_arrived (has_letter (CallLetter c a n) h.arrived) told
     by_call c a n call slot found made named there new = absurd new
 
-    by_letter : (letter : Letter) → slice_get h.mail i ≡ Some letter → mailed h letter ≡ Some m → IsSoundLetter h letter → IsNamedLetter h letter → takes_memory (Deliver i) h ≡ true
+    by_letter : (letter : Letter) → slice_get h.mail i ≡ Some letter → mail_entry h letter ≡ Some m → IsSoundLetter h letter → IsNamedLetter h letter → takes_memory (Deliver i) h ≡ true
     by_letter (CallLetter c a n) found carries sound named =
-        let some : Some (MailedCall (note_as c a n sound.0)) ≡ Some m = rw sound.1 at carries in
-        let same : MailedCall (note_as c a n sound.0) ≡ m = cc in
+        let some : Some (CallEntry (call_key c a n sound.0)) ≡ Some m = rw sound.1 at carries in
+        let same : CallEntry (call_key c a n sound.0) ≡ m = cc in
         by_call c a n sound.0 slot found sound.1 named
-        (subst (λ (x : Mailed). slice_get world.slots (mailed_to x) ≡ Some slot) (sym same) at)
-        (subst (λ (x : Mailed). IsNewCall x slot) (sym same) new)
+        (subst (λ (x : MailEntry). slice_get world.slots (entry_actor x) ≡ Some slot) (sym same) at)
+        (subst (λ (x : MailEntry). IsNewCall x slot) (sym same) new)
     by_letter (NoteLetter c a n) found carries sound named =
-        let same : MailedNote (record { caller = c; actor = a; after = n }) ≡ m = cc in
-        absurd (subst (λ (x : Mailed). IsNewCall x slot) (sym same) new)
+        let same : NoteEntry (record { caller = c; actor = a; after = n }) ≡ m = cc in
+        absurd (subst (λ (x : MailEntry). IsNewCall x slot) (sym same) new)
 
 -- ---- the same of what is seen of slots
 
-addressed_cast : (h : History) (world : WorldSeen) (i : ℕ) (m : Mailed) → IsLawful h → Ties h world → slice_get world.exchange.mail i ≡ Some m → cast_of (mailed_to m) h ≡ None → ⊥
-addressed_cast h world i m lawful ties is none =
-    let here = letter_at h world i m lawful ties is in
+addressed_cast : (h : History) (world : WorldView) (i : ℕ) (m : MailEntry) → IsLawful h → Refines h world → slice_get world.network.mail i ≡ Some m → cast_of (entry_actor m) h ≡ None → ⊥
+addressed_cast h world i m lawful refines is none =
+    let here = letter_at h world i m lawful refines is in
     letter_cast h here.letter here.named (ap (λ (a : ℕ). cast_of a h) (carried_to h here.letter m here.sound here.carries) ∙ none)
 
 -- an actor that takes a new call in runs
-takes_lives : (letter : Mailed) (slot : SlotSeen) → IsNewCall letter slot → is_live_seen slot ≡ true
-takes_lives (MailedCall call) (Runs live) is = refl
+takes_lives : (letter : MailEntry) (slot : SlotView) → IsNewCall letter slot → is_live_slot slot ≡ true
+takes_lives (CallEntry call) (Runs live) is = refl
 takes_lives letter slot is = absurd is
 
-module _ {S : Type 0} (f : S → SlotSeen) (exchange : ExchangeValue) (slots : List S) (i a : ℕ) (letter : Mailed) (x : S) (at : Some letter ≡ slice_get exchange.mail i) (to : a ≡ mailed_to letter) (is : x ≡ get_or slots a x) where
-  at_slot : (h : History) → IsLawful h → Ties h (record { exchange = exchange; slots = map f slots }) → slice_get (map f slots) (mailed_to letter) ≡ Some (f x)
-  at_slot h lawful ties =
-      slot_there f slots h (mailed_to letter) x ties.actors (addressed_cast h (record { exchange = exchange; slots = map f slots }) i letter lawful ties (sym at)) (subst (λ (b : ℕ). x ≡ get_or slots b x) to is)
+module _ {S : Type 0} (f : S → SlotView) (network : NetworkView) (slots : List S) (i a : ℕ) (letter : MailEntry) (x : S) (at : Some letter ≡ slice_get network.mail i) (to : a ≡ entry_actor letter) (is : x ≡ get_or slots a x) where
+  at_slot : (h : History) → IsLawful h → Refines h (record { network = network; slots = map f slots }) → slice_get (map f slots) (entry_actor letter) ≡ Some (f x)
+  at_slot h lawful refines =
+      slot_there f slots h (entry_actor letter) x refines.actors (addressed_cast h (record { network = network; slots = map f slots }) i letter lawful refines (sym at)) (subst (λ (b : ℕ). x ≡ get_or slots b x) to is)
 
-  pub new_unrefused : IsNewCall letter (f x) → IsUnrefused (Deliver i) (record { exchange = exchange; slots = map f slots })
-  new_unrefused takes casts before ties =
+  pub new_unrefused : IsNewCall letter (f x) → IsUnrefused (Deliver i) (record { network = network; slots = map f slots })
+  new_unrefused takes casts before refines =
       let h = history casts before in
       let lawful = world_lawful casts before in
-      deliver_free h (record { exchange = exchange; slots = map f slots }) i letter (f x) lawful ties (sym at) (at_slot h lawful ties) (takes_lives letter (f x) takes)
+      deliver_free h (record { network = network; slots = map f slots }) i letter (f x) lawful refines (sym at) (at_slot h lawful refines) (takes_lives letter (f x) takes)
 
-  pub new_takes : IsNewCall letter (f x) → TakesMemory (Deliver i) (record { exchange = exchange; slots = map f slots })
-  new_takes takes casts before ties =
+  pub new_takes : IsNewCall letter (f x) → TakesMemory (Deliver i) (record { network = network; slots = map f slots })
+  new_takes takes casts before refines =
       let h = history casts before in
       let lawful = world_lawful casts before in
-      deliver_takes h (record { exchange = exchange; slots = map f slots }) i letter (f x) lawful ties (sym at) (at_slot h lawful ties) takes
+      deliver_takes h (record { network = network; slots = map f slots }) i letter (f x) lawful refines (sym at) (at_slot h lawful refines) takes
 
-  pub brought_follows : (y : S) (told : Outcome) → IsBrought exchange.owners letter (f x) (f y) told
-      → Follows (Deliver i) (record { exchange = exchange; slots = map f slots }) (record { exchange = exchange; slots = map f (slice_set slots a y) }) told
-  brought_follows y told went casts before ties =
+  pub brought_follows : (y : S) (told : Outcome) → IsBrought network.owners letter (f x) (f y) told
+      → FollowsRules (Deliver i) (record { network = network; slots = map f slots }) (record { network = network; slots = map f (slice_set slots a y) }) told
+  brought_follows y told went casts before refines =
       let h = history casts before in
       let lawful = world_lawful casts before in
-      let follows = deliver_follows h (record { exchange = exchange; slots = map f slots }) i letter (f x) (f y) told lawful ties (sym at) (at_slot h lawful ties) went in
-      let slots_are : slice_set (map f slots) (mailed_to letter) (f y) ≡ map f (slice_set slots a y) = ap (λ (b : ℕ). slice_set (map f slots) b (f y)) (sym to) ∙ sym (map-set f slots a y) in
-      (follows.0, subst (λ (seen : List SlotSeen). Ties (after h (Deliver i)) (record { exchange = exchange; slots = seen })) slots_are follows.1)
+      let follows = deliver_follows h (record { network = network; slots = map f slots }) i letter (f x) (f y) told lawful refines (sym at) (at_slot h lawful refines) went in
+      let slots_are : slice_set (map f slots) (entry_actor letter) (f y) ≡ map f (slice_set slots a y) = ap (λ (b : ℕ). slice_set (map f slots) b (f y)) (sym to) ∙ sym (map-set f slots a y) in
+      (follows.0, subst (λ (seen : List SlotView). Refines (after h (Deliver i)) (record { network = network; slots = seen })) slots_are follows.1)

@@ -17,7 +17,7 @@ use Rattle.act_rules.specs.declared.history.Post.{Post}
 use Rattle.act_rules.specs.declared.history.Post.TheVariants.{Reply as ReplyPost, Death as DeathPost}
 use Rattle.act_rules.specs.RunList.{items_of, state_after, has_terminated}
 use Rattle.act_rules.specs.Submissions.{calls_to}
-use Rattle.act_rules.specs.History.{Casting, History, contains, under, cast_of, names, is_caller, calls_of, copies_of, runs_of, ran_count, kept_of, is_ended, is_dead, is_retired, has_letter}
+use Rattle.act_rules.specs.History.{ActorSpec, History, contains, under, cast_of, names, is_caller, calls_of, copies_of, runs_of, ran_count, kept_of, is_ended, is_dead, is_retired, has_letter}
 use Rattle.act_rules.specs.Rules.{was_sent}
 use Rattle.act_rules.proofs.Lists.{slice_get_front, All_at}
 use Rattle.act_rules.proofs.Growth.{Grows, calls_grow, runs_grow, calls_to_grow}
@@ -29,22 +29,22 @@ use Rattle.act_rules.proofs.Settling.{arguments_stay}
 use Rattle.act_rules.proofs.Table.{kept_of-same}
 use Rattle.act_rules.proofs.Finding.{find-Some, find-None, position_or_len-Some}
 use Rattle.act_rules.proofs.Limits.{limit_of-same}
-use Rattle.act_owner.specs.Owner.{OwnerValue}
-use Rattle.act_actor.specs.View.{ActorSeen}
-use Rattle.act_world.specs.declared.exchange.Mailed.{Mailed}
-use Rattle.act_world.specs.declared.exchange.Posted.{Posted}
-use Rattle.act_world.specs.Exchange.{is_owner}
-use Rattle.act_world.specs.View.{SlotSeen, Runs, Died, Ended, Vacant}
-use Rattle.act_world.specs.Ties.{IsOwnerOf, IsOwnerAt, is_death_to, packet_of, mailed, reply_as, reply_at, posted, held_packet, IsLive, IsStage}
+use Rattle.act_owner.specs.Owner.{OwnerView}
+use Rattle.act_actor.specs.View.{ActorView}
+use Rattle.act_world.specs.declared.network.MailEntry.{MailEntry}
+use Rattle.act_world.specs.declared.network.Posted.{Posted}
+use Rattle.act_world.specs.Network.{is_owner}
+use Rattle.act_world.specs.View.{SlotView, Runs, Died, Ended, Vacant}
+use Rattle.act_world.specs.Refines.{IsOwnerOf, IsOwnerAt, is_death_to, packet_by_number, mail_entry, reply_as, reply_at, posted_notice, held_packet, IsLive, IsStage}
 use Rattle.act_world.proofs.Lawful.{IsLawful}
 
 -- ---- the casts
 
 pub cast_of-same : (h g : History) (a : ℕ) → g.casts ≡ h.casts → cast_of a g ≡ cast_of a h
-cast_of-same h g a casts = ap (λ (l : List Casting). find (λ (cast : Casting). cast.actor == a) l) casts
+cast_of-same h g a casts = ap (λ (l : List ActorSpec). find (λ (cast : ActorSpec). cast.actor == a) l) casts
 
 pub is_caller-same : (h g : History) (c : ℕ) → g.casts ≡ h.casts → is_caller c g ≡ is_caller c h
-is_caller-same h g c casts = ap (λ (l : List Casting). list_any (λ (cast : Casting). contains c cast.callers) l) casts
+is_caller-same h g c casts = ap (λ (l : List ActorSpec). list_any (λ (cast : ActorSpec). contains c cast.callers) l) casts
 
 pub names-same : (h g : History) (c a : ℕ) → g.casts ≡ h.casts → names c (cast_of a g) ≡ names c (cast_of a h)
 names-same h g c a casts = ap (names c) (cast_of-same h g a casts)
@@ -59,7 +59,7 @@ pub record SameCaller (c : ℕ) (h g : History) : Type 0 where
   pub kept : kept_of c g ≡ kept_of c h
   pub deaths : (a : ℕ) → list_any (is_death_to c a) g.collected ≡ list_any (is_death_to c a) h.collected
 
-owner_stays : (c : ℕ) (h g : History) (owner : OwnerValue) → g.casts ≡ h.casts → SameCaller c h g → IsOwnerOf h c owner → IsOwnerOf g c owner
+owner_stays : (c : ℕ) (h g : History) (owner : OwnerView) → g.casts ≡ h.casts → SameCaller c h g → IsOwnerOf h c owner → IsOwnerOf g c owner
 owner_stays c h g owner casts same is = record {
   id = is.id;
   copies = λ a. is.copies a ∙ sym (same.copies a);
@@ -73,27 +73,27 @@ owner_stays c h g owner casts same is = record {
 }
 
 -- callers of whom nothing changes
-pub owner_at_stays : (c : ℕ) (h g : History) (owner : Option OwnerValue) → g.casts ≡ h.casts → SameCaller c h g → IsOwnerAt h c owner → IsOwnerAt g c owner
+pub owner_at_stays : (c : ℕ) (h g : History) (owner : Option OwnerView) → g.casts ≡ h.casts → SameCaller c h g → IsOwnerAt h c owner → IsOwnerAt g c owner
 owner_at_stays c h g None casts same is = is_caller-same h g c casts ∙ is
 owner_at_stays c h g (Some owner) casts same is = (is_caller-same h g c casts ∙ is.0, owner_stays c h g owner casts same is.1)
 
-pub owners_stay : (h g : History) (owners : List OwnerValue) → g.casts ≡ h.casts → ((c : ℕ) → SameCaller c h g)
+pub owners_stay : (h g : History) (owners : List OwnerView) → g.casts ≡ h.casts → ((c : ℕ) → SameCaller c h g)
     → ((c : ℕ) → IsOwnerAt h c (find (is_owner c) owners)) → (c : ℕ) → IsOwnerAt g c (find (is_owner c) owners)
 owners_stay h g owners casts same all c = owner_at_stays c h g (find (is_owner c) owners) casts (same c) (all c)
 
 -- the caller at its place, and none
-pub owner_here : (h : History) (owners : List OwnerValue) (c place : ℕ) (d : OwnerValue) → ((c : ℕ) → IsOwnerAt h c (find (is_owner c) owners)) → position (is_owner c) owners ≡ Some place
+pub owner_here : (h : History) (owners : List OwnerView) (c place : ℕ) (d : OwnerView) → ((c : ℕ) → IsOwnerAt h c (find (is_owner c) owners)) → position (is_owner c) owners ≡ Some place
     → (is_caller c h ≡ true) × IsOwnerOf h c (get_or owners place d)
 owner_here h owners c place d all at = subst (IsOwnerAt h c) (find-Some (is_owner c) owners place d at) (all c)
 
-pub owner_absent : (h : History) (owners : List OwnerValue) (c : ℕ) → ((c : ℕ) → IsOwnerAt h c (find (is_owner c) owners)) → position (is_owner c) owners ≡ None → is_caller c h ≡ false
+pub owner_absent : (h : History) (owners : List OwnerView) (c : ℕ) → ((c : ℕ) → IsOwnerAt h c (find (is_owner c) owners)) → position (is_owner c) owners ≡ None → is_caller c h ≡ false
 owner_absent h owners c all at = subst (IsOwnerAt h c) (find-None (is_owner c) owners at) (all c)
 
-not_owner : (c d : ℕ) (owner : OwnerValue) → c ≢ d → owner.id ≡ c → is_owner d owner ≡ false
+not_owner : (c d : ℕ) (owner : OwnerView) → c ≢ d → owner.id ≡ c → is_owner d owner ≡ false
 not_owner c d owner apart id = ne_eqb owner.id d (λ same. apart (sym id ∙ same))
 
 -- one caller changes, and nothing of the others
-pub owners_change : (h g : History) (owners : List OwnerValue) (c place : ℕ) (new : OwnerValue) → g.casts ≡ h.casts → ((c : ℕ) → IsOwnerAt h c (find (is_owner c) owners)) → position (is_owner c) owners ≡ Some place
+pub owners_change : (h g : History) (owners : List OwnerView) (c place : ℕ) (new : OwnerView) → g.casts ≡ h.casts → ((c : ℕ) → IsOwnerAt h c (find (is_owner c) owners)) → position (is_owner c) owners ≡ Some place
     → IsOwnerOf g c new → ((d : ℕ) → c ≢ d → SameCaller d h g) → (d : ℕ) → IsOwnerAt g d (find (is_owner d) (slice_set owners place new))
 owners_change h g owners c place new casts all at is others d = elim (eqb_tells c d) [
   | inl t ↦ subst (λ (x : ℕ). IsOwnerAt g x (find (is_owner x) (slice_set owners place new))) t.1
@@ -123,25 +123,25 @@ same_caller c h g lawful grows submitted copied released mail collected = record
 -- ---- what is on its way
 
 -- a sound call letter's packet stays
-pub packet_stays : (h g : History) (c a n : ℕ) → IsLawful h → Grows h g → IsSoundLetter h (CallLetter c a n) → packet_of g c a n ≡ packet_of h c a n
+pub packet_stays : (h g : History) (c a n : ℕ) → IsLawful h → Grows h g → IsSoundLetter h (CallLetter c a n) → packet_by_number g c a n ≡ packet_by_number h c a n
 packet_stays h g c a n lawful grows sound =
     let there : slice_get (calls_to a (calls_of c g)) n ≡ Some sound.0 = slice_get_front (calls_to a (calls_of c h)) (calls_to a (calls_of c g)) n sound.0 (calls_to_grow a (calls_of c h) (calls_of c g) (calls_grow c h g grows)) sound.1 in
     let same = (arguments_stay (kept_of c h) (kept_of c g) (kept_extends c h g grows lawful.sound.posts) sound.0.1.args sound.2).1 in
     rw (there, sound.1) (ap (λ (args : List Settled). Some (record { caller = c; actor = a; number = n; future = sound.0.0; method = sound.0.1.method; args = args })) same)
 
-pub mailed_stays : (h g : History) (letter : Letter) → IsLawful h → Grows h g → IsSoundLetter h letter → mailed g letter ≡ mailed h letter
+pub mailed_stays : (h g : History) (letter : Letter) → IsLawful h → Grows h g → IsSoundLetter h letter → mail_entry g letter ≡ mail_entry h letter
 mailed_stays h g (CallLetter c a n) lawful grows sound =
     let there : slice_get (calls_to a (calls_of c g)) n ≡ Some sound.0 = slice_get_front (calls_to a (calls_of c h)) (calls_to a (calls_of c g)) n sound.0 (calls_to_grow a (calls_of c h) (calls_of c g) (calls_grow c h g grows)) sound.1 in
     rw (there, sound.1) refl
 mailed_stays h g (NoteLetter c a n) lawful grows sound = refl
 
-mailed_at_stays : (h g : History) (i : ℕ) (found : Option Letter) → slice_get h.mail i ≡ found → IsLawful h → Grows h g → option_and_then (mailed g) found ≡ option_and_then (mailed h) found
+mailed_at_stays : (h g : History) (i : ℕ) (found : Option Letter) → slice_get h.mail i ≡ found → IsLawful h → Grows h g → option_and_then (mail_entry g) found ≡ option_and_then (mail_entry h) found
 mailed_at_stays h g i None is lawful grows = refl
 mailed_at_stays h g i (Some letter) is lawful grows = mailed_stays h g letter lawful grows (All_at (IsSoundLetter h) h.mail i letter lawful.sound.letters.mail is)
 
 -- the letters that were there stay
-pub mail_stays : (h g : History) (mail : List Mailed) → IsLawful h → Grows h g → ((i : ℕ) → slice_get mail i ≡ option_and_then (mailed h) (slice_get h.mail i))
-    → (i : ℕ) → slice_get mail i ≡ option_and_then (mailed g) (slice_get h.mail i)
+pub mail_stays : (h g : History) (mail : List MailEntry) → IsLawful h → Grows h g → ((i : ℕ) → slice_get mail i ≡ option_and_then (mail_entry h) (slice_get h.mail i))
+    → (i : ℕ) → slice_get mail i ≡ option_and_then (mail_entry g) (slice_get h.mail i)
 mail_stays h g mail lawful grows all i = all i ∙ sym (mailed_at_stays h g i (slice_get h.mail i) refl lawful grows)
 
 -- two lists that go together go on together
@@ -159,17 +159,17 @@ reply_stays h g c a place item grows at =
     let there : slice_get (runs_of a g) place ≡ Some item = slice_get_front (runs_of a h) (runs_of a g) place item (runs_grow a h g grows) at in
     rw (there, at) (ap (option_map (reply_as c a place item)) (answer_of_stays h g a place item grows at))
 
-pub posted_stays : (h g : History) (post : Post) → Grows h g → IsSoundPost h post → posted g post ≡ posted h post
+pub posted_stays : (h g : History) (post : Post) → Grows h g → IsSoundPost h post → posted_notice g post ≡ posted_notice h post
 posted_stays h g (ReplyPost c a place) grows sound = ap (option_map (λ reply. record { caller = c; notice = Answered reply })) (reply_stays h g c a place sound.0 grows sound.1)
 posted_stays h g (DeathPost c a) grows sound = refl
 
-posted_at_stays : (h g : History) (j : ℕ) (found : Option Post) → slice_get h.posts j ≡ found → IsLawful h → Grows h g → option_and_then (posted g) found ≡ option_and_then (posted h) found
+posted_at_stays : (h g : History) (j : ℕ) (found : Option Post) → slice_get h.posts j ≡ found → IsLawful h → Grows h g → option_and_then (posted_notice g) found ≡ option_and_then (posted_notice h) found
 posted_at_stays h g j None is lawful grows = refl
 posted_at_stays h g j (Some post) is lawful grows = posted_stays h g post grows (All_at (IsSoundPost h) h.posts j post lawful.sound.posts.posts is)
 
 -- the notices that were there stay
-pub replies_stay : (h g : History) (replies : List Posted) → IsLawful h → Grows h g → ((j : ℕ) → slice_get replies j ≡ option_and_then (posted h) (slice_get h.posts j))
-    → (j : ℕ) → slice_get replies j ≡ option_and_then (posted g) (slice_get h.posts j)
+pub replies_stay : (h g : History) (replies : List Posted) → IsLawful h → Grows h g → ((j : ℕ) → slice_get replies j ≡ option_and_then (posted_notice h) (slice_get h.posts j))
+    → (j : ℕ) → slice_get replies j ≡ option_and_then (posted_notice g) (slice_get h.posts j)
 replies_stay h g replies lawful grows all j = all j ∙ sym (posted_at_stays h g j (slice_get h.posts j) refl lawful grows)
 
 -- ---- actors
@@ -178,16 +178,16 @@ held_stays : (h g : History) (a c n : ℕ) → IsLawful h → Grows h g → g.ar
 held_stays h g a c n lawful grows arrived ran =
     rw (ran, arrived) (ap (λ (rest : Option Packet). cond (nat_lt n (ran_count c a h)) None rest) (by_arrival (has_letter (CallLetter c a n) h.arrived) refl))
   where
-    by_arrival : (b : Bool) → has_letter (CallLetter c a n) h.arrived ≡ b → cond b (packet_of g c a n) None ≡ cond b (packet_of h c a n) None
+    by_arrival : (b : Bool) → has_letter (CallLetter c a n) h.arrived ≡ b → cond b (packet_by_number g c a n) None ≡ cond b (packet_by_number h c a n) None
     by_arrival true e = packet_stays h g c a n lawful grows (has_letter-sound (IsSoundLetter h) (CallLetter c a n) h.arrived lawful.sound.letters.arrived e)
     by_arrival false e = refl
 
 -- an actor that runs did not terminate
-pub still_lives : (h : History) (a : ℕ) (live : ActorSeen) → IsLive h a live → has_terminated live.log ≡ false
+pub still_lives : (h : History) (a : ℕ) (live : ActorView) → IsLive h a live → has_terminated live.log ≡ false
 still_lives h a live is = ap has_terminated is.log ∙ not_terminated a h is.runs
 
 -- an actor at which nothing arrives, runs or ends stays
-pub live_stays : (h g : History) (a : ℕ) (live : ActorSeen) → IsLawful h → Grows h g → g.arrived ≡ h.arrived → runs_of a g ≡ runs_of a h → is_ended a g ≡ is_ended a h → IsLive h a live → IsLive g a live
+pub live_stays : (h g : History) (a : ℕ) (live : ActorView) → IsLawful h → Grows h g → g.arrived ≡ h.arrived → runs_of a g ≡ runs_of a h → is_ended a g ≡ is_ended a h → IsLive h a live → IsLive g a live
 live_stays h g a live lawful grows arrived ran ended is = record {
   cast = is.cast;
   cast_is = cast_of-same h g a grows.casts ∙ is.cast_is;
@@ -201,7 +201,7 @@ live_stays h g a live lawful grows arrived ran ended is = record {
   notes = λ c n named. is.notes c n (sym (names-same h g c a grows.casts) ∙ named) ∙ ap (has_letter (NoteLetter c a n)) (sym arrived);
 }
 
-pub stage_stays : (h g : History) (a : ℕ) (stage : Option SlotSeen) → IsLawful h → Grows h g → g.arrived ≡ h.arrived → runs_of a g ≡ runs_of a h → is_dead a g ≡ is_dead a h → is_retired a g ≡ is_retired a h
+pub stage_stays : (h g : History) (a : ℕ) (stage : Option SlotView) → IsLawful h → Grows h g → g.arrived ≡ h.arrived → runs_of a g ≡ runs_of a h → is_dead a g ≡ is_dead a h → is_retired a g ≡ is_retired a h
     → IsStage h a stage → IsStage g a stage
 stage_stays h g a None lawful grows arrived ran dead retired is = cast_of-same h g a grows.casts ∙ is
 stage_stays h g a (Some Vacant) lawful grows arrived ran dead retired is = cast_of-same h g a grows.casts ∙ is
@@ -228,7 +228,7 @@ pub dead_same : (h g : History) (a : ℕ) → contains a g.killed ≡ contains a
 dead_same h g a killed ran = ap (λ (b : Bool). b || has_terminated (runs_of a g)) killed ∙ ap (λ (items : List RunItem). contains a h.killed || has_terminated items) ran
 
 -- actors stay where nothing arrives, runs or ends
-pub stages_stay : (h g : History) (slots : List SlotSeen) → IsLawful h → Grows h g → g.arrived ≡ h.arrived → g.ran ≡ h.ran → g.killed ≡ h.killed → g.retired ≡ h.retired
+pub stages_stay : (h g : History) (slots : List SlotView) → IsLawful h → Grows h g → g.arrived ≡ h.arrived → g.ran ≡ h.ran → g.killed ≡ h.killed → g.retired ≡ h.retired
     → ((a : ℕ) → IsStage h a (slice_get slots a)) → (a : ℕ) → IsStage g a (slice_get slots a)
 stages_stay h g slots lawful grows arrived ran killed retired all a =
     stage_stays h g a (slice_get slots a) lawful grows arrived (ap (under a) ran) (dead_same h g a (ap (contains a) killed) (ap (under a) ran)) (ap (contains a) retired) (all a)

@@ -16,27 +16,27 @@ use Rattle.act_rules.specs.RunList.{Answer, items_of, has_terminated}
 use Rattle.act_rules.specs.Submissions.{needs}
 use Rattle.act_rules.specs.Consistent.{Consistent}
 use Rattle.act_rules.specs.Laws.{history}
-use Rattle.act_rules.specs.History.{Casting, History, opening, contains, cast_of, opening_of, names, is_caller, calls_of, runs_of, ran_count, kept_of, first_answer, has_letter, is_dead, is_retired, is_ended, next_item}
+use Rattle.act_rules.specs.History.{ActorSpec, History, opening, contains, cast_of, opening_of, names, is_caller, calls_of, runs_of, ran_count, kept_of, first_answer, has_letter, is_dead, is_retired, is_ended, next_item}
 use Rattle.act_rules.specs.Rules.{refusal_of, after_run}
 use Rattle.act_rules.proofs.Steps.{IsKept, after_all_keeps}
 use Rattle.act_rules.proofs.Ended.{needs-none}
 use Rattle.act_rules.proofs.Letters.{has_letter-sound}
 use Rattle.act_rules.proofs.Growth.{added_grows}
 use Rattle.act_rules.proofs.Sound.{consistent}
-use Rattle.act_owner.specs.Owner.{OwnerValue}
-use Rattle.act_world.specs.Exchange.{is_owner}
-use Rattle.act_world.specs.View.{SlotSeen, Runs, Died, Ended, Vacant, WorldSeen}
-use Rattle.act_world.specs.Ties.{IsOwnerAt, IsStage, Ties}
-use Rattle.act_world.specs.Slots.{is_dead_seen}
-use Rattle.act_world.specs.Headline.{calls_in, kept_in, log_of, log_in, died_in, IsConsistent}
+use Rattle.act_owner.specs.Owner.{OwnerView}
+use Rattle.act_world.specs.Network.{is_owner}
+use Rattle.act_world.specs.View.{SlotView, Runs, Died, Ended, Vacant, WorldView}
+use Rattle.act_world.specs.Refines.{IsOwnerAt, IsStage, Refines}
+use Rattle.act_world.specs.Slots.{is_dead_slot}
+use Rattle.act_world.specs.Headline.{world_calls, world_kept, slot_log, world_log, world_died, IsConsistent}
 use Rattle.act_world.proofs.Lawful.{IsLawful, IsNamedLetter, world_lawful, named_caller, sent_call_named}
 
 -- ---- the casts stay, and the killed have casts
 
-abbrev HasCasts : List Casting → History → Type 0
+abbrev HasCasts : List ActorSpec → History → Type 0
 HasCasts casts h = h.casts ≡ casts
 
-casts_step : (casts : List Casting) → IsKept (HasCasts casts)
+casts_step : (casts : List ActorSpec) → IsKept (HasCasts casts)
 casts_step casts h event same accepted = (added_grows h event).casts ∙ same
 
 abbrev KilledHaveCasts : History → Type 0
@@ -102,15 +102,15 @@ no_runs h a (item ∷ items) is lawful uncast =
 
 -- ---- what the world shows is what the history tells
 
-pub calls_are : (h : History) (c : ℕ) (owner : Option OwnerValue) → IsLawful h → IsOwnerAt h c owner → calls_of c h ≡ option_map_or (λ (o : OwnerValue). o.calls) owner []
+pub calls_are : (h : History) (c : ℕ) (owner : Option OwnerView) → IsLawful h → IsOwnerAt h c owner → calls_of c h ≡ option_map_or (λ (o : OwnerView). o.calls) owner []
 calls_are h c None lawful is = no_calls h c (calls_of c h) refl lawful is
 calls_are h c (Some owner) lawful is = sym is.1.calls
 
-pub kept_are : (h : History) (c : ℕ) (owner : Option OwnerValue) → IsLawful h → IsOwnerAt h c owner → kept_of c h ≡ option_map_or (λ (o : OwnerValue). o.kept) owner []
+pub kept_are : (h : History) (c : ℕ) (owner : Option OwnerView) → IsLawful h → IsOwnerAt h c owner → kept_of c h ≡ option_map_or (λ (o : OwnerView). o.kept) owner []
 kept_are h c None lawful is = ap (λ (calls : List Submission). map (first_answer h c) (enumerate_from 0 calls)) (no_calls h c (calls_of c h) refl lawful is)
 kept_are h c (Some owner) lawful is = sym is.1.kept
 
-pub logs_are : (h : History) (a : ℕ) (slot : Option SlotSeen) → IsLawful h → IsStage h a slot → runs_of a h ≡ option_map_or log_of slot []
+pub logs_are : (h : History) (a : ℕ) (slot : Option SlotView) → IsLawful h → IsStage h a slot → runs_of a h ≡ option_map_or slot_log slot []
 logs_are h a None lawful is = no_runs h a (runs_of a h) refl lawful is
 logs_are h a (Some Vacant) lawful is = no_runs h a (runs_of a h) refl lawful is
 logs_are h a (Some (Runs live)) lawful is = sym is.log
@@ -121,7 +121,7 @@ not_killed : (h : History) (a : ℕ) → KilledHaveCasts h → cast_of a h ≡ N
 not_killed h a all uncast = go (contains a h.killed) refl
   where
     go : (b : Bool) → contains a h.killed ≡ b → b ≡ false
-    go true e = let bad : false ≡ true = ap (λ (o : Option Casting). is_some o) (sym uncast) ∙ all a e in absurd (cc)
+    go true e = let bad : false ≡ true = ap (λ (o : Option ActorSpec). is_some o) (sym uncast) ∙ all a e in absurd (cc)
     go false e = refl
 
 not_dead : (h : History) (a : ℕ) → IsLawful h → KilledHaveCasts h → cast_of a h ≡ None → is_dead a h ≡ false
@@ -129,26 +129,26 @@ not_dead h a lawful all uncast =
     ap (λ (b : Bool). b || has_terminated (runs_of a h)) (not_killed h a all uncast)
     ∙ ap has_terminated (no_runs h a (runs_of a h) refl lawful uncast)
 
-deaths_are : (h : History) (a : ℕ) (slot : Option SlotSeen) → IsLawful h → KilledHaveCasts h → IsStage h a slot → is_dead a h ≡ option_map_or is_dead_seen slot false
+deaths_are : (h : History) (a : ℕ) (slot : Option SlotView) → IsLawful h → KilledHaveCasts h → IsStage h a slot → is_dead a h ≡ option_map_or is_dead_slot slot false
 deaths_are h a None lawful all is = not_dead h a lawful all is
 deaths_are h a (Some Vacant) lawful all is = not_dead h a lawful all is
 deaths_are h a (Some (Runs live)) lawful all is = (or_parts (is_dead a h) (is_retired a h) is.runs).0
 deaths_are h a (Some (Died dead)) lawful all is = is.died
 deaths_are h a (Some (Ended retired)) lawful all is = is.lived
 
-opened : (casts : List Casting) (h : History) (a : ℕ) → h.casts ≡ casts → opening_of a h ≡ opening_of a (opening casts)
-opened casts h a same = ap (λ (l : List Casting). opening_of a (opening l)) same
+opened : (casts : List ActorSpec) (h : History) (a : ℕ) → h.casts ≡ casts → opening_of a h ≡ opening_of a (opening casts)
+opened casts h a same = ap (λ (l : List ActorSpec). opening_of a (opening l)) same
 
 -- the world is consistent, as its history is
-pub stands_consistent : (casts : List Casting) (events : List Event) (world : WorldSeen) → Ties (history casts events) world → IsConsistent casts world
-stands_consistent casts events world ties =
+pub stands_consistent : (casts : List ActorSpec) (events : List Event) (world : WorldView) → Refines (history casts events) world → IsConsistent casts world
+stands_consistent casts events world refines =
     let h = history casts events in
     let lawful = world_lawful casts events in
     let same : h.casts ≡ casts = after_all_keeps (HasCasts casts) (casts_step casts) (opening casts) events refl in
     let killed : KilledHaveCasts h = after_all_keeps KilledHaveCasts killed_step (opening casts) events (λ a e. cc) in
-    subst (λ (f : ℕ → Option KindState). Consistent f (calls_in world) (log_in world) (kept_in world) (died_in world)) (λ i a. opened casts h a same i)
-    (subst (λ (f : ℕ → List Submission). Consistent (λ a. opening_of a h) f (log_in world) (kept_in world) (died_in world)) (λ i c. calls_are h c (find (is_owner c) world.exchange.owners) lawful (ties.owners c) i)
-    (subst (λ (f : ℕ → List RunItem). Consistent (λ a. opening_of a h) (λ c. calls_of c h) f (kept_in world) (died_in world)) (λ i a. logs_are h a (slice_get world.slots a) lawful (ties.actors a) i)
-    (subst (λ (f : ℕ → List (Option Answer)). Consistent (λ a. opening_of a h) (λ c. calls_of c h) (λ a. runs_of a h) f (died_in world)) (λ i c. kept_are h c (find (is_owner c) world.exchange.owners) lawful (ties.owners c) i)
-    (subst (λ (f : ℕ → Bool). Consistent (λ a. opening_of a h) (λ c. calls_of c h) (λ a. runs_of a h) (λ c. kept_of c h) f) (λ i a. deaths_are h a (slice_get world.slots a) lawful killed (ties.actors a) i)
+    subst (λ (f : ℕ → Option KindState). Consistent f (world_calls world) (world_log world) (world_kept world) (world_died world)) (λ i a. opened casts h a same i)
+    (subst (λ (f : ℕ → List Submission). Consistent (λ a. opening_of a h) f (world_log world) (world_kept world) (world_died world)) (λ i c. calls_are h c (find (is_owner c) world.network.owners) lawful (refines.owners c) i)
+    (subst (λ (f : ℕ → List RunItem). Consistent (λ a. opening_of a h) (λ c. calls_of c h) f (world_kept world) (world_died world)) (λ i a. logs_are h a (slice_get world.slots a) lawful (refines.actors a) i)
+    (subst (λ (f : ℕ → List (Option Answer)). Consistent (λ a. opening_of a h) (λ c. calls_of c h) (λ a. runs_of a h) f (world_died world)) (λ i c. kept_are h c (find (is_owner c) world.network.owners) lawful (refines.owners c) i)
+    (subst (λ (f : ℕ → Bool). Consistent (λ a. opening_of a h) (λ c. calls_of c h) (λ a. runs_of a h) (λ c. kept_of c h) f) (λ i a. deaths_are h a (slice_get world.slots a) lawful killed (refines.actors a) i)
     (consistent h lawful.sound)))))

@@ -11,14 +11,14 @@ use Rattle.act_rules.specs.declared.history.Post.{Post}
 use Rattle.act_rules.specs.declared.history.Post.TheVariants.{Reply as ReplyPost, Death as DeathPost}
 use Rattle.act_rules.specs.RunList.{Answer}
 use Rattle.act_rules.specs.History.{History, calls_of, kept_of, answer_in, first_answer}
-use Rattle.act_rules.specs.Rules.{did, Outcome, refusal_of, outcome_of, did_collect, added, after, and_also, was_sent}
+use Rattle.act_rules.specs.Rules.{did, Outcome, refusal_of, outcome_of, did_collect, add_event, after, and_also, was_sent}
 use Rattle.act_rules.proofs.Growth.{Grows, added_grows}
 use Rattle.act_rules.proofs.Table.{or_else, kept_of-collected}
-use Rattle.act_owner.specs.Owner.{OwnerValue, collected, after_collect, KnowsDeath}
-use Rattle.act_world.specs.declared.exchange.Posted.{Posted}
-use Rattle.act_world.specs.Exchange.{ExchangeValue, told_collected}
-use Rattle.act_world.specs.View.{SlotSeen, WorldSeen}
-use Rattle.act_world.specs.Ties.{IsOwnerOf, is_death_to, Ties}
+use Rattle.act_owner.specs.Owner.{OwnerView, collect_result, after_collect, KnowsDeath}
+use Rattle.act_world.specs.declared.network.Posted.{Posted}
+use Rattle.act_world.specs.Network.{NetworkView, told_collected}
+use Rattle.act_world.specs.View.{SlotView, WorldView}
+use Rattle.act_world.specs.Refines.{IsOwnerOf, is_death_to, Refines}
 use Rattle.act_world.proofs.Changes.{accepted_follows}
 use Rattle.act_world.proofs.Lawful.{IsLawful}
 use Rattle.act_world.proofs.Frames.{SameCaller, owners_change, mail_stays, replies_stay, stages_stay}
@@ -63,36 +63,36 @@ others h post d apart = record {
     same_sent k None = refl
     same_sent k (Some call) = refl
 
-pub heard_ties : (h : History) (exchange : ExchangeValue) (slots : List SlotSeen) (post : Post) (place : ℕ) (owner new : OwnerValue) → IsLawful h → Grows h (heard h post) → Ties h (record { exchange = exchange; slots = slots }) → SeesOwner exchange (caller_of post) place owner → IsOwnerOf (heard h post) (caller_of post) new
-    → Ties (heard h post) (record { exchange = record exchange { owners = slice_set exchange.owners place new }; slots = slots })
-heard_ties h exchange slots post place owner new lawful grows ties sees is =
+pub heard_ties : (h : History) (network : NetworkView) (slots : List SlotView) (post : Post) (place : ℕ) (owner new : OwnerView) → IsLawful h → Grows h (heard h post) → Refines h (record { network = network; slots = slots }) → SeesOwner network (caller_of post) place owner → IsOwnerOf (heard h post) (caller_of post) new
+    → Refines (heard h post) (record { network = record network { owners = slice_set network.owners place new }; slots = slots })
+heard_ties h network slots post place owner new lawful grows refines sees is =
     let g = heard h post in
     record {
-      owners = owners_change h g exchange.owners (caller_of post) place new refl ties.owners sees.place_is is (λ d apart. others h post d apart);
-      actors = stages_stay h g slots lawful grows refl refl refl refl ties.actors;
-      mail = mail_stays h g exchange.mail lawful grows ties.mail;
-      mail_count = ties.mail_count;
-      replies = replies_stay h g exchange.replies lawful grows ties.replies;
-      reply_count = ties.reply_count;
-      asked = ties.asked;
+      owners = owners_change h g network.owners (caller_of post) place new refl refines.owners sees.place_is is (λ d apart. others h post d apart);
+      actors = stages_stay h g slots lawful grows refl refl refl refl refines.actors;
+      mail = mail_stays h g network.mail lawful grows refines.mail;
+      mail_count = refines.mail_count;
+      replies = replies_stay h g network.replies lawful grows refines.replies;
+      reply_count = refines.reply_count;
+      asked = refines.asked;
     }
 
 collect_unrefused : (h : History) (j : ℕ) (post : Post) → slice_get h.posts j ≡ Some post → refusal_of h (Collect j) ≡ None
 collect_unrefused h j post at = rw at refl
 
-collect_adds : (h : History) (j : ℕ) (post : Post) → slice_get h.posts j ≡ Some post → added h (Collect j) ≡ heard h post
+collect_adds : (h : History) (j : ℕ) (post : Post) → slice_get h.posts j ≡ Some post → add_event h (Collect j) ≡ heard h post
 collect_adds h j post at = ap (λ (o : Option Post). record h { collected = and_also h.collected o }) at
 
 pub heard_grows : (h : History) (j : ℕ) (post : Post) → slice_get h.posts j ≡ Some post → Grows h (heard h post)
 heard_grows h j post at = subst (Grows h) (collect_adds h j post at) (added_grows h (Collect j))
 
-pub finish : (h : History) (j : ℕ) (post : Post) (told : Outcome) (world : WorldSeen) → slice_get h.posts j ≡ Some post → told ≡ Ok (did_collect h (Some post)) → Ties (heard h post) world → (told ≡ outcome_of h (Collect j)) × Ties (after h (Collect j)) world
-finish h j post told world at told_is ties =
-    let both = accepted_follows h (Collect j) (did h (Collect j)) world (collect_unrefused h j post at) refl (subst (λ (g : History). Ties g world) (sym (collect_adds h j post at)) ties) in
+pub finish : (h : History) (j : ℕ) (post : Post) (told : Outcome) (world : WorldView) → slice_get h.posts j ≡ Some post → told ≡ Ok (did_collect h (Some post)) → Refines (heard h post) world → (told ≡ outcome_of h (Collect j)) × Refines (after h (Collect j)) world
+finish h j post told world at told_is refines =
+    let both = accepted_follows h (Collect j) (did h (Collect j)) world (collect_unrefused h j post at) refl (subst (λ (g : History). Refines g world) (sym (collect_adds h j post at)) refines) in
     (told_is ∙ ap (λ (o : Option Post). Ok (did_collect h o)) (sym at) ∙ both.0, both.1)
 
 -- ---- what is asked of each notice
 
-abbrev pub Collects : History → ExchangeValue → List SlotSeen → ℕ → Posted → Type 0
-Collects h exchange slots j notice = (place : ℕ) (owner new : OwnerValue) (told : Outcome) → SeesOwner exchange notice.caller place owner → told ≡ told_collected notice.caller (collected owner notice.notice) → new ≡ after_collect owner notice.notice → KnowsDeath notice.notice owner new
-    → (told ≡ outcome_of h (Collect j)) × Ties (after h (Collect j)) (record { exchange = record exchange { owners = slice_set exchange.owners place new }; slots = slots })
+abbrev pub Collects : History → NetworkView → List SlotView → ℕ → Posted → Type 0
+Collects h network slots j notice = (place : ℕ) (owner new : OwnerView) (told : Outcome) → SeesOwner network notice.caller place owner → told ≡ told_collected notice.caller (collect_result owner notice.notice) → new ≡ after_collect owner notice.notice → KnowsDeath notice.notice owner new
+    → (told ≡ outcome_of h (Collect j)) × Refines (after h (Collect j)) (record { network = record network { owners = slice_set network.owners place new }; slots = slots })

@@ -11,13 +11,13 @@ use Rattle.act_rules.specs.declared.outcome.WorldRefusal.{WorldRefusal}
 use Rattle.act_rules.specs.declared.outcome.WorldRefusal.TheVariants.{Handle, ActorEnded, NoKill}
 use Rattle.act_rules.specs.RunList.{has_terminated}
 use Rattle.act_rules.specs.History.{History, contains, cast_of, runs_of, is_dead, is_retired, is_ended}
-use Rattle.act_rules.specs.Rules.{Outcome, refusal_of, outcome_of, did, added, after}
+use Rattle.act_rules.specs.Rules.{Outcome, refusal_of, outcome_of, did, add_event, after}
 use Rattle.act_rules.proofs.Growth.{added_grows}
-use Rattle.act_actor.specs.View.{ActorSeen}
-use Rattle.act_world.specs.Exchange.{ExchangeValue}
-use Rattle.act_world.specs.View.{SlotSeen, Runs, Died, Ended, Vacant}
-use Rattle.act_world.specs.Slots.{killed}
-use Rattle.act_world.specs.Ties.{IsLive, IsDead, IsStage, Ties}
+use Rattle.act_actor.specs.View.{ActorView}
+use Rattle.act_world.specs.Network.{NetworkView}
+use Rattle.act_world.specs.View.{SlotView, Runs, Died, Ended, Vacant}
+use Rattle.act_world.specs.Slots.{take_kill}
+use Rattle.act_world.specs.Refines.{IsLive, IsDead, IsStage, Refines}
 use Rattle.act_world.proofs.Changes.{refused_follows, accepted_follows}
 use Rattle.act_world.proofs.Lists.{get_set-same, get_set-other, set-same}
 use Rattle.act_world.proofs.Lawful.{IsLawful}
@@ -33,7 +33,7 @@ contains-other a b ns apart = list_any-append (λ m. m == b) ns (a ∷ []) ∙ r
 
 -- ---- the actor dies
 
-dead_now : (h : History) (a : ℕ) (live : ActorSeen) → IsLive h a live → IsDead (added h (TakeKill a)) a (record { id = live.id; log = live.log })
+dead_now : (h : History) (a : ℕ) (live : ActorView) → IsLive h a live → IsDead (add_event h (TakeKill a)) a (record { id = live.id; log = live.log })
 dead_now h a live is = record {
   cast = is.cast;
   cast_is = is.cast_is;
@@ -42,35 +42,35 @@ dead_now h a live is = record {
   log = is.log;
 }
 
-dead_ties : (h : History) (exchange : ExchangeValue) (slots : List SlotSeen) (a : ℕ) (live : ActorSeen) → IsLawful h → Ties h (record { exchange = exchange; slots = slots }) → slice_get slots a ≡ Some (Runs live) → IsLive h a live
-    → Ties (added h (TakeKill a)) (record { exchange = exchange; slots = slice_set slots a (Died (record { id = live.id; log = live.log })) })
-dead_ties h exchange slots a live lawful ties at is =
-    let g = added h (TakeKill a) in
+dead_ties : (h : History) (network : NetworkView) (slots : List SlotView) (a : ℕ) (live : ActorView) → IsLawful h → Refines h (record { network = network; slots = slots }) → slice_get slots a ≡ Some (Runs live) → IsLive h a live
+    → Refines (add_event h (TakeKill a)) (record { network = network; slots = slice_set slots a (Died (record { id = live.id; log = live.log })) })
+dead_ties h network slots a live lawful refines at is =
+    let g = add_event h (TakeKill a) in
     let grows = added_grows h (TakeKill a) in
     record {
-      owners = owners_stay h g exchange.owners refl (λ c. same_caller c h g lawful grows refl refl refl refl refl) ties.owners;
+      owners = owners_stay h g network.owners refl (λ c. same_caller c h g lawful grows refl refl refl refl refl) refines.owners;
       actors = actors;
-      mail = mail_stays h g exchange.mail lawful grows ties.mail;
-      mail_count = ties.mail_count;
-      replies = replies_stay h g exchange.replies lawful grows ties.replies;
-      reply_count = ties.reply_count;
-      asked = ties.asked;
+      mail = mail_stays h g network.mail lawful grows refines.mail;
+      mail_count = refines.mail_count;
+      replies = replies_stay h g network.replies lawful grows refines.replies;
+      reply_count = refines.reply_count;
+      asked = refines.asked;
     }
   where
-    dead : SlotSeen
+    dead : SlotView
     dead = Died (record { id = live.id; log = live.log })
 
-    actors : (b : ℕ) → IsStage (added h (TakeKill a)) b (slice_get (slice_set slots a dead) b)
+    actors : (b : ℕ) → IsStage (add_event h (TakeKill a)) b (slice_get (slice_set slots a dead) b)
     actors b = elim (eqb_tells a b) [
-      | inl t ↦ subst (λ (x : ℕ). IsStage (added h (TakeKill a)) x (slice_get (slice_set slots a dead) x)) t.1 (subst (IsStage (added h (TakeKill a)) a) (sym (get_set-same slots a (Runs live) dead at)) (dead_now h a live is))
-      | inr f ↦ subst (IsStage (added h (TakeKill a)) b) (sym (get_set-other slots a b dead f.1)) (stage_stays h (added h (TakeKill a)) b (slice_get slots b) lawful (added_grows h (TakeKill a)) refl refl (dead_same h (added h (TakeKill a)) b (contains-other a b h.killed f.0) refl) refl (ties.actors b))
+      | inl t ↦ subst (λ (x : ℕ). IsStage (add_event h (TakeKill a)) x (slice_get (slice_set slots a dead) x)) t.1 (subst (IsStage (add_event h (TakeKill a)) a) (sym (get_set-same slots a (Runs live) dead at)) (dead_now h a live is))
+      | inr f ↦ subst (IsStage (add_event h (TakeKill a)) b) (sym (get_set-other slots a b dead f.1)) (stage_stays h (add_event h (TakeKill a)) b (slice_get slots b) lawful (added_grows h (TakeKill a)) refl refl (dead_same h (add_event h (TakeKill a)) b (contains-other a b h.killed f.0) refl) refl (refines.actors b))
     ]
 
 -- ---- the cases
 
-unchanged : (h : History) (exchange : ExchangeValue) (slots : List SlotSeen) (a : ℕ) (old : SlotSeen) (refusal : WorldRefusal) → Ties h (record { exchange = exchange; slots = slots }) → slice_get slots a ≡ Some old → refusal_of h (TakeKill a) ≡ Some refusal
-    → (Err refusal ≡ outcome_of h (TakeKill a)) × Ties (after h (TakeKill a)) (record { exchange = exchange; slots = slice_set slots a old })
-unchanged h exchange slots a old refusal ties at e = rw (set-same slots a old at) (refused_follows h (TakeKill a) refusal (record { exchange = exchange; slots = slots }) e ties)
+unchanged : (h : History) (network : NetworkView) (slots : List SlotView) (a : ℕ) (old : SlotView) (refusal : WorldRefusal) → Refines h (record { network = network; slots = slots }) → slice_get slots a ≡ Some old → refusal_of h (TakeKill a) ≡ Some refusal
+    → (Err refusal ≡ outcome_of h (TakeKill a)) × Refines (after h (TakeKill a)) (record { network = network; slots = slice_set slots a old })
+unchanged h network slots a old refusal refines at e = rw (set-same slots a old at) (refused_follows h (TakeKill a) refusal (record { network = network; slots = slots }) e refines)
 
 no_actor : (h : History) (a : ℕ) → cast_of a h ≡ None → refusal_of h (TakeKill a) ≡ Some (Handle NoActor)
 no_actor h a e = rw e refl
@@ -84,22 +84,22 @@ no_kill h a cast e runs asked = rw (e, runs, asked) refl
 is_taken : (h : History) (a : ℕ) (cast : _) → cast_of a h ≡ Some cast → is_ended a h ≡ false → contains a h.asked ≡ true → refusal_of h (TakeKill a) ≡ None
 is_taken h a cast e runs asked = rw (e, runs, asked) refl
 
-by_slot : (h : History) (exchange : ExchangeValue) (slots : List SlotSeen) (a : ℕ) (asked : Bool) (old : SlotSeen) → IsLawful h → Ties h (record { exchange = exchange; slots = slots }) → asked ≡ contains a h.asked → slice_get slots a ≡ Some old → IsStage h a (Some old)
-    → ((killed asked old).1 ≡ outcome_of h (TakeKill a)) × Ties (after h (TakeKill a)) (record { exchange = exchange; slots = slice_set slots a (killed asked old).0 })
-by_slot h exchange slots a true (Runs live) lawful ties asked at is =
-    accepted_follows h (TakeKill a) (did h (TakeKill a)) (record { exchange = exchange; slots = slice_set slots a (Died (record { id = live.id; log = live.log })) }) (is_taken h a is.cast is.cast_is is.runs (sym asked)) refl (dead_ties h exchange slots a live lawful ties at is)
-by_slot h exchange slots a false (Runs live) lawful ties asked at is = unchanged h exchange slots a (Runs live) NoKill ties at (no_kill h a is.cast is.cast_is is.runs (sym asked))
-by_slot h exchange slots a true Vacant lawful ties asked at is = unchanged h exchange slots a Vacant (Handle NoActor) ties at (no_actor h a is)
-by_slot h exchange slots a false Vacant lawful ties asked at is = unchanged h exchange slots a Vacant (Handle NoActor) ties at (no_actor h a is)
-by_slot h exchange slots a true (Died dead) lawful ties asked at is = unchanged h exchange slots a (Died dead) ActorEnded ties at (has_ended h a is.cast is.cast_is (or_left (is_dead a h) (is_retired a h) is.died))
-by_slot h exchange slots a false (Died dead) lawful ties asked at is = unchanged h exchange slots a (Died dead) ActorEnded ties at (has_ended h a is.cast is.cast_is (or_left (is_dead a h) (is_retired a h) is.died))
-by_slot h exchange slots a true (Ended retired) lawful ties asked at is = unchanged h exchange slots a (Ended retired) ActorEnded ties at (has_ended h a is.cast is.cast_is (or_right (is_dead a h) (is_retired a h) is.ended))
-by_slot h exchange slots a false (Ended retired) lawful ties asked at is = unchanged h exchange slots a (Ended retired) ActorEnded ties at (has_ended h a is.cast is.cast_is (or_right (is_dead a h) (is_retired a h) is.ended))
+by_slot : (h : History) (network : NetworkView) (slots : List SlotView) (a : ℕ) (asked : Bool) (old : SlotView) → IsLawful h → Refines h (record { network = network; slots = slots }) → asked ≡ contains a h.asked → slice_get slots a ≡ Some old → IsStage h a (Some old)
+    → ((take_kill asked old).1 ≡ outcome_of h (TakeKill a)) × Refines (after h (TakeKill a)) (record { network = network; slots = slice_set slots a (take_kill asked old).0 })
+by_slot h network slots a true (Runs live) lawful refines asked at is =
+    accepted_follows h (TakeKill a) (did h (TakeKill a)) (record { network = network; slots = slice_set slots a (Died (record { id = live.id; log = live.log })) }) (is_taken h a is.cast is.cast_is is.runs (sym asked)) refl (dead_ties h network slots a live lawful refines at is)
+by_slot h network slots a false (Runs live) lawful refines asked at is = unchanged h network slots a (Runs live) NoKill refines at (no_kill h a is.cast is.cast_is is.runs (sym asked))
+by_slot h network slots a true Vacant lawful refines asked at is = unchanged h network slots a Vacant (Handle NoActor) refines at (no_actor h a is)
+by_slot h network slots a false Vacant lawful refines asked at is = unchanged h network slots a Vacant (Handle NoActor) refines at (no_actor h a is)
+by_slot h network slots a true (Died dead) lawful refines asked at is = unchanged h network slots a (Died dead) ActorEnded refines at (has_ended h a is.cast is.cast_is (or_left (is_dead a h) (is_retired a h) is.died))
+by_slot h network slots a false (Died dead) lawful refines asked at is = unchanged h network slots a (Died dead) ActorEnded refines at (has_ended h a is.cast is.cast_is (or_left (is_dead a h) (is_retired a h) is.died))
+by_slot h network slots a true (Ended retired) lawful refines asked at is = unchanged h network slots a (Ended retired) ActorEnded refines at (has_ended h a is.cast is.cast_is (or_right (is_dead a h) (is_retired a h) is.ended))
+by_slot h network slots a false (Ended retired) lawful refines asked at is = unchanged h network slots a (Ended retired) ActorEnded refines at (has_ended h a is.cast is.cast_is (or_right (is_dead a h) (is_retired a h) is.ended))
 
 -- the slot's change is the definition's
-pub kill_follows : (h : History) (exchange : ExchangeValue) (slots : List SlotSeen) (a : ℕ) (asked : Bool) (old new : SlotSeen) (told : Outcome) → IsLawful h → Ties h (record { exchange = exchange; slots = slots })
-    → asked ≡ unwrap_or (slice_get exchange.asked a) false → slice_get slots a ≡ Some old → (new, told) ≡ killed asked old
-    → (told ≡ outcome_of h (TakeKill a)) × Ties (after h (TakeKill a)) (record { exchange = exchange; slots = slice_set slots a new })
-kill_follows h exchange slots a asked old new told lawful ties asked_is at e =
-    subst (λ (p : SlotSeen × Outcome). (p.1 ≡ outcome_of h (TakeKill a)) × Ties (after h (TakeKill a)) (record { exchange = exchange; slots = slice_set slots a p.0 })) (sym e)
-    (by_slot h exchange slots a asked old lawful ties (asked_is ∙ ties.asked a) at (subst (IsStage h a) at (ties.actors a)))
+pub kill_follows : (h : History) (network : NetworkView) (slots : List SlotView) (a : ℕ) (asked : Bool) (old new : SlotView) (told : Outcome) → IsLawful h → Refines h (record { network = network; slots = slots })
+    → asked ≡ unwrap_or (slice_get network.asked a) false → slice_get slots a ≡ Some old → (new, told) ≡ take_kill asked old
+    → (told ≡ outcome_of h (TakeKill a)) × Refines (after h (TakeKill a)) (record { network = network; slots = slice_set slots a new })
+kill_follows h network slots a asked old new told lawful refines asked_is at e =
+    subst (λ (p : SlotView × Outcome). (p.1 ≡ outcome_of h (TakeKill a)) × Refines (after h (TakeKill a)) (record { network = network; slots = slice_set slots a p.0 })) (sym e)
+    (by_slot h network slots a asked old lawful refines (asked_is ∙ refines.asked a) at (subst (IsStage h a) at (refines.actors a)))

@@ -23,8 +23,8 @@ use Rattle.act_rules.specs.declared.outcome.SubmitRefusal.TheVariants.{NoActor a
 use Rattle.act_rules.specs.declared.outcome.WorldRefusal.TheVariants.{Submit as SubmitRefused, NoCaller, Handle, NotDead}
 use Rattle.act_rules.specs.RunList.{items_of}
 use Rattle.act_rules.specs.Submissions.{calls_to, needs, copies_held, submit_refusal, limit_refusal, handle_refusal, is_earlier}
-use Rattle.act_rules.specs.History.{Casting, History, opening, contains, under, cast_of, names, is_caller, calls_of, copies_of, limit_of, runs_of, ran_count, has_letter, is_letter, is_dead, next_item}
-use Rattle.act_rules.specs.Rules.{unanswered, submission_refusal, refusal_of, added, and_also, after_run, call_letter, is_last, after_all}
+use Rattle.act_rules.specs.History.{ActorSpec, History, opening, contains, under, cast_of, names, is_caller, calls_of, copies_of, limit_of, runs_of, ran_count, has_letter, is_letter, is_dead, next_item}
+use Rattle.act_rules.specs.Rules.{unanswered, submission_refusal, refusal_of, add_event, and_also, after_run, call_letter, is_last, after_all}
 use Rattle.act_rules.proofs.Lists.{All_more, All_weaker, All_at, option_map-none, option_or-none}
 use Rattle.act_rules.proofs.Steps.{IsKept, after_all_keeps}
 use Rattle.act_rules.proofs.Ended.{needs-none, under-push, run_needs}
@@ -209,7 +209,7 @@ sent_call_named h c k call named at =
     let is : names pair.0.0 (cast_of pair.0.1.actor h) ≡ true = All_at (λ (one : ℕ × Submission). names one.0 (cast_of one.1.actor h) ≡ true) h.submitted place.place pair.0 named place.at in
     subst (λ (x : ℕ). names x (cast_of call.actor h) ≡ true) mine (subst (λ (y : ℕ). names pair.0.0 (cast_of y h) ≡ true) to is)
 
-pub named_step : (h : History) (event : Event) → AllNamed h → AreNamed h → refusal_of h event ≡ None → AreNamed (added h event)
+pub named_step : (h : History) (event : Event) → AllNamed h → AreNamed h → refusal_of h event ≡ None → AreNamed (add_event h event)
 named_step h (Submit c a method args) all named accepted = record { mail = named.mail; posts = named.posts }
 named_step h (Copy c a) all named accepted = record { mail = named.mail; posts = named.posts }
 named_step h (Release c a) all named accepted = record { mail = go (is_last c a h); posts = named.posts }
@@ -234,14 +234,14 @@ named_step h (TakeKill a) all named accepted = record { mail = named.mail; posts
 named_step h (Tell a c) all named accepted = record { mail = named.mail; posts = All_more (IsNamedPost h) h.posts (DeathPost c a) named.posts (tell_names h a c accepted) }
 named_step h (Retire a) all named accepted = record { mail = named.mail; posts = named.posts }
 
-named_here : (c : ℕ) (cast : Casting) (casts : List Casting) (found : Option Casting) (here : Bool) → (names c found ≡ true → list_any (λ (one : Casting). contains c one.callers) casts ≡ true)
-    → names c (cond here (Some cast) found) ≡ true → (contains c cast.callers || list_any (λ (one : Casting). contains c one.callers) casts) ≡ true
+named_here : (c : ℕ) (cast : ActorSpec) (casts : List ActorSpec) (found : Option ActorSpec) (here : Bool) → (names c found ≡ true → list_any (λ (one : ActorSpec). contains c one.callers) casts ≡ true)
+    → names c (cond here (Some cast) found) ≡ true → (contains c cast.callers || list_any (λ (one : ActorSpec). contains c one.callers) casts) ≡ true
 named_here c cast casts found true rest e = rw e refl
-named_here c cast casts found false rest e = or_right (contains c cast.callers) (list_any (λ (one : Casting). contains c one.callers) casts) (rest e)
+named_here c cast casts found false rest e = or_right (contains c cast.callers) (list_any (λ (one : ActorSpec). contains c one.callers) casts) (rest e)
 
-named_among : (c a : ℕ) (casts : List Casting) → names c (find (λ (cast : Casting). cast.actor == a) casts) ≡ true → list_any (λ (cast : Casting). contains c cast.callers) casts ≡ true
+named_among : (c a : ℕ) (casts : List ActorSpec) → names c (find (λ (cast : ActorSpec). cast.actor == a) casts) ≡ true → list_any (λ (cast : ActorSpec). contains c cast.callers) casts ≡ true
 named_among c a [] e = cc
-named_among c a (cast ∷ casts) e = named_here c cast casts (find (λ (one : Casting). one.actor == a) casts) (cast.actor == a) (named_among c a casts) e
+named_among c a (cast ∷ casts) e = named_here c cast casts (find (λ (one : ActorSpec). one.actor == a) casts) (cast.actor == a) (named_among c a casts) e
 
 -- who is named by a cast is a caller
 pub named_caller : (c a : ℕ) (h : History) → names c (cast_of a h) ≡ true → is_caller c h ≡ true
@@ -267,7 +267,7 @@ lawful_step h event lawful accepted = record {
   named = named_step h event lawful.retires.named lawful.named accepted;
 }
 
-pub world_lawful : (casts : List Casting) (events : List Event) → IsLawful (after_all (opening casts) events)
+pub world_lawful : (casts : List ActorSpec) (events : List Event) → IsLawful (after_all (opening casts) events)
 world_lawful casts events = after_all_keeps IsLawful lawful_step (opening casts) events (record {
   sound = world_sound casts [];
   retires = world_retires casts [];

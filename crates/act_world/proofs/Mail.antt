@@ -5,15 +5,15 @@ use Rattle.std.proofs.Math.Bool.{or-true, or-false}
 use Rattle.act_rules.specs.declared.history.Letter.{Letter}
 use Rattle.act_rules.specs.declared.history.Letter.TheVariants.{Call as CallLetter, Note as NoteLetter}
 use Rattle.act_rules.specs.History.{History, cast_of, ran_count, is_letter, has_letter}
-use Rattle.act_rules.specs.Rules.{actor_of}
+use Rattle.act_rules.specs.Rules.{letter_actor}
 use Rattle.act_rules.proofs.Lists.{All_at}
 use Rattle.act_rules.proofs.Letters.{IsSoundLetter, letter_is}
 use Rattle.act_rules.proofs.Retired.{IsSoundNote}
-use Rattle.act_world.specs.declared.exchange.Mailed.{Mailed}
-use Rattle.act_world.specs.declared.exchange.Mailed.TheVariants.{Call as MailedCall, Note as MailedNote}
-use Rattle.act_world.specs.Exchange.{mailed_to}
-use Rattle.act_world.specs.View.{SlotSeen, Runs, Died, Ended, Vacant, WorldSeen}
-use Rattle.act_world.specs.Ties.{packet_of, note_as, mailed, held_packet, IsStage, Ties}
+use Rattle.act_world.specs.declared.network.MailEntry.{MailEntry}
+use Rattle.act_world.specs.declared.network.MailEntry.TheVariants.{Call as CallEntry, Note as NoteEntry}
+use Rattle.act_world.specs.Network.{entry_actor}
+use Rattle.act_world.specs.View.{SlotView, Runs, Died, Ended, Vacant, WorldView}
+use Rattle.act_world.specs.Refines.{packet_by_number, call_key, mail_entry, held_packet, IsStage, Refines}
 use Rattle.act_world.proofs.Lawful.{IsLawful, IsNamedLetter, has_letter-last, is_letter-same}
 use Rattle.act_world.proofs.Changes.{named_cast}
 
@@ -42,18 +42,18 @@ pub has_last : (letter : Letter) (xs : List Letter) → has_letter letter (xs ++
 has_last letter xs = has_letter-last letter letter xs ∙ ap (λ (b : Bool). has_letter letter xs || b) (is_letter-same letter) ∙ or-true (has_letter letter xs)
 
 -- a letter that the history holds at a place, and what it carries
-pub record IsLetterAt (h : History) (i : ℕ) (m : Mailed) : Type 0 where
+pub record IsLetterAt (h : History) (i : ℕ) (m : MailEntry) : Type 0 where
   pub letter : Letter
   pub at : slice_get h.mail i ≡ Some letter
-  pub carries : mailed h letter ≡ Some m
+  pub carries : mail_entry h letter ≡ Some m
   pub sound : IsSoundLetter h letter
   pub named : IsNamedLetter h letter
   pub note : IsSoundNote h letter
 
-pub letter_at : (h : History) (world : WorldSeen) (i : ℕ) (m : Mailed) → IsLawful h → Ties h world → slice_get world.exchange.mail i ≡ Some m → IsLetterAt h i m
-letter_at h world i m lawful ties is = go (slice_get h.mail i) refl (sym (ties.mail i) ∙ is)
+pub letter_at : (h : History) (world : WorldView) (i : ℕ) (m : MailEntry) → IsLawful h → Refines h world → slice_get world.network.mail i ≡ Some m → IsLetterAt h i m
+letter_at h world i m lawful refines is = go (slice_get h.mail i) refl (sym (refines.mail i) ∙ is)
   where
-    go : (o : Option Letter) → slice_get h.mail i ≡ o → option_and_then (mailed h) o ≡ Some m → IsLetterAt h i m
+    go : (o : Option Letter) → slice_get h.mail i ≡ o → option_and_then (mail_entry h) o ≡ Some m → IsLetterAt h i m
     go None at e = cc
     go (Some letter) at e = record {
       letter = letter;
@@ -65,14 +65,14 @@ letter_at h world i m lawful ties is = go (slice_get h.mail i) refl (sym (ties.m
     }
 
 -- it is for the actor of what it carries
-pub carried_to : (h : History) (letter : Letter) (m : Mailed) → IsSoundLetter h letter → mailed h letter ≡ Some m → actor_of letter ≡ mailed_to m
+pub carried_to : (h : History) (letter : Letter) (m : MailEntry) → IsSoundLetter h letter → mail_entry h letter ≡ Some m → letter_actor letter ≡ entry_actor m
 carried_to h (CallLetter c a n) m sound carries =
-    let some : Some (MailedCall (note_as c a n sound.0)) ≡ Some m = rw sound.1 at carries in
-    let same : MailedCall (note_as c a n sound.0) ≡ m = cc in
-    ap mailed_to same
-carried_to h (NoteLetter c a n) m sound carries = let same : MailedNote (record { caller = c; actor = a; after = n }) ≡ m = cc in ap mailed_to same
+    let some : Some (CallEntry (call_key c a n sound.0)) ≡ Some m = rw sound.1 at carries in
+    let same : CallEntry (call_key c a n sound.0) ≡ m = cc in
+    ap entry_actor same
+carried_to h (NoteLetter c a n) m sound carries = let same : NoteEntry (record { caller = c; actor = a; after = n }) ≡ m = cc in ap entry_actor same
 
-pub letter_cast : (h : History) (letter : Letter) → IsNamedLetter h letter → cast_of (actor_of letter) h ≡ None → ⊥
+pub letter_cast : (h : History) (letter : Letter) → IsNamedLetter h letter → cast_of (letter_actor letter) h ≡ None → ⊥
 letter_cast h (CallLetter c a n) named none = named_cast c a h named none
 letter_cast h (NoteLetter c a n) named none = named_cast c a h named none
 
@@ -82,10 +82,10 @@ abbrev pub brought : History → Letter → History
 brought h letter = record h { arrived = h.arrived ++ letter ∷ [] }
 
 pub held_same : (h : History) (letter : Letter) (a c n : ℕ) → has_letter (CallLetter c a n) (h.arrived ++ letter ∷ []) ≡ has_letter (CallLetter c a n) h.arrived → held_packet h a c n ≡ held_packet (brought h letter) a c n
-held_same h letter a c n same = ap (λ (b : Bool). cond (nat_lt n (ran_count c a h)) None (cond b (packet_of h c a n) None)) (sym same)
+held_same h letter a c n same = ap (λ (b : Bool). cond (nat_lt n (ran_count c a h)) None (cond b (packet_by_number h c a n) None)) (sym same)
 
 -- an actor that the letter is not for
-pub stage_past : (h : History) (letter : Letter) (b : ℕ) (stage : Option SlotSeen) → actor_of letter ≢ b → IsStage h b stage → IsStage (brought h letter) b stage
+pub stage_past : (h : History) (letter : Letter) (b : ℕ) (stage : Option SlotView) → letter_actor letter ≢ b → IsStage h b stage → IsStage (brought h letter) b stage
 stage_past h letter b None apart is = is
 stage_past h letter b (Some Vacant) apart is = is
 stage_past h letter b (Some (Runs live)) apart is = record {
@@ -97,8 +97,8 @@ stage_past h letter b (Some (Runs live)) apart is = record {
   state = is.state;
   listed = is.listed;
   handed = is.handed;
-  waits = λ c n named. is.waits c n named ∙ held_same h letter b c n (has_other (CallLetter c b n) letter h.arrived (λ e. apart (ap actor_of (sym e))));
-  notes = λ c n named. is.notes c n named ∙ sym (has_other (NoteLetter c b n) letter h.arrived (λ e. apart (ap actor_of (sym e))));
+  waits = λ c n named. is.waits c n named ∙ held_same h letter b c n (has_other (CallLetter c b n) letter h.arrived (λ e. apart (ap letter_actor (sym e))));
+  notes = λ c n named. is.notes c n named ∙ sym (has_other (NoteLetter c b n) letter h.arrived (λ e. apart (ap letter_actor (sym e))));
 }
 stage_past h letter b (Some (Died dead)) apart is = record { cast = is.cast; cast_is = is.cast_is; died = is.died; id = is.id; log = is.log }
 stage_past h letter b (Some (Ended retired)) apart is = record { cast = is.cast; cast_is = is.cast_is; lived = is.lived; ended = is.ended; id = is.id; log = is.log; state = is.state }

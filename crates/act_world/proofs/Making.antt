@@ -5,23 +5,23 @@ use Rattle.std.proofs.lemmas.Bool.{eq-eqb}
 use Rattle.act_types.specs.declared.message.Packet.{Packet}
 use Rattle.act_rules.specs.declared.history.Submission.{Submission}
 use Rattle.act_rules.specs.RunList.{Answer}
-use Rattle.act_rules.specs.Submissions.{calls_to, number_of, settled}
+use Rattle.act_rules.specs.Submissions.{calls_to, number_of, settle}
 use Rattle.act_rules.specs.History.{History, cast_of, names, is_caller, calls_of, kept_of}
 use Rattle.act_rules.proofs.AsSubmitted.{IsCallTo, calls_to-at}
 use Rattle.act_rules.proofs.Letters.{calls_to-number}
-use Rattle.act_owner.specs.Owner.{OwnerValue, packet_at}
-use Rattle.act_world.specs.Exchange.{is_owner, head_of, packet_in}
-use Rattle.act_world.specs.Ties.{IsOwnerOf, IsOwnerAt, note_as, packet_as}
+use Rattle.act_owner.specs.Owner.{OwnerView, packet_at}
+use Rattle.act_world.specs.Network.{is_owner, head_of, packet_in}
+use Rattle.act_world.specs.Refines.{IsOwnerOf, IsOwnerAt, call_key, packet_as}
 use Rattle.act_world.proofs.Lawful.{named_caller}
 use Rattle.act_world.proofs.Numbered.{one_number}
 
 abbrev made : ℕ → ℕ → ℕ → ℕ → List (Option Answer) → Submission → Packet
-made c a n k kept call = record { caller = c; actor = a; number = n; future = k; method = call.method; args = map (settled kept) call.args }
+made c a n k kept call = record { caller = c; actor = a; number = n; future = k; method = call.method; args = map (settle kept) call.args }
 
 abbrev made_at : ℕ → List Submission → List (Option Answer) → ℕ → Option Submission → Option Packet
 made_at id calls kept k found = option_map (λ (call : Submission). made id call.actor (number_of call.actor k calls) k kept call) found
 
-made_by : (h : History) (c a n : ℕ) (call : ℕ × Submission) (owner : OwnerValue) → IsOwnerOf h c owner → slice_get (calls_to a (calls_of c h)) n ≡ Some call → packet_at owner call.0 ≡ Some (packet_as h c a n call)
+made_by : (h : History) (c a n : ℕ) (call : ℕ × Submission) (owner : OwnerView) → IsOwnerOf h c owner → slice_get (calls_to a (calls_of c h)) n ≡ Some call → packet_at owner call.0 ≡ Some (packet_as h c a n call)
 made_by h c a n call owner is at =
     ap (λ (id : ℕ). made_at id owner.calls owner.kept call.0 (slice_get owner.calls call.0)) is.id
     ∙ ap (λ (calls : List Submission). made_at c calls owner.kept call.0 (slice_get calls call.0)) is.calls
@@ -37,10 +37,10 @@ made_by h c a n call owner is at =
     number = one_number a (calls_of c h) (number_of a call.0 (calls_of c h)) n call call (calls_to-number a (calls_of c h) call.0 call.1 there.at (eq-eqb call.1.actor a there.actor)) at refl
 
 -- the caller makes the packet that the history tells
-pub made_there : (h : History) (owners : List OwnerValue) (c a n : ℕ) (call : ℕ × Submission) → ((d : ℕ) → IsOwnerAt h d (find (is_owner d) owners)) → names c (cast_of a h) ≡ true → slice_get (calls_to a (calls_of c h)) n ≡ Some call
-    → packet_in owners (head_of (note_as c a n call)) ≡ Some (packet_as h c a n call)
+pub made_there : (h : History) (owners : List OwnerView) (c a n : ℕ) (call : ℕ × Submission) → ((d : ℕ) → IsOwnerAt h d (find (is_owner d) owners)) → names c (cast_of a h) ≡ true → slice_get (calls_to a (calls_of c h)) n ≡ Some call
+    → packet_in owners (head_of (call_key c a n call)) ≡ Some (packet_as h c a n call)
 made_there h owners c a n call all named at = go (find (is_owner c) owners) (all c)
   where
-    go : (found : Option OwnerValue) → IsOwnerAt h c found → option_and_then (λ (owner : OwnerValue). packet_at owner call.0) found ≡ Some (packet_as h c a n call)
+    go : (found : Option OwnerView) → IsOwnerAt h c found → option_and_then (λ (owner : OwnerView). packet_at owner call.0) found ≡ Some (packet_as h c a n call)
     go None is = let caller : is_caller c h ≡ true = named_caller c a h named in cc
     go (Some owner) is = made_by h c a n call owner is.1 at

@@ -7,21 +7,21 @@ use Rattle.act_rules.specs.declared.history.Submission.{Submission}
 use Rattle.act_rules.specs.declared.history.Letter.TheVariants.{Call as CallLetter}
 use Rattle.act_rules.specs.Submissions.{calls_to}
 use Rattle.act_rules.specs.History.{History, cast_of, names, calls_of, ran_count, kept_of, has_letter, run_item, next_item}
-use Rattle.act_inbox.specs.Inbox.{handed_of, waiting, next_of}
-use Rattle.act_actor.specs.View.{ActorSeen}
+use Rattle.act_inbox.specs.Inbox.{handed_of, waiting_packet, next_of}
+use Rattle.act_actor.specs.View.{ActorView}
 use Rattle.act_actor.specs.Actor.{item_of, next_call}
-use Rattle.act_world.specs.Ties.{packet_as, packet_of, IsLive}
+use Rattle.act_world.specs.Refines.{packet_as, packet_by_number, IsLive}
 use Rattle.act_world.proofs.Frames.{still_lives}
 
 -- the packet of the caller's next call, if its letter came
 abbrev next_packet : History → ℕ → ℕ → Option Packet
-next_packet h a c = cond (has_letter (CallLetter c a (ran_count c a h)) h.arrived) (packet_of h c a (ran_count c a h)) None
+next_packet h a c = cond (has_letter (CallLetter c a (ran_count c a h)) h.arrived) (packet_by_number h c a (ran_count c a h)) None
 
-pub next_is : (h : History) (a c : ℕ) (live : ActorSeen) → IsLive h a live → names c (cast_of a h) ≡ true → next_call live.log live.inbox c ≡ next_packet h a c
+pub next_is : (h : History) (a c : ℕ) (live : ActorView) → IsLive h a live → names c (cast_of a h) ≡ true → next_call live.log live.inbox c ≡ next_packet h a c
 next_is h a c live is named =
     ap (λ (b : Bool). cond b None (next_of live.inbox c)) (still_lives h a live is)
-    ∙ ap (λ (b : Bool). cond b (waiting live.inbox c (handed_of live.inbox c)) None) (is.listed c ∙ named)
-    ∙ ap (waiting live.inbox c) (is.handed c named)
+    ∙ ap (λ (b : Bool). cond b (waiting_packet live.inbox c (handed_of live.inbox c)) None) (is.listed c ∙ named)
+    ∙ ap (waiting_packet live.inbox c) (is.handed c named)
     ∙ is.waits c (ran_count c a h) named
     ∙ ap (λ (b : Bool). cond b None (next_packet h a c)) (le-ltb (ran_count c a h) (ran_count c a h) (omega arith))
 

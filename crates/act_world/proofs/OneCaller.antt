@@ -10,16 +10,16 @@ use Rattle.act_rules.specs.declared.outcome.HandleRefusal.{HandleRefusal}
 use Rattle.act_rules.specs.declared.outcome.WorldRefusal.{WorldRefusal}
 use Rattle.act_rules.specs.declared.outcome.WorldRefusal.TheVariants.{NoCaller, Handle}
 use Rattle.act_rules.specs.Submissions.{needs, number_of, handle_refusal}
-use Rattle.act_rules.specs.History.{History, contains, under, times, is_caller, calls_of, copies_of, has_letter}
+use Rattle.act_rules.specs.History.{History, contains, under, count_pairs, is_caller, calls_of, copies_of, has_letter}
 use Rattle.act_rules.specs.Rules.{refusal_of, outcome_of, after, was_sent}
 use Rattle.act_rules.proofs.Growth.{Grows}
 use Rattle.act_rules.proofs.Ended.{under-push}
 use Rattle.act_rules.proofs.Retired.{times-push}
 use Rattle.act_handles.specs.Handles.{copies_in, or_else}
-use Rattle.act_owner.specs.Owner.{OwnerValue}
-use Rattle.act_world.specs.Exchange.{ExchangeValue, is_owner}
-use Rattle.act_world.specs.View.{SlotSeen}
-use Rattle.act_world.specs.Ties.{Ties, IsOwnerOf, IsOwnerAt, mailed}
+use Rattle.act_owner.specs.Owner.{OwnerView}
+use Rattle.act_world.specs.Network.{NetworkView, is_owner}
+use Rattle.act_world.specs.View.{SlotView}
+use Rattle.act_world.specs.Refines.{Refines, IsOwnerOf, IsOwnerAt, mail_entry}
 use Rattle.act_world.proofs.Changes.{refused_follows}
 use Rattle.act_world.proofs.Lawful.{IsLawful}
 use Rattle.act_world.proofs.Frames.{owner_here, owner_absent, replies_stay, stages_stay}
@@ -45,18 +45,18 @@ or_else-Err (Some refusal) value told e = let same : told ≡ refusal = cc in ap
 -- ---- the caller at its place
 
 -- what the history tells of the caller at its place
-pub record IsHere (h : History) (c : ℕ) (owner : OwnerValue) : Type 0 where
+pub record IsHere (h : History) (c : ℕ) (owner : OwnerView) : Type 0 where
   pub caller : is_caller c h ≡ true
   pub is : IsOwnerOf h c owner
 
-pub caller_here : (h : History) (exchange : ExchangeValue) (slots : List SlotSeen) (c place : ℕ) (owner : OwnerValue) → Ties h (record { exchange = exchange; slots = slots })
-    → position (is_owner c) exchange.owners ≡ Some place → owner ≡ get_or exchange.owners place owner → IsHere h c owner
-caller_here h exchange slots c place owner ties at owner_is =
-    let here = owner_here h exchange.owners c place owner ties.owners at in
+pub caller_here : (h : History) (network : NetworkView) (slots : List SlotView) (c place : ℕ) (owner : OwnerView) → Refines h (record { network = network; slots = slots })
+    → position (is_owner c) network.owners ≡ Some place → owner ≡ get_or network.owners place owner → IsHere h c owner
+caller_here h network slots c place owner refines at owner_is =
+    let here = owner_here h network.owners c place owner refines.owners at in
     record { caller = here.0; is = subst (IsOwnerOf h c) (sym owner_is) here.1 }
 
 -- a release and the asking of a kill are refused as the handles say
-pub handle_refused : (h : History) (c a : ℕ) (owner : OwnerValue) (refusal : Option HandleRefusal) → IsHere h c owner → handle_refusal (copies_in a owner.handles) ≡ refusal
+pub handle_refused : (h : History) (c a : ℕ) (owner : OwnerView) (refusal : Option HandleRefusal) → IsHere h c owner → handle_refusal (copies_in a owner.handles) ≡ refusal
     → needs (is_caller c h) NoCaller (option_map Handle (handle_refusal (copies_of c a h))) ≡ option_map Handle refusal
 handle_refused h c a owner refusal here e =
     needs_holds (is_caller c h) NoCaller (option_map Handle (handle_refusal (copies_of c a h))) here.caller
@@ -64,18 +64,18 @@ handle_refused h c a owner refusal here e =
     ∙ ap (option_map Handle) e
 
 -- where the caller is written back as it was, the world is as it was
-pub written_back : (h : History) (exchange : ExchangeValue) (slots : List SlotSeen) (place : ℕ) (owner new : OwnerValue) → owner ≡ get_or exchange.owners place owner → new ≡ owner
-    → Ties h (record { exchange = exchange; slots = slots }) → Ties h (record { exchange = record exchange { owners = slice_set exchange.owners place new }; slots = slots })
-written_back h exchange slots place owner new owner_is same ties =
-    let owners : slice_set exchange.owners place new ≡ exchange.owners = ap (slice_set exchange.owners place) (same ∙ owner_is) ∙ set-get_or exchange.owners place owner in
-    subst (λ (list : List OwnerValue). Ties h (record { exchange = record exchange { owners = list }; slots = slots })) (sym owners) ties
+pub written_back : (h : History) (network : NetworkView) (slots : List SlotView) (place : ℕ) (owner new : OwnerView) → owner ≡ get_or network.owners place owner → new ≡ owner
+    → Refines h (record { network = network; slots = slots }) → Refines h (record { network = record network { owners = slice_set network.owners place new }; slots = slots })
+written_back h network slots place owner new owner_is same refines =
+    let owners : slice_set network.owners place new ≡ network.owners = ap (slice_set network.owners place) (same ∙ owner_is) ∙ set-get_or network.owners place owner in
+    subst (λ (list : List OwnerView). Refines h (record { network = record network { owners = list }; slots = slots })) (sym owners) refines
 
 -- nothing that an unknown caller does is done
-pub no_caller_follows : (h : History) (event : Event) (exchange : ExchangeValue) (slots : List SlotSeen) (c : ℕ) (rest : Option WorldRefusal) → refusal_of h event ≡ needs (is_caller c h) NoCaller rest
-    → Ties h (record { exchange = exchange; slots = slots }) → position (is_owner c) exchange.owners ≡ None
-    → (Err NoCaller ≡ outcome_of h event) × Ties (after h event) (record { exchange = exchange; slots = slots })
-no_caller_follows h event exchange slots c rest first ties at =
-    refused_follows h event NoCaller (record { exchange = exchange; slots = slots }) (first ∙ needs_fails (is_caller c h) NoCaller rest (owner_absent h exchange.owners c ties.owners at)) ties
+pub no_caller_follows : (h : History) (event : Event) (network : NetworkView) (slots : List SlotView) (c : ℕ) (rest : Option WorldRefusal) → refusal_of h event ≡ needs (is_caller c h) NoCaller rest
+    → Refines h (record { network = network; slots = slots }) → position (is_owner c) network.owners ≡ None
+    → (Err NoCaller ≡ outcome_of h event) × Refines (after h event) (record { network = network; slots = slots })
+no_caller_follows h event network slots c rest first refines at =
+    refused_follows h event NoCaller (record { network = network; slots = slots }) (first ∙ needs_fails (is_caller c h) NoCaller rest (owner_absent h network.owners c refines.owners at)) refines
 
 -- ---- the other callers, and the rest of the world
 
@@ -89,18 +89,18 @@ pub record IsOfCallers (h g : History) : Type 0 where
   pub retired : g.retired ≡ h.retired
 
 -- the world ties to the history after such an event where its callers, its mail and what was asked do
-pub callers_tie : (h g : History) (old new : ExchangeValue) (slots : List SlotSeen) → IsLawful h → Ties h (record { exchange = old; slots = slots }) → IsOfCallers h g
+pub callers_tie : (h g : History) (old new : NetworkView) (slots : List SlotView) → IsLawful h → Refines h (record { network = old; slots = slots }) → IsOfCallers h g
     → ((c : ℕ) → IsOwnerAt g c (find (is_owner c) new.owners))
-    → ((i : ℕ) → slice_get new.mail i ≡ option_and_then (mailed g) (slice_get g.mail i)) → length new.mail ≡ length g.mail
+    → ((i : ℕ) → slice_get new.mail i ≡ option_and_then (mail_entry g) (slice_get g.mail i)) → length new.mail ≡ length g.mail
     → new.replies ≡ old.replies → ((a : ℕ) → unwrap_or (slice_get new.asked a) false ≡ contains a g.asked)
-    → Ties g (record { exchange = new; slots = slots })
-callers_tie h g old new slots lawful ties same owners mail count replies asked = record {
+    → Refines g (record { network = new; slots = slots })
+callers_tie h g old new slots lawful refines same owners mail count replies asked = record {
   owners = owners;
-  actors = stages_stay h g slots lawful same.grows same.arrived same.ran same.killed same.retired ties.actors;
+  actors = stages_stay h g slots lawful same.grows same.arrived same.ran same.killed same.retired refines.actors;
   mail = mail;
   mail_count = count;
-  replies = rw (replies, same.posts) (replies_stay h g old.replies lawful same.grows ties.replies);
-  reply_count = rw (replies, same.posts) ties.reply_count;
+  replies = rw (replies, same.posts) (replies_stay h g old.replies lawful same.grows refines.replies);
+  reply_count = rw (replies, same.posts) refines.reply_count;
   asked = asked;
 }
 
@@ -115,11 +115,11 @@ sent_stays h g c k (Some call) calls mail = rw calls (mail call.actor (number_of
 
 -- ---- the copies of one handle
 
-pub times-same : (c a : ℕ) (pairs : List (ℕ × ℕ)) → times c a (pairs ++ (c, a) ∷ []) ≡ times c a pairs + 1
+pub times-same : (c a : ℕ) (pairs : List (ℕ × ℕ)) → count_pairs c a (pairs ++ (c, a) ∷ []) ≡ count_pairs c a pairs + 1
 times-same c a pairs = times-push c a c a pairs ∙ rw (eq-eqb c c refl, eq-eqb a a refl) refl
 
-pub times-other_caller : (c a d b : ℕ) (pairs : List (ℕ × ℕ)) → c ≢ d → times d b (pairs ++ (c, a) ∷ []) ≡ times d b pairs
+pub times-other_caller : (c a d b : ℕ) (pairs : List (ℕ × ℕ)) → c ≢ d → count_pairs d b (pairs ++ (c, a) ∷ []) ≡ count_pairs d b pairs
 times-other_caller c a d b pairs apart = times-push d b c a pairs ∙ rw (ne_eqb c d apart) (omega arith)
 
-pub times-other_actor : (c a b : ℕ) (pairs : List (ℕ × ℕ)) → a ≢ b → times c b (pairs ++ (c, a) ∷ []) ≡ times c b pairs
+pub times-other_actor : (c a b : ℕ) (pairs : List (ℕ × ℕ)) → a ≢ b → count_pairs c b (pairs ++ (c, a) ∷ []) ≡ count_pairs c b pairs
 times-other_actor c a b pairs apart = times-push c b c a pairs ∙ rw (ne_eqb a b apart, eq-eqb c c refl) (omega arith)

@@ -16,11 +16,11 @@ use Rattle.act_handles.proofs.Lookups.{copies-opened, given-opened}
 use Rattle.act_rules.proofs.Finding.{find-Some, find-None}
 use Rattle.act_actor.specs.declared.cast.Cast.{Cast}
 use Rattle.act_actor.specs.Cast.{ActorsDiffer}
-use Rattle.act_owner.specs.Owner.{OwnerValue, opened_with, limit_of as limit_known}
+use Rattle.act_owner.specs.Owner.{OwnerView, opened_with, owner_limit as limit_known}
 use Rattle.act_owner.proofs.Told.{none_dead}
 use Rattle.act_world.specs.View.{is_owner}
-use Rattle.act_world.specs.Ties.{IsOwnerAt, IsOwnerOf}
-use Rattle.act_actor.specs.Casts.{casting, limited, callers_named, actors_naming, limits_naming}
+use Rattle.act_world.specs.Refines.{IsOwnerAt, IsOwnerOf}
+use Rattle.act_actor.specs.Casts.{actor_spec, actor_limit, callers_named, actors_that_name, limits_that_name}
 use Rattle.act_world.specs.Openings.{HasOwners}
 
 -- ---- the actors of a caller
@@ -34,15 +34,15 @@ differ_map f g (x ∷ xs) pairs i j d below within same =
     pairs i j x below second (ap g (sym (get_or-map f (x ∷ xs) i x d first)) ∙ same ∙ ap g (get_or-map f (x ∷ xs) j x d second))
 
 -- no actor stands twice among those that name a caller
-pub actors_differ : {K : Type 0} (c : ℕ) (casts : List (Cast K)) → ActorsDiffer casts → AllPairs (λ one other. one.0 ≢ other.0) (limits_naming c casts)
+pub actors_differ : {K : Type 0} (c : ℕ) (casts : List (Cast K)) → ActorsDiffer casts → AllPairs (λ one other. one.0 ≢ other.0) (limits_that_name c casts)
 actors_differ {K} c casts differ =
-    differ_map (λ (cast : Cast K). limited cast) (λ (limit : ℕ × Option ℕ). limit.0) (filter (λ cast. contains c cast.callers) casts)
+    differ_map (λ (cast : Cast K). actor_limit cast) (λ (limit : ℕ × Option ℕ). limit.0) (filter (λ cast. contains c cast.callers) casts)
     (AllPairs-filter (λ (one other : Cast K). one.actor ≢ other.actor) (λ cast. contains c cast.callers) casts differ)
 
 -- and none has the limit 0
-pub limits_fit : {K : Type 0} (c : ℕ) (casts : List (Cast K)) → All (λ cast. IsLimit cast.pending) casts → All (λ limit. limit.1 ≢ Some 0) (limits_naming c casts)
+pub limits_fit : {K : Type 0} (c : ℕ) (casts : List (Cast K)) → All (λ cast. IsLimit cast.pending) casts → All (λ limit. limit.1 ≢ Some 0) (limits_that_name c casts)
 limits_fit {K} c casts fit =
-    All-map (λ (limit : ℕ × Option ℕ). limit.1 ≢ Some 0) (λ (cast : Cast K). limited cast) (filter (λ cast. contains c cast.callers) casts)
+    All-map (λ (limit : ℕ × Option ℕ). limit.1 ≢ Some 0) (λ (cast : Cast K). actor_limit cast) (filter (λ cast. contains c cast.callers) casts)
     (All-filter (λ (cast : Cast K). contains c cast.callers) (λ (cast : Cast K). cast.pending ≢ Some 0) casts (λ i d within. some_calls (get_or casts i d).pending (fit i d within)))
   where
     some_calls : (limit : Option ℕ) → IsLimit limit → limit ≢ Some 0
@@ -50,8 +50,8 @@ limits_fit {K} c casts fit =
     some_calls (Some limit) is same = let none : limit ≡ 0 = cc in absurd (omega (arith, is.0))
 
 -- without their limits they are the actors whose casts name the caller
-limits_named : {K : Type 0} (c : ℕ) (casts : List (Cast K)) → map (λ (limit : ℕ × Option ℕ). limit.0) (limits_naming c casts) ≡ actors_naming c casts
-limits_named {K} c casts = map-map (λ (limit : ℕ × Option ℕ). limit.0) (λ (cast : Cast K). limited cast) (filter (λ cast. contains c cast.callers) casts)
+limits_named : {K : Type 0} (c : ℕ) (casts : List (Cast K)) → map (λ (limit : ℕ × Option ℕ). limit.0) (limits_that_name c casts) ≡ actors_that_name c casts
+limits_named {K} c casts = map-map (λ (limit : ℕ × Option ℕ). limit.0) (λ (cast : Cast K). actor_limit cast) (filter (λ cast. contains c cast.callers) casts)
 
 -- ---- a caller more
 
@@ -59,11 +59,11 @@ is_in_more : (c d : ℕ) (callers : List ℕ) → contains d (callers ++ c ∷ [
 is_in_more c d callers = list_any-append (λ m. m == d) callers (c ∷ [])
 
 -- one that was there
-pub owner_known : {K : Type 0} (casts : List (Cast K)) (callers : List ℕ) (owners : List OwnerValue) (c : ℕ) → is_some (position (is_owner c) owners) ≡ true → HasOwners casts callers owners → HasOwners casts (callers ++ c ∷ []) owners
+pub owner_known : {K : Type 0} (casts : List (Cast K)) (callers : List ℕ) (owners : List OwnerView) (c : ℕ) → is_some (position (is_owner c) owners) ≡ true → HasOwners casts callers owners → HasOwners casts (callers ++ c ∷ []) owners
 owner_known casts callers owners c there has d =
     elim (eqb_tells c d) [
-      | inl t ↦ subst (λ b. find (is_owner d) owners ≡ (if b then Some (opened_with d (limits_naming d casts)) else None)) (here (subst (λ x. contains x callers ≡ true) t.1 is_in)) (has d)
-      | inr f ↦ has d ∙ ap (λ b. if b then Some (opened_with d (limits_naming d casts)) else None) (sym (is_in_more c d callers ∙ ap (λ b. contains d callers || (b || false)) f.0 ∙ or_none (contains d callers)))
+      | inl t ↦ subst (λ b. find (is_owner d) owners ≡ (if b then Some (opened_with d (limits_that_name d casts)) else None)) (here (subst (λ x. contains x callers ≡ true) t.1 is_in)) (has d)
+      | inr f ↦ has d ∙ ap (λ b. if b then Some (opened_with d (limits_that_name d casts)) else None) (sym (is_in_more c d callers ∙ ap (λ b. contains d callers || (b || false)) f.0 ∙ or_none (contains d callers)))
     ]
   where
     or_none : (b : Bool) → (b || false) ≡ b
@@ -74,14 +74,14 @@ owner_known casts callers owners c there has d =
     found None e some = cc
     found (Some i) e some = go owners e
       where
-        go : (xs : List OwnerValue) → position (is_owner c) xs ≡ Some i → is_some (find (is_owner c) xs) ≡ true
+        go : (xs : List OwnerView) → position (is_owner c) xs ≡ Some i → is_some (find (is_owner c) xs) ≡ true
         go [] e = cc
         go (x ∷ xs) e = rw (find-Some (is_owner c) (x ∷ xs) i x e) refl
 
     is_in : contains c callers ≡ true
     is_in = cases (contains c callers) (sym (ap is_some (has c)) ∙ found (position (is_owner c) owners) refl there)
       where
-        cases : (b : Bool) → is_some (if b then Some (opened_with c (limits_naming c casts)) else None) ≡ true → b ≡ true
+        cases : (b : Bool) → is_some (if b then Some (opened_with c (limits_that_name c casts)) else None) ≡ true → b ≡ true
         cases true e = refl
         cases false e = cc
 
@@ -89,20 +89,20 @@ owner_known casts callers owners c there has d =
     here e = e ∙ sym (is_in_more c d callers ∙ ap (λ b. b || ((c == d) || false)) e)
 
 -- one that is new
-pub owner_new : {K : Type 0} (casts : List (Cast K)) (callers : List ℕ) (owners : List OwnerValue) (c : ℕ) → is_some (position (is_owner c) owners) ≡ false → HasOwners casts callers owners → HasOwners casts (callers ++ c ∷ []) (owners ++ opened_with c (limits_naming c casts) ∷ [])
+pub owner_new : {K : Type 0} (casts : List (Cast K)) (callers : List ℕ) (owners : List OwnerView) (c : ℕ) → is_some (position (is_owner c) owners) ≡ false → HasOwners casts callers owners → HasOwners casts (callers ++ c ∷ []) (owners ++ opened_with c (limits_that_name c casts) ∷ [])
 owner_new casts callers owners c absent has d =
-    find-append (is_owner d) owners (opened_with c (limits_naming c casts) ∷ [])
+    find-append (is_owner d) owners (opened_with c (limits_that_name c casts) ∷ [])
     ∙ elim (eqb_tells c d) [
       | inl t ↦
-          ap (λ o. option_or o (find (is_owner d) (opened_with c (limits_naming c casts) ∷ []))) (subst (λ x. find (is_owner x) owners ≡ None) t.1 none)
-          ∙ ap (λ b. if b then Some (opened_with c (limits_naming c casts)) else None) t.0
-          ∙ ap (λ x. Some (opened_with x (limits_naming x casts))) t.1
-          ∙ ap (λ b. if b then Some (opened_with d (limits_naming d casts)) else None) (sym (is_in_more c d callers ∙ ap (λ b. contains d callers || (b || false)) t.0 ∙ or_some (contains d callers)))
+          ap (λ o. option_or o (find (is_owner d) (opened_with c (limits_that_name c casts) ∷ []))) (subst (λ x. find (is_owner x) owners ≡ None) t.1 none)
+          ∙ ap (λ b. if b then Some (opened_with c (limits_that_name c casts)) else None) t.0
+          ∙ ap (λ x. Some (opened_with x (limits_that_name x casts))) t.1
+          ∙ ap (λ b. if b then Some (opened_with d (limits_that_name d casts)) else None) (sym (is_in_more c d callers ∙ ap (λ b. contains d callers || (b || false)) t.0 ∙ or_some (contains d callers)))
       | inr f ↦
-          ap (λ b. option_or (find (is_owner d) owners) (if b then Some (opened_with c (limits_naming c casts)) else None)) f.0
+          ap (λ b. option_or (find (is_owner d) owners) (if b then Some (opened_with c (limits_that_name c casts)) else None)) f.0
           ∙ or_nothing (find (is_owner d) owners)
           ∙ has d
-          ∙ ap (λ b. if b then Some (opened_with d (limits_naming d casts)) else None) (sym (is_in_more c d callers ∙ ap (λ b. contains d callers || (b || false)) f.0 ∙ or_none (contains d callers)))
+          ∙ ap (λ b. if b then Some (opened_with d (limits_that_name d casts)) else None) (sym (is_in_more c d callers ∙ ap (λ b. contains d callers || (b || false)) f.0 ∙ or_none (contains d callers)))
     ]
   where
     or_none : (b : Bool) → (b || false) ≡ b
@@ -113,7 +113,7 @@ owner_new casts callers owners c absent has d =
     or_some true = refl
     or_some false = refl
 
-    or_nothing : (o : Option OwnerValue) → option_or o None ≡ o
+    or_nothing : (o : Option OwnerView) → option_or o None ≡ o
     or_nothing None = refl
     or_nothing (Some owner) = refl
 
@@ -127,7 +127,7 @@ owner_new casts callers owners c absent has d =
 -- ---- the callers of the opening
 
 -- an actor that stands in no cast
-absent : {K : Type 0} (a c : ℕ) (casts : List (Cast K)) → All (λ cast. a ≢ cast.actor) casts → contains a (actors_naming c casts) ≡ false
+absent : {K : Type 0} (a c : ℕ) (casts : List (Cast K)) → All (λ cast. a ≢ cast.actor) casts → contains a (actors_that_name c casts) ≡ false
 absent a c [] all = refl
 absent {K} a c (cast ∷ casts) all =
     let rest = absent a c casts (All-tail (λ (cast : Cast K). a ≢ cast.actor) cast casts all) in
@@ -146,7 +146,7 @@ pub differ_head : {K : Type 0} (cast : Cast K) (casts : List (Cast K)) → Actor
 differ_head cast casts differ = λ k d within. differ 0 (suc k) d (omega arith) (omega arith)
 
 -- an actor stands among those that name a caller where its cast names the caller
-actor_named : {K : Type 0} (state : K → KindState) (a c : ℕ) (casts : List (Cast K)) → ActorsDiffer casts → contains a (actors_naming c casts) ≡ names c (cast_of a (opening (map (casting state) casts)))
+actor_named : {K : Type 0} (state : K → KindState) (a c : ℕ) (casts : List (Cast K)) → ActorsDiffer casts → contains a (actors_that_name c casts) ≡ names c (cast_of a (opening (map (actor_spec state) casts)))
 actor_named state a c [] differ = refl
 actor_named {K} state a c (cast ∷ casts) differ =
     let rest = actor_named state a c casts (differ_tail cast casts differ) in
@@ -158,46 +158,46 @@ actor_named {K} state a c (cast ∷ casts) differ =
             | false ↦ none
           ])
       | inr f ↦
-          rw f.0 (elim (contains c cast.callers) as (λ b. contains a (map (λ (cast : Cast K). cast.actor) (if b then cast ∷ filter (λ cast. contains c cast.callers) casts else filter (λ cast. contains c cast.callers) casts)) ≡ names c (cast_of a (opening (map (casting state) casts)))) [
+          rw f.0 (elim (contains c cast.callers) as (λ b. contains a (map (λ (cast : Cast K). cast.actor) (if b then cast ∷ filter (λ cast. contains c cast.callers) casts else filter (λ cast. contains c cast.callers) casts)) ≡ names c (cast_of a (opening (map (actor_spec state) casts)))) [
             | true ↦ rw f.0 rest
             | false ↦ rest
           ])
     ]
 
 -- an actor that stands in no cast has no limit
-no_limit : {K : Type 0} (a c : ℕ) (casts : List (Cast K)) → All (λ cast. a ≢ cast.actor) casts → find (λ limit. limit.0 == a) (limits_naming c casts) ≡ None
+no_limit : {K : Type 0} (a c : ℕ) (casts : List (Cast K)) → All (λ cast. a ≢ cast.actor) casts → find (λ limit. limit.0 == a) (limits_that_name c casts) ≡ None
 no_limit a c [] all = refl
 no_limit {K} a c (cast ∷ casts) all =
     let rest = no_limit a c casts (All-tail (λ (cast : Cast K). a ≢ cast.actor) cast casts all) in
     elim (eqb_tells cast.actor a) [
       | inl t ↦ absurd (all 0 cast (omega arith) (sym t.1))
-      | inr f ↦ elim (contains c cast.callers) as (λ b. find (λ (limit : ℕ × Option ℕ). limit.0 == a) (map (λ (cast : Cast K). limited cast) (if b then cast ∷ filter (λ cast. contains c cast.callers) casts else filter (λ cast. contains c cast.callers) casts)) ≡ None) [
+      | inr f ↦ elim (contains c cast.callers) as (λ b. find (λ (limit : ℕ × Option ℕ). limit.0 == a) (map (λ (cast : Cast K). actor_limit cast) (if b then cast ∷ filter (λ cast. contains c cast.callers) casts else filter (λ cast. contains c cast.callers) casts)) ≡ None) [
         | true ↦ rw f.0 rest
         | false ↦ rest
       ]
     ]
 
 -- the limit among those of a caller is that of the actor's cast, where it names the caller
-limit_named : {K : Type 0} (state : K → KindState) (a c : ℕ) (casts : List (Cast K)) → ActorsDiffer casts → limit_known (opened_with c (limits_naming c casts)) a ≡ limit_of c a (opening (map (casting state) casts))
+limit_named : {K : Type 0} (state : K → KindState) (a c : ℕ) (casts : List (Cast K)) → ActorsDiffer casts → limit_known (opened_with c (limits_that_name c casts)) a ≡ limit_of c a (opening (map (actor_spec state) casts))
 limit_named state a c [] differ = refl
 limit_named {K} state a c (cast ∷ casts) differ =
     let rest = limit_named state a c casts (differ_tail cast casts differ) in
     elim (eqb_tells cast.actor a) [
       | inl t ↦
           let none = no_limit a c casts (λ k d within same. differ_head cast casts differ k d within (t.1 ∙ same)) in
-          rw t.0 (elim (contains c cast.callers) as (λ b. option_and_then (λ (limit : ℕ × Option ℕ). limit.1) (find (λ (limit : ℕ × Option ℕ). limit.0 == a) (map (λ (cast : Cast K). limited cast) (if b then cast ∷ filter (λ cast. contains c cast.callers) casts else filter (λ cast. contains c cast.callers) casts))) ≡ (if b then cast.pending else None)) [
+          rw t.0 (elim (contains c cast.callers) as (λ b. option_and_then (λ (limit : ℕ × Option ℕ). limit.1) (find (λ (limit : ℕ × Option ℕ). limit.0 == a) (map (λ (cast : Cast K). actor_limit cast) (if b then cast ∷ filter (λ cast. contains c cast.callers) casts else filter (λ cast. contains c cast.callers) casts))) ≡ (if b then cast.pending else None)) [
             | true ↦ rw t.0 refl
             | false ↦ rw none refl
           ])
       | inr f ↦
-          rw f.0 (elim (contains c cast.callers) as (λ b. option_and_then (λ (limit : ℕ × Option ℕ). limit.1) (find (λ (limit : ℕ × Option ℕ). limit.0 == a) (map (λ (cast : Cast K). limited cast) (if b then cast ∷ filter (λ cast. contains c cast.callers) casts else filter (λ cast. contains c cast.callers) casts))) ≡ limit_of c a (opening (map (casting state) casts))) [
+          rw f.0 (elim (contains c cast.callers) as (λ b. option_and_then (λ (limit : ℕ × Option ℕ). limit.1) (find (λ (limit : ℕ × Option ℕ). limit.0 == a) (map (λ (cast : Cast K). actor_limit cast) (if b then cast ∷ filter (λ cast. contains c cast.callers) casts else filter (λ cast. contains c cast.callers) casts))) ≡ limit_of c a (opening (map (actor_spec state) casts))) [
             | true ↦ rw f.0 rest
             | false ↦ rest
           ])
     ]
 
 -- the callers that the casts name are the world's
-caller_named : {K : Type 0} (state : K → KindState) (c : ℕ) (casts : List (Cast K)) → contains c (callers_named casts) ≡ is_caller c (opening (map (casting state) casts))
+caller_named : {K : Type 0} (state : K → KindState) (c : ℕ) (casts : List (Cast K)) → contains c (callers_named casts) ≡ is_caller c (opening (map (actor_spec state) casts))
 caller_named state c [] = refl
 caller_named state c (cast ∷ casts) =
     list_any-append (λ m. m == c) cast.callers (callers_named casts) ∙ ap (λ b. contains c cast.callers || b) (caller_named state c casts)
@@ -205,12 +205,12 @@ caller_named state c (cast ∷ casts) =
 pub nothing_asked : (a : ℕ) → unwrap_or (slice_get (replicate 9 false) a) false ≡ false
 nothing_asked a = none_dead 9 a
 
-owner_opened : {K : Type 0} (state : K → KindState) (c : ℕ) (casts : List (Cast K)) → ActorsDiffer casts → IsOwnerOf (opening (map (casting state) casts)) c (opened_with c (limits_naming c casts))
+owner_opened : {K : Type 0} (state : K → KindState) (c : ℕ) (casts : List (Cast K)) → ActorsDiffer casts → IsOwnerOf (opening (map (actor_spec state) casts)) c (opened_with c (limits_that_name c casts))
 owner_opened state c casts differ = record {
   id = refl;
-  copies = λ a. copies-opened a (map (λ (limit : ℕ × Option ℕ). limit.0) (limits_naming c casts)) ∙ ap (λ b. if b then Some 1 else None) (ap (contains a) (limits_named c casts) ∙ actor_named state a c casts differ);
+  copies = λ a. copies-opened a (map (λ (limit : ℕ × Option ℕ). limit.0) (limits_that_name c casts)) ∙ ap (λ b. if b then Some 1 else None) (ap (contains a) (limits_named c casts) ∙ actor_named state a c casts differ);
   limits = λ a. limit_named state a c casts differ;
-  given = λ a. given-opened a (map (λ (limit : ℕ × Option ℕ). limit.0) (limits_naming c casts));
+  given = λ a. given-opened a (map (λ (limit : ℕ × Option ℕ). limit.0) (limits_that_name c casts));
   calls = refl;
   marks = refl;
   sent = λ k. refl;
@@ -218,22 +218,22 @@ owner_opened state c casts differ = record {
   deaths = λ a. none_dead 9 a;
 }
 
-pub owners_opened : {K : Type 0} (state : K → KindState) (casts : List (Cast K)) (owners : List OwnerValue) → ActorsDiffer casts → HasOwners casts (callers_named casts) owners → (c : ℕ) → IsOwnerAt (opening (map (casting state) casts)) c (find (is_owner c) owners)
+pub owners_opened : {K : Type 0} (state : K → KindState) (casts : List (Cast K)) (owners : List OwnerView) → ActorsDiffer casts → HasOwners casts (callers_named casts) owners → (c : ℕ) → IsOwnerAt (opening (map (actor_spec state) casts)) c (find (is_owner c) owners)
 owners_opened state casts owners differ has c =
-    subst (IsOwnerAt (opening (map (casting state) casts)) c) (sym (has c)) (go (contains c (callers_named casts)) (sym (caller_named state c casts)))
+    subst (IsOwnerAt (opening (map (actor_spec state) casts)) c) (sym (has c)) (go (contains c (callers_named casts)) (sym (caller_named state c casts)))
   where
-    go : (b : Bool) → is_caller c (opening (map (casting state) casts)) ≡ b → IsOwnerAt (opening (map (casting state) casts)) c (if b then Some (opened_with c (limits_naming c casts)) else None)
+    go : (b : Bool) → is_caller c (opening (map (actor_spec state) casts)) ≡ b → IsOwnerAt (opening (map (actor_spec state) casts)) c (if b then Some (opened_with c (limits_that_name c casts)) else None)
     go true e = (e, owner_opened state c casts differ)
     go false e = e
 
 -- ---- the callers so far
 
-pub one_more : {K : Type 0} (casts : List (Cast K)) (callers these : List ℕ) (i c : ℕ) (owners : List OwnerValue) → i < length these → c ≡ get_or these i c → HasOwners casts ((callers ++ take i these) ++ c ∷ []) owners → HasOwners casts (callers ++ take (i + 1) these) owners
+pub one_more : {K : Type 0} (casts : List (Cast K)) (callers these : List ℕ) (i c : ℕ) (owners : List OwnerView) → i < length these → c ≡ get_or these i c → HasOwners casts ((callers ++ take i these) ++ c ∷ []) owners → HasOwners casts (callers ++ take (i + 1) these) owners
 one_more casts callers these i c owners within is =
     subst (λ (named : List ℕ). HasOwners casts named owners)
     (append_assoc callers (take i these) (c ∷ []) ∙ ap (λ (named : List ℕ). callers ++ named) (ap (λ (last : ℕ). take i these ++ last ∷ []) is ∙ sym (take_more these i c within)))
 
-pub cast_more : {K : Type 0} (casts : List (Cast K)) (i : ℕ) (cast : Cast K) (owners : List OwnerValue) → i < length casts → cast ≡ get_or casts i cast → HasOwners casts (callers_named (take i casts) ++ cast.callers) owners → HasOwners casts (callers_named (take (i + 1) casts)) owners
+pub cast_more : {K : Type 0} (casts : List (Cast K)) (i : ℕ) (cast : Cast K) (owners : List OwnerView) → i < length casts → cast ≡ get_or casts i cast → HasOwners casts (callers_named (take i casts) ++ cast.callers) owners → HasOwners casts (callers_named (take (i + 1) casts)) owners
 cast_more {K} casts i cast owners within is =
     subst (λ (named : List ℕ). HasOwners casts named owners)
     (ap (λ (named : List ℕ). callers_named (take i casts) ++ named) (sym (append-nil cast.callers))

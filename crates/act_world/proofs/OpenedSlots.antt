@@ -7,14 +7,14 @@ use Rattle.std.proofs.lemmas.Bool.Decides.{eqb_tells}
 use Rattle.std.proofs.lemmas.List.Elements.{All-tail}
 use Rattle.act_types.specs.KindState.{KindState}
 use Rattle.act_types.specs.declared.message.Packet.{Packet}
-use Rattle.act_rules.specs.History.{Casting, History, opening, cast_of, names}
+use Rattle.act_rules.specs.History.{ActorSpec, History, opening, cast_of, names}
 use Rattle.act_inbox.specs.Inbox.{IsOpened}
 use Rattle.act_actor.specs.declared.cast.Cast.{Cast}
 use Rattle.act_actor.specs.Cast.{ActorsDiffer, CallersDiffer}
-use Rattle.act_actor.specs.View.{ActorSeen}
-use Rattle.act_world.specs.View.{SlotSeen, Runs, Vacant}
-use Rattle.act_world.specs.Ties.{IsLive, IsStage}
-use Rattle.act_actor.specs.Casts.{casting}
+use Rattle.act_actor.specs.View.{ActorView}
+use Rattle.act_world.specs.View.{SlotView, Runs, Vacant}
+use Rattle.act_world.specs.Refines.{IsLive, IsStage}
+use Rattle.act_actor.specs.Casts.{actor_spec}
 use Rattle.act_world.proofs.OpenedOwners.{differ_head, differ_tail}
 
 -- a slot that is written, and the others
@@ -40,20 +40,20 @@ set_map f xs i b x within = elim (eqb_tells i b) [
 
 -- the cast is its actor's, and can be opened
 abbrev pub IsToOpen : {K : Type 0} → (K → KindState) → History → Cast K → Type 0
-IsToOpen state h cast = (cast_of cast.actor h ≡ Some (casting state cast)) × CallersDiffer cast.callers
+IsToOpen state h cast = (cast_of cast.actor h ≡ Some (actor_spec state cast)) × CallersDiffer cast.callers
 
 -- each actor is where the history says, but for those of these casts
-abbrev pub AreOpened : {K : Type 0} → (K → KindState) → History → List (Cast K) → List SlotSeen → Type 0
+abbrev pub AreOpened : {K : Type 0} → (K → KindState) → History → List (Cast K) → List SlotView → Type 0
 AreOpened state h rest slots = (a : ℕ) → list_any (λ cast. cast.actor == a) rest ≡ false → IsStage h a (slice_get slots a)
 
-behind : {K : Type 0} (state : K → KindState) (cast : Cast K) (casts part : List (Cast K)) → All (λ other. cast.actor ≢ other.actor) part → AllByRecursion (IsToOpen state (opening (map (casting state) casts))) part → AllByRecursion (IsToOpen state (opening (map (casting state) (cast ∷ casts)))) part
+behind : {K : Type 0} (state : K → KindState) (cast : Cast K) (casts part : List (Cast K)) → All (λ other. cast.actor ≢ other.actor) part → AllByRecursion (IsToOpen state (opening (map (actor_spec state) casts))) part → AllByRecursion (IsToOpen state (opening (map (actor_spec state) (cast ∷ casts)))) part
 behind state cast casts [] apart all = tt
 behind {K} state cast casts (other ∷ part) apart all = (
   (rw (ne_eqb cast.actor other.actor (apart 0 other (omega arith))) all.0.0, all.0.1),
   behind state cast casts part (All-tail (λ (other : Cast K). cast.actor ≢ other.actor) other part apart) all.1,
 )
 
-pub to_open : {K : Type 0} (state : K → KindState) (casts : List (Cast K)) → ActorsDiffer casts → All (λ cast. CallersDiffer cast.callers) casts → AllByRecursion (IsToOpen state (opening (map (casting state) casts))) casts
+pub to_open : {K : Type 0} (state : K → KindState) (casts : List (Cast K)) → ActorsDiffer casts → All (λ cast. CallersDiffer cast.callers) casts → AllByRecursion (IsToOpen state (opening (map (actor_spec state) casts))) casts
 to_open state [] differ callers = tt
 to_open {K} state (cast ∷ casts) differ callers = (
   (rw (eq-eqb cast.actor cast.actor refl) refl, callers 0 cast (omega arith)),
@@ -62,7 +62,7 @@ to_open {K} state (cast ∷ casts) differ callers = (
 
 -- ---- no actor is opened yet
 
-no_cast : {K : Type 0} (state : K → KindState) (a : ℕ) (casts : List (Cast K)) → list_any (λ cast. cast.actor == a) casts ≡ false → cast_of a (opening (map (casting state) casts)) ≡ None
+no_cast : {K : Type 0} (state : K → KindState) (a : ℕ) (casts : List (Cast K)) → list_any (λ cast. cast.actor == a) casts ≡ false → cast_of a (opening (map (actor_spec state) casts)) ≡ None
 no_cast state a [] none = refl
 no_cast state a (cast ∷ casts) none = elim (eqb_tells cast.actor a) [
   | inl t ↦ absurd (cc (t.0, none))
@@ -74,17 +74,17 @@ vacant_at h a zero b none = none
 vacant_at h a (suc count) zero none = none
 vacant_at h a (suc count) (suc b) none = vacant_at h a count b none
 
-pub none_opened : {K : Type 0} (state : K → KindState) (casts : List (Cast K)) (slots : List SlotSeen) → slots ≡ replicate 9 Vacant → AreOpened state (opening (map (casting state) casts)) casts slots
+pub none_opened : {K : Type 0} (state : K → KindState) (casts : List (Cast K)) (slots : List SlotView) → slots ≡ replicate 9 Vacant → AreOpened state (opening (map (actor_spec state) casts)) casts slots
 none_opened state casts slots vacant a none =
-    let h = opening (map (casting state) casts) in
+    let h = opening (map (actor_spec state) casts) in
     subst (λ slots. IsStage h a (slice_get slots a)) (sym vacant) (vacant_at h a 9 a (no_cast state a casts none))
 
 -- ---- one actor more
 
-live_opened : {K : Type 0} (state : K → KindState) (castings : List Casting) (cast : Cast K) (live : ActorSeen) → cast_of cast.actor (opening castings) ≡ Some (casting state cast)
-    → live.id ≡ cast.actor → IsOpened cast.callers live.inbox → live.log ≡ [] → live.state ≡ state cast.kind → IsLive (opening castings) cast.actor live
-live_opened state castings cast live at id inbox log kind = record {
-  cast = casting state cast;
+live_opened : {K : Type 0} (state : K → KindState) (actor_specs : List ActorSpec) (cast : Cast K) (live : ActorView) → cast_of cast.actor (opening actor_specs) ≡ Some (actor_spec state cast)
+    → live.id ≡ cast.actor → IsOpened cast.callers live.inbox → live.log ≡ [] → live.state ≡ state cast.kind → IsLive (opening actor_specs) cast.actor live
+live_opened state actor_specs cast live at id inbox log kind = record {
+  cast = actor_spec state cast;
   cast_is = at;
   runs = refl;
   id = id;
@@ -100,14 +100,14 @@ live_opened state castings cast live at id inbox log kind = record {
     nothing true o none = refl
     nothing false o none = none
 
-pub one_more : {K : Type 0} (state : K → KindState) (castings : List Casting) (cast : Cast K) (rest : List (Cast K)) (live : ActorSeen) (slots new : List SlotSeen)
-    → AreOpened state (opening castings) (cast ∷ rest) slots → cast_of cast.actor (opening castings) ≡ Some (casting state cast)
+pub one_more : {K : Type 0} (state : K → KindState) (actor_specs : List ActorSpec) (cast : Cast K) (rest : List (Cast K)) (live : ActorView) (slots new : List SlotView)
+    → AreOpened state (opening actor_specs) (cast ∷ rest) slots → cast_of cast.actor (opening actor_specs) ≡ Some (actor_spec state cast)
     → live.id ≡ cast.actor → IsOpened cast.callers live.inbox → live.log ≡ [] → live.state ≡ state cast.kind
     → ((b : ℕ) → slice_get new b ≡ (if cast.actor == b then Some (Runs live) else slice_get slots b))
-    → AreOpened state (opening castings) rest new
-one_more state castings cast rest live slots new before at id inbox log kind written a none =
-    subst (IsStage (opening castings) a) (sym (written a))
+    → AreOpened state (opening actor_specs) rest new
+one_more state actor_specs cast rest live slots new before at id inbox log kind written a none =
+    subst (IsStage (opening actor_specs) a) (sym (written a))
     (elim (eqb_tells cast.actor a) [
-      | inl t ↦ rw t.0 (subst (λ b. IsLive (opening castings) b live) t.1 (live_opened state castings cast live at id inbox log kind))
+      | inl t ↦ rw t.0 (subst (λ b. IsLive (opening actor_specs) b live) t.1 (live_opened state actor_specs cast live at id inbox log kind))
       | inr f ↦ rw f.0 (before a (ap (λ b. b || list_any (λ cast. cast.actor == a) rest) f.0 ∙ none))
     ])

@@ -10,8 +10,8 @@ use Rattle.act_rules.specs.RunList.{Answer}
 use Rattle.act_rules.specs.Submissions.{kept_at}
 use Rattle.act_rules.specs.History.{History, calls_of, kept_of, first_answer}
 use Rattle.act_rules.specs.Rules.{unanswered}
-use Rattle.act_owner.specs.Owner.{OwnerValue, waits_for, pending}
-use Rattle.act_world.specs.Ties.{IsOwnerOf}
+use Rattle.act_owner.specs.Owner.{OwnerView, call_waits_for, pending}
+use Rattle.act_world.specs.Refines.{IsOwnerOf}
 
 -- each call has a place in the table of answers
 pub kept_long : (h : History) (c : ℕ) → length (kept_of c h) ≡ length (calls_of c h)
@@ -19,7 +19,7 @@ kept_long h c = length-map (enumerate_from 0 (calls_of c h)) (first_answer h c) 
 
 -- the calls that wait are those that have no answer
 waiting_from : (a n : ℕ) (whole kept : List (Option Answer)) (calls : List Submission) → length kept ≡ length calls → ((i : ℕ) → slice_get kept i ≡ slice_get whole (n + i))
-    → length (filter (waits_for a) (zip calls kept)) ≡ length (filter (λ (call : ℕ × Submission). is_none (kept_at whole call.0)) (filter (λ (call : ℕ × Submission). call.1.actor == a) (enumerate_from n calls)))
+    → length (filter (call_waits_for a) (zip calls kept)) ≡ length (filter (λ (call : ℕ × Submission). is_none (kept_at whole call.0)) (filter (λ (call : ℕ × Submission). call.1.actor == a) (enumerate_from n calls)))
 waiting_from a n whole [] [] long h = refl
 waiting_from a n whole (o ∷ kept) [] long h = absurd (cc)
 waiting_from a n whole [] (x ∷ calls) long h = absurd (cc)
@@ -33,7 +33,7 @@ waiting_from a n whole (o ∷ kept) (x ∷ calls) long h =
     ahead = filter (λ (call : ℕ × Submission). call.1.actor == a) (enumerate_from (n + 1) calls)
 
     behind : List (Submission × Option Answer)
-    behind = filter (waits_for a) (zip calls kept)
+    behind = filter (call_waits_for a) (zip calls kept)
 
     go : (b : Bool) (o : Option Answer) → kept_at whole n ≡ o → length behind ≡ length (filter (λ (call : ℕ × Submission). is_none (kept_at whole call.0)) ahead)
         → length (cond (b && not (is_some o)) ((x, o) ∷ behind) behind) ≡ length (filter (λ (call : ℕ × Submission). is_none (kept_at whole call.0)) (cond b ((n, x) ∷ ahead) ahead))
@@ -42,9 +42,9 @@ waiting_from a n whole (o ∷ kept) (x ∷ calls) long h =
     go true (Some answer) here rest = rw here rest
 
 -- as many of a caller's calls are pending as the history says
-pub unanswered_is : (h : History) (c a : ℕ) (owner : OwnerValue) → IsOwnerOf h c owner → pending owner a ≡ unanswered c a h
+pub unanswered_is : (h : History) (c a : ℕ) (owner : OwnerView) → IsOwnerOf h c owner → pending owner a ≡ unanswered c a h
 unanswered_is h c a owner is =
-    sym (length-filter (waits_for a) (zip owner.calls owner.kept))
-    ∙ ap (λ (calls : List Submission). length (filter (waits_for a) (zip calls owner.kept))) is.calls
-    ∙ ap (λ (kept : List (Option Answer)). length (filter (waits_for a) (zip (calls_of c h) kept))) is.kept
+    sym (length-filter (call_waits_for a) (zip owner.calls owner.kept))
+    ∙ ap (λ (calls : List Submission). length (filter (call_waits_for a) (zip calls owner.kept))) is.calls
+    ∙ ap (λ (kept : List (Option Answer)). length (filter (call_waits_for a) (zip (calls_of c h) kept))) is.kept
     ∙ waiting_from a 0 (kept_of c h) (kept_of c h) (calls_of c h) (kept_long h c) (λ i. let z : i ≡ 0 + i = omega arith in ap (slice_get (kept_of c h)) z)

@@ -4,48 +4,48 @@ use Rattle.std.specs.Prelude.{IfSome}
 use Rattle.std.proofs.lemmas.Option.{slice_get-get_or}
 use Rattle.std.proofs.lemmas.List.{take_more}
 use Rattle.act_rules.specs.declared.event.Event.{Event}
-use Rattle.act_rules.specs.History.{Casting, History, opening}
+use Rattle.act_rules.specs.History.{ActorSpec, History, opening}
 use Rattle.act_rules.specs.Laws.{history}
 use Rattle.act_rules.specs.Rules.{Outcome, after, after_all, outcome_of, outcomes}
 use Rattle.act_rules.proofs.Steps.{after_all-append, outcomes-append}
-use Rattle.act_world.specs.Exchange.{ExchangeValue}
-use Rattle.act_world.specs.View.{SlotSeen, WorldSeen}
-use Rattle.act_world.specs.Ties.{Ties}
-use Rattle.act_world.specs.Stands.{Stands, Follows, FollowsThere, IsUnrefused, IsUnrefusedThere, IsUnrefusedAt, Played}
+use Rattle.act_world.specs.Network.{NetworkView}
+use Rattle.act_world.specs.View.{SlotView, WorldView}
+use Rattle.act_world.specs.Refines.{Refines}
+use Rattle.act_world.specs.IsReachedBy.{IsReachedBy, FollowsRules, FollowsThere, IsUnrefused, IsUnrefusedThere, IsUnrefusedAt, HasPlayed}
 use Rattle.act_world.specs.Memory.{TakesMemory, TakesMemoryThere, TakesMemoryAt}
 
-abbrev pub with_slots : ExchangeValue → List SlotSeen → WorldSeen
-with_slots exchange slots = record { exchange = exchange; slots = slots }
+abbrev pub with_slots : NetworkView → List SlotView → WorldView
+with_slots network slots = record { network = network; slots = slots }
 
--- what holds of the exchange, with any slots, holds of the world
-pub there : (slots : List SlotSeen) (event shown : Event) (old new : ExchangeValue) (told : Outcome) → shown ≡ event → FollowsThere event old new told → Follows shown (with_slots old slots) (with_slots new slots) told
-there slots event shown old new told is follows = subst (λ (e : Event). Follows e (with_slots old slots) (with_slots new slots) told) (sym is) (follows slots)
+-- what holds of the network, with any slots, holds of the world
+pub there : (slots : List SlotView) (event shown : Event) (old new : NetworkView) (told : Outcome) → shown ≡ event → FollowsThere event old new told → FollowsRules shown (with_slots old slots) (with_slots new slots) told
+there slots event shown old new told is follows = subst (λ (e : Event). FollowsRules e (with_slots old slots) (with_slots new slots) told) (sym is) (follows slots)
 
-pub ok_there : {E : Type 0} (slots : List SlotSeen) (event shown : Event) (old new : ExchangeValue) (result : Result Outcome E) → shown ≡ event → IfOk result (FollowsThere event old new) → IfOk result (Follows shown (with_slots old slots) (with_slots new slots))
+pub ok_there : {E : Type 0} (slots : List SlotView) (event shown : Event) (old new : NetworkView) (result : Result Outcome E) → shown ≡ event → IfOk result (FollowsThere event old new) → IfOk result (FollowsRules shown (with_slots old slots) (with_slots new slots))
 ok_there slots event shown old new (Ok told) is follows = there slots event shown old new told is follows
 ok_there slots event shown old new (Err e) is follows = tt
 
-pub last_there : {E : Type 0} (slots : List SlotSeen) (event shown : Event) (old : ExchangeValue) (result : Result Outcome E) → shown ≡ event → OnErr result (IsUnrefusedThere event old) → OnErr result (IsUnrefused shown (with_slots old slots))
+pub last_there : {E : Type 0} (slots : List SlotView) (event shown : Event) (old : NetworkView) (result : Result Outcome E) → shown ≡ event → OnErr result (IsUnrefusedThere event old) → OnErr result (IsUnrefused shown (with_slots old slots))
 last_there slots event shown old (Ok told) is unrefused = tt
 last_there slots event shown old (Err e) is unrefused = subst (λ (x : Event). IsUnrefused x (with_slots old slots)) (sym is) (unrefused slots)
 
-pub memory_there : {E : Type 0} (slots : List SlotSeen) (event shown : Event) (old : ExchangeValue) (result : Result Outcome E) → shown ≡ event → OnErr result (TakesMemoryThere event old) → OnErr result (TakesMemory shown (with_slots old slots))
+pub memory_there : {E : Type 0} (slots : List SlotView) (event shown : Event) (old : NetworkView) (result : Result Outcome E) → shown ≡ event → OnErr result (TakesMemoryThere event old) → OnErr result (TakesMemory shown (with_slots old slots))
 memory_there slots event shown old (Ok told) is takes = tt
 memory_there slots event shown old (Err e) is takes = subst (λ (x : Event). TakesMemory x (with_slots old slots)) (sym is) (takes slots)
 
 -- the world stands after one event more
-pub stands_next : (casts : List Casting) (before : List Event) (event : Event) (world : WorldSeen) → Ties (after (history casts before) event) world → Stands casts (before ++ event ∷ []) world
-stands_next casts before event world ties = subst (λ (h : History). Ties h world) (sym (after_all-append (opening casts) before (event ∷ []))) ties
+pub stands_next : (casts : List ActorSpec) (before : List Event) (event : Event) (world : WorldView) → Refines (after (history casts before) event) world → IsReachedBy casts (before ++ event ∷ []) world
+stands_next casts before event world refines = subst (λ (h : History). Refines h world) (sym (after_all-append (opening casts) before (event ∷ []))) refines
 
 -- no event yet
-pub Played_none : (world : WorldSeen) (told : List Outcome) → Played [] world world told told
-Played_none world told casts before stands = (subst (λ (l : List Event). Stands casts l world) (sym (append-nil before)) stands, sym (append-nil told))
+pub Played_none : (world : WorldView) (told : List Outcome) → HasPlayed [] world world told told
+Played_none world told casts before reached = (subst (λ (l : List Event). IsReachedBy casts l world) (sym (append-nil before)) reached, sym (append-nil told))
 
 -- what is told of one event more
-pub Played_next : (events : List Event) (i : ℕ) (d : Event) (old mid new : WorldSeen) (told told_mid told_new : List Outcome) (outcome : Outcome) → i < length events
-    → Played (take i events) old mid told told_mid → Follows (get_or events i d) mid new outcome → told_new ≡ told_mid ++ outcome ∷ [] → Played (take (i + 1) events) old new told told_new
-Played_next events i d old mid new told told_mid told_new outcome below played follows more casts before stands =
-    let first = played casts before stands in
+pub Played_next : (events : List Event) (i : ℕ) (d : Event) (old mid new : WorldView) (told told_mid told_new : List Outcome) (outcome : Outcome) → i < length events
+    → HasPlayed (take i events) old mid told told_mid → FollowsRules (get_or events i d) mid new outcome → told_new ≡ told_mid ++ outcome ∷ [] → HasPlayed (take (i + 1) events) old new told told_new
+Played_next events i d old mid new told told_mid told_new outcome below played follows more casts before reached =
+    let first = played casts before reached in
     let next = follows casts (before ++ take i events) first.0 in
     let event = get_or events i d in
     let front = take i events in
@@ -58,17 +58,17 @@ Played_next events i d old mid new told told_mid told_new outcome below played f
     ∙ append_assoc told (outcomes h front) (outcome ∷ [])
     ∙ ap (λ (o : Outcome). told ++ (outcomes h front ++ o ∷ [])) (next.0 ∙ ap (λ (g : History). outcome_of g event) joined)
     ∙ ap (λ (l : List Outcome). told ++ l) (sym (outcomes-append h front (event ∷ []))) in
-    subst (λ (l : List Event). Stands casts (before ++ l) new × (told_new ≡ told ++ outcomes h l)) (sym shown)
-    (subst (λ (l : List Event). Stands casts l new) (append_assoc before front (event ∷ [])) (stands_next casts (before ++ front) event new next.1), told_all)
+    subst (λ (l : List Event). IsReachedBy casts (before ++ l) new × (told_new ≡ told ++ outcomes h l)) (sym shown)
+    (subst (λ (l : List Event). IsReachedBy casts l new) (append_assoc before front (event ∷ [])) (stands_next casts (before ++ front) event new next.1), told_all)
 
 -- nothing refuses the event that the world stopped at
-pub unrefused_at : (events : List Event) (i : ℕ) (event : Event) (old new : WorldSeen) → i < length events → event ≡ get_or events i event → new ≡ old → IsUnrefused event old → IsUnrefusedAt i events new
+pub unrefused_at : (events : List Event) (i : ℕ) (event : Event) (old new : WorldView) → i < length events → event ≡ get_or events i event → new ≡ old → IsUnrefused event old → IsUnrefusedAt i events new
 unrefused_at events i event old new below is same unrefused =
-    subst (λ (world : WorldSeen). IsUnrefusedAt i events world) (sym same)
+    subst (λ (world : WorldView). IsUnrefusedAt i events world) (sym same)
     (subst (λ (at : Option Event). IfSome at (λ one. IsUnrefused one old)) (sym (slice_get-get_or events i event below ∙ ap Some (sym is))) unrefused)
 
 -- the event that the world stopped at takes memory
-pub memory_at : (events : List Event) (i : ℕ) (event : Event) (old new : WorldSeen) → i < length events → event ≡ get_or events i event → new ≡ old → TakesMemory event old → TakesMemoryAt i events new
+pub memory_at : (events : List Event) (i : ℕ) (event : Event) (old new : WorldView) → i < length events → event ≡ get_or events i event → new ≡ old → TakesMemory event old → TakesMemoryAt i events new
 memory_at events i event old new below is same takes =
-    subst (λ (world : WorldSeen). TakesMemoryAt i events world) (sym same)
+    subst (λ (world : WorldView). TakesMemoryAt i events world) (sym same)
     (subst (λ (at : Option Event). IfSome at (λ one. TakesMemory one old)) (sym (slice_get-get_or events i event below ∙ ap Some (sym is))) takes)

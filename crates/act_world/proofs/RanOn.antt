@@ -16,12 +16,12 @@ use Rattle.act_rules.proofs.Growth.{after_run_grows}
 use Rattle.act_rules.proofs.Ended.{under-push, ended_by}
 use Rattle.act_rules.proofs.Letters.{IsSoundLetter, has_letter-sound}
 use Rattle.act_rules.proofs.RunLists.{state_after-push}
-use Rattle.act_inbox.specs.Inbox.{handed_of, waiting}
-use Rattle.act_actor.specs.View.{ActorSeen}
-use Rattle.act_actor.specs.Actor.{item_of, HasRun}
+use Rattle.act_inbox.specs.Inbox.{handed_of, waiting_packet}
+use Rattle.act_actor.specs.View.{ActorView}
+use Rattle.act_actor.specs.Actor.{item_of, HasRunCall}
 use Rattle.act_world.specs.View.{Runs}
-use Rattle.act_world.specs.Slots.{died, buried}
-use Rattle.act_world.specs.Ties.{packet_of, held_packet, is_note, IsLive, IsDead, IsStage}
+use Rattle.act_world.specs.Slots.{dead_slot, bury_ended}
+use Rattle.act_world.specs.Refines.{packet_by_number, held_packet, is_note_of, IsLive, IsDead, IsStage}
 use Rattle.act_world.proofs.Lawful.{IsLawful}
 use Rattle.act_world.proofs.Frames.{packet_stays}
 
@@ -58,7 +58,7 @@ count_then h a c d item mine =
 held_then : (h : History) (a c d n : ℕ) (item : RunItem) → IsLawful h → item.caller ≡ c
     → cond (nat_lt n (ran_count d a (ran_on h a c item))) None (held_packet h a d n) ≡ held_packet (ran_on h a c item) a d n
 held_then h a c d n item lawful mine =
-    unmask (nat_lt n (ran_count d a (ran_on h a c item))) (nat_lt n (ran_count d a h)) (cond (has_letter (CallLetter d a n) h.arrived) (packet_of h d a n) None) low
+    unmask (nat_lt n (ran_count d a (ran_on h a c item))) (nat_lt n (ran_count d a h)) (cond (has_letter (CallLetter d a n) h.arrived) (packet_by_number h d a n) None) low
     ∙ ap (λ (o : Option Packet). cond (nat_lt n (ran_count d a (ran_on h a c item))) None o) (by (has_letter (CallLetter d a n) h.arrived) refl)
   where
     unmask : (now was : Bool) (rest : Option Packet) → (was ≡ true → now ≡ true) → cond now None (cond was None rest) ≡ cond now None rest
@@ -73,12 +73,12 @@ held_then h a c d n item lawful mine =
     low : nat_lt n (ran_count d a h) ≡ true → nat_lt n (ran_count d a (ran_on h a c item)) ≡ true
     low was = lt-ltb n (ran_count d a (ran_on h a c item)) (grown (d == c) (count_then h a c d item mine) (ltb-true n (ran_count d a h) was))
 
-    by : (came : Bool) → has_letter (CallLetter d a n) h.arrived ≡ came → cond came (packet_of h d a n) None ≡ cond came (packet_of (ran_on h a c item) d a n) None
+    by : (came : Bool) → has_letter (CallLetter d a n) h.arrived ≡ came → cond came (packet_by_number h d a n) None ≡ cond came (packet_by_number (ran_on h a c item) d a n) None
     by true e = sym (packet_stays h (ran_on h a c item) d a n lawful (after_run_grows a c h (Some item)) (has_letter-sound (IsSoundLetter h) (CallLetter d a n) h.arrived lawful.sound.letters.arrived e))
     by false e = refl
 
 -- what the actor ran, then
-log_ran : (h : History) (a c : ℕ) (packet : Packet) (live new : ActorSeen) → IsLive h a live → HasRun c packet live new → new.log ≡ runs_of a (ran_on h a c (item_of packet))
+log_ran : (h : History) (a c : ℕ) (packet : Packet) (live new : ActorView) → IsLive h a live → HasRunCall c packet live new → new.log ≡ runs_of a (ran_on h a c (item_of packet))
 log_ran h a c packet live new is ran = ran.log ∙ ap (λ (items : List RunItem). items ++ item_of packet ∷ []) is.log ∙ sym (runs_here h a c (item_of packet))
 
 -- an actor that hadn't ended has ended where the last of these items ended it
@@ -93,7 +93,7 @@ ended_by_last h a items on = go (contains a h.killed) (has_terminated (runs_of a
     go false false false false e = refl
 
 -- the actor after its run, where it goes on
-live_ran : (h : History) (a c : ℕ) (packet : Packet) (live new : ActorSeen) → IsLawful h → IsLive h a live → HasRun c packet live new → has_terminated new.log ≡ false → IsLive (ran_on h a c (item_of packet)) a new
+live_ran : (h : History) (a c : ℕ) (packet : Packet) (live new : ActorView) → IsLawful h → IsLive h a live → HasRunCall c packet live new → has_terminated new.log ≡ false → IsLive (ran_on h a c (item_of packet)) a new
 live_ran h a c packet live new lawful is ran on = record {
   cast = is.cast;
   cast_is = is.cast_is;
@@ -105,17 +105,17 @@ live_ran h a c packet live new lawful is ran on = record {
   listed = λ d. ran.taken.listed d ∙ is.listed d;
   handed = handed;
   waits = λ d n named. ran.taken.waits d n
-      ∙ ap (λ (m : ℕ). cond (nat_lt n m) None (waiting live.inbox d n)) (handed d named)
+      ∙ ap (λ (m : ℕ). cond (nat_lt n m) None (waiting_packet live.inbox d n)) (handed d named)
       ∙ ap (λ (o : Option Packet). cond (nat_lt n (ran_count d a (ran_on h a c (item_of packet)))) None o) (is.waits d n named)
       ∙ held_then h a c d n (item_of packet) lawful ran.taken.of_caller;
-  notes = λ d n named. ap (is_note n) (ran.taken.notes d) ∙ is.notes d n named;
+  notes = λ d n named. ap (is_note_of n) (ran.taken.notes d) ∙ is.notes d n named;
 }
   where
     handed : (d : ℕ) → names d (cast_of a h) ≡ true → handed_of new.inbox d ≡ ran_count d a (ran_on h a c (item_of packet))
     handed d named = ran.taken.handed d ∙ ap (λ (m : ℕ). cond (d == c) (m + 1) m) (is.handed d named) ∙ count_then h a c d (item_of packet) ran.taken.of_caller
 
 -- the actor after its last run
-dead_ran : (h : History) (a c : ℕ) (packet : Packet) (live new : ActorSeen) → IsLive h a live → HasRun c packet live new → has_terminated new.log ≡ true → IsDead (ran_on h a c (item_of packet)) a (record { id = new.id; log = new.log })
+dead_ran : (h : History) (a c : ℕ) (packet : Packet) (live new : ActorView) → IsLive h a live → HasRunCall c packet live new → has_terminated new.log ≡ true → IsDead (ran_on h a c (item_of packet)) a (record { id = new.id; log = new.log })
 dead_ran h a c packet live new is ran ends = record {
   cast = is.cast;
   cast_is = is.cast_is;
@@ -129,9 +129,9 @@ dead_ran h a c packet live new is ran ends = record {
     or_last false y e = e
 
 -- its slot
-pub slot_ran : (h : History) (a c : ℕ) (packet : Packet) (live new : ActorSeen) → IsLawful h → IsLive h a live → HasRun c packet live new → IsStage (ran_on h a c (item_of packet)) a (Some (buried (Runs new)))
+pub slot_ran : (h : History) (a c : ℕ) (packet : Packet) (live new : ActorView) → IsLawful h → IsLive h a live → HasRunCall c packet live new → IsStage (ran_on h a c (item_of packet)) a (Some (bury_ended (Runs new)))
 slot_ran h a c packet live new lawful is ran = go (has_terminated new.log) refl
   where
-    go : (ends : Bool) → has_terminated new.log ≡ ends → IsStage (ran_on h a c (item_of packet)) a (Some (cond ends (died new) (Runs new)))
+    go : (ends : Bool) → has_terminated new.log ≡ ends → IsStage (ran_on h a c (item_of packet)) a (Some (cond ends (dead_slot new) (Runs new)))
     go true e = dead_ran h a c packet live new is ran e
     go false e = live_ran h a c packet live new lawful is ran e

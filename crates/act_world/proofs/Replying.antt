@@ -8,18 +8,18 @@ use Rattle.act_types.specs.declared.message.Notice.TheVariants.{Answered}
 use Rattle.act_rules.specs.declared.history.RunItem.{RunItem}
 use Rattle.act_rules.specs.declared.history.Post.TheVariants.{Reply as ReplyPost}
 use Rattle.act_rules.specs.RunList.{Answer, after_item, answer_at, state_after}
-use Rattle.act_rules.specs.History.{Casting, History, runs_of, answer_of}
+use Rattle.act_rules.specs.History.{ActorSpec, History, runs_of, answer_of}
 use Rattle.act_rules.proofs.Lists.{slice_get_last}
 use Rattle.act_rules.proofs.RunLists.{answer_at-push}
-use Rattle.act_actor.specs.View.{ActorSeen}
-use Rattle.act_actor.specs.Actor.{item_of, reply_to}
-use Rattle.act_world.specs.declared.exchange.Posted.{Posted}
-use Rattle.act_world.specs.Ties.{reply_as, reply_at, posted, IsLive}
+use Rattle.act_actor.specs.View.{ActorView}
+use Rattle.act_actor.specs.Actor.{item_of, reply_of_run}
+use Rattle.act_world.specs.declared.network.Posted.{Posted}
+use Rattle.act_world.specs.Refines.{reply_as, reply_at, posted_notice, IsLive}
 use Rattle.act_world.proofs.RanOn.{ran_on, runs_here}
 
 -- what the reply tells stands in the history after the run
-pub reply_posted : (h : History) (a c : ℕ) (packet : Packet) (live : ActorSeen) → IsLive h a live → packet.caller ≡ c
-    → posted (ran_on h a c (item_of packet)) (ReplyPost c a (length (runs_of a h))) ≡ Some (record { caller = c; notice = Answered (reply_to live packet) })
+pub reply_posted : (h : History) (a c : ℕ) (packet : Packet) (live : ActorView) → IsLive h a live → packet.caller ≡ c
+    → posted_notice (ran_on h a c (item_of packet)) (ReplyPost c a (length (runs_of a h))) ≡ Some (record { caller = c; notice = Answered (reply_of_run live packet) })
 reply_posted h a c packet live is mine =
     ap (option_map post) (
     ap (reply_at g c a place) (ap (λ (items : List RunItem). slice_get items place) (runs_here h a c item) ∙ slice_get_last (runs_of a h) item)
@@ -43,11 +43,11 @@ reply_posted h a c packet live is mine =
 
     answered : answer_of a place g ≡ Some answer
     answered =
-        ap (λ (o : Option Casting). option_and_then (λ (state : KindState). answer_at state (runs_of a g) place) (option_map (λ (cast : Casting). cast.opening) o)) is.cast_is
+        ap (λ (o : Option ActorSpec). option_and_then (λ (state : KindState). answer_at state (runs_of a g) place) (option_map (λ (cast : ActorSpec). cast.opening) o)) is.cast_is
         ∙ ap (λ (items : List RunItem). answer_at is.cast.opening items place) (runs_here h a c item)
         ∙ answer_at-push is.cast.opening (runs_of a h) item
 
-    same : reply_as c a place item answer ≡ reply_to live packet
+    same : reply_as c a place item answer ≡ reply_of_run live packet
     same =
         ap (λ (x : ℕ). record { actor = x; caller = c; future = packet.future; place = place; answer = answer }) (sym is.id)
         ∙ ap (λ (x : ℕ). record { actor = live.id; caller = x; future = packet.future; place = place; answer = answer }) (sym mine)

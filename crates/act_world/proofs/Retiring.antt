@@ -17,13 +17,13 @@ use Rattle.act_rules.specs.History.{History, contains, cast_of, callers_in, name
 use Rattle.act_rules.specs.Rules.{Outcome, refusal_of, outcome_of, after}
 use Rattle.act_rules.proofs.Growth.{Grows, added_grows}
 use Rattle.act_inbox.specs.Inbox.{handed_of, note_of, IsDrained}
-use Rattle.act_actor.specs.View.{ActorSeen, RetiredSeen}
+use Rattle.act_actor.specs.View.{ActorView, RetiredView}
 use Rattle.act_actor.specs.Actor.{MayRetire}
-use Rattle.act_world.specs.Exchange.{ExchangeValue}
-use Rattle.act_world.specs.View.{SlotSeen, Runs, Died, Ended, Vacant, WorldSeen}
+use Rattle.act_world.specs.Network.{NetworkView}
+use Rattle.act_world.specs.View.{SlotView, Runs, Died, Ended, Vacant, WorldView}
 use Rattle.act_world.specs.Slots.{IsRetiredIn}
-use Rattle.act_world.specs.Ties.{is_note, IsLive, IsRetired, IsStage, Ties}
-use Rattle.act_world.specs.Stands.{Follows}
+use Rattle.act_world.specs.Refines.{is_note_of, IsLive, IsRetired, IsStage, Refines}
+use Rattle.act_world.specs.IsReachedBy.{FollowsRules}
 use Rattle.act_world.proofs.Lawful.{IsLawful, world_lawful}
 use Rattle.act_world.proofs.Frames.{same_caller, owners_stay, still_lives, stage_stays}
 use Rattle.act_world.proofs.Changes.{refused_follows, accepted_follows, stages_change, slot_within}
@@ -44,25 +44,25 @@ each_of_all p (x ∷ cs) all c e = go (x == c) refl (each_of_all p cs (and_parts
     go true is rest e = subst (λ (y : ℕ). p y ≡ true) (eqb-true x c is) (and_parts (p x) (list_all p cs) all).0
     go false is rest e = rest e
 
-drained_there : (h : History) (a : ℕ) (live : ActorSeen) → IsLive h a live → IsDrained live.inbox → is_drained a h ≡ true
+drained_there : (h : History) (a : ℕ) (live : ActorView) → IsLive h a live → IsDrained live.inbox → is_drained a h ≡ true
 drained_there h a live is drained = all_from_each (λ c. is_done c a h) (callers_in (cast_of a h)) (λ c named.
     sym (is.notes c (ran_count c a h) named)
-    ∙ ap (is_note (ran_count c a h)) (drained c (is.listed c ∙ named))
+    ∙ ap (is_note_of (ran_count c a h)) (drained c (is.listed c ∙ named))
     ∙ eq-eqb (handed_of live.inbox c) (ran_count c a h) (is.handed c named))
 
-drained_here : (h : History) (a : ℕ) (live : ActorSeen) → IsLive h a live → is_drained a h ≡ true → IsDrained live.inbox
+drained_here : (h : History) (a : ℕ) (live : ActorView) → IsLive h a live → is_drained a h ≡ true → IsDrained live.inbox
 drained_here h a live is drained c listed = go (note_of live.inbox c) refl
   where
     named : names c (cast_of a h) ≡ true
     named = sym (is.listed c) ∙ listed
 
-    told : is_note (ran_count c a h) (note_of live.inbox c) ≡ true
+    told : is_note_of (ran_count c a h) (note_of live.inbox c) ≡ true
     told = is.notes c (ran_count c a h) named ∙ each_of_all (λ d. is_done d a h) (callers_in (cast_of a h)) drained c named
 
     go : (o : Option ℕ) → note_of live.inbox c ≡ o → note_of live.inbox c ≡ Some (handed_of live.inbox c)
-    go None e = let bad : false ≡ true = sym (ap (is_note (ran_count c a h)) e) ∙ told in cc
+    go None e = let bad : false ≡ true = sym (ap (is_note_of (ran_count c a h)) e) ∙ told in cc
     go (Some m) e =
-        let same : m ≡ ran_count c a h = eqb-true m (ran_count c a h) (sym (ap (is_note (ran_count c a h)) e) ∙ told) in
+        let same : m ≡ ran_count c a h = eqb-true m (ran_count c a h) (sym (ap (is_note_of (ran_count c a h)) e) ∙ told) in
         e ∙ ap (λ (n : ℕ). Some n) (same ∙ sym (is.handed c named))
 
 -- ---- what refuses it
@@ -87,27 +87,27 @@ retired_other a b retired apart =
     ∙ ap (λ (x : Bool). contains b retired || (x || false)) (ne_eqb a b apart)
     ∙ or-false (contains b retired)
 
-live_retired : (h : History) (a : ℕ) (live : ActorSeen) (retired : RetiredSeen) → IsLive h a live → retired ≡ record { id = live.id; log = live.log; state = live.state } → IsRetired (without h a) a retired
+live_retired : (h : History) (a : ℕ) (live : ActorView) (retired : RetiredView) → IsLive h a live → retired ≡ record { id = live.id; log = live.log; state = live.state } → IsRetired (without h a) a retired
 live_retired h a live retired is same = record {
   cast = is.cast;
   cast_is = is.cast_is;
   lived = (or_parts (is_dead a h) (is_retired a h) is.runs).0;
   ended = contains-last a h.retired;
-  id = ap (λ (r : RetiredSeen). r.id) same ∙ is.id;
-  log = ap (λ (r : RetiredSeen). r.log) same ∙ is.log;
-  state = ap (λ (r : RetiredSeen). r.state) same ∙ is.state;
+  id = ap (λ (r : RetiredView). r.id) same ∙ is.id;
+  log = ap (λ (r : RetiredView). r.log) same ∙ is.log;
+  state = ap (λ (r : RetiredView). r.state) same ∙ is.state;
 }
 
-retired_ties : (h : History) (a : ℕ) (old : WorldSeen) (slot new : SlotSeen) → IsLawful h → Ties h old → slice_get old.slots a ≡ Some slot → IsStage (without h a) a (Some new)
-    → Ties (without h a) (record { exchange = old.exchange; slots = slice_set old.slots a new })
-retired_ties h a old slot new lawful ties at is = record {
-  owners = owners_stay h (without h a) old.exchange.owners refl (λ c. same_caller c h (without h a) lawful grows refl refl refl refl refl) ties.owners;
-  actors = stages_change h (without h a) old.slots a slot new ties.actors at is (λ b stage apart was. stage_stays h (without h a) b stage lawful grows refl refl refl (retired_other a b h.retired apart) was);
-  mail = ties.mail;
-  mail_count = ties.mail_count;
-  replies = ties.replies;
-  reply_count = ties.reply_count;
-  asked = ties.asked;
+retired_ties : (h : History) (a : ℕ) (old : WorldView) (slot new : SlotView) → IsLawful h → Refines h old → slice_get old.slots a ≡ Some slot → IsStage (without h a) a (Some new)
+    → Refines (without h a) (record { network = old.network; slots = slice_set old.slots a new })
+retired_ties h a old slot new lawful refines at is = record {
+  owners = owners_stay h (without h a) old.network.owners refl (λ c. same_caller c h (without h a) lawful grows refl refl refl refl refl) refines.owners;
+  actors = stages_change h (without h a) old.slots a slot new refines.actors at is (λ b stage apart was. stage_stays h (without h a) b stage lawful grows refl refl refl (retired_other a b h.retired apart) was);
+  mail = refines.mail;
+  mail_count = refines.mail_count;
+  replies = refines.replies;
+  reply_count = refines.reply_count;
+  asked = refines.asked;
 }
   where
     grows : Grows h (without h a)
@@ -115,37 +115,37 @@ retired_ties h a old slot new lawful ties at is = record {
 
 -- ---- the event
 
-pub retire_follows : (h : History) (old : WorldSeen) (a : ℕ) (slot new : SlotSeen) (told : Outcome) → IsLawful h → Ties h old → slice_get old.slots a ≡ Some slot → IsRetiredIn slot new told
-    → (told ≡ outcome_of h (Retire a)) × Ties (after h (Retire a)) (record { exchange = old.exchange; slots = slice_set old.slots a new })
-retire_follows h old a slot new told lawful ties at went = go slot new told at (subst (IsStage h a) at (ties.actors a)) went
+pub retire_follows : (h : History) (old : WorldView) (a : ℕ) (slot new : SlotView) (told : Outcome) → IsLawful h → Refines h old → slice_get old.slots a ≡ Some slot → IsRetiredIn slot new told
+    → (told ≡ outcome_of h (Retire a)) × Refines (after h (Retire a)) (record { network = old.network; slots = slice_set old.slots a new })
+retire_follows h old a slot new told lawful refines at went = go slot new told at (subst (IsStage h a) at (refines.actors a)) went
   where
     -- the actor is as it was
-    stays : (slot new : SlotSeen) (told : Outcome) (refusal : WorldRefusal) → slice_get old.slots a ≡ Some slot → new ≡ slot → told ≡ Err refusal → refusal_of h (Retire a) ≡ Some refusal
-        → (told ≡ outcome_of h (Retire a)) × Ties (after h (Retire a)) (record { exchange = old.exchange; slots = slice_set old.slots a new })
+    stays : (slot new : SlotView) (told : Outcome) (refusal : WorldRefusal) → slice_get old.slots a ≡ Some slot → new ≡ slot → told ≡ Err refusal → refusal_of h (Retire a) ≡ Some refusal
+        → (told ≡ outcome_of h (Retire a)) × Refines (after h (Retire a)) (record { network = old.network; slots = slice_set old.slots a new })
     stays slot new told refusal at same told_is e =
-        let left = refused_follows h (Retire a) refusal old e ties in
+        let left = refused_follows h (Retire a) refusal old e refines in
         let as_it_was : slice_set old.slots a new ≡ old.slots = ap (slice_set old.slots a) same ∙ set-same old.slots a slot at in
-        (told_is ∙ left.0, subst (λ (slots : List SlotSeen). Ties (after h (Retire a)) (record { exchange = old.exchange; slots = slots })) (sym as_it_was) left.1)
+        (told_is ∙ left.0, subst (λ (slots : List SlotView). Refines (after h (Retire a)) (record { network = old.network; slots = slots })) (sym as_it_was) left.1)
 
     undrained : (b : Bool) → is_drained a h ≡ b → (is_drained a h ≡ true → ⊥) → b ≡ false
     undrained true e never = absurd (never e)
     undrained false e never = refl
 
-    by_drained : (live : ActorSeen) (retired : RetiredSeen) → slice_get old.slots a ≡ Some (Runs live) → IsLive h a live → MayRetire live.log live.inbox → retired ≡ record { id = live.id; log = live.log; state = live.state }
-        → (Ok Retired ≡ outcome_of h (Retire a)) × Ties (after h (Retire a)) (record { exchange = old.exchange; slots = slice_set old.slots a (Ended retired) })
+    by_drained : (live : ActorView) (retired : RetiredView) → slice_get old.slots a ≡ Some (Runs live) → IsLive h a live → MayRetire live.log live.inbox → retired ≡ record { id = live.id; log = live.log; state = live.state }
+        → (Ok Retired ≡ outcome_of h (Retire a)) × Refines (after h (Retire a)) (record { network = old.network; slots = slice_set old.slots a (Ended retired) })
     by_drained live retired at is may same =
-        accepted_follows h (Retire a) Retired (record { exchange = old.exchange; slots = slice_set old.slots a (Ended retired) })
+        accepted_follows h (Retire a) Retired (record { network = old.network; slots = slice_set old.slots a (Ended retired) })
         (retire_refusal h a true false true (ap is_some is.cast_is) is.runs (drained_there h a live is may.drained)) refl
-        (retired_ties h a old (Runs live) (Ended retired) lawful ties at (live_retired h a live retired is same))
+        (retired_ties h a old (Runs live) (Ended retired) lawful refines at (live_retired h a live retired is same))
 
-    by_undrained : (live : ActorSeen) (new : SlotSeen) (told : Outcome) → slice_get old.slots a ≡ Some (Runs live) → IsLive h a live → (MayRetire live.log live.inbox → ⊥) → new ≡ Runs live → told ≡ Err NotDrained
-        → (told ≡ outcome_of h (Retire a)) × Ties (after h (Retire a)) (record { exchange = old.exchange; slots = slice_set old.slots a new })
+    by_undrained : (live : ActorView) (new : SlotView) (told : Outcome) → slice_get old.slots a ≡ Some (Runs live) → IsLive h a live → (MayRetire live.log live.inbox → ⊥) → new ≡ Runs live → told ≡ Err NotDrained
+        → (told ≡ outcome_of h (Retire a)) × Refines (after h (Retire a)) (record { network = old.network; slots = slice_set old.slots a new })
     by_undrained live new told at is never same told_is =
         let left : is_drained a h ≡ false = undrained (is_drained a h) refl (λ e. never (record { lives = still_lives h a live is; drained = drained_here h a live is e })) in
         stays (Runs live) new told NotDrained at same told_is (retire_refusal h a true false false (ap is_some is.cast_is) is.runs left)
 
-    go : (slot new : SlotSeen) (told : Outcome) → slice_get old.slots a ≡ Some slot → IsStage h a (Some slot) → IsRetiredIn slot new told
-        → (told ≡ outcome_of h (Retire a)) × Ties (after h (Retire a)) (record { exchange = old.exchange; slots = slice_set old.slots a new })
+    go : (slot new : SlotView) (told : Outcome) → slice_get old.slots a ≡ Some slot → IsStage h a (Some slot) → IsRetiredIn slot new told
+        → (told ≡ outcome_of h (Retire a)) × Refines (after h (Retire a)) (record { network = old.network; slots = slice_set old.slots a new })
     go (Runs live) (Ended retired) (Ok Retired) at is went = by_drained live retired at is went.0 went.1
     go (Runs live) next told at is went = by_undrained live next told at is went.0 went.1 went.2
     go Vacant next told at is went = stays Vacant next told (Handle NoActor) at went.0 went.1 (retire_refusal h a false (is_ended a h) (is_drained a h) (ap is_some is) refl refl)
@@ -155,9 +155,9 @@ retire_follows h old a slot new told lawful ties at went = go slot new told at (
         (retire_refusal h a true true (is_drained a h) (ap is_some is.cast_is) (rw (is.lived, is.ended) refl) refl)
 
 -- the same of what is seen of slots
-pub retire_seen : {S : Type 0} (f : S → SlotSeen) (exchange : ExchangeValue) (slots : List S) (a : ℕ) (x y : S) (told : Outcome) → a < length slots → x ≡ get_or slots a x → IsRetiredIn (f x) (f y) told
-    → Follows (Retire a) (record { exchange = exchange; slots = map f slots }) (record { exchange = exchange; slots = map f (slice_set slots a y) }) told
-retire_seen f exchange slots a x y told within is went casts before ties =
+pub retire_view : {S : Type 0} (f : S → SlotView) (network : NetworkView) (slots : List S) (a : ℕ) (x y : S) (told : Outcome) → a < length slots → x ≡ get_or slots a x → IsRetiredIn (f x) (f y) told
+    → FollowsRules (Retire a) (record { network = network; slots = map f slots }) (record { network = network; slots = map f (slice_set slots a y) }) told
+retire_view f network slots a x y told within is went casts before refines =
     let h = history casts before in
-    let follows = retire_follows h (record { exchange = exchange; slots = map f slots }) a (f x) (f y) told (world_lawful casts before) ties (slot_within f slots a x within is) went in
-    (follows.0, subst (λ (seen : List SlotSeen). Ties (after h (Retire a)) (record { exchange = exchange; slots = seen })) (sym (map-set f slots a y)) follows.1)
+    let follows = retire_follows h (record { network = network; slots = map f slots }) a (f x) (f y) told (world_lawful casts before) refines (slot_within f slots a x within is) went in
+    (follows.0, subst (λ (seen : List SlotView). Refines (after h (Retire a)) (record { network = network; slots = seen })) (sym (map-set f slots a y)) follows.1)

@@ -16,16 +16,16 @@ use Rattle.act_rules.specs.declared.outcome.WorldRefusal.TheVariants.{NoCaller, 
 use Rattle.act_rules.specs.Laws.{history}
 use Rattle.act_rules.specs.Submissions.{needs}
 use Rattle.act_rules.specs.History.{History, cast_of, names, is_caller, runs_of, is_ended, next_item}
-use Rattle.act_rules.specs.Rules.{refusal_of, did, did_run, added, after_run, outcome_of, after}
+use Rattle.act_rules.specs.Rules.{refusal_of, did, did_run, add_event, after_run, outcome_of, after}
 use Rattle.act_rules.proofs.Growth.{Grows, after_run_grows}
-use Rattle.act_actor.specs.View.{ActorSeen}
-use Rattle.act_actor.specs.Actor.{item_of, reply_to, next_call, HasRun}
-use Rattle.act_world.specs.declared.exchange.Posted.{Posted}
-use Rattle.act_world.specs.Exchange.{ExchangeValue, is_owner, naming_refusal}
-use Rattle.act_world.specs.View.{SlotSeen, Runs, Vacant, WorldSeen}
-use Rattle.act_world.specs.Slots.{is_live_seen, has_next_seen, buried, HasRunNext, IsRun, IsRunAt}
-use Rattle.act_world.specs.Ties.{posted, IsLive, IsStage, Ties}
-use Rattle.act_world.specs.Stands.{Follows, IsUnrefused}
+use Rattle.act_actor.specs.View.{ActorView}
+use Rattle.act_actor.specs.Actor.{item_of, reply_of_run, next_call, HasRunCall}
+use Rattle.act_world.specs.declared.network.Posted.{Posted}
+use Rattle.act_world.specs.Network.{NetworkView, is_owner, naming_refusal}
+use Rattle.act_world.specs.View.{SlotView, Runs, Vacant, WorldView}
+use Rattle.act_world.specs.Slots.{is_live_slot, has_next_in_slot, bury_ended, HasRunNext, IsRun, IsRunAt}
+use Rattle.act_world.specs.Refines.{posted_notice, IsLive, IsStage, Refines}
+use Rattle.act_world.specs.IsReachedBy.{FollowsRules, IsUnrefused}
 use Rattle.act_world.specs.Memory.{TakesMemory}
 use Rattle.act_world.proofs.Lawful.{IsLawful, world_lawful}
 use Rattle.act_world.proofs.Frames.{same_caller, owners_stay, mail_stays, replies_stay, go_together, stage_stays, dead_same}
@@ -49,21 +49,21 @@ run_refusal h a c caller named ended e f g =
 
 -- ---- the event
 
-ran_ties : (h : History) (old : WorldSeen) (a c : ℕ) (packet : Packet) (live new : ActorSeen) → IsLawful h → Ties h old → slice_get old.slots a ≡ Some (Runs live) → IsLive h a live → HasRun c packet live new
-    → Ties (ran_on h a c (item_of packet)) (record {
-      exchange = record old.exchange { replies = old.exchange.replies ++ (record { caller = c; notice = Answered (reply_to live packet) }) ∷ [] };
-      slots = slice_set old.slots a (buried (Runs new));
+ran_ties : (h : History) (old : WorldView) (a c : ℕ) (packet : Packet) (live new : ActorView) → IsLawful h → Refines h old → slice_get old.slots a ≡ Some (Runs live) → IsLive h a live → HasRunCall c packet live new
+    → Refines (ran_on h a c (item_of packet)) (record {
+      network = record old.network { replies = old.network.replies ++ (record { caller = c; notice = Answered (reply_of_run live packet) }) ∷ [] };
+      slots = slice_set old.slots a (bury_ended (Runs new));
     })
-ran_ties h old a c packet live new lawful ties at is ran = record {
-  owners = owners_stay h g old.exchange.owners refl (λ d. same_caller d h g lawful grows refl refl refl refl refl) ties.owners;
-  actors = stages_change h g old.slots a (Runs live) (buried (Runs new)) ties.actors at (slot_ran h a c packet live new lawful is ran)
+ran_ties h old a c packet live new lawful refines at is ran = record {
+  owners = owners_stay h g old.network.owners refl (λ d. same_caller d h g lawful grows refl refl refl refl refl) refines.owners;
+  actors = stages_change h g old.slots a (Runs live) (bury_ended (Runs new)) refines.actors at (slot_ran h a c packet live new lawful is ran)
       (λ b stage apart was. let ran_else = runs_other h a b c (item_of packet) apart in stage_stays h g b stage lawful grows refl ran_else (dead_same h g b refl ran_else) refl was);
-  mail = mail_stays h g old.exchange.mail lawful grows ties.mail;
-  mail_count = ties.mail_count;
-  replies = go_together (posted g) old.exchange.replies h.posts (record { caller = c; notice = Answered (reply_to live packet) }) (ReplyPost c a (length (runs_of a h)))
-      (reply_posted h a c packet live is ran.taken.of_caller) ties.reply_count (replies_stay h g old.exchange.replies lawful grows ties.replies);
-  reply_count = simp length-append (ap (λ (n : ℕ). n + 1) ties.reply_count);
-  asked = ties.asked;
+  mail = mail_stays h g old.network.mail lawful grows refines.mail;
+  mail_count = refines.mail_count;
+  replies = go_together (posted_notice g) old.network.replies h.posts (record { caller = c; notice = Answered (reply_of_run live packet) }) (ReplyPost c a (length (runs_of a h)))
+      (reply_posted h a c packet live is ran.taken.of_caller) refines.reply_count (replies_stay h g old.network.replies lawful grows refines.replies);
+  reply_count = simp length-append (ap (λ (n : ℕ). n + 1) refines.reply_count);
+  asked = refines.asked;
 }
   where
     g : History
@@ -73,47 +73,47 @@ ran_ties h old a c packet live new lawful ties at is ran = record {
     grows = after_run_grows a c h (Some (item_of packet))
 
 -- the actor ran the call, and its reply was posted
-pub run_follows : (h : History) (old : WorldSeen) (a c : ℕ) (live new : ActorSeen) (reply : Reply) → IsLawful h → Ties h old → is_caller c h ≡ true → names c (cast_of a h) ≡ true → slice_get old.slots a ≡ Some (Runs live)
+pub run_follows : (h : History) (old : WorldView) (a c : ℕ) (live new : ActorView) (reply : Reply) → IsLawful h → Refines h old → is_caller c h ≡ true → names c (cast_of a h) ≡ true → slice_get old.slots a ≡ Some (Runs live)
     → HasRunNext c (Some reply) live new
-    → (Ok (Ran reply.place (length old.exchange.replies)) ≡ outcome_of h (Run a c)) × Ties (after h (Run a c)) (record {
-      exchange = record old.exchange { replies = old.exchange.replies ++ (record { caller = c; notice = Answered reply }) ∷ [] };
-      slots = slice_set old.slots a (buried (Runs new));
+    → (Ok (Ran reply.place (length old.network.replies)) ≡ outcome_of h (Run a c)) × Refines (after h (Run a c)) (record {
+      network = record old.network { replies = old.network.replies ++ (record { caller = c; notice = Answered reply }) ∷ [] };
+      slots = slice_set old.slots a (bury_ended (Runs new));
     })
-run_follows h old a c live new reply lawful ties caller named at next = go (next_call live.log live.inbox c) refl next.reply_is next.ran
+run_follows h old a c live new reply lawful refines caller named at next = go (next_call live.log live.inbox c) refl next.reply_is next.ran
   where
     is : IsLive h a live
-    is = subst (IsStage h a) at (ties.actors a)
+    is = subst (IsStage h a) at (refines.actors a)
 
-    world : Reply → WorldSeen
+    world : Reply → WorldView
     world told = record {
-      exchange = record old.exchange { replies = old.exchange.replies ++ (record { caller = c; notice = Answered told }) ∷ [] };
-      slots = slice_set old.slots a (buried (Runs new));
+      network = record old.network { replies = old.network.replies ++ (record { caller = c; notice = Answered told }) ∷ [] };
+      slots = slice_set old.slots a (bury_ended (Runs new));
     }
 
-    go : (found : Option Packet) → next_call live.log live.inbox c ≡ found → Some reply ≡ option_map (reply_to live) found → IfSome found (λ packet. HasRun c packet live new)
-        → (Ok (Ran reply.place (length old.exchange.replies)) ≡ outcome_of h (Run a c)) × Ties (after h (Run a c)) (world reply)
+    go : (found : Option Packet) → next_call live.log live.inbox c ≡ found → Some reply ≡ option_map (reply_of_run live) found → IfSome found (λ packet. HasRunCall c packet live new)
+        → (Ok (Ran reply.place (length old.network.replies)) ≡ outcome_of h (Run a c)) × Refines (after h (Run a c)) (world reply)
     go None e told ran = cc
     go (Some packet) e told ran =
-        let same : reply ≡ reply_to live packet = cc in
+        let same : reply ≡ reply_of_run live packet = cc in
         let item : next_item a c h ≡ Some (item_of packet) = item_is h a c ∙ ap (option_map item_of) (sym (next_is h a c live is named) ∙ e) in
         let place : reply.place ≡ length (runs_of a h) = ap (λ (r : Reply). r.place) same ∙ ap (λ (items : List RunItem). length items) is.log in
-        let did_it : Ran reply.place (length old.exchange.replies) ≡ did h (Run a c) =
-        ap (λ (p : ℕ). Ran p (length old.exchange.replies)) place ∙ ap (λ (j : ℕ). Ran (length (runs_of a h)) j) ties.reply_count ∙ ap (did_run a h) (sym item) in
-        accepted_follows h (Run a c) (Ran reply.place (length old.exchange.replies)) (world reply) (run_refusal h a c true true false caller named is.runs) did_it
-        (subst (λ (r : Reply). Ties (added h (Run a c)) (world r)) (sym same)
-        (subst (λ (o : Option RunItem). Ties (after_run a c h o) (world (reply_to live packet))) (sym item) (ran_ties h old a c packet live new lawful ties at is ran)))
+        let did_it : Ran reply.place (length old.network.replies) ≡ did h (Run a c) =
+        ap (λ (p : ℕ). Ran p (length old.network.replies)) place ∙ ap (λ (j : ℕ). Ran (length (runs_of a h)) j) refines.reply_count ∙ ap (did_run a h) (sym item) in
+        accepted_follows h (Run a c) (Ran reply.place (length old.network.replies)) (world reply) (run_refusal h a c true true false caller named is.runs) did_it
+        (subst (λ (r : Reply). Refines (add_event h (Run a c)) (world r)) (sym same)
+        (subst (λ (o : Option RunItem). Refines (after_run a c h o) (world (reply_of_run live packet))) (sym item) (ran_ties h old a c packet live new lawful refines at is ran)))
 
 -- its next call has not come
-no_next : (h : History) (old : WorldSeen) (a c : ℕ) (live : ActorSeen) → Ties h old → is_caller c h ≡ true → names c (cast_of a h) ≡ true → IsLive h a live → next_call live.log live.inbox c ≡ None
-    → (Ok Gap ≡ outcome_of h (Run a c)) × Ties (after h (Run a c)) old
-no_next h old a c live ties caller named is none =
+no_next : (h : History) (old : WorldView) (a c : ℕ) (live : ActorView) → Refines h old → is_caller c h ≡ true → names c (cast_of a h) ≡ true → IsLive h a live → next_call live.log live.inbox c ≡ None
+    → (Ok Gap ≡ outcome_of h (Run a c)) × Refines (after h (Run a c)) old
+no_next h old a c live refines caller named is none =
     let item : next_item a c h ≡ None = item_is h a c ∙ ap (option_map item_of) (sym (next_is h a c live is named) ∙ none) in
     accepted_follows h (Run a c) Gap old (run_refusal h a c true true false caller named is.runs) (ap (did_run a h) (sym item))
-    (subst (λ (o : Option RunItem). Ties (after_run a c h o) old) (sym item) ties)
+    (subst (λ (o : Option RunItem). Refines (after_run a c h o) old) (sym item) refines)
 
 -- ---- the same of what is seen of slots
 
-pub ran_there : {S : Type 0} (f : S → SlotSeen) (slots : List S) (c a : ℕ) (x y : S) (told : Result (Option Reply) WorldRefusal) → a < length slots → x ≡ get_or slots a x → IsRun c (f x) (f y) told
+pub ran_there : {S : Type 0} (f : S → SlotView) (slots : List S) (c a : ℕ) (x y : S) (told : Result (Option Reply) WorldRefusal) → a < length slots → x ≡ get_or slots a x → IsRun c (f x) (f y) told
     → IsRunAt c a (map f slots) (map f (slice_set slots a y)) told
 ran_there f slots c a x y told within is went = record {
   ran = rw (old_is, new_is) went;
@@ -127,7 +127,7 @@ ran_there f slots c a x y told within is went = record {
     old_is = get_or_from_slice_get (map f slots) a (f x) Vacant here
 
     new_is : get_or (map f (slice_set slots a y)) a Vacant ≡ f y
-    new_is = ap (λ (seen : List SlotSeen). get_or seen a Vacant) (map-set f slots a y)
+    new_is = ap (λ (seen : List SlotView). get_or seen a Vacant) (map-set f slots a y)
         ∙ get_or_from_slice_get (slice_set (map f slots) a (f y)) a (f y) Vacant (get_set-same (map f slots) a (f x) (f y) here)
 
 -- ---- whether the next call has come
@@ -146,88 +146,88 @@ replied told (Some packet) reply some e = subst IsSome (sym e) refl
 
 -- ---- the event as the world sees it
 
-pub run_refused : (exchange : ExchangeValue) (slots : List SlotSeen) (a c : ℕ) (refusal : WorldRefusal) → naming_refusal (find (is_owner c) exchange.owners) a ≡ Some refusal
-    → Follows (Run a c) (record { exchange = exchange; slots = slots }) (record { exchange = exchange; slots = slots }) (Err refusal)
-run_refused exchange slots a c refusal refuses casts before ties =
+pub run_refused : (network : NetworkView) (slots : List SlotView) (a c : ℕ) (refusal : WorldRefusal) → naming_refusal (find (is_owner c) network.owners) a ≡ Some refusal
+    → FollowsRules (Run a c) (record { network = network; slots = slots }) (record { network = network; slots = slots }) (Err refusal)
+run_refused network slots a c refusal refuses casts before refines =
     let h = history casts before in
-    refused_follows h (Run a c) refusal (record { exchange = exchange; slots = slots }) (refused h exchange.owners c a ties.owners refusal (needs (not (is_ended a h)) ActorEnded None) refuses) ties
+    refused_follows h (Run a c) refusal (record { network = network; slots = slots }) (refused h network.owners c a refines.owners refusal (needs (not (is_ended a h)) ActorEnded None) refuses) refines
 
-module _ (exchange : ExchangeValue) (slots : List SlotSeen) (a c : ℕ) (slot : SlotSeen) (there : slice_get slots a ≡ Some slot) (free : naming_refusal (find (is_owner c) exchange.owners) a ≡ None) where
-  pub run_ended : is_live_seen slot ≡ false → Follows (Run a c) (record { exchange = exchange; slots = slots }) (record { exchange = exchange; slots = slots }) (Err ActorEnded)
-  run_ended off casts before ties =
+module _ (network : NetworkView) (slots : List SlotView) (a c : ℕ) (slot : SlotView) (there : slice_get slots a ≡ Some slot) (free : naming_refusal (find (is_owner c) network.owners) a ≡ None) where
+  pub run_ended : is_live_slot slot ≡ false → FollowsRules (Run a c) (record { network = network; slots = slots }) (record { network = network; slots = slots }) (Err ActorEnded)
+  run_ended off casts before refines =
       let h = history casts before in
-      let here = known h exchange.owners c a ties.owners free in
-      let ended : is_ended a h ≡ true = has_ended h a slot (subst (IsStage h a) there (ties.actors a)) off (named_cast c a h here.1) in
-      refused_follows h (Run a c) ActorEnded (record { exchange = exchange; slots = slots }) (run_refusal h a c true true true here.0 here.1 ended) ties
+      let here = known h network.owners c a refines.owners free in
+      let ended : is_ended a h ≡ true = has_ended h a slot (subst (IsStage h a) there (refines.actors a)) off (named_cast c a h here.1) in
+      refused_follows h (Run a c) ActorEnded (record { network = network; slots = slots }) (run_refusal h a c true true true here.0 here.1 ended) refines
 
-  pub run_unrefused : is_live_seen slot ≡ true → IsUnrefused (Run a c) (record { exchange = exchange; slots = slots })
-  run_unrefused on casts before ties =
+  pub run_unrefused : is_live_slot slot ≡ true → IsUnrefused (Run a c) (record { network = network; slots = slots })
+  run_unrefused on casts before refines =
       let h = history casts before in
-      let here = known h exchange.owners c a ties.owners free in
-      run_refusal h a c true true false here.0 here.1 (not_ended h a slot (subst (IsStage h a) there (ties.actors a)) on)
+      let here = known h network.owners c a refines.owners free in
+      run_refusal h a c true true false here.0 here.1 (not_ended h a slot (subst (IsStage h a) there (refines.actors a)) on)
 
   -- the actor has no call of the caller to run
-  pub run_nothing : is_live_seen slot ≡ true → has_next_seen c slot ≡ false → Follows (Run a c) (record { exchange = exchange; slots = slots }) (record { exchange = exchange; slots = slots }) (Ok Gap)
-  run_nothing on none casts before ties = go slot there on none
+  pub run_nothing : is_live_slot slot ≡ true → has_next_in_slot c slot ≡ false → FollowsRules (Run a c) (record { network = network; slots = slots }) (record { network = network; slots = slots }) (Ok Gap)
+  run_nothing on none casts before refines = go slot there on none
     where
       h : History
       h = history casts before
 
-      go : (slot : SlotSeen) → slice_get slots a ≡ Some slot → is_live_seen slot ≡ true → has_next_seen c slot ≡ false
-          → (Ok Gap ≡ outcome_of (history casts before) (Run a c)) × Ties (after (history casts before) (Run a c)) (record { exchange = exchange; slots = slots })
+      go : (slot : SlotView) → slice_get slots a ≡ Some slot → is_live_slot slot ≡ true → has_next_in_slot c slot ≡ false
+          → (Ok Gap ≡ outcome_of (history casts before) (Run a c)) × Refines (after (history casts before) (Run a c)) (record { network = network; slots = slots })
       go (Runs live) at on none =
-          let here = known h exchange.owners c a ties.owners free in
-          no_next h (record { exchange = exchange; slots = slots }) a c live ties here.0 here.1 (subst (IsStage h a) at (ties.actors a)) (none_came (next_call live.log live.inbox c) none)
+          let here = known h network.owners c a refines.owners free in
+          no_next h (record { network = network; slots = slots }) a c live refines here.0 here.1 (subst (IsStage h a) at (refines.actors a)) (none_came (next_call live.log live.inbox c) none)
       go other at on none = cc
 
   -- a call that the actor has to run takes memory
-  pub run_takes : is_live_seen slot ≡ true → has_next_seen c slot ≡ true → TakesMemory (Run a c) (record { exchange = exchange; slots = slots })
-  run_takes on some casts before ties = go slot there on some
+  pub run_takes : is_live_slot slot ≡ true → has_next_in_slot c slot ≡ true → TakesMemory (Run a c) (record { network = network; slots = slots })
+  run_takes on some casts before refines = go slot there on some
     where
       h : History
       h = history casts before
 
-      go : (slot : SlotSeen) → slice_get slots a ≡ Some slot → is_live_seen slot ≡ true → has_next_seen c slot ≡ true → is_some (next_item a c (history casts before)) ≡ true
+      go : (slot : SlotView) → slice_get slots a ≡ Some slot → is_live_slot slot ≡ true → has_next_in_slot c slot ≡ true → is_some (next_item a c (history casts before)) ≡ true
       go (Runs live) at on some =
-          let here = known h exchange.owners c a ties.owners free in
-          let item : next_item a c h ≡ option_map item_of (next_call live.log live.inbox c) = item_is h a c ∙ ap (option_map item_of) (sym (next_is h a c live (subst (IsStage h a) at (ties.actors a)) here.1)) in
+          let here = known h network.owners c a refines.owners free in
+          let item : next_item a c h ≡ option_map item_of (next_call live.log live.inbox c) = item_is h a c ∙ ap (option_map item_of) (sym (next_is h a c live (subst (IsStage h a) at (refines.actors a)) here.1)) in
           ap (λ (o : Option RunItem). is_some o) item ∙ item_came (next_call live.log live.inbox c) some
       go other at on some = cc
 
   -- how the slot went on
-  ran_in : (new : List SlotSeen) (told : Result (Option Reply) WorldRefusal) → IsRunAt c a slots new told → IsRun c slot (get_or new a Vacant) told
-  ran_in new told ran = subst (λ (s : SlotSeen). IsRun c s (get_or new a Vacant) told) (get_or_from_slice_get slots a slot Vacant there) ran.ran
+  ran_in : (new : List SlotView) (told : Result (Option Reply) WorldRefusal) → IsRunAt c a slots new told → IsRun c slot (get_or new a Vacant) told
+  ran_in new told ran = subst (λ (s : SlotView). IsRun c s (get_or new a Vacant) told) (get_or_from_slice_get slots a slot Vacant there) ran.ran
 
-  pub run_not_refused : (new : List SlotSeen) (refusal : WorldRefusal) → is_live_seen slot ≡ true → IsRunAt c a slots new (Err refusal) → ⊥
+  pub run_not_refused : (new : List SlotView) (refusal : WorldRefusal) → is_live_slot slot ≡ true → IsRunAt c a slots new (Err refusal) → ⊥
   run_not_refused new refusal on ran = go slot (get_or new a Vacant) on (ran_in new (Err refusal) ran)
     where
-      go : (slot next : SlotSeen) → is_live_seen slot ≡ true → IsRun c slot next (Err refusal) → ⊥
+      go : (slot next : SlotView) → is_live_slot slot ≡ true → IsRun c slot next (Err refusal) → ⊥
       go (Runs live) next on ran = ran
       go other next on ran = cc
 
   -- what ran had come
-  pub run_replies : (new : List SlotSeen) (reply : Option Reply) → is_live_seen slot ≡ true → has_next_seen c slot ≡ true → IsRunAt c a slots new (Ok reply) → IsSome reply
+  pub run_replies : (new : List SlotView) (reply : Option Reply) → is_live_slot slot ≡ true → has_next_in_slot c slot ≡ true → IsRunAt c a slots new (Ok reply) → IsSome reply
   run_replies new reply on some ran = go slot (get_or new a Vacant) on some (ran_in new (Ok reply) ran)
     where
-      go : (slot next : SlotSeen) → is_live_seen slot ≡ true → has_next_seen c slot ≡ true → IsRun c slot next (Ok reply) → IsSome reply
-      go (Runs live) next on some went = replied (reply_to live) (next_call live.log live.inbox c) reply some went.next.reply_is
+      go : (slot next : SlotView) → is_live_slot slot ≡ true → has_next_in_slot c slot ≡ true → IsRun c slot next (Ok reply) → IsSome reply
+      go (Runs live) next on some went = replied (reply_of_run live) (next_call live.log live.inbox c) reply some went.next.reply_is
       go other next on some went = cc
 
-  pub run_ran : (new : List SlotSeen) (replies : List Posted) (j : ℕ) (reply : Reply) → is_live_seen slot ≡ true → IsRunAt c a slots new (Ok (Some reply))
-      → j ≡ length exchange.replies → replies ≡ exchange.replies ++ (record { caller = c; notice = Answered reply }) ∷ []
-      → Follows (Run a c) (record { exchange = exchange; slots = slots }) (record { exchange = record exchange { replies = replies }; slots = new }) (Ok (Ran reply.place j))
-  run_ran new replies j reply on ran counted posted_is casts before ties = rw (counted, posted_is) (go slot (get_or new a Vacant) on there (ran_in new (Ok (Some reply)) ran) ran.others)
+  pub run_ran : (new : List SlotView) (replies : List Posted) (j : ℕ) (reply : Reply) → is_live_slot slot ≡ true → IsRunAt c a slots new (Ok (Some reply))
+      → j ≡ length network.replies → replies ≡ network.replies ++ (record { caller = c; notice = Answered reply }) ∷ []
+      → FollowsRules (Run a c) (record { network = network; slots = slots }) (record { network = record network { replies = replies }; slots = new }) (Ok (Ran reply.place j))
+  run_ran new replies j reply on ran counted posted_is casts before refines = rw (counted, posted_is) (go slot (get_or new a Vacant) on there (ran_in new (Ok (Some reply)) ran) ran.others)
     where
       h : History
       h = history casts before
 
-      world : List SlotSeen → WorldSeen
-      world seen = record { exchange = record exchange { replies = exchange.replies ++ (record { caller = c; notice = Answered reply }) ∷ [] }; slots = seen }
+      world : List SlotView → WorldView
+      world seen = record { network = record network { replies = network.replies ++ (record { caller = c; notice = Answered reply }) ∷ [] }; slots = seen }
 
-      go : (slot next : SlotSeen) → is_live_seen slot ≡ true → slice_get slots a ≡ Some slot → IsRun c slot next (Ok (Some reply)) → new ≡ slice_set slots a next
-          → (Ok (Ran reply.place (length exchange.replies)) ≡ outcome_of (history casts before) (Run a c)) × Ties (after (history casts before) (Run a c)) (world new)
+      go : (slot next : SlotView) → is_live_slot slot ≡ true → slice_get slots a ≡ Some slot → IsRun c slot next (Ok (Some reply)) → new ≡ slice_set slots a next
+          → (Ok (Ran reply.place (length network.replies)) ≡ outcome_of (history casts before) (Run a c)) × Refines (after (history casts before) (Run a c)) (world new)
       go (Runs live) next on at went others =
-          let here = known h exchange.owners c a ties.owners free in
-          let follows = run_follows h (record { exchange = exchange; slots = slots }) a c live went.new reply (world_lawful casts before) ties here.0 here.1 at went.next in
-          (follows.0, subst (λ (seen : List SlotSeen). Ties (after h (Run a c)) (world seen)) (sym (others ∙ ap (slice_set slots a) went.slot_is)) follows.1)
+          let here = known h network.owners c a refines.owners free in
+          let follows = run_follows h (record { network = network; slots = slots }) a c live went.new reply (world_lawful casts before) refines here.0 here.1 at went.next in
+          (follows.0, subst (λ (seen : List SlotView). Refines (after h (Run a c)) (world seen)) (sym (others ∙ ap (slice_set slots a) went.slot_is)) follows.1)
       go other next on at went others = cc

@@ -5,15 +5,15 @@ use Rattle.act_rules.specs.declared.outcome.HandleRefusal.TheVariants.{NoActor}
 use Rattle.act_rules.specs.declared.outcome.WorldRefusal.{WorldRefusal}
 use Rattle.act_rules.specs.declared.outcome.WorldRefusal.TheVariants.{NoCaller, Handle}
 use Rattle.act_rules.specs.Submissions.{needs}
-use Rattle.act_rules.specs.History.{History, times, cast_of, names, is_caller}
+use Rattle.act_rules.specs.History.{History, count_pairs, cast_of, names, is_caller}
 use Rattle.act_handles.specs.Handles.{copies_in}
-use Rattle.act_owner.specs.Owner.{OwnerValue}
-use Rattle.act_world.specs.Exchange.{is_owner, naming_refusal}
-use Rattle.act_world.specs.Ties.{IsOwnerOf, IsOwnerAt}
+use Rattle.act_owner.specs.Owner.{OwnerView}
+use Rattle.act_world.specs.Network.{is_owner, naming_refusal}
+use Rattle.act_world.specs.Refines.{IsOwnerOf, IsOwnerAt}
 
 -- an actor is one of the caller's where its cast names the caller
-pub is_named : (h : History) (c a : ℕ) (owner : OwnerValue) → IsOwnerOf h c owner → is_some (copies_in a owner.handles) ≡ names c (cast_of a h)
-is_named h c a owner is = ap (λ (copies : Option ℕ). is_some copies) (is.copies a) ∙ go (names c (cast_of a h)) ((1 + times c a h.copied) - times c a h.released)
+pub is_named : (h : History) (c a : ℕ) (owner : OwnerView) → IsOwnerOf h c owner → is_some (copies_in a owner.handles) ≡ names c (cast_of a h)
+is_named h c a owner is = ap (λ (copies : Option ℕ). is_some copies) (is.copies a) ∙ go (names c (cast_of a h)) ((1 + count_pairs c a h.copied) - count_pairs c a h.released)
   where
     go : (b : Bool) (n : ℕ) → is_some (cond b (Some n) None) ≡ b
     go true n = refl
@@ -21,8 +21,8 @@ is_named h c a owner is = ap (λ (copies : Option ℕ). is_some copies) (is.copi
 
 -- ---- what refuses an event of both before the actor is looked at
 
-module _ (h : History) (owners : List OwnerValue) (c a : ℕ) (all : (d : ℕ) → IsOwnerAt h d (find (is_owner d) owners)) where
-  refusal_is : (found : Option OwnerValue) → IsOwnerAt h c found → naming_refusal found a ≡ needs (is_caller c h) NoCaller (needs (names c (cast_of a h)) (Handle NoActor) None)
+module _ (h : History) (owners : List OwnerView) (c a : ℕ) (all : (d : ℕ) → IsOwnerAt h d (find (is_owner d) owners)) where
+  refusal_is : (found : Option OwnerView) → IsOwnerAt h c found → naming_refusal found a ≡ needs (is_caller c h) NoCaller (needs (names c (cast_of a h)) (Handle NoActor) None)
   refusal_is None is = rw is refl
   refusal_is (Some owner) is =
       ap (λ (b : Bool). needs b (Handle NoActor) None) (is_named h c a owner is.1)

@@ -15,18 +15,18 @@ use Rattle.act_rules.specs.declared.outcome.WorldRefusal.TheVariants.{NoCaller, 
 use Rattle.act_rules.specs.RunList.{Answer}
 use Rattle.act_rules.specs.Submissions.{calls_to, number_of, send_refusal}
 use Rattle.act_rules.specs.History.{History, is_caller, calls_of, kept_of, has_letter, is_letter}
-use Rattle.act_rules.specs.Rules.{did, refusal_of, outcome_of, added, after, and_also, call_letter, was_sent}
+use Rattle.act_rules.specs.Rules.{did, refusal_of, outcome_of, add_event, after, and_also, call_letter, was_sent}
 use Rattle.act_rules.proofs.Growth.{Grows, added_grows}
 use Rattle.act_rules.proofs.Letters.{calls_to-number, letter_is}
 use Rattle.act_rules.proofs.Table.{kept_of-same}
 use Rattle.act_owner.specs.declared.owner.Call.{Call}
-use Rattle.act_owner.specs.Owner.{OwnerValue, is_sent, sending_refusal, numbered_call, address_at, with_sent}
-use Rattle.act_world.specs.declared.exchange.CallNote.{CallNote}
-use Rattle.act_world.specs.declared.exchange.Mailed.{Mailed}
-use Rattle.act_world.specs.declared.exchange.Mailed.TheVariants.{Call as MailedCall}
-use Rattle.act_world.specs.Exchange.{ExchangeValue, is_owner}
-use Rattle.act_world.specs.View.{SlotSeen, WorldSeen}
-use Rattle.act_world.specs.Ties.{IsOwnerOf, mailed, Ties}
+use Rattle.act_owner.specs.Owner.{OwnerView, is_sent, sending_refusal, numbered_call, address_at, with_sent}
+use Rattle.act_world.specs.declared.network.CallKey.{CallKey}
+use Rattle.act_world.specs.declared.network.MailEntry.{MailEntry}
+use Rattle.act_world.specs.declared.network.MailEntry.TheVariants.{Call as CallEntry}
+use Rattle.act_world.specs.Network.{NetworkView, is_owner}
+use Rattle.act_world.specs.View.{SlotView, WorldView}
+use Rattle.act_world.specs.Refines.{IsOwnerOf, mail_entry, Refines}
 use Rattle.act_world.proofs.Changes.{refused_follows, accepted_follows}
 use Rattle.act_world.proofs.Lists.{get_set-same, get_set-other}
 use Rattle.act_world.proofs.Lawful.{IsLawful, has_letter-last, is_letter-same}
@@ -35,15 +35,15 @@ use Rattle.act_world.proofs.Frames.{SameCaller, owners_change, owner_here, owner
 -- ---- the refusals
 
 -- the caller at its place
-pub record SeesOwner (exchange : ExchangeValue) (c place : ℕ) (owner : OwnerValue) : Type 0 where
-  pub place_is : position (is_owner c) exchange.owners ≡ Some place
-  pub owner_is : owner ≡ get_or exchange.owners place owner
+pub record SeesOwner (network : NetworkView) (c place : ℕ) (owner : OwnerView) : Type 0 where
+  pub place_is : position (is_owner c) network.owners ≡ Some place
+  pub owner_is : owner ≡ get_or network.owners place owner
 
-pub seen_owner : (h : History) (exchange : ExchangeValue) (slots : List SlotSeen) (c place : ℕ) (owner : OwnerValue) → Ties h (record { exchange = exchange; slots = slots }) → SeesOwner exchange c place owner → (is_caller c h ≡ true) × IsOwnerOf h c owner
-seen_owner h exchange slots c place owner ties sees = subst (λ (o : OwnerValue). (is_caller c h ≡ true) × IsOwnerOf h c o) (sym sees.owner_is) (owner_here h exchange.owners c place owner ties.owners sees.place_is)
+pub seen_owner : (h : History) (network : NetworkView) (slots : List SlotView) (c place : ℕ) (owner : OwnerView) → Refines h (record { network = network; slots = slots }) → SeesOwner network c place owner → (is_caller c h ≡ true) × IsOwnerOf h c owner
+seen_owner h network slots c place owner refines sees = subst (λ (o : OwnerView). (is_caller c h ≡ true) × IsOwnerOf h c o) (sym sees.owner_is) (owner_here h network.owners c place owner refines.owners sees.place_is)
 
 -- the caller refuses what the history does
-send_refuses : (h : History) (c k : ℕ) (owner : OwnerValue) → is_caller c h ≡ true → IsOwnerOf h c owner → refusal_of h (Send c k) ≡ option_map Sending (sending_refusal owner k)
+send_refuses : (h : History) (c k : ℕ) (owner : OwnerView) → is_caller c h ≡ true → IsOwnerOf h c owner → refusal_of h (Send c k) ≡ option_map Sending (sending_refusal owner k)
 send_refuses h c k owner caller is = rw caller (ap (λ (refusal : Option SendRefusal). option_map Sending refusal) (sym same))
   where
     same : sending_refusal owner k ≡ send_refusal (kept_of c h) k (was_sent c k (slice_get (calls_of c h) k) h) (slice_get (calls_of c h) k)
@@ -55,19 +55,19 @@ send_refuses h c k owner caller is = rw caller (ap (λ (refusal : Option SendRef
 no_caller : (h : History) (c k : ℕ) → is_caller c h ≡ false → refusal_of h (Send c k) ≡ Some NoCaller
 no_caller h c k e = rw e refl
 
-pub send_no_caller : (h : History) (exchange : ExchangeValue) (slots : List SlotSeen) (c k : ℕ) → Ties h (record { exchange = exchange; slots = slots }) → position (is_owner c) exchange.owners ≡ None
-    → (Err NoCaller ≡ outcome_of h (Send c k)) × Ties (after h (Send c k)) (record { exchange = exchange; slots = slots })
-send_no_caller h exchange slots c k ties none = refused_follows h (Send c k) NoCaller (record { exchange = exchange; slots = slots }) (no_caller h c k (owner_absent h exchange.owners c ties.owners none)) ties
+pub send_no_caller : (h : History) (network : NetworkView) (slots : List SlotView) (c k : ℕ) → Refines h (record { network = network; slots = slots }) → position (is_owner c) network.owners ≡ None
+    → (Err NoCaller ≡ outcome_of h (Send c k)) × Refines (after h (Send c k)) (record { network = network; slots = slots })
+send_no_caller h network slots c k refines none = refused_follows h (Send c k) NoCaller (record { network = network; slots = slots }) (no_caller h c k (owner_absent h network.owners c refines.owners none)) refines
 
-pub send_refused : (h : History) (exchange : ExchangeValue) (slots : List SlotSeen) (c k place : ℕ) (owner : OwnerValue) (refusal : SendRefusal) → Ties h (record { exchange = exchange; slots = slots }) → SeesOwner exchange c place owner → sending_refusal owner k ≡ Some refusal
-    → (Err (Sending refusal) ≡ outcome_of h (Send c k)) × Ties (after h (Send c k)) (record { exchange = exchange; slots = slots })
-send_refused h exchange slots c k place owner refusal ties sees e =
-    let here = seen_owner h exchange slots c place owner ties sees in
-    refused_follows h (Send c k) (Sending refusal) (record { exchange = exchange; slots = slots }) (send_refuses h c k owner here.0 here.1 ∙ ap (λ (o : Option SendRefusal). option_map Sending o) e) ties
+pub send_refused : (h : History) (network : NetworkView) (slots : List SlotView) (c k place : ℕ) (owner : OwnerView) (refusal : SendRefusal) → Refines h (record { network = network; slots = slots }) → SeesOwner network c place owner → sending_refusal owner k ≡ Some refusal
+    → (Err (Sending refusal) ≡ outcome_of h (Send c k)) × Refines (after h (Send c k)) (record { network = network; slots = slots })
+send_refused h network slots c k place owner refusal refines sees e =
+    let here = seen_owner h network slots c place owner refines sees in
+    refused_follows h (Send c k) (Sending refusal) (record { network = network; slots = slots }) (send_refuses h c k owner here.0 here.1 ∙ ap (λ (o : Option SendRefusal). option_map Sending o) e) refines
 
-pub send_unrefused : (h : History) (exchange : ExchangeValue) (slots : List SlotSeen) (c k place : ℕ) (owner : OwnerValue) → Ties h (record { exchange = exchange; slots = slots }) → SeesOwner exchange c place owner → sending_refusal owner k ≡ None → refusal_of h (Send c k) ≡ None
-send_unrefused h exchange slots c k place owner ties sees e =
-    let here = seen_owner h exchange slots c place owner ties sees in
+pub send_unrefused : (h : History) (network : NetworkView) (slots : List SlotView) (c k place : ℕ) (owner : OwnerView) → Refines h (record { network = network; slots = slots }) → SeesOwner network c place owner → sending_refusal owner k ≡ None → refusal_of h (Send c k) ≡ None
+send_unrefused h network slots c k place owner refines sees e =
+    let here = seen_owner h network slots c place owner refines sees in
     send_refuses h c k owner here.0 here.1 ∙ ap (λ (o : Option SendRefusal). option_map Sending o) e
 
 -- ---- one letter more
@@ -108,7 +108,7 @@ call_marks h c k call at j apart (Some other) at_j =
 
 -- ---- the caller
 
-marked : (h : History) (c k : ℕ) (call : Submission) (owner : OwnerValue) → IsOwnerOf h c owner → slice_get (calls_of c h) k ≡ Some call → (j : ℕ) → is_sent (with_sent owner k) j ≡ was_sent c j (slice_get (calls_of c h) j) (sent_more h (call_letter c k call h))
+marked : (h : History) (c k : ℕ) (call : Submission) (owner : OwnerView) → IsOwnerOf h c owner → slice_get (calls_of c h) k ≡ Some call → (j : ℕ) → is_sent (with_sent owner k) j ≡ was_sent c j (slice_get (calls_of c h) j) (sent_more h (call_letter c k call h))
 marked h c k call owner is at j = elim (eqb_tells k j) [
   | inl t ↦ subst (λ (x : ℕ). is_sent (with_sent owner k) x ≡ was_sent c x (slice_get (calls_of c h) x) (sent_more h (call_letter c k call h))) t.1 itself
   | inr f ↦ ap (λ (o : Option Bool). unwrap_or o false) (get_set-other owner.sent k j true f.1) ∙ is.sent j ∙ sym (call_marks h c k call at j f.1 (slice_get (calls_of c h) j) refl)
@@ -126,7 +126,7 @@ marked h c k call owner is at j = elim (eqb_tells k j) [
     itself : is_sent (with_sent owner k) k ≡ was_sent c k (slice_get (calls_of c h) k) (sent_more h (call_letter c k call h))
     itself = ap (λ (o : Option Bool). unwrap_or o false) written ∙ sym has ∙ ap (λ (o : Option Submission). was_sent c k o (sent_more h (call_letter c k call h))) (sym at)
 
-sender : (h : History) (c k : ℕ) (call : Submission) (owner : OwnerValue) → IsLawful h → Grows h (sent_more h (call_letter c k call h)) → IsOwnerOf h c owner → slice_get (calls_of c h) k ≡ Some call → IsOwnerOf (sent_more h (call_letter c k call h)) c (with_sent owner k)
+sender : (h : History) (c k : ℕ) (call : Submission) (owner : OwnerView) → IsLawful h → Grows h (sent_more h (call_letter c k call h)) → IsOwnerOf h c owner → slice_get (calls_of c h) k ≡ Some call → IsOwnerOf (sent_more h (call_letter c k call h)) c (with_sent owner k)
 sender h c k call owner lawful grows is at = record {
   id = is.id;
   copies = is.copies;
@@ -151,7 +151,7 @@ others h c a n d lawful grows apart = record {
 -- ---- the letter
 
 -- what a letter carries of the call that has this actor and this number
-abbrev noted : ℕ → ℕ → ℕ × ℕ → CallNote
+abbrev noted : ℕ → ℕ → ℕ × ℕ → CallKey
 noted c k address = record { caller = c; actor = address.0; number = address.1; future = k }
 
 -- the actor and the number that the history has of a call
@@ -159,49 +159,49 @@ abbrev address_in : History → ℕ → ℕ → Submission → ℕ × ℕ
 address_in h c k call = (call.actor, number_of call.actor k (calls_of c h))
 
 carries : (h : History) (c k : ℕ) (call : Submission) → slice_get (calls_of c h) k ≡ Some call
-    → mailed (sent_more h (call_letter c k call h)) (call_letter c k call h) ≡ Some (MailedCall (noted c k (address_in h c k call)))
+    → mail_entry (sent_more h (call_letter c k call h)) (call_letter c k call h) ≡ Some (CallEntry (noted c k (address_in h c k call)))
 carries h c k call at = rw (calls_to-number call.actor (calls_of c h) k call at (eq-eqb call.actor call.actor refl)) refl
 
 -- ---- the world
 
-sent_ties : (h : History) (exchange : ExchangeValue) (slots : List SlotSeen) (c k place : ℕ) (owner : OwnerValue) (call : Submission) → IsLawful h → Grows h (sent_more h (call_letter c k call h)) → Ties h (record { exchange = exchange; slots = slots }) → SeesOwner exchange c place owner
+sent_ties : (h : History) (network : NetworkView) (slots : List SlotView) (c k place : ℕ) (owner : OwnerView) (call : Submission) → IsLawful h → Grows h (sent_more h (call_letter c k call h)) → Refines h (record { network = network; slots = slots }) → SeesOwner network c place owner
     → slice_get (calls_of c h) k ≡ Some call
-    → Ties (sent_more h (call_letter c k call h)) (record { exchange = record exchange { owners = slice_set exchange.owners place (with_sent owner k); mail = exchange.mail ++ MailedCall (noted c k (address_in h c k call)) ∷ [] }; slots = slots })
-sent_ties h exchange slots c k place owner call lawful grows ties sees at =
+    → Refines (sent_more h (call_letter c k call h)) (record { network = record network { owners = slice_set network.owners place (with_sent owner k); mail = network.mail ++ CallEntry (noted c k (address_in h c k call)) ∷ [] }; slots = slots })
+sent_ties h network slots c k place owner call lawful grows refines sees at =
     let letter = call_letter c k call h in
     let g = sent_more h letter in
-    let is = (seen_owner h exchange slots c place owner ties sees).1 in
+    let is = (seen_owner h network slots c place owner refines sees).1 in
     record {
-      owners = owners_change h g exchange.owners c place (with_sent owner k) refl ties.owners sees.place_is (sender h c k call owner lawful grows is at) (λ d apart. others h c call.actor (number_of call.actor k (calls_of c h)) d lawful grows apart);
-      actors = stages_stay h g slots lawful grows refl refl refl refl ties.actors;
-      mail = go_together (mailed g) exchange.mail h.mail (MailedCall (noted c k (address_in h c k call))) letter (carries h c k call at) ties.mail_count (mail_stays h g exchange.mail lawful grows ties.mail);
-      mail_count = length-append exchange.mail (MailedCall (noted c k (address_in h c k call)) ∷ []) ∙ ap (λ (n : ℕ). n + 1) ties.mail_count ∙ sym (length-append h.mail (letter ∷ []));
-      replies = replies_stay h g exchange.replies lawful grows ties.replies;
-      reply_count = ties.reply_count;
-      asked = ties.asked;
+      owners = owners_change h g network.owners c place (with_sent owner k) refl refines.owners sees.place_is (sender h c k call owner lawful grows is at) (λ d apart. others h c call.actor (number_of call.actor k (calls_of c h)) d lawful grows apart);
+      actors = stages_stay h g slots lawful grows refl refl refl refl refines.actors;
+      mail = go_together (mail_entry g) network.mail h.mail (CallEntry (noted c k (address_in h c k call))) letter (carries h c k call at) refines.mail_count (mail_stays h g network.mail lawful grows refines.mail);
+      mail_count = length-append network.mail (CallEntry (noted c k (address_in h c k call)) ∷ []) ∙ ap (λ (n : ℕ). n + 1) refines.mail_count ∙ sym (length-append h.mail (letter ∷ []));
+      replies = replies_stay h g network.replies lawful grows refines.replies;
+      reply_count = refines.reply_count;
+      asked = refines.asked;
     }
 
-pub send_follows : (h : History) (exchange : ExchangeValue) (slots : List SlotSeen) (c k place i : ℕ) (owner new : OwnerValue) (address : ℕ × ℕ) (mail : List Mailed) → IsLawful h → Ties h (record { exchange = exchange; slots = slots }) → SeesOwner exchange c place owner
-    → sending_refusal owner k ≡ None → address_at owner.calls k ≡ Some address → new ≡ with_sent owner k → i ≡ length exchange.mail → mail ≡ exchange.mail ++ MailedCall (noted c k address) ∷ []
-    → (Ok (Mail i) ≡ outcome_of h (Send c k)) × Ties (after h (Send c k)) (record { exchange = record exchange { owners = slice_set exchange.owners place new; mail = mail }; slots = slots })
-send_follows h exchange slots c k place i owner new address mail lawful ties sees unrefused address_is new_is i_is mail_is =
-    rw (i_is ∙ ties.mail_count, new_is, mail_is) (accepted_follows h (Send c k) (did h (Send c k)) (world address) (send_unrefused h exchange slots c k place owner ties sees unrefused) refl (go (slice_get (calls_of c h) k) refl (sym found ∙ address_is)))
+pub send_follows : (h : History) (network : NetworkView) (slots : List SlotView) (c k place i : ℕ) (owner new : OwnerView) (address : ℕ × ℕ) (mail : List MailEntry) → IsLawful h → Refines h (record { network = network; slots = slots }) → SeesOwner network c place owner
+    → sending_refusal owner k ≡ None → address_at owner.calls k ≡ Some address → new ≡ with_sent owner k → i ≡ length network.mail → mail ≡ network.mail ++ CallEntry (noted c k address) ∷ []
+    → (Ok (Mail i) ≡ outcome_of h (Send c k)) × Refines (after h (Send c k)) (record { network = record network { owners = slice_set network.owners place new; mail = mail }; slots = slots })
+send_follows h network slots c k place i owner new address mail lawful refines sees unrefused address_is new_is i_is mail_is =
+    rw (i_is ∙ refines.mail_count, new_is, mail_is) (accepted_follows h (Send c k) (did h (Send c k)) (world address) (send_unrefused h network slots c k place owner refines sees unrefused) refl (go (slice_get (calls_of c h) k) refl (sym found ∙ address_is)))
   where
     numbered : Option Submission → Option (ℕ × ℕ)
     numbered found = option_map (λ (call : Call). (call.actor, call.number)) (option_map (numbered_call (calls_of c h) k) found)
 
     found : address_at owner.calls k ≡ address_at (calls_of c h) k
-    found = ap (λ (calls : List Submission). address_at calls k) (seen_owner h exchange slots c place owner ties sees).1.calls
+    found = ap (λ (calls : List Submission). address_at calls k) (seen_owner h network slots c place owner refines sees).1.calls
 
-    world : ℕ × ℕ → WorldSeen
-    world there = record { exchange = record exchange { owners = slice_set exchange.owners place (with_sent owner k); mail = exchange.mail ++ MailedCall (noted c k there) ∷ [] }; slots = slots }
+    world : ℕ × ℕ → WorldView
+    world there = record { network = record network { owners = slice_set network.owners place (with_sent owner k); mail = network.mail ++ CallEntry (noted c k there) ∷ [] }; slots = slots }
 
-    go : (o : Option Submission) → slice_get (calls_of c h) k ≡ o → numbered o ≡ Some address → Ties (added h (Send c k)) (world address)
+    go : (o : Option Submission) → slice_get (calls_of c h) k ≡ o → numbered o ≡ Some address → Refines (add_event h (Send c k)) (world address)
     go None at e = cc
     go (Some call) at e =
         let same : address_in h c k call ≡ address = cc in
-        let more : added h (Send c k) ≡ sent_more h (call_letter c k call h) = ap (λ (o : Option Submission). record h { mail = and_also h.mail (option_map (λ (one : Submission). call_letter c k one h) o) }) at in
+        let more : add_event h (Send c k) ≡ sent_more h (call_letter c k call h) = ap (λ (o : Option Submission). record h { mail = and_also h.mail (option_map (λ (one : Submission). call_letter c k one h) o) }) at in
         let grows : Grows h (sent_more h (call_letter c k call h)) = subst (Grows h) more (added_grows h (Send c k)) in
-        subst (λ (g : History). Ties g (world address)) (sym more)
-        (subst (λ (there : ℕ × ℕ). Ties (sent_more h (call_letter c k call h)) (world there)) same
-        (sent_ties h exchange slots c k place owner call lawful grows ties sees at))
+        subst (λ (g : History). Refines g (world address)) (sym more)
+        (subst (λ (there : ℕ × ℕ). Refines (sent_more h (call_letter c k call h)) (world there)) same
+        (sent_ties h network slots c k place owner call lawful grows refines sees at))

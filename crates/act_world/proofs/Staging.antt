@@ -2,11 +2,11 @@
 use Rattle.std.proofs.Common.{ℕ, Some, None}
 use Rattle.std.specs.Prelude.{Option}
 use Rattle.act_rules.specs.History.{History}
-use Rattle.act_world.specs.View.{SlotSeen, Runs, Died, Ended, Vacant, stage_of_slot}
-use Rattle.act_world.specs.Ties.{IsStage}
+use Rattle.act_world.specs.View.{SlotView, Runs, Died, Ended, Vacant, stage_of_slot}
+use Rattle.act_world.specs.Refines.{IsStage}
 
 -- the state that is shown of a slot is where the history says
-pub stage_shown : (h : History) (a : ℕ) (slot : Option SlotSeen) → IsStage h a slot → IsStage h a (stage_of_slot slot)
+pub stage_shown : (h : History) (a : ℕ) (slot : Option SlotView) → IsStage h a slot → IsStage h a (stage_of_slot slot)
 stage_shown h a None is = is
 stage_shown h a (Some Vacant) is = is
 stage_shown h a (Some (Runs live)) is = is

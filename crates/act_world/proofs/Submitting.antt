@@ -21,7 +21,7 @@ use Rattle.act_rules.specs.declared.outcome.SubmitRefusal.TheVariants.{NoActor a
 use Rattle.act_rules.specs.declared.outcome.WorldRefusal.TheVariants.{NoCaller, Submit as SubmitRefused}
 use Rattle.act_rules.specs.Submissions.{needs, calls_to, number_of, copies_held, submit_refusal, limit_refusal, is_earlier}
 use Rattle.act_rules.specs.History.{History, is_caller, calls_of, limit_of, first_answer, has_letter}
-use Rattle.act_rules.specs.Rules.{unanswered, submission_refusal as history_refusal, refusal_of, outcome_of, was_sent, added, after}
+use Rattle.act_rules.specs.Rules.{unanswered, submission_refusal as history_refusal, refusal_of, outcome_of, was_sent, add_event, after}
 use Rattle.act_rules.proofs.Lists.{slice_get_more, option_or-none}
 use Rattle.act_rules.proofs.Ended.{needs-none, under-push}
 use Rattle.act_rules.proofs.Growth.{added_grows}
@@ -30,11 +30,11 @@ use Rattle.act_rules.proofs.Retired.{calls_to-push}
 use Rattle.act_rules.proofs.Table.{kept_of-submitted, death_if, is_death_of, knows_dead}
 use Rattle.act_handles.specs.Handles.{copies_in, given_in, with_number}
 use Rattle.act_handles.proofs.Lookups.{copies-with_number, given-with_number, given-with_number-other}
-use Rattle.act_owner.specs.Owner.{OwnerValue, limit_of as limit_known, pending, submission_refusal, with_call}
+use Rattle.act_owner.specs.Owner.{OwnerView, owner_limit as limit_known, pending, refusal_to_submit, with_submission}
 use Rattle.act_owner.proofs.Told.{calls_to-length}
-use Rattle.act_world.specs.Exchange.{ExchangeValue, is_owner}
-use Rattle.act_world.specs.View.{SlotSeen}
-use Rattle.act_world.specs.Ties.{Ties, IsOwnerOf, is_death_to}
+use Rattle.act_world.specs.Network.{NetworkView, is_owner}
+use Rattle.act_world.specs.View.{SlotView}
+use Rattle.act_world.specs.Refines.{Refines, IsOwnerOf, is_death_to}
 use Rattle.act_world.proofs.Changes.{refused_follows, accepted_follows}
 use Rattle.act_world.proofs.Lawful.{IsLawful}
 use Rattle.act_world.proofs.Frames.{SameCaller, owners_change, mail_stays}
@@ -42,7 +42,7 @@ use Rattle.act_world.proofs.Pending.{unanswered_is}
 use Rattle.act_world.proofs.OneCaller.{needs_holds, IsHere, caller_here, callers_tie, sent_stays, under-other}
 
 -- a submission is refused as the caller says
-pub submission_refused : (h : History) (c a : ℕ) (method : Method) (args : List Arg) (owner : OwnerValue) (refusal : Option SubmitRefusal) → IsHere h c owner → submission_refusal owner a args ≡ refusal
+pub submission_refused : (h : History) (c a : ℕ) (method : Method) (args : List Arg) (owner : OwnerView) (refusal : Option SubmitRefusal) → IsHere h c owner → refusal_to_submit owner a args ≡ refusal
     → refusal_of h (Submit c a method args) ≡ option_map SubmitRefused refusal
 submission_refused h c a method args owner refusal here e =
     needs_holds (is_caller c h) NoCaller (option_map SubmitRefused (history_refusal c a args h)) here.caller
@@ -65,7 +65,7 @@ calls_to-count b calls call = rw (calls_to-push b calls call, length-append) (go
     go true = refl
     go false = refl
 
-given_after : (a b : ℕ) (owner : OwnerValue) (calls : List Submission) (call : Submission) → call.actor ≡ a → is_some (copies_in a owner.handles) ≡ true
+given_after : (a b : ℕ) (owner : OwnerView) (calls : List Submission) (call : Submission) → call.actor ≡ a → is_some (copies_in a owner.handles) ≡ true
     → ((b : ℕ) → given_in b owner.handles ≡ length (calls_to b calls)) → given_in b (with_number a owner.handles) ≡ length (calls_to b (calls ++ call ∷ []))
 given_after a b owner calls call to listed given = elim (eqb_tells a b) [
   | inl t ↦ subst (λ (x : ℕ). given_in x (with_number a owner.handles) ≡ length (calls_to x (calls ++ call ∷ []))) t.1
@@ -75,7 +75,7 @@ given_after a b owner calls call to listed given = elim (eqb_tells a b) [
 ]
 
 -- what is accepted is of an actor of the caller's
-accepted_listed : (a : ℕ) (args : List Arg) (owner : OwnerValue) → submission_refusal owner a args ≡ None → is_some (copies_in a owner.handles) ≡ true
+accepted_listed : (a : ℕ) (args : List Arg) (owner : OwnerView) → refusal_to_submit owner a args ≡ None → is_some (copies_in a owner.handles) ≡ true
 accepted_listed a args owner e =
     let copies = copies_in a owner.handles in
     let count = length owner.calls in
@@ -144,8 +144,8 @@ deaths_same c a [] = refl
 deaths_same c a (ReplyPost d b place ∷ posts) = deaths_same c a posts
 deaths_same c a (DeathPost d b ∷ posts) = ap (λ (rest : Bool). is_death_of c a (DeathPost d b) || rest) (deaths_same c a posts)
 
-submitted_owner : (h : History) (c a : ℕ) (method : Method) (args : List Arg) (owner : OwnerValue) → IsLawful h → IsOwnerOf h c owner → is_some (copies_in a owner.handles) ≡ true
-    → IsOwnerOf (added h (Submit c a method args)) c (with_call owner a method args)
+submitted_owner : (h : History) (c a : ℕ) (method : Method) (args : List Arg) (owner : OwnerView) → IsLawful h → IsOwnerOf h c owner → is_some (copies_in a owner.handles) ≡ true
+    → IsOwnerOf (add_event h (Submit c a method args)) c (with_submission owner a method args)
 submitted_owner h c a method args owner lawful is listed = record {
   id = is.id;
   copies = λ b. copies-with_number a b owner.handles ∙ is.copies b;
@@ -163,42 +163,42 @@ submitted_owner h c a method args owner lawful is listed = record {
     call : Submission
     call = record { actor = a; method = method; args = args }
 
-    more : calls_of c (added h (Submit c a method args)) ≡ calls_of c h ++ call ∷ []
+    more : calls_of c (add_event h (Submit c a method args)) ≡ calls_of c h ++ call ∷ []
     more = calls_after h c call
 
 -- nothing of another caller's changes
-others_stay : (h : History) (c a d : ℕ) (method : Method) (args : List Arg) → c ≢ d → SameCaller d h (added h (Submit c a method args))
+others_stay : (h : History) (c a d : ℕ) (method : Method) (args : List Arg) → c ≢ d → SameCaller d h (add_event h (Submit c a method args))
 others_stay h c a d method args apart = record {
   calls = same;
   copies = λ b. refl;
-  sent = λ k. sent_stays h (added h (Submit c a method args)) d k (slice_get (calls_of d h) k) same (λ b n. refl);
+  sent = λ k. sent_stays h (add_event h (Submit c a method args)) d k (slice_get (calls_of d h) k) same (λ b n. refl);
   kept = ap (λ (calls : List Submission). map (first_answer h d) (enumerate_from 0 calls)) same;
   deaths = λ b. refl;
 }
   where
-    same : calls_of d (added h (Submit c a method args)) ≡ calls_of d h
+    same : calls_of d (add_event h (Submit c a method args)) ≡ calls_of d h
     same = under-other c d h.submitted (record { actor = a; method = method; args = args }) apart
 
-pub submit_follows : (h : History) (old : ExchangeValue) (slots : List SlotSeen) (c a place k : ℕ) (method : Method) (args : List Arg) (owner new : OwnerValue) → IsLawful h → Ties h (record { exchange = old; slots = slots })
-    → position (is_owner c) old.owners ≡ Some place → owner ≡ get_or old.owners place owner → submission_refusal owner a args ≡ None → k ≡ length owner.calls → new ≡ with_call owner a method args
-    → (Ok (Future c k) ≡ outcome_of h (Submit c a method args)) × Ties (after h (Submit c a method args)) (record { exchange = record old { owners = slice_set old.owners place new }; slots = slots })
-submit_follows h old slots c a place k method args owner new lawful ties at owner_is accepted future new_is =
-    let here = caller_here h old slots c place owner ties at owner_is in
+pub submit_follows : (h : History) (old : NetworkView) (slots : List SlotView) (c a place k : ℕ) (method : Method) (args : List Arg) (owner new : OwnerView) → IsLawful h → Refines h (record { network = old; slots = slots })
+    → position (is_owner c) old.owners ≡ Some place → owner ≡ get_or old.owners place owner → refusal_to_submit owner a args ≡ None → k ≡ length owner.calls → new ≡ with_submission owner a method args
+    → (Ok (Future c k) ≡ outcome_of h (Submit c a method args)) × Refines (after h (Submit c a method args)) (record { network = record old { owners = slice_set old.owners place new }; slots = slots })
+submit_follows h old slots c a place k method args owner new lawful refines at owner_is accepted future new_is =
+    let here = caller_here h old slots c place owner refines at owner_is in
     let grows = added_grows h (Submit c a method args) in
     let listed = accepted_listed a args owner accepted in
-    let now : IsOwnerOf (added h (Submit c a method args)) c new = subst (IsOwnerOf (added h (Submit c a method args)) c) (sym new_is) (submitted_owner h c a method args owner lawful here.is listed) in
+    let now : IsOwnerOf (add_event h (Submit c a method args)) c new = subst (IsOwnerOf (add_event h (Submit c a method args)) c) (sym new_is) (submitted_owner h c a method args owner lawful here.is listed) in
     accepted_follows h (Submit c a method args) (Future c k) _ (submission_refused h c a method args owner None here accepted) (ap (Future c) (future ∙ ap (λ (calls : List Submission). length calls) here.is.calls))
-    (callers_tie h (added h (Submit c a method args)) old _ slots lawful ties (record { grows = grows; arrived = refl; ran = refl; posts = refl; killed = refl; retired = refl })
-    (owners_change h (added h (Submit c a method args)) old.owners c place new refl ties.owners at now (λ d apart. others_stay h c a d method args apart))
-    (mail_stays h (added h (Submit c a method args)) old.mail lawful grows ties.mail) ties.mail_count refl ties.asked)
+    (callers_tie h (add_event h (Submit c a method args)) old _ slots lawful refines (record { grows = grows; arrived = refl; ran = refl; posts = refl; killed = refl; retired = refl })
+    (owners_change h (add_event h (Submit c a method args)) old.owners c place new refl refines.owners at now (λ d apart. others_stay h c a d method args apart))
+    (mail_stays h (add_event h (Submit c a method args)) old.mail lawful grows refines.mail) refines.mail_count refl refines.asked)
 
-pub submit_refused_follows : (h : History) (old : ExchangeValue) (slots : List SlotSeen) (c a place : ℕ) (method : Method) (args : List Arg) (refusal : SubmitRefusal) (owner : OwnerValue) → Ties h (record { exchange = old; slots = slots })
-    → position (is_owner c) old.owners ≡ Some place → owner ≡ get_or old.owners place owner → Some refusal ≡ submission_refusal owner a args
-    → (Err (SubmitRefused refusal) ≡ outcome_of h (Submit c a method args)) × Ties (after h (Submit c a method args)) (record { exchange = old; slots = slots })
-submit_refused_follows h old slots c a place method args refusal owner ties at owner_is told =
-    refused_follows h (Submit c a method args) (SubmitRefused refusal) _ (submission_refused h c a method args owner (Some refusal) (caller_here h old slots c place owner ties at owner_is) (sym told)) ties
+pub submit_refused_follows : (h : History) (old : NetworkView) (slots : List SlotView) (c a place : ℕ) (method : Method) (args : List Arg) (refusal : SubmitRefusal) (owner : OwnerView) → Refines h (record { network = old; slots = slots })
+    → position (is_owner c) old.owners ≡ Some place → owner ≡ get_or old.owners place owner → Some refusal ≡ refusal_to_submit owner a args
+    → (Err (SubmitRefused refusal) ≡ outcome_of h (Submit c a method args)) × Refines (after h (Submit c a method args)) (record { network = old; slots = slots })
+submit_refused_follows h old slots c a place method args refusal owner refines at owner_is told =
+    refused_follows h (Submit c a method args) (SubmitRefused refusal) _ (submission_refused h c a method args owner (Some refusal) (caller_here h old slots c place owner refines at owner_is) (sym told)) refines
 
 -- where memory is wanted, nothing else refuses the submission
-pub submit_unrefused : (h : History) (old : ExchangeValue) (slots : List SlotSeen) (c a place : ℕ) (method : Method) (args : List Arg) (owner : OwnerValue) → Ties h (record { exchange = old; slots = slots })
-    → position (is_owner c) old.owners ≡ Some place → owner ≡ get_or old.owners place owner → None ≡ submission_refusal owner a args → refusal_of h (Submit c a method args) ≡ None
-submit_unrefused h old slots c a place method args owner ties at owner_is told = submission_refused h c a method args owner None (caller_here h old slots c place owner ties at owner_is) (sym told)
+pub submit_unrefused : (h : History) (old : NetworkView) (slots : List SlotView) (c a place : ℕ) (method : Method) (args : List Arg) (owner : OwnerView) → Refines h (record { network = old; slots = slots })
+    → position (is_owner c) old.owners ≡ Some place → owner ≡ get_or old.owners place owner → None ≡ refusal_to_submit owner a args → refusal_of h (Submit c a method args) ≡ None
+submit_unrefused h old slots c a place method args owner refines at owner_is told = submission_refused h c a method args owner None (caller_here h old slots c place owner refines at owner_is) (sym told)

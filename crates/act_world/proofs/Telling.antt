@@ -10,13 +10,13 @@ use Rattle.act_rules.specs.declared.outcome.WorldRefusal.{WorldRefusal}
 use Rattle.act_rules.specs.declared.outcome.WorldRefusal.TheVariants.{NotDead}
 use Rattle.act_rules.specs.Submissions.{needs}
 use Rattle.act_rules.specs.History.{History, cast_of, names, is_caller, is_dead, is_retired}
-use Rattle.act_rules.specs.Rules.{did, refusal_of, outcome_of, added, after}
+use Rattle.act_rules.specs.Rules.{did, refusal_of, outcome_of, add_event, after}
 use Rattle.act_rules.proofs.Growth.{added_grows}
-use Rattle.act_world.specs.declared.exchange.Posted.{Posted}
-use Rattle.act_world.specs.Exchange.{ExchangeValue, is_owner, naming_refusal}
-use Rattle.act_world.specs.View.{SlotSeen, Runs, Died, Ended, Vacant}
-use Rattle.act_world.specs.Slots.{is_dead_seen}
-use Rattle.act_world.specs.Ties.{IsStage, posted, Ties}
+use Rattle.act_world.specs.declared.network.Posted.{Posted}
+use Rattle.act_world.specs.Network.{NetworkView, is_owner, naming_refusal}
+use Rattle.act_world.specs.View.{SlotView, Runs, Died, Ended, Vacant}
+use Rattle.act_world.specs.Slots.{is_dead_slot}
+use Rattle.act_world.specs.Refines.{IsStage, posted_notice, Refines}
 use Rattle.act_world.proofs.Changes.{refused_follows, accepted_follows}
 use Rattle.act_world.proofs.Lawful.{IsLawful}
 use Rattle.act_world.proofs.Seeing.{refused, known}
@@ -29,7 +29,7 @@ pub unnamed : (h : History) (c a : ℕ) → cast_of a h ≡ None → names c (ca
 unnamed h c a e = ap (names c) e
 
 -- the slot shows whether its actor is dead
-pub dead_is : (h : History) (c a : ℕ) (slot : SlotSeen) → IsStage h a (Some slot) → names c (cast_of a h) ≡ true → is_dead_seen slot ≡ is_dead a h
+pub dead_is : (h : History) (c a : ℕ) (slot : SlotView) → IsStage h a (Some slot) → names c (cast_of a h) ≡ true → is_dead_slot slot ≡ is_dead a h
 dead_is h c a (Runs live) is named = sym (or_parts (is_dead a h) (is_retired a h) is.runs).0
 dead_is h c a (Died dead) is named = sym is.died
 dead_is h c a (Ended retired) is named = sym is.lived
@@ -45,45 +45,45 @@ refuses_none h a c caller named dead = rw (caller, named, dead) refl
 
 -- ---- the event that is refused, and that is not
 
-pub tell_refused : (h : History) (exchange : ExchangeValue) (slots : List SlotSeen) (a c : ℕ) (refusal : WorldRefusal) → Ties h (record { exchange = exchange; slots = slots }) → naming_refusal (find (is_owner c) exchange.owners) a ≡ Some refusal
-    → (Err refusal ≡ outcome_of h (Tell a c)) × Ties (after h (Tell a c)) (record { exchange = exchange; slots = slots })
-tell_refused h exchange slots a c refusal ties refuses =
-    refused_follows h (Tell a c) refusal (record { exchange = exchange; slots = slots }) (refused h exchange.owners c a ties.owners refusal (needs (is_dead a h) NotDead None) refuses) ties
+pub tell_refused : (h : History) (network : NetworkView) (slots : List SlotView) (a c : ℕ) (refusal : WorldRefusal) → Refines h (record { network = network; slots = slots }) → naming_refusal (find (is_owner c) network.owners) a ≡ Some refusal
+    → (Err refusal ≡ outcome_of h (Tell a c)) × Refines (after h (Tell a c)) (record { network = network; slots = slots })
+tell_refused h network slots a c refusal refines refuses =
+    refused_follows h (Tell a c) refusal (record { network = network; slots = slots }) (refused h network.owners c a refines.owners refusal (needs (is_dead a h) NotDead None) refuses) refines
 
-pub tell_living : (h : History) (exchange : ExchangeValue) (slots : List SlotSeen) (a c : ℕ) (slot : SlotSeen) → Ties h (record { exchange = exchange; slots = slots }) → slice_get slots a ≡ Some slot → naming_refusal (find (is_owner c) exchange.owners) a ≡ None → is_dead_seen slot ≡ false
-    → (Err NotDead ≡ outcome_of h (Tell a c)) × Ties (after h (Tell a c)) (record { exchange = exchange; slots = slots })
-tell_living h exchange slots a c slot ties there free lives =
-    let here = known h exchange.owners c a ties.owners free in
-    refused_follows h (Tell a c) NotDead (record { exchange = exchange; slots = slots }) (refuses_living h a c here.0 here.1 (sym (dead_is h c a slot (subst (IsStage h a) there (ties.actors a)) here.1) ∙ lives)) ties
+pub tell_living : (h : History) (network : NetworkView) (slots : List SlotView) (a c : ℕ) (slot : SlotView) → Refines h (record { network = network; slots = slots }) → slice_get slots a ≡ Some slot → naming_refusal (find (is_owner c) network.owners) a ≡ None → is_dead_slot slot ≡ false
+    → (Err NotDead ≡ outcome_of h (Tell a c)) × Refines (after h (Tell a c)) (record { network = network; slots = slots })
+tell_living h network slots a c slot refines there free lives =
+    let here = known h network.owners c a refines.owners free in
+    refused_follows h (Tell a c) NotDead (record { network = network; slots = slots }) (refuses_living h a c here.0 here.1 (sym (dead_is h c a slot (subst (IsStage h a) there (refines.actors a)) here.1) ∙ lives)) refines
 
-pub tell_unrefused : (h : History) (exchange : ExchangeValue) (slots : List SlotSeen) (a c : ℕ) (slot : SlotSeen) → Ties h (record { exchange = exchange; slots = slots }) → slice_get slots a ≡ Some slot → naming_refusal (find (is_owner c) exchange.owners) a ≡ None → is_dead_seen slot ≡ true
+pub tell_unrefused : (h : History) (network : NetworkView) (slots : List SlotView) (a c : ℕ) (slot : SlotView) → Refines h (record { network = network; slots = slots }) → slice_get slots a ≡ Some slot → naming_refusal (find (is_owner c) network.owners) a ≡ None → is_dead_slot slot ≡ true
     → refusal_of h (Tell a c) ≡ None
-tell_unrefused h exchange slots a c slot ties there free dead =
-    let here = known h exchange.owners c a ties.owners free in
-    refuses_none h a c here.0 here.1 (sym (dead_is h c a slot (subst (IsStage h a) there (ties.actors a)) here.1) ∙ dead)
+tell_unrefused h network slots a c slot refines there free dead =
+    let here = known h network.owners c a refines.owners free in
+    refuses_none h a c here.0 here.1 (sym (dead_is h c a slot (subst (IsStage h a) there (refines.actors a)) here.1) ∙ dead)
 
 -- ---- the notice
 
-told_ties : (h : History) (exchange : ExchangeValue) (slots : List SlotSeen) (a c : ℕ) → IsLawful h → Ties h (record { exchange = exchange; slots = slots })
-    → Ties (added h (Tell a c)) (record { exchange = record exchange { replies = exchange.replies ++ record { caller = c; notice = Death a } ∷ [] }; slots = slots })
-told_ties h exchange slots a c lawful ties =
-    let g = added h (Tell a c) in
+told_ties : (h : History) (network : NetworkView) (slots : List SlotView) (a c : ℕ) → IsLawful h → Refines h (record { network = network; slots = slots })
+    → Refines (add_event h (Tell a c)) (record { network = record network { replies = network.replies ++ record { caller = c; notice = Death a } ∷ [] }; slots = slots })
+told_ties h network slots a c lawful refines =
+    let g = add_event h (Tell a c) in
     let grows = added_grows h (Tell a c) in
     let notice : Posted = record { caller = c; notice = Death a } in
     record {
-      owners = owners_stay h g exchange.owners refl (λ d. same_caller d h g lawful grows refl refl refl refl refl) ties.owners;
-      actors = stages_stay h g slots lawful grows refl refl refl refl ties.actors;
-      mail = mail_stays h g exchange.mail lawful grows ties.mail;
-      mail_count = ties.mail_count;
-      replies = go_together (posted g) exchange.replies h.posts notice (DeathPost c a) refl ties.reply_count (replies_stay h g exchange.replies lawful grows ties.replies);
-      reply_count = length-append exchange.replies (notice ∷ []) ∙ ap (λ (n : ℕ). n + 1) ties.reply_count ∙ sym (length-append h.posts (DeathPost c a ∷ []));
-      asked = ties.asked;
+      owners = owners_stay h g network.owners refl (λ d. same_caller d h g lawful grows refl refl refl refl refl) refines.owners;
+      actors = stages_stay h g slots lawful grows refl refl refl refl refines.actors;
+      mail = mail_stays h g network.mail lawful grows refines.mail;
+      mail_count = refines.mail_count;
+      replies = go_together (posted_notice g) network.replies h.posts notice (DeathPost c a) refl refines.reply_count (replies_stay h g network.replies lawful grows refines.replies);
+      reply_count = length-append network.replies (notice ∷ []) ∙ ap (λ (n : ℕ). n + 1) refines.reply_count ∙ sym (length-append h.posts (DeathPost c a ∷ []));
+      asked = refines.asked;
     }
 
-pub tell_follows : (h : History) (exchange : ExchangeValue) (slots : List SlotSeen) (a c j : ℕ) (slot : SlotSeen) (replies : List Posted) → IsLawful h → Ties h (record { exchange = exchange; slots = slots }) → slice_get slots a ≡ Some slot
-    → naming_refusal (find (is_owner c) exchange.owners) a ≡ None → is_dead_seen slot ≡ true → j ≡ length exchange.replies → replies ≡ exchange.replies ++ record { caller = c; notice = Death a } ∷ []
-    → (Ok (Told j) ≡ outcome_of h (Tell a c)) × Ties (after h (Tell a c)) (record { exchange = record exchange { replies = replies }; slots = slots })
-tell_follows h exchange slots a c j slot replies lawful ties there free dead j_is replies_are =
-    let unrefused = tell_unrefused h exchange slots a c slot ties there free dead in
-    let count : j ≡ length h.posts = j_is ∙ ties.reply_count in
-    rw (count, replies_are) (accepted_follows h (Tell a c) (did h (Tell a c)) (record { exchange = record exchange { replies = exchange.replies ++ record { caller = c; notice = Death a } ∷ [] }; slots = slots }) unrefused refl (told_ties h exchange slots a c lawful ties))
+pub tell_follows : (h : History) (network : NetworkView) (slots : List SlotView) (a c j : ℕ) (slot : SlotView) (replies : List Posted) → IsLawful h → Refines h (record { network = network; slots = slots }) → slice_get slots a ≡ Some slot
+    → naming_refusal (find (is_owner c) network.owners) a ≡ None → is_dead_slot slot ≡ true → j ≡ length network.replies → replies ≡ network.replies ++ record { caller = c; notice = Death a } ∷ []
+    → (Ok (Told j) ≡ outcome_of h (Tell a c)) × Refines (after h (Tell a c)) (record { network = record network { replies = replies }; slots = slots })
+tell_follows h network slots a c j slot replies lawful refines there free dead j_is replies_are =
+    let unrefused = tell_unrefused h network slots a c slot refines there free dead in
+    let count : j ≡ length h.posts = j_is ∙ refines.reply_count in
+    rw (count, replies_are) (accepted_follows h (Tell a c) (did h (Tell a c)) (record { network = record network { replies = network.replies ++ record { caller = c; notice = Death a } ∷ [] }; slots = slots }) unrefused refl (told_ties h network slots a c lawful refines))

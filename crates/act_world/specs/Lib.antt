@@ -1,8 +1,8 @@
-pub mod Exchange
+pub mod Network
 pub mod View
 pub mod Slots
-pub mod Ties
-pub mod Stands
+pub mod Refines
+pub mod IsReachedBy
 pub mod Memory
 pub mod Headline
 pub mod Openings

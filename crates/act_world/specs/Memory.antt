@@ -9,11 +9,11 @@ use Rattle.act_rules.specs.declared.history.Post.{Post}
 use Rattle.act_rules.specs.declared.history.Post.TheVariants.{Reply as ReplyPost}
 use Rattle.act_rules.specs.Laws.{history}
 use Rattle.act_rules.specs.Submissions.{kept_at}
-use Rattle.act_rules.specs.History.{Casting, History, runs_of, kept_of, has_letter, next_item}
+use Rattle.act_rules.specs.History.{ActorSpec, History, runs_of, kept_of, has_letter, next_item}
 use Rattle.act_rules.specs.Rules.{is_last}
-use Rattle.act_world.specs.Exchange.{ExchangeValue}
-use Rattle.act_world.specs.View.{SlotSeen, WorldSeen}
-use Rattle.act_world.specs.Stands.{Stands}
+use Rattle.act_world.specs.Network.{NetworkView}
+use Rattle.act_world.specs.View.{SlotView, WorldView}
+use Rattle.act_world.specs.IsReachedBy.{IsReachedBy}
 
 -- whether a letter is a call that hasn't arrived
 abbrev pub is_new_call : Option Letter → History → Bool
@@ -22,10 +22,12 @@ is_new_call letter h = false
 
 -- whether a post is the reply to a call that has no answer yet
 abbrev pub is_first_reply : Option Post → History → Bool
-is_first_reply (Some (ReplyPost c a place)) h = option_map_or (λ item. is_none (kept_at (kept_of c h) item.future)) (slice_get (runs_of a h) place) false
+is_first_reply (Some (ReplyPost c a place)) h = option_map_or (λ item. is_none (kept_at (kept_of c h) item.future))
+    (slice_get (runs_of a h) place) false
 is_first_reply post h = false
 
--- whether an event takes memory: for a call, a letter, a packet that is held, an item of a run list, a notice, or an answer that is kept
+-- whether an event takes memory: for a call, a letter, a packet that is held, an item of a run list, a notice, or an
+-- answer that is kept
 abbrev pub takes_memory : Event → History → Bool
 takes_memory (Submit c a method args) h = true
 takes_memory (Copy c a) h = false
@@ -40,13 +42,15 @@ takes_memory (Tell a c) h = true
 takes_memory (Retire a) h = false
 
 -- whatever events the world stood after: this one takes memory
-abbrev pub TakesMemory : Event → WorldSeen → Type 0
-TakesMemory event world = (casts : List Casting) (before : List Event) → Stands casts before world → takes_memory event (history casts before) ≡ true
+abbrev pub TakesMemory : Event → WorldView → Type 0
+TakesMemory event world = (casts : List ActorSpec) (before : List Event) → IsReachedBy casts before world →
+    takes_memory event (history casts before) ≡ true
 
 -- the same of an event that changes no actor
-abbrev pub TakesMemoryThere : Event → ExchangeValue → Type 0
-TakesMemoryThere event exchange = (slots : List SlotSeen) → TakesMemory event (record { exchange = exchange; slots = slots })
+abbrev pub TakesMemoryThere : Event → NetworkView → Type 0
+TakesMemoryThere event network = (slots : List SlotView) →
+    TakesMemory event (record { network = network; slots = slots })
 
 -- the event at this place takes memory
-abbrev pub TakesMemoryAt : ℕ → List Event → WorldSeen → Type 0
+abbrev pub TakesMemoryAt : ℕ → List Event → WorldView → Type 0
 TakesMemoryAt i events world = IfSome (slice_get events i) (λ event. TakesMemory event world)

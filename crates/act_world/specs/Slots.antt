@@ -2,10 +2,10 @@
 use Rattle.std.specs.Prelude.{◌≡◌, ℕ, List, slice_index_or, slice_set, Bool, true, false, if◌then◌else◌, Option, Some, option_map, is_some, IfNone, IfSome, Result, Ok, Err}
 use Rattle.act_types.specs.declared.message.Packet.{Packet}
 use Rattle.act_types.specs.declared.message.ReleaseNote.{ReleaseNote}
-use Rattle.act_owner.specs.Owner.{OwnerValue}
-use Rattle.act_world.specs.declared.exchange.CallNote.{CallNote}
-use Rattle.act_world.specs.declared.exchange.Mailed.{Mailed}
-use Rattle.act_world.specs.declared.exchange.Mailed.TheVariants.{Call as MailedCall, Note as MailedNote}
+use Rattle.act_owner.specs.Owner.{OwnerView}
+use Rattle.act_world.specs.declared.network.CallKey.{CallKey}
+use Rattle.act_world.specs.declared.network.MailEntry.{MailEntry}
+use Rattle.act_world.specs.declared.network.MailEntry.TheVariants.{Call as CallEntry, Note as NoteEntry}
 use Rattle.act_types.specs.declared.message.Reply.{Reply}
 use Rattle.act_rules.specs.declared.outcome.Arrival.{Arrival}
 use Rattle.act_rules.specs.declared.outcome.Arrival.TheVariants.{New}
@@ -16,102 +16,104 @@ use Rattle.act_rules.specs.declared.outcome.WorldRefusal.TheVariants.{Handle, Ac
 use Rattle.act_rules.specs.RunList.{has_terminated}
 use Rattle.act_rules.specs.Rules.{Outcome}
 use Rattle.act_inbox.specs.Inbox.{IsTakenIn, IsNotedIn}
-use Rattle.act_actor.specs.View.{ActorSeen}
-use Rattle.act_actor.specs.Actor.{arrival_at, note_arrival_at, reply_to, next_call, MayRetire, HasRun}
-use Rattle.act_world.specs.Exchange.{head_of, packet_in, filled}
-use Rattle.act_world.specs.View.{SlotSeen, Runs, Died, Ended, Vacant}
+use Rattle.act_actor.specs.View.{ActorView}
+use Rattle.act_actor.specs.Actor.{arrival_at, note_arrival_at, reply_of_run, next_call, MayRetire, HasRunCall}
+use Rattle.act_world.specs.Network.{head_of, packet_in, fill_head}
+use Rattle.act_world.specs.View.{SlotView, Runs, Died, Ended, Vacant}
 
-abbrev pub IsLiveSeen : SlotSeen → Type 0
-IsLiveSeen (Runs live) = Unit {0}
-IsLiveSeen slot = ⊥
+abbrev pub IsLiveSlot : SlotView → Type 0
+IsLiveSlot (Runs live) = Unit {0}
+IsLiveSlot slot = ⊥
 
-abbrev pub is_live_seen : SlotSeen → Bool
-is_live_seen (Runs live) = true
-is_live_seen slot = false
+abbrev pub is_live_slot : SlotView → Bool
+is_live_slot (Runs live) = true
+is_live_slot slot = false
 
-abbrev pub is_dead_seen : SlotSeen → Bool
-is_dead_seen (Died dead) = true
-is_dead_seen slot = false
+abbrev pub is_dead_slot : SlotView → Bool
+is_dead_slot (Died dead) = true
+is_dead_slot slot = false
 
 -- whether the actor runs, and the caller's next call has come to it
-abbrev pub has_next_seen : ℕ → SlotSeen → Bool
-has_next_seen c (Runs live) = is_some (next_call live.log live.inbox c)
-has_next_seen c slot = false
+abbrev pub has_next_in_slot : ℕ → SlotView → Bool
+has_next_in_slot c (Runs live) = is_some (next_call live.log live.inbox c)
+has_next_in_slot c slot = false
 
 -- the running actor took a packet in
-pub record HasTaken (packet : Packet) (arrival : Arrival) (old new : ActorSeen) : Type 0 where
+pub record HasTakenPacket (packet : Packet) (arrival : Arrival) (old new : ActorView) : Type 0 where
   pub arrival_is : arrival ≡ arrival_at old.id old.inbox packet
   pub same : new ≡ record old { inbox = new.inbox }
   pub taken : IsTakenIn packet arrival old.inbox new.inbox
 
 -- the running actor took a call in, which its caller filled in
-abbrev pub HasTakenCall : List OwnerValue → CallNote → Arrival → ActorSeen → ActorSeen → Type 0
-HasTakenCall owners call arrival old new = (packet : Packet) → packet_in owners (head_of call) ≡ Some packet → HasTaken (filled (head_of call) packet) arrival old new
+abbrev pub HasTakenCall : List OwnerView → CallKey → Arrival → ActorView → ActorView → Type 0
+HasTakenCall owners call arrival old new = (packet : Packet) → packet_in owners (head_of call) ≡ Some packet →
+    HasTakenPacket (fill_head (head_of call) packet) arrival old new
 
 -- the running actor took a release note in
-pub record HasNoted (note : ReleaseNote) (arrival : Arrival) (old new : ActorSeen) : Type 0 where
+pub record HasNoted (note : ReleaseNote) (arrival : Arrival) (old new : ActorView) : Type 0 where
   pub arrival_is : arrival ≡ note_arrival_at old.id old.inbox note
   pub same : new ≡ record old { inbox = new.inbox }
   pub noted : IsNotedIn note arrival old.inbox new.inbox
 
 -- the running actor took a letter in
-abbrev pub HasArrived : List OwnerValue → Mailed → Arrival → ActorSeen → ActorSeen → Type 0
-HasArrived owners (MailedCall call) arrival old new = HasTakenCall owners call arrival old new
-HasArrived owners (MailedNote note) arrival old new = HasNoted note arrival old new
+abbrev pub HasArrived : List OwnerView → MailEntry → Arrival → ActorView → ActorView → Type 0
+HasArrived owners (CallEntry call) arrival old new = HasTakenCall owners call arrival old new
+HasArrived owners (NoteEntry note) arrival old new = HasNoted note arrival old new
 
 -- the letter is a call that the running actor takes in
-abbrev pub IsNewCall : Mailed → SlotSeen → Type 0
-IsNewCall (MailedCall call) (Runs live) = arrival_at live.id live.inbox (head_of call) ≡ New
+abbrev pub IsNewCall : MailEntry → SlotView → Type 0
+IsNewCall (CallEntry call) (Runs live) = arrival_at live.id live.inbox (head_of call) ≡ New
 IsNewCall letter slot = ⊥
 
 -- the letter came to a running actor, or its actor has ended
-abbrev pub IsBrought : List OwnerValue → Mailed → SlotSeen → SlotSeen → Outcome → Type 0
+abbrev pub IsBrought : List OwnerView → MailEntry → SlotView → SlotView → Outcome → Type 0
 IsBrought owners letter (Runs old) (Runs new) (Ok (Arrived arrival)) = HasArrived owners letter arrival old new
 IsBrought owners letter (Runs old) new told = ⊥
 IsBrought owners letter old new told = (new ≡ old) × (told ≡ Err ActorEnded)
 
 -- the running actor ran the caller's next call, or it has not arrived
-pub record HasRunNext (c : ℕ) (reply : Option Reply) (old new : ActorSeen) : Type 0 where
-  pub reply_is : reply ≡ option_map (reply_to old) (next_call old.log old.inbox c)
+pub record HasRunNext (c : ℕ) (reply : Option Reply) (old new : ActorView) : Type 0 where
+  pub reply_is : reply ≡ option_map (reply_of_run old) (next_call old.log old.inbox c)
   pub gap : IfNone reply (new ≡ old)
-  pub ran : IfSome (next_call old.log old.inbox c) (λ packet. HasRun c packet old new)
+  pub ran : IfSome (next_call old.log old.inbox c) (λ packet. HasRunCall c packet old new)
 
 -- a dead actor keeps its name and what it ran
-abbrev pub died : ActorSeen → SlotSeen
-died live = Died (record { id = live.id; log = live.log })
+abbrev pub dead_slot : ActorView → SlotView
+dead_slot live = Died (record { id = live.id; log = live.log })
 
 -- an actor whose last call ended it is dead
-abbrev pub buried : SlotSeen → SlotSeen
-buried (Runs live) = if has_terminated live.log then died live else Runs live
-buried slot = slot
+abbrev pub bury_ended : SlotView → SlotView
+bury_ended (Runs live) = if has_terminated live.log then dead_slot live else Runs live
+bury_ended slot = slot
 
 -- the running actor ran the caller's next call, or it has not arrived, and this is its slot then
-pub record HasRunIn (c : ℕ) (reply : Option Reply) (old : ActorSeen) (slot : SlotSeen) : Type 0 where
-  pub new : ActorSeen
+pub record HasRunIn (c : ℕ) (reply : Option Reply) (old : ActorView) (slot : SlotView) : Type 0 where
+  pub new : ActorView
   pub next : HasRunNext c reply old new
-  pub slot_is : slot ≡ buried (Runs new)
+  pub slot_is : slot ≡ bury_ended (Runs new)
 
-abbrev pub IsRun : ℕ → SlotSeen → SlotSeen → Result (Option Reply) WorldRefusal → Type 0
+abbrev pub IsRun : ℕ → SlotView → SlotView → Result (Option Reply) WorldRefusal → Type 0
 IsRun c (Runs old) new (Ok reply) = HasRunIn c reply old new
 IsRun c (Runs old) new told = ⊥
 IsRun c old new told = (new ≡ old) × (told ≡ Err ActorEnded)
 
 -- in a list of actors one ran, and the others stay
-pub record IsRunAt (c a : ℕ) (old new : List SlotSeen) (told : Result (Option Reply) WorldRefusal) : Type 0 where
+pub record IsRunAt (c a : ℕ) (old new : List SlotView) (told : Result (Option Reply) WorldRefusal) : Type 0 where
   pub ran : IsRun c (slice_index_or old a Vacant) (slice_index_or new a Vacant) told
   pub others : new ≡ slice_set old a (slice_index_or new a Vacant)
 
 -- the actor's slot after it took a kill, if one was asked, and what is told
-abbrev pub killed : Bool → SlotSeen → SlotSeen × Outcome
-killed true (Runs live) = (died live, Ok Dead)
-killed false (Runs live) = (Runs live, Err NoKill)
-killed asked Vacant = (Vacant, Err (Handle NoActor))
-killed asked (Died dead) = (Died dead, Err ActorEnded)
-killed asked (Ended retired) = (Ended retired, Err ActorEnded)
+abbrev pub take_kill : Bool → SlotView → SlotView × Outcome
+take_kill true (Runs live) = (dead_slot live, Ok Dead)
+take_kill false (Runs live) = (Runs live, Err NoKill)
+take_kill asked Vacant = (Vacant, Err (Handle NoActor))
+take_kill asked (Died dead) = (Died dead, Err ActorEnded)
+take_kill asked (Ended retired) = (Ended retired, Err ActorEnded)
 
 -- the actor retired where it may, and else it is as it was
-abbrev pub IsRetiredIn : SlotSeen → SlotSeen → Outcome → Type 0
-IsRetiredIn (Runs live) (Ended retired) (Ok Retired) = MayRetire live.log live.inbox × (retired ≡ record { id = live.id; log = live.log; state = live.state })
+abbrev pub IsRetiredIn : SlotView → SlotView → Outcome → Type 0
+IsRetiredIn (Runs live) (Ended retired) (Ok Retired) = MayRetire live.log live.inbox
+    × (retired ≡ record { id = live.id; log = live.log; state = live.state })
 IsRetiredIn (Runs live) new told = (MayRetire live.log live.inbox → ⊥) × (new ≡ Runs live) × (told ≡ Err NotDrained)
 IsRetiredIn Vacant new told = (new ≡ Vacant) × (told ≡ Err (Handle NoActor))
 IsRetiredIn old new told = (new ≡ old) × (told ≡ Err ActorEnded)

@@ -2,11 +2,11 @@
 
 ghost use Rattle.std.specs.Prelude.{◌≡◌, IfOk, OnErr, false};
 ghost use Rattle.act_rules.specs.declared.event.Event.TheVariants as event;
-ghost use Rattle.act_world.specs.Stands.{HasRoom, FollowsThere, IsGrown, IsUnrefusedThere, is_memory};
+ghost use Rattle.act_world.specs.IsReachedBy.{HasRoom, FollowsThere, IsGrown, IsUnrefusedThere, is_memory};
 ghost use Rattle.act_world.specs.Memory.{TakesMemoryThere};
-ghost use Rattle.act_world.specs.Exchange.{told_collected};
+ghost use Rattle.act_world.specs.Network.{told_collected};
 
-use crate::exchange::{CallNote, Exchange, Mailed, copied, place_of};
+use crate::network::{CallKey, MailEntry, Network, copied, place_of};
 use act_owner::Collected;
 use act_rules::{Did, Outcome, WorldRefusal};
 use act_types::{ActorId, Arg, CallerId, CopyOf, FutureId, ListOf, Method, NoMemory};
@@ -24,7 +24,7 @@ fn told(c: CallerId, collected: Collected) -> Outcome
     }
 }
 
-impl Exchange {
+impl Network {
     /// The caller submits a call.
     pub(crate) fn submit(
         &mut self,
@@ -37,7 +37,7 @@ impl Exchange {
         ensures told { IfOk result (λ told. is_memory told ≡ false) }
         ensures refused { IfOk result (λ told. OnErr told (self.new ≡ self.old)) }
         ensures grown { IsGrown self.old self.new }
-        ensures last { OnErr result (IsUnrefusedThere (event.Submit c a method args.now) self.old) }
+        ensures memory_last { OnErr result (IsUnrefusedThere (event.Submit c a method args.now) self.old) }
         ensures err { OnErr result (self.new ≡ self.old) }
     {
         let Some(place) = place_of(&self.owners, c) else {
@@ -77,7 +77,7 @@ impl Exchange {
         ensures told { IfOk result (λ told. is_memory told ≡ false) }
         ensures refused { IfOk result (λ told. OnErr told (self.new ≡ self.old)) }
         ensures grown { IsGrown self.old self.new }
-        ensures last { OnErr result (IsUnrefusedThere (event.Release c a) self.old) }
+        ensures memory_last { OnErr result (IsUnrefusedThere (event.Release c a) self.old) }
         ensures memory { OnErr result (TakesMemoryThere (event.Release c a) self.old) }
         ensures err { OnErr result (self.new ≡ self.old) }
     {
@@ -95,7 +95,7 @@ impl Exchange {
             return Ok(Ok(Did::Copies(self.owners[place].holds(a))));
         };
         let i = self.mail.len() as u32;
-        self.mail.push_reserved(Mailed::Note(note));
+        self.mail.push_reserved(MailEntry::Note(note));
         Ok(Ok(Did::Mail(i)))
     }
 
@@ -106,7 +106,7 @@ impl Exchange {
         ensures told { IfOk result (λ told. is_memory told ≡ false) }
         ensures refused { IfOk result (λ told. OnErr told (self.new ≡ self.old)) }
         ensures grown { IsGrown self.old self.new }
-        ensures last { OnErr result (IsUnrefusedThere (event.Send c k) self.old) }
+        ensures memory_last { OnErr result (IsUnrefusedThere (event.Send c k) self.old) }
         ensures err { OnErr result (self.new ≡ self.old) }
     {
         let Some(place) = place_of(&self.owners, c) else {
@@ -118,13 +118,13 @@ impl Exchange {
         self.mail.reserve(1)?;
         let (actor, number) = self.owners[place].send(k).unwrap();
         let i = self.mail.len() as u32;
-        let call = CallNote {
+        let call = CallKey {
             caller: c,
             actor,
             number,
             future: k,
         };
-        self.mail.push_reserved(Mailed::Call(call));
+        self.mail.push_reserved(MailEntry::Call(call));
         Ok(Ok(Did::Mail(i)))
     }
 
@@ -151,7 +151,7 @@ impl Exchange {
         ensures told { IfOk result (λ told. is_memory told ≡ false) }
         ensures refused { IfOk result (λ told. OnErr told (self.new ≡ self.old)) }
         ensures grown { IsGrown self.old self.new }
-        ensures last { OnErr result (IsUnrefusedThere (event.Collect j) self.old) }
+        ensures memory_last { OnErr result (IsUnrefusedThere (event.Collect j) self.old) }
         ensures memory { OnErr result (TakesMemoryThere (event.Collect j) self.old) }
         ensures err { OnErr result (self.new ≡ self.old) }
     {

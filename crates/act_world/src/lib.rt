@@ -2,8 +2,8 @@
 #![tactic(auto)]
 
 mod callers;
-mod exchange;
 pub mod laws;
+mod network;
 mod opening;
 mod slot;
 mod world;

@@ -3,16 +3,16 @@
 ghost use Rattle.std.specs.Prelude.{◌≡◌, ◌≢◌, ◌+◌, ◌++◌, ◌∷◌, [], ℕ, List, IfOk, OnOk, AllPairs, length, map, replicate, slice_get, Some, ◌==◌, if◌then◌else◌};
 ghost use Rattle.act_rules.specs.History.{opening};
 ghost use Rattle.act_actor.specs.Cast.{IsFitting};
-ghost use Rattle.act_actor.specs.Casts.{casting, callers_named, limits_naming};
-ghost use Rattle.act_actor.specs.StateViews.{live_seen};
+ghost use Rattle.act_actor.specs.Casts.{actor_spec, callers_named, limits_that_name};
+ghost use Rattle.act_actor.specs.StateViews.{live_view};
 ghost use Rattle.act_owner.specs.Owner.{opened_with};
-ghost use Rattle.act_world.specs.View.{Runs, Vacant, slot_seen, world_seen};
-ghost use Rattle.act_world.specs.Ties.{IsStage};
-ghost use Rattle.act_world.specs.Stands.{Stands};
+ghost use Rattle.act_world.specs.View.{Runs, Vacant, slot_view, world_view};
+ghost use Rattle.act_world.specs.Refines.{IsStage};
+ghost use Rattle.act_world.specs.IsReachedBy.{IsReachedBy};
 ghost use Rattle.act_world.specs.Openings.{HasOwners};
 
 use crate::World;
-use crate::exchange::{Exchange, place_of};
+use crate::network::{Network, place_of};
 use crate::slot::{Slot, slot_of};
 use act_actor::{Cast, Live, limits_of};
 use act_kinds::Actor;
@@ -23,7 +23,7 @@ use std::alloc::Global;
 /// A caller with its first handles, and with the limits of its actors.
 fn opened_owner<K>(alloc: Global, casts: &[Cast<K>], c: CallerId) -> Result<Owner, NoMemory>
     requires fit { IsFitting casts.now }
-    ensures { IfOk result (λ owner. owner ≡ opened_with c (limits_naming c casts.now)) }
+    ensures { IfOk result (λ owner. owner ≡ opened_with c (limits_that_name c casts.now)) }
 {
     let limits = limits_of(alloc, casts, c)?;
     Owner::open_with(alloc, c, limits.as_slice())
@@ -79,7 +79,7 @@ fn owners_of<K>(alloc: Global, casts: &[Cast<K>]) -> Result<Vec<Owner>, NoMemory
 
 /// Slots with no actors.
 fn vacant<K: Actor>() -> [Slot<K>; 9]
-    ensures { map (slot_seen K.state) result ≡ replicate 9 Vacant }
+    ensures { map (slot_view K.state) result ≡ replicate 9 Vacant }
 {
     [
         Slot::Vacant,
@@ -95,9 +95,9 @@ fn vacant<K: Actor>() -> [Slot<K>; 9]
 }
 
 /// Puts an actor in its slot.
-fn seat<K: Actor>(slots: &mut [Slot<K>; 9], a: ActorId, live: Live<K>)
-    ensures { (b : ℕ) → slice_get (map (slot_seen K.state) slots.new) b ≡
-        (if a == b then Some (Runs (live_seen K.state live)) else slice_get (map (slot_seen K.state) slots.old) b) }
+fn endpoint<K: Actor>(slots: &mut [Slot<K>; 9], a: ActorId, live: Live<K>)
+    ensures { (b : ℕ) → slice_get (map (slot_view K.state) slots.new) b ≡
+        (if a == b then Some (Runs (live_view K.state live)) else slice_get (map (slot_view K.state) slots.old) b) }
 {
     slots[slot_of(a)] = Slot::Live(live);
 }
@@ -106,8 +106,8 @@ fn seat<K: Actor>(slots: &mut [Slot<K>; 9], a: ActorId, live: Live<K>)
 fn slots_of<K: Actor>(alloc: Global, casts: Vec<Cast<K>>) -> Result<[Slot<K>; 9], NoMemory>
     requires fit { IsFitting casts.items }
     ensures { IfOk result (λ slots.
-        (a : ℕ) → IsStage (opening (map (casting K.state) casts.items)) a
-        (slice_get (map (slot_seen K.state) slots) a)) }
+        (a : ℕ) → IsStage (opening (map (actor_spec K.state) casts.items)) a
+        (slice_get (map (slot_view K.state) slots) a)) }
 {
     let mut slots = vacant();
     for cast in casts {
@@ -118,7 +118,7 @@ fn slots_of<K: Actor>(alloc: Global, casts: Vec<Cast<K>>) -> Result<[Slot<K>; 9]
             pending: _,
         } = cast;
         let live = Live::open(alloc, actor, callers.as_slice(), kind)?;
-        seat(&mut slots, actor, live);
+        endpoint(&mut slots, actor, live);
     }
     Ok(slots)
 }
@@ -128,15 +128,16 @@ impl<K: Actor> World<K> {
     /// with one copy of the handle of every actor that names it, and with each one's limit.
     pub fn open(alloc: Global, casts: Vec<Cast<K>>) -> Result<World<K>, NoMemory>
         requires fit { IsFitting casts.items }
-        ensures stands { IfOk result (λ world. Stands (map (casting K.state) casts.items) [] (world_seen K.state world)) }
+        ensures reached { IfOk result (λ world.
+            IsReachedBy (map (actor_spec K.state) casts.items) [] (world_view K.state world)) }
         // The room that events ask for is there.
         ensures empty { IfOk result (λ world.
-            length (world_seen K.state world).exchange.mail + length (world_seen K.state world).exchange.replies ≡ 0) }
+            length (world_view K.state world).network.mail + length (world_view K.state world).network.replies ≡ 0) }
     {
         let owners = owners_of(alloc, casts.as_slice())?;
         let slots = slots_of(alloc, casts)?;
         Ok(World {
-            exchange: Exchange {
+            network: Network {
                 owners,
                 mail: Vec::new(alloc),
                 replies: Vec::new(alloc),

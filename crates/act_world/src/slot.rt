@@ -4,13 +4,13 @@ ghost use Rattle.std.specs.Prelude.{◌≡◌, ◌<◌, ℕ, map, Some, slice_ge
 ghost use Rattle.std.specs.Option.{option_map};
 ghost use Rattle.act_rules.specs.declared.outcome.Arrival.TheVariants.{New};
 ghost use Rattle.act_actor.specs.Actor.{arrival_at};
-ghost use Rattle.act_actor.specs.StateViews.{live_seen};
-ghost use Rattle.act_world.specs.View.{Runs, slot_seen, stage_seen, stage_of_slot};
-ghost use Rattle.act_world.specs.Exchange.{head_of};
-ghost use Rattle.act_world.specs.Stands.{is_memory};
-ghost use Rattle.act_world.specs.Slots.{IsLiveSeen, is_live_seen, is_dead_seen, has_next_seen, HasTakenCall, HasArrived, IsNewCall, IsBrought, IsRun, IsRunAt, IsRetiredIn, buried, killed};
+ghost use Rattle.act_actor.specs.StateViews.{live_view};
+ghost use Rattle.act_world.specs.View.{Runs, slot_view, stage_view, stage_of_slot};
+ghost use Rattle.act_world.specs.Network.{head_of};
+ghost use Rattle.act_world.specs.IsReachedBy.{is_memory};
+ghost use Rattle.act_world.specs.Slots.{IsLiveSlot, is_live_slot, is_dead_slot, has_next_in_slot, HasTakenCall, HasArrived, IsNewCall, IsBrought, IsRun, IsRunAt, IsRetiredIn, bury_ended, take_kill};
 
-use crate::exchange::{CallNote, Exchange, Mailed};
+use crate::network::{CallKey, MailEntry, Network};
 use act_actor::{Dead, Live, Retired};
 use act_kinds::{Actor, Boxed};
 use act_rules::{Arrival, Did, HandleRefusal, Outcome, WorldRefusal};
@@ -45,7 +45,7 @@ pub(crate) fn slot_of(a: ActorId) -> usize
 
 /// The actor's slot.
 pub(crate) fn slot_at<K: Actor>(slots: &[Slot<K>; 9], a: ActorId) -> &Slot<K>
-    ensures { slice_get (map (slot_seen K.state) slots.now) a ≡ Some (slot_seen K.state result.now) }
+    ensures { slice_get (map (slot_view K.state) slots.now) a ≡ Some (slot_view K.state result.now) }
 {
     &slots[slot_of(a)]
 }
@@ -53,7 +53,7 @@ pub(crate) fn slot_at<K: Actor>(slots: &[Slot<K>; 9], a: ActorId) -> &Slot<K>
 impl<K: Actor> Slot<K> {
     /// The actor in the state that it is in, where there is one.
     pub(crate) fn stage(&self) -> Option<Stage<'_, K>>
-        ensures { option_map (stage_seen K.state) result ≡ stage_of_slot (Some (slot_seen K.state self.now)) }
+        ensures { option_map (stage_view K.state) result ≡ stage_of_slot (Some (slot_view K.state self.now)) }
     {
         match self {
             Slot::Live(live) => Some(Stage::Live(live)),
@@ -66,58 +66,60 @@ impl<K: Actor> Slot<K> {
 
 /// Brings a letter to the actor.
 pub(crate) fn bring<K: Actor>(
-    exchange: &Exchange,
+    network: &Network,
     slot: &mut Slot<K>,
-    letter: &Mailed,
+    letter: &MailEntry,
 ) -> Result<Outcome, NoMemory>
-    ensures ok { IfOk result (IsBrought exchange.now.owners letter.now (slot_seen K.state slot.old) (slot_seen K.state slot.new)) }
+    ensures ok { IfOk result
+        (IsBrought network.now.owners letter.now (slot_view K.state slot.old) (slot_view K.state slot.new)) }
     ensures told { IfOk result (λ told. is_memory told ≡ false) }
-    ensures refused { IfOk result (λ told. OnErr told (slot_seen K.state slot.new ≡ slot_seen K.state slot.old)) }
+    ensures refused { IfOk result (λ told. OnErr told (slot_view K.state slot.new ≡ slot_view K.state slot.old)) }
     // Memory is asked for where the letter is a call that the actor takes in, and there alone.
-    ensures last { OnErr result (IsNewCall letter.now (slot_seen K.state slot.old)) }
-    ensures err { OnErr result (slot_seen K.state slot.new ≡ slot_seen K.state slot.old) }
+    ensures memory_last { OnErr result (IsNewCall letter.now (slot_view K.state slot.old)) }
+    ensures err { OnErr result (slot_view K.state slot.new ≡ slot_view K.state slot.old) }
 {
     let Slot::Live(live) = slot else {
         return Ok(Err(WorldRefusal::ActorEnded));
     };
-    let arrival = arrive(exchange, live, letter)?;
+    let arrival = arrive(network, live, letter)?;
     Ok(Ok(Did::Arrived(arrival)))
 }
 
 /// The actor takes a letter in.
 fn arrive<K: Actor>(
-    exchange: &Exchange,
+    network: &Network,
     live: &mut Live<K>,
-    letter: &Mailed,
+    letter: &MailEntry,
 ) -> Result<Arrival, NoMemory>
     ensures ok { IfOk result (λ arrival.
-        HasArrived exchange.now.owners letter.now arrival (live_seen K.state live.old) (live_seen K.state live.new)) }
-    ensures last { OnErr result (IsNewCall letter.now (Runs (live_seen K.state live.old))) }
-    ensures err { OnErr result (live_seen K.state live.new ≡ live_seen K.state live.old) }
+        HasArrived network.now.owners letter.now arrival (live_view K.state live.old) (live_view K.state live.new)) }
+    ensures memory_last { OnErr result (IsNewCall letter.now (Runs (live_view K.state live.old))) }
+    ensures err { OnErr result (live_view K.state live.new ≡ live_view K.state live.old) }
 {
     match letter {
-        Mailed::Call(call) => take_in(exchange, live, call),
-        Mailed::Note(note) => Ok(live.released(*note)),
+        MailEntry::Call(call) => take_in(network, live, call),
+        MailEntry::Note(note) => Ok(live.released(*note)),
     }
 }
 
 /// The actor takes a call in. Its packet is filled in only where it is new.
 fn take_in<K: Actor>(
-    exchange: &Exchange,
+    network: &Network,
     live: &mut Live<K>,
-    call: &CallNote,
+    call: &CallKey,
 ) -> Result<Arrival, NoMemory>
     ensures ok { IfOk result (λ arrival.
-        HasTakenCall exchange.now.owners call.now arrival (live_seen K.state live.old) (live_seen K.state live.new)) }
-    ensures last { let before = live_seen K.state live.old in OnErr result (arrival_at before.id before.inbox (head_of call.now) ≡ New) }
-    ensures err { OnErr result (live_seen K.state live.new ≡ live_seen K.state live.old) }
+        HasTakenCall network.now.owners call.now arrival (live_view K.state live.old) (live_view K.state live.new)) }
+    ensures memory_last { let before = live_view K.state live.old in
+        OnErr result (arrival_at before.id before.inbox (head_of call.now) ≡ New) }
+    ensures err { OnErr result (live_view K.state live.new ≡ live_view K.state live.old) }
 {
-    let head = call.head(exchange.alloc());
+    let head = call.head(network.alloc());
     let arrival = live.arrival(&head);
     let Arrival::New = arrival else {
         return Ok(arrival);
     };
-    let packet = exchange.filled(head)?;
+    let packet = network.filled(head)?;
     let Ok(()) = live.hold(packet) else {
         return Err(NoMemory);
     };
@@ -126,7 +128,7 @@ fn take_in<K: Actor>(
 
 /// Where the actor's last call was a `terminate` that ended it, it is dead. This takes no memory.
 fn bury<K: Actor>(slot: &mut Slot<K>)
-    ensures { slot_seen K.state slot.new ≡ buried (slot_seen K.state slot.old) }
+    ensures { slot_view K.state slot.new ≡ bury_ended (slot_view K.state slot.old) }
 {
     match mem::replace(slot, Slot::Vacant) {
         Slot::Live(live) => {
@@ -145,10 +147,10 @@ fn run_in<K: Actor>(
     slot: &mut Slot<K>,
     c: CallerId,
 ) -> Result<Result<Option<Reply>, WorldRefusal>, NoMemory>
-    ensures ok { IfOk result (IsRun c (slot_seen K.state slot.old) (slot_seen K.state slot.new)) }
-    ensures refused { IfOk result (λ ran. OnErr ran (slot_seen K.state slot.new ≡ slot_seen K.state slot.old)) }
-    ensures last { OnErr result (IsLiveSeen (slot_seen K.state slot.old)) }
-    ensures err { OnErr result (slot_seen K.state slot.new ≡ slot_seen K.state slot.old) }
+    ensures ok { IfOk result (IsRun c (slot_view K.state slot.old) (slot_view K.state slot.new)) }
+    ensures refused { IfOk result (λ ran. OnErr ran (slot_view K.state slot.new ≡ slot_view K.state slot.old)) }
+    ensures memory_last { OnErr result (IsLiveSlot (slot_view K.state slot.old)) }
+    ensures err { OnErr result (slot_view K.state slot.new ≡ slot_view K.state slot.old) }
 {
     let Slot::Live(live) = slot else {
         return Ok(Err(WorldRefusal::ActorEnded));
@@ -167,18 +169,19 @@ pub(crate) fn run_at<K: Actor>(
     a: ActorId,
     c: CallerId,
 ) -> Result<Result<Option<Reply>, WorldRefusal>, NoMemory>
-    ensures ok { IfOk result (IsRunAt c a (map (slot_seen K.state) slots.old) (map (slot_seen K.state) slots.new)) }
-    ensures refused { IfOk result (λ ran. OnErr ran (map (slot_seen K.state) slots.new ≡ map (slot_seen K.state) slots.old)) }
-    ensures err { OnErr result (map (slot_seen K.state) slots.new ≡ map (slot_seen K.state) slots.old) }
+    ensures ok { IfOk result (IsRunAt c a (map (slot_view K.state) slots.old) (map (slot_view K.state) slots.new)) }
+    ensures refused { IfOk result (λ ran.
+        OnErr ran (map (slot_view K.state) slots.new ≡ map (slot_view K.state) slots.old)) }
+    ensures err { OnErr result (map (slot_view K.state) slots.new ≡ map (slot_view K.state) slots.old) }
 {
     run_in(&mut slots[slot_of(a)], c)
 }
 
 /// Ends the actor where its kill was asked.
 pub(crate) fn kill_in<K: Actor>(slot: &mut Slot<K>, asked: bool) -> Outcome
-    ensures killed { (slot_seen K.state slot.new, result) ≡ killed asked (slot_seen K.state slot.old) }
+    ensures killed { (slot_view K.state slot.new, result) ≡ take_kill asked (slot_view K.state slot.old) }
     ensures told { is_memory result ≡ false }
-    ensures refused { OnErr result (slot_seen K.state slot.new ≡ slot_seen K.state slot.old) }
+    ensures refused { OnErr result (slot_view K.state slot.new ≡ slot_view K.state slot.old) }
 {
     match mem::replace(slot, Slot::Vacant) {
         Slot::Live(live) => {
@@ -199,21 +202,21 @@ pub(crate) fn kill_in<K: Actor>(slot: &mut Slot<K>, asked: bool) -> Outcome
 
 /// Whether the actor died.
 pub(crate) fn is_dead_in<K: Actor>(slot: &Slot<K>) -> bool
-    ensures { result ≡ is_dead_seen (slot_seen K.state slot.now) }
+    ensures { result ≡ is_dead_slot (slot_view K.state slot.now) }
 {
     matches!(slot, Slot::Dead(_))
 }
 
 /// Whether the actor runs.
 pub(crate) fn is_live_in<K: Actor>(slot: &Slot<K>) -> bool
-    ensures { result ≡ is_live_seen (slot_seen K.state slot.now) }
+    ensures { result ≡ is_live_slot (slot_view K.state slot.now) }
 {
     matches!(slot, Slot::Live(_))
 }
 
 /// Whether the actor runs, and the caller's next call has come to it.
 pub(crate) fn has_next_in<K: Actor>(slot: &Slot<K>, c: CallerId) -> bool
-    ensures { result ≡ has_next_seen c (slot_seen K.state slot.now) }
+    ensures { result ≡ has_next_in_slot c (slot_view K.state slot.now) }
 {
     match slot {
         Slot::Live(live) => live.has_next(c),
@@ -223,9 +226,9 @@ pub(crate) fn has_next_in<K: Actor>(slot: &Slot<K>, c: CallerId) -> bool
 
 /// The actor ends by itself, where it is drained.
 pub(crate) fn retire_in<K: Actor>(slot: &mut Slot<K>) -> Outcome
-    ensures retired { IsRetiredIn (slot_seen K.state slot.old) (slot_seen K.state slot.new) result }
+    ensures retired { IsRetiredIn (slot_view K.state slot.old) (slot_view K.state slot.new) result }
     ensures told { is_memory result ≡ false }
-    ensures refused { OnErr result (slot_seen K.state slot.new ≡ slot_seen K.state slot.old) }
+    ensures refused { OnErr result (slot_view K.state slot.new ≡ slot_view K.state slot.old) }
 {
     match mem::replace(slot, Slot::Vacant) {
         Slot::Live(live) => match live.retire() {

@@ -1,22 +1,22 @@
 //! Callers, actors, and the events between them.
 //!
-//! `K` is the kind, mostly a box. A clause names what is seen of a world by `world_seen` at the
+//! `K` is the kind, mostly a box. A clause names what is seen of a world by `world_view` at the
 //! kind's state.
 
 ghost use Rattle.std.specs.Prelude.{◌≡◌, ◌↔◌, ◌<◌, ◌++◌, ◌∷◌, [], ℕ, List, Option, Some, None, Err, ◌≤◌, ◌+◌, IfOk, IfErr, OnOk, OnErr, true, false, length, take, find, option_copied, vec_len, vec_capacity, IsTrue};
 ghost use Rattle.std.specs.Option.{option_map};
 ghost use Rattle.act_rules.specs.declared.event.Event.{Event as Happening};
 ghost use Rattle.act_rules.specs.declared.event.Event.TheVariants as event;
-ghost use Rattle.act_rules.specs.History.{Casting};
+ghost use Rattle.act_rules.specs.History.{ActorSpec};
 ghost use Rattle.act_rules.specs.Laws.{history};
 ghost use Rattle.act_rules.specs.Rules.{outcome_of, refusal_of};
-ghost use Rattle.act_world.specs.View.{world_seen, stage_seen, is_owner, stage_in};
-ghost use Rattle.act_world.specs.Ties.{IsOwnerAt, IsStage};
+ghost use Rattle.act_world.specs.View.{world_view, stage_view, is_owner, stage_in};
+ghost use Rattle.act_world.specs.Refines.{IsOwnerAt, IsStage};
 ghost use Rattle.act_world.specs.Headline.{IsConsistent};
 ghost use Rattle.act_world.specs.Memory.{takes_memory, TakesMemory, TakesMemoryAt};
-ghost use Rattle.act_world.specs.Stands.{Stands, is_memory, HasRoom, IsGrown, IsGrownBy, Follows, IsUnrefused, IsUnrefusedAt, Played};
+ghost use Rattle.act_world.specs.IsReachedBy.{IsReachedBy, is_memory, HasRoom, IsGrown, IsGrownBy, FollowsRules, IsUnrefused, IsUnrefusedAt, HasPlayed};
 
-use crate::exchange::{Exchange, Posted};
+use crate::network::{Network, Posted};
 use crate::slot::{
     Slot, Stage, bring, has_next_in, is_dead_in, is_live_in, kill_in, retire_in, run_at, slot_at,
     slot_of,
@@ -29,13 +29,13 @@ use act_types::{ActorId, CallerId, CopyOf, NoMemory, Notice};
 /// A world of callers and actors.
 #[derive(Drop)]
 pub struct World<K = Boxed> {
-    pub(crate) exchange: Exchange,
+    pub(crate) network: Network,
     /// The actors, by their numbers.
     pub(crate) slots: [Slot<K>; 9],
 }
 
 /// A world has fewer letters and notices than this: each has a place that a `u32` holds.
-const MOST_PLACES: usize = 4_294_967_296;
+const MAX_PLACES: usize = 4_294_967_296;
 
 /// Whether memory was refused, which is the one outcome that is not the rules'.
 pub fn is_memory(told: &Outcome) -> bool
@@ -47,37 +47,39 @@ pub fn is_memory(told: &Outcome) -> bool
 impl<K: Actor> World<K> {
     /// A letter is brought to its actor once more.
     fn deliver(&mut self, i: u32) -> Result<Outcome, NoMemory>
-        ensures ok { IfOk result (Follows (event.Deliver i) (world_seen K.state self.old) (world_seen K.state self.new)) }
+        ensures ok { IfOk result
+            (FollowsRules (event.Deliver i) (world_view K.state self.old) (world_view K.state self.new)) }
         ensures told { IfOk result (λ told. is_memory told ≡ false) }
-        ensures refused { IfOk result (λ told. OnErr told (world_seen K.state self.new ≡ world_seen K.state self.old)) }
-        ensures grown { IsGrown (world_seen K.state self.old).exchange (world_seen K.state self.new).exchange }
-        ensures last { OnErr result (IsUnrefused (event.Deliver i) (world_seen K.state self.old)) }
-        ensures memory { OnErr result (TakesMemory (event.Deliver i) (world_seen K.state self.old)) }
-        ensures err { OnErr result (world_seen K.state self.new ≡ world_seen K.state self.old) }
+        ensures refused { IfOk result (λ told. OnErr told (world_view K.state self.new ≡ world_view K.state self.old)) }
+        ensures grown { IsGrown (world_view K.state self.old).network (world_view K.state self.new).network }
+        ensures memory_last { OnErr result (IsUnrefused (event.Deliver i) (world_view K.state self.old)) }
+        ensures memory { OnErr result (TakesMemory (event.Deliver i) (world_view K.state self.old)) }
+        ensures err { OnErr result (world_view K.state self.new ≡ world_view K.state self.old) }
     {
-        let World { exchange, slots } = self;
-        let Some(letter) = exchange.letter(i) else {
+        let World { network, slots } = self;
+        let Some(letter) = network.letter(i) else {
             return Ok(Err(WorldRefusal::NoMail));
         };
-        bring(exchange, &mut slots[slot_of(letter.actor())], letter)
+        bring(network, &mut slots[slot_of(letter.actor())], letter)
     }
 
     /// The actor runs the caller's next call, if it has arrived, and tells the caller. Where that
     /// call ended the actor, it is dead from here on.
     fn run(&mut self, a: ActorId, c: CallerId) -> Result<Outcome, NoMemory>
-        requires room { HasRoom 1 (world_seen K.state self.old).exchange }
-        ensures ok { IfOk result (Follows (event.Run a c) (world_seen K.state self.old) (world_seen K.state self.new)) }
+        requires room { HasRoom 1 (world_view K.state self.old).network }
+        ensures ok { IfOk result
+            (FollowsRules (event.Run a c) (world_view K.state self.old) (world_view K.state self.new)) }
         ensures told { IfOk result (λ told. is_memory told ≡ false) }
-        ensures refused { IfOk result (λ told. OnErr told (world_seen K.state self.new ≡ world_seen K.state self.old)) }
-        ensures grown { IsGrown (world_seen K.state self.old).exchange (world_seen K.state self.new).exchange }
-        ensures last { OnErr result (IsUnrefused (event.Run a c) (world_seen K.state self.old)) }
-        ensures memory { OnErr result (TakesMemory (event.Run a c) (world_seen K.state self.old)) }
-        ensures err { OnErr result (world_seen K.state self.new ≡ world_seen K.state self.old) }
+        ensures refused { IfOk result (λ told. OnErr told (world_view K.state self.new ≡ world_view K.state self.old)) }
+        ensures grown { IsGrown (world_view K.state self.old).network (world_view K.state self.new).network }
+        ensures memory_last { OnErr result (IsUnrefused (event.Run a c) (world_view K.state self.old)) }
+        ensures memory { OnErr result (TakesMemory (event.Run a c) (world_view K.state self.old)) }
+        ensures err { OnErr result (world_view K.state self.new ≡ world_view K.state self.old) }
     {
         let slot = slot_at(&self.slots, a);
         let is_live = is_live_in(slot);
         let has_next = has_next_in(slot, c);
-        if let Some(refusal) = self.exchange.naming_refusal(c, a) {
+        if let Some(refusal) = self.network.naming_refusal(c, a) {
             return Ok(Err(refusal));
         }
         if !is_live {
@@ -86,14 +88,14 @@ impl<K: Actor> World<K> {
         if !has_next {
             return Ok(Ok(Did::Gap));
         }
-        self.exchange.replies.reserve(1)?;
+        self.network.replies.reserve(1)?;
         let Ok(reply) = run_at(&mut self.slots, a, c)? else {
             return Ok(Err(WorldRefusal::ActorEnded));
         };
         let reply = reply.unwrap();
         let place = reply.place;
-        let j = self.exchange.replies.len() as u32;
-        self.exchange.replies.push_reserved(Posted {
+        let j = self.network.replies.len() as u32;
+        self.network.replies.push_reserved(Posted {
             caller: c,
             notice: Notice::Answered(reply),
         });
@@ -102,35 +104,37 @@ impl<K: Actor> World<K> {
 
     /// The actor takes a kill, if one was asked.
     fn take_kill(&mut self, a: ActorId) -> Outcome
-        ensures follows { Follows (event.TakeKill a) (world_seen K.state self.old) (world_seen K.state self.new) result }
+        ensures follows { FollowsRules (event.TakeKill a) (world_view K.state self.old)
+            (world_view K.state self.new) result }
         ensures told { is_memory result ≡ false }
-        ensures refused { OnErr result (world_seen K.state self.new ≡ world_seen K.state self.old) }
-        ensures grown { IsGrown (world_seen K.state self.old).exchange (world_seen K.state self.new).exchange }
+        ensures refused { OnErr result (world_view K.state self.new ≡ world_view K.state self.old) }
+        ensures grown { IsGrown (world_view K.state self.old).network (world_view K.state self.new).network }
     {
-        let asked = self.exchange.is_asked(a);
+        let asked = self.network.is_asked(a);
         kill_in(&mut self.slots[slot_of(a)], asked)
     }
 
     /// The dead actor tells the caller its death.
     fn tell(&mut self, a: ActorId, c: CallerId) -> Result<Outcome, NoMemory>
-        requires room { HasRoom 1 (world_seen K.state self.old).exchange }
-        ensures ok { IfOk result (Follows (event.Tell a c) (world_seen K.state self.old) (world_seen K.state self.new)) }
+        requires room { HasRoom 1 (world_view K.state self.old).network }
+        ensures ok { IfOk result
+            (FollowsRules (event.Tell a c) (world_view K.state self.old) (world_view K.state self.new)) }
         ensures told { IfOk result (λ told. is_memory told ≡ false) }
-        ensures refused { IfOk result (λ told. OnErr told (world_seen K.state self.new ≡ world_seen K.state self.old)) }
-        ensures grown { IsGrown (world_seen K.state self.old).exchange (world_seen K.state self.new).exchange }
-        ensures last { OnErr result (IsUnrefused (event.Tell a c) (world_seen K.state self.old)) }
-        ensures err { OnErr result (world_seen K.state self.new ≡ world_seen K.state self.old) }
+        ensures refused { IfOk result (λ told. OnErr told (world_view K.state self.new ≡ world_view K.state self.old)) }
+        ensures grown { IsGrown (world_view K.state self.old).network (world_view K.state self.new).network }
+        ensures memory_last { OnErr result (IsUnrefused (event.Tell a c) (world_view K.state self.old)) }
+        ensures err { OnErr result (world_view K.state self.new ≡ world_view K.state self.old) }
     {
         let is_dead = is_dead_in(slot_at(&self.slots, a));
-        if let Some(refusal) = self.exchange.naming_refusal(c, a) {
+        if let Some(refusal) = self.network.naming_refusal(c, a) {
             return Ok(Err(refusal));
         }
         if !is_dead {
             return Ok(Err(WorldRefusal::NotDead));
         }
-        self.exchange.replies.reserve(1)?;
-        let j = self.exchange.replies.len() as u32;
-        self.exchange.replies.push_reserved(Posted {
+        self.network.replies.reserve(1)?;
+        let j = self.network.replies.len() as u32;
+        self.network.replies.push_reserved(Posted {
             caller: c,
             notice: Notice::Death(a),
         });
@@ -139,34 +143,35 @@ impl<K: Actor> World<K> {
 
     /// The actor ends by itself, where it is drained.
     fn retire(&mut self, a: ActorId) -> Outcome
-        ensures follows { Follows (event.Retire a) (world_seen K.state self.old) (world_seen K.state self.new) result }
+        ensures follows { FollowsRules (event.Retire a) (world_view K.state self.old)
+            (world_view K.state self.new) result }
         ensures told { is_memory result ≡ false }
-        ensures refused { OnErr result (world_seen K.state self.new ≡ world_seen K.state self.old) }
-        ensures grown { IsGrown (world_seen K.state self.old).exchange (world_seen K.state self.new).exchange }
+        ensures refused { OnErr result (world_view K.state self.new ≡ world_view K.state self.old) }
+        ensures grown { IsGrown (world_view K.state self.old).network (world_view K.state self.new).network }
     {
         retire_in(&mut self.slots[slot_of(a)])
     }
 
     /// One event. An `Err` leaves the world as it was.
     fn step(&mut self, event: &Event) -> Result<Outcome, NoMemory>
-        requires room { HasRoom 1 (world_seen K.state self.old).exchange }
-        ensures ok { IfOk result (Follows event.now (world_seen K.state self.old) (world_seen K.state self.new)) }
+        requires room { HasRoom 1 (world_view K.state self.old).network }
+        ensures ok { IfOk result (FollowsRules event.now (world_view K.state self.old) (world_view K.state self.new)) }
         ensures told { IfOk result (λ told. is_memory told ≡ false) }
-        ensures refused { IfOk result (λ told. OnErr told (world_seen K.state self.new ≡ world_seen K.state self.old)) }
-        ensures grown { IsGrown (world_seen K.state self.old).exchange (world_seen K.state self.new).exchange }
-        ensures last { OnErr result (IsUnrefused event.now (world_seen K.state self.old)) }
-        ensures memory { OnErr result (TakesMemory event.now (world_seen K.state self.old)) }
-        ensures err { OnErr result (world_seen K.state self.new ≡ world_seen K.state self.old) }
+        ensures refused { IfOk result (λ told. OnErr told (world_view K.state self.new ≡ world_view K.state self.old)) }
+        ensures grown { IsGrown (world_view K.state self.old).network (world_view K.state self.new).network }
+        ensures memory_last { OnErr result (IsUnrefused event.now (world_view K.state self.old)) }
+        ensures memory { OnErr result (TakesMemory event.now (world_view K.state self.old)) }
+        ensures err { OnErr result (world_view K.state self.new ≡ world_view K.state self.old) }
     {
         match event {
-            Event::Submit(c, a, method, args) => self.exchange.submit(*c, *a, *method, args),
-            Event::Copy(c, a) => Ok(self.exchange.copy(*c, *a)),
-            Event::Release(c, a) => self.exchange.release(*c, *a),
-            Event::Send(c, k) => self.exchange.send(*c, *k),
+            Event::Submit(c, a, method, args) => self.network.submit(*c, *a, *method, args),
+            Event::Copy(c, a) => Ok(self.network.copy(*c, *a)),
+            Event::Release(c, a) => self.network.release(*c, *a),
+            Event::Send(c, k) => self.network.send(*c, *k),
             Event::Deliver(i) => self.deliver(*i),
             Event::Run(a, c) => self.run(*a, *c),
-            Event::Collect(j) => self.exchange.collect(*j),
-            Event::AskKill(c, a) => Ok(self.exchange.ask_kill(*c, *a)),
+            Event::Collect(j) => self.network.collect(*j),
+            Event::AskKill(c, a) => Ok(self.network.ask_kill(*c, *a)),
             Event::TakeKill(a) => Ok(self.take_kill(*a)),
             Event::Tell(a, c) => self.tell(*a, *c),
             Event::Retire(a) => Ok(self.retire(*a)),
@@ -175,40 +180,43 @@ impl<K: Actor> World<K> {
 
     /// Whether there is room for so many events more: each adds one letter or notice at most.
     pub fn has_room(&self, count: usize) -> bool
-        ensures { IsTrue result ↔ HasRoom count (world_seen K.state self.now).exchange }
+        ensures { IsTrue result ↔ HasRoom count (world_view K.state self.now).network }
     {
-        let letters = self.exchange.mail.len();
-        let notices = self.exchange.replies.len();
-        letters < MOST_PLACES
-            && notices < MOST_PLACES
-            && count < MOST_PLACES
-            && letters + notices + count < MOST_PLACES
+        let letters = self.network.mail.len();
+        let notices = self.network.replies.len();
+        letters < MAX_PLACES
+            && notices < MAX_PLACES
+            && count < MAX_PLACES
+            && letters + notices + count < MAX_PLACES
     }
 
     /// Makes room for the calls that events submit, so that memory is asked for once and not call by
     /// call. It refuses nothing: where memory doesn't serve for so many, room is made call by call.
     pub fn make_room(&mut self, events: &[Event])
-        ensures { world_seen K.state self.new ≡ world_seen K.state self.old }
+        ensures { world_view K.state self.new ≡ world_view K.state self.old }
     {
-        self.exchange.make_room(events);
+        self.network.make_room(events);
     }
 
     /// Does an event, and tells what it did or the first refusal that met it.
     pub fn apply(&mut self, event: &Event) -> Result<Did, WorldRefusal>
-        requires room { HasRoom 1 (world_seen K.state self.old).exchange }
-        ensures outcome { is_memory result ≡ false → (casts : List Casting) (before : List Happening) →
-            Stands casts before (world_seen K.state self.old) → result ≡ outcome_of (history casts before) event.now }
-        ensures stands { is_memory result ≡ false → (casts : List Casting) (before : List Happening) →
-            Stands casts before (world_seen K.state self.old) →
-            Stands casts (before ++ event.now ∷ []) (world_seen K.state self.new) }
-        ensures grown { IsGrown (world_seen K.state self.old).exchange (world_seen K.state self.new).exchange }
+        requires room { HasRoom 1 (world_view K.state self.old).network }
+        ensures outcome { is_memory result ≡ false → (casts : List ActorSpec) (before : List Happening) →
+            IsReachedBy casts before (world_view K.state self.old) →
+            result ≡ outcome_of (history casts before) event.now }
+        ensures reached { is_memory result ≡ false → (casts : List ActorSpec) (before : List Happening) →
+            IsReachedBy casts before (world_view K.state self.old) →
+            IsReachedBy casts (before ++ event.now ∷ []) (world_view K.state self.new) }
+        ensures grown { IsGrown (world_view K.state self.old).network (world_view K.state self.new).network }
         // Want of memory comes last.
-        ensures last { is_memory result ≡ true → (casts : List Casting) (before : List Happening) →
-            Stands casts before (world_seen K.state self.old) → refusal_of (history casts before) event.now ≡ None }
+        ensures memory_last { is_memory result ≡ true → (casts : List ActorSpec) (before : List Happening) →
+            IsReachedBy casts before (world_view K.state self.old) →
+            refusal_of (history casts before) event.now ≡ None }
         // It comes for no event that takes none.
-        ensures memory { is_memory result ≡ true → (casts : List Casting) (before : List Happening) →
-            Stands casts before (world_seen K.state self.old) → takes_memory event.now (history casts before) ≡ true }
-        ensures err { OnErr result (world_seen K.state self.new ≡ world_seen K.state self.old) }
+        ensures memory { is_memory result ≡ true → (casts : List ActorSpec) (before : List Happening) →
+            IsReachedBy casts before (world_view K.state self.old) →
+            takes_memory event.now (history casts before) ≡ true }
+        ensures err { OnErr result (world_view K.state self.new ≡ world_view K.state self.old) }
     {
         match self.step(event) {
             Err(NoMemory) => Err(WorldRefusal::NoMemory),
@@ -220,25 +228,27 @@ impl<K: Actor> World<K> {
     /// and tells at which place. Room for all outcomes is asked for first, and where it is refused,
     /// the place is 0.
     pub fn play(&mut self, events: &[Event], told: &mut Vec<Outcome>) -> Result<(), u32>
-        requires room { HasRoom (length events.now) (world_seen K.state self.old).exchange }
-        ensures ok { OnOk result (Played events.now (world_seen K.state self.old)
-            (world_seen K.state self.new) told.old.items told.new.items) }
-        ensures grown { IsGrownBy (length events.now) (world_seen K.state self.old).exchange (world_seen K.state self.new).exchange }
+        requires room { HasRoom (length events.now) (world_view K.state self.old).network }
+        ensures ok { OnOk result (HasPlayed events.now (world_view K.state self.old)
+            (world_view K.state self.new) told.old.items told.new.items) }
+        ensures grown { IsGrownBy (length events.now) (world_view K.state self.old).network
+            (world_view K.state self.new).network }
         ensures place { IfErr result (λ i. i < length events.now) }
-        ensures err { IfErr result (λ i. Played (take i events.now) (world_seen K.state self.old)
-            (world_seen K.state self.new) told.old.items told.new.items) }
-        ensures first { result ≡ Err 0 → (world_seen K.state self.new ≡ world_seen K.state self.old) × (told.new.items ≡ told.old.items) }
+        ensures err { IfErr result (λ i. HasPlayed (take i events.now) (world_view K.state self.old)
+            (world_view K.state self.new) told.old.items told.new.items) }
+        ensures first { result ≡ Err 0 →
+            (world_view K.state self.new ≡ world_view K.state self.old) × (told.new.items ≡ told.old.items) }
 
         // Nothing refuses the event of a later stop, nor that of any stop where there is room for
         // all outcomes.
-        ensures last { IfErr result (λ i. 0 < i → IsUnrefusedAt i events.now (world_seen K.state self.new)) }
+        ensures memory_last { IfErr result (λ i. 0 < i → IsUnrefusedAt i events.now (world_view K.state self.new)) }
         ensures last_with_room { vec_len told.old + length events.now ≤ vec_capacity told.new →
-            IfErr result (λ i. IsUnrefusedAt i events.now (world_seen K.state self.new)) }
+            IfErr result (λ i. IsUnrefusedAt i events.now (world_view K.state self.new)) }
 
         // And that event takes memory.
-        ensures memory { IfErr result (λ i. 0 < i → TakesMemoryAt i events.now (world_seen K.state self.new)) }
+        ensures memory { IfErr result (λ i. 0 < i → TakesMemoryAt i events.now (world_view K.state self.new)) }
         ensures memory_with_room { vec_len told.old + length events.now ≤ vec_capacity told.new →
-            IfErr result (λ i. TakesMemoryAt i events.now (world_seen K.state self.new)) }
+            IfErr result (λ i. TakesMemoryAt i events.now (world_view K.state self.new)) }
         ensures capacity { vec_capacity told.old ≤ vec_capacity told.new }
     {
         let Ok(()) = told.reserve(events.len()) else {
@@ -253,28 +263,31 @@ impl<K: Actor> World<K> {
         Ok(())
     }
 
-    /// A standing world is consistent: each actor ran a front of what each of its callers submitted
+    /// A standing world is consistent: each actor ran a prefix of what each of its callers submitted
     /// to it, in order, each call once, and each answer kept is that of the call's place in a run
     /// list, or a dead actor's fault.
     pub fn consistent(&self)
-        ensures { (casts : List Casting) (events : List Happening) → Stands casts events (world_seen K.state self.now) →
-            IsConsistent casts (world_seen K.state self.now) }
+        ensures { (casts : List ActorSpec) (events : List Happening) →
+            IsReachedBy casts events (world_view K.state self.now) →
+            IsConsistent casts (world_view K.state self.now) }
     {}
 
     /// A caller, where some cast names it.
     pub fn owner(&self, c: CallerId) -> Option<&Owner>
-        ensures shown { option_copied result ≡ find (is_owner c) (world_seen K.state self.now).exchange.owners }
-        ensures stands { (casts : List Casting) (events : List Happening) → Stands casts events (world_seen K.state self.now) →
+        ensures shown { option_copied result ≡ find (is_owner c) (world_view K.state self.now).network.owners }
+        ensures reached { (casts : List ActorSpec) (events : List Happening) →
+            IsReachedBy casts events (world_view K.state self.now) →
             IsOwnerAt (history casts events) c (option_copied result) }
     {
-        self.exchange.owner(c)
+        self.network.owner(c)
     }
 
     /// An actor in the state that it is in, where it has a cast.
     pub fn stage(&self, a: ActorId) -> Option<Stage<'_, K>>
-        ensures shown { option_map (stage_seen K.state) result ≡ stage_in (world_seen K.state self.now) a }
-        ensures stands { (casts : List Casting) (events : List Happening) → Stands casts events (world_seen K.state self.now) →
-            IsStage (history casts events) a (option_map (stage_seen K.state) result) }
+        ensures shown { option_map (stage_view K.state) result ≡ stage_in (world_view K.state self.now) a }
+        ensures reached { (casts : List ActorSpec) (events : List Happening) →
+            IsReachedBy casts events (world_view K.state self.now) →
+            IsStage (history casts events) a (option_map (stage_view K.state) result) }
     {
         slot_at(&self.slots, a).stage()
     }

@@ -33,12 +33,12 @@ reaches Own own actor = own == actor
 reaches Both own actor = true
 
 -- the callers that call an actor
-abbrev pub callers_of : Work → ℕ → List ℕ
-callers_of work actor = filter (λ caller. reaches work.reach (actor_at work caller 0) actor) (one_to work.callers)
+abbrev pub callers_in_work : Work → ℕ → List ℕ
+callers_in_work work actor = filter (λ caller. reaches work.reach (actor_at work caller 0) actor) (one_to work.callers)
 
 -- an actor, and who calls it
-abbrev pub cast_of : Work → ℕ → ℕ × List ℕ
-cast_of work actor = (actor, callers_of work actor)
+abbrev pub cast_in_work : Work → ℕ → ℕ × List ℕ
+cast_in_work work actor = (actor, callers_in_work work actor)
 
-abbrev pub cast_seen : {K : Type 0} → Cast K → ℕ × List ℕ
-cast_seen cast = (cast.actor, cast.callers)
+abbrev pub cast_view : {K : Type 0} → Cast K → ℕ × List ℕ
+cast_view cast = (cast.actor, cast.callers)

@@ -2,7 +2,7 @@
 
 use crate::stop::Stop;
 use crate::work::{Reach, Style, Work};
-use act_types::{ActorId, CallerId, MOST_CALLS};
+use act_types::{ActorId, CallerId, MAX_CALLS};
 use std::env;
 use std::rt::Env;
 
@@ -23,7 +23,7 @@ fn last_actor(word: &str) -> Option<ActorId> {
 
 fn calls_of(word: &str) -> Option<u32> {
     let calls = word.parse::<u32>().ok()?;
-    if calls <= MOST_CALLS {
+    if calls <= MAX_CALLS {
         Some(calls)
     } else {
         None

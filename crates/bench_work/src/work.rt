@@ -2,7 +2,7 @@
 
 ghost use Rattle.std.specs.Prelude.{◌≡◌, ◌<◌, ◌*◌, ◌^◌, IfOk, All, None, map, pos};
 ghost use Rattle.act_rules.specs.Report.{one_to};
-ghost use Rattle.bench_work.specs.Work.{actor_at, cast_of, cast_seen, callers_of, one_more, reaches};
+ghost use Rattle.bench_work.specs.Work.{actor_at, cast_in_work, cast_view, callers_in_work, one_more, reaches};
 
 use act_actor::Cast;
 use act_kinds::Counter;
@@ -85,7 +85,7 @@ impl fmt::Display for Work {
 
 /// The callers that call an actor.
 fn callers_of(alloc: Global, work: &Work, actor: ActorId) -> Result<ListOf<CallerId>, NoMemory>
-    ensures { IfOk result (λ callers. callers ≡ callers_of work.now actor) }
+    ensures { IfOk result (λ callers. callers ≡ callers_in_work work.now actor) }
 {
     let mut callers = Vec::new(alloc);
     for before in 0..work.callers.number() {
@@ -99,7 +99,8 @@ fn callers_of(alloc: Global, work: &Work, actor: ActorId) -> Result<ListOf<Calle
 
 /// A counter at 0 for each actor, without a limit.
 pub fn casts_of(alloc: Global, work: &Work) -> Result<Vec<Cast<Counter>>, NoMemory>
-    ensures names { IfOk result (λ casts. map cast_seen casts.items ≡ map (cast_of work.now) (one_to work.now.actors)) }
+    ensures names { IfOk result (λ casts.
+        map cast_view casts.items ≡ map (cast_in_work work.now) (one_to work.now.actors)) }
     ensures limits { IfOk result (λ casts. All (λ cast. cast.pending ≡ None) casts.items) }
     ensures kinds { IfOk result (λ casts. All (λ cast. cast.kind ≡ pos 0) casts.items) }
 {

@@ -15,14 +15,14 @@ use Rattle.act_types.specs.declared.fault.Fault.TheVariants.{NoMethod, BadArgs, 
 use Rattle.act_types.specs.KindState.{KindState, AccountAt}
 use Rattle.act_rules.specs.declared.history.RunItem.{RunItem}
 use Rattle.act_rules.specs.Kinds.{is_in_range, need}
-use Rattle.act_rules.specs.RunList.{Answer, values_of, with_value, replied, asked, after_item, answers_from, state_after}
-use Rattle.own_callers.specs.Accounts.{put_by, taken_by, put_in, taken_in, HoldsWhatWasPutIn}
+use Rattle.act_rules.specs.RunList.{Answer, values_of, with_value, step_of_reply, step_of_call, after_item, answers_from, state_after}
+use Rattle.own_callers.specs.Accounts.{paid_in_by, paid_out_by, put_in, taken_in, HoldsWhatWasPutIn}
 
 -- what one call leaves of an account
 record Steps (n : ℕ) (method : Method) (args : List Settled) (done : KindState × Answer) : Type 0 where
   balance : ℕ
   left : done.0 ≡ AccountAt (pos balance)
-  kept : balance + taken_by (Some done.1) method args ≡ n + put_by (Some done.1) method args
+  kept : balance + paid_out_by (Some done.1) method args ≡ n + paid_in_by (Some done.1) method args
 
 -- a fault leaves the account
 refused : (n : ℕ) (method : Method) (args : List Settled) (fault : Fault) → Steps n method args (AccountAt (pos n), Err fault)
@@ -30,7 +30,7 @@ refused n method args fault = record { balance = n; left = refl; kept = refl }
 
 -- the state and the answer of a call to an account
 abbrev asks : ℕ → Method → Result (List Value) ℕ → KindState × Answer
-asks n method values = asked (AccountAt (pos n)) (record { caller = 0; number = 0; future = 0; method = method; args = [] }) values
+asks n method values = step_of_call (AccountAt (pos n)) (record { caller = 0; number = 0; future = 0; method = method; args = [] }) values
 
 less : (n k : ℕ) → suc k ≤ n → (m : ℕ) × (m + suc k ≡ n) × (pos n -ℤ pos (suc k) ≡ pos m)
 less n k h = (n - suc k, omega (arith, h), subtracted n k h)
@@ -43,7 +43,7 @@ deposited n (pos zero) = refused n m.Deposit (Good (Int (pos zero)) ∷ []) BadA
 deposited n (negsuc k) = refused n m.Deposit (Good (Int (negsuc k)) ∷ []) BadAmount
 deposited n (pos (suc k)) = go (int_lt (pos zero) (pos (suc k))) (is_in_range (pos n +ℤ pos (suc k)))
   where
-    go : (a b : Bool) → Steps n m.Deposit (Good (Int (pos (suc k))) ∷ []) (replied (AccountAt (pos n)) (need a BadAmount (need b Overflow (Ok (AccountAt (pos n +ℤ pos (suc k)), Int (pos n +ℤ pos (suc k)))))))
+    go : (a b : Bool) → Steps n m.Deposit (Good (Int (pos (suc k))) ∷ []) (step_of_reply (AccountAt (pos n)) (need a BadAmount (need b Overflow (Ok (AccountAt (pos n +ℤ pos (suc k)), Int (pos n +ℤ pos (suc k)))))))
     go true true = record { balance = n + suc k; left = refl; kept = omega arith }
     go true false = refused n m.Deposit (Good (Int (pos (suc k))) ∷ []) Overflow
     go false b = refused n m.Deposit (Good (Int (pos (suc k))) ∷ []) BadAmount
@@ -53,7 +53,7 @@ withdrawn n (pos zero) = refused n m.Withdraw (Good (Int (pos zero)) ∷ []) Bad
 withdrawn n (negsuc k) = refused n m.Withdraw (Good (Int (negsuc k)) ∷ []) BadAmount
 withdrawn n (pos (suc k)) = go (int_lt (pos zero) (pos (suc k))) (nat_le (suc k) n) refl
   where
-    go : (a b : Bool) → nat_le (suc k) n ≡ b → Steps n m.Withdraw (Good (Int (pos (suc k))) ∷ []) (replied (AccountAt (pos n)) (need a BadAmount (need b Insufficient (Ok (AccountAt (pos n -ℤ pos (suc k)), Int (pos n -ℤ pos (suc k)))))))
+    go : (a b : Bool) → nat_le (suc k) n ≡ b → Steps n m.Withdraw (Good (Int (pos (suc k))) ∷ []) (step_of_reply (AccountAt (pos n)) (need a BadAmount (need b Insufficient (Ok (AccountAt (pos n -ℤ pos (suc k)), Int (pos n -ℤ pos (suc k)))))))
     go true true e = let l = less n k (leb-true (suc k) n e) in record { balance = l.0; left = ap AccountAt l.2; kept = omega (arith, l.1) }
     go true false e = refused n m.Withdraw (Good (Int (pos (suc k))) ∷ []) Insufficient
     go false b e = refused n m.Withdraw (Good (Int (pos (suc k))) ∷ []) BadAmount
@@ -116,15 +116,15 @@ step n m.Len args = foreign n m.Len args (values_of args) (λ vs. refl)
 step n (m.Own name) args = foreign n (m.Own name) args (values_of args) (λ vs. refl)
 
 -- an item asks as its method and its values do
-asks_so : (n : ℕ) (item : RunItem) (values : Result (List Value) ℕ) → asked (AccountAt (pos n)) item values ≡ asks n item.method values
+asks_so : (n : ℕ) (item : RunItem) (values : Result (List Value) ℕ) → step_of_call (AccountAt (pos n)) item values ≡ asks n item.method values
 asks_so n item (Ok vs) = refl
 asks_so n item (Err k) = refl
 
 abbrev out_of : RunItem × Answer → ℕ
-out_of ran = taken_by (Some ran.1) ran.0.method ran.0.args
+out_of ran = paid_out_by (Some ran.1) ran.0.method ran.0.args
 
 abbrev into : RunItem × Answer → ℕ
-into ran = put_by (Some ran.1) ran.0.method ran.0.args
+into ran = paid_in_by (Some ran.1) ran.0.method ran.0.args
 
 -- what is left after one item and those behind it
 record Goes (n : ℕ) (item : RunItem) (items : List RunItem) (done : KindState × Answer) : Type 0 where
@@ -135,10 +135,10 @@ record Goes (n : ℕ) (item : RunItem) (items : List RunItem) (done : KindState 
 goes : (n : ℕ) (item : RunItem) (items : List RunItem) (done : KindState × Answer) → Steps n item.method item.args done → ((b : ℕ) → HoldsWhatWasPutIn b items) → Goes n item items done
 goes n item items done one rest =
     let h : HoldsWhatWasPutIn one.balance items = rest one.balance in
-    let out : sum_by out_of ((item, done.1) ∷ zip items (answers_from done.0 items)) ≡ taken_by (Some done.1) item.method item.args + taken_in (AccountAt (pos one.balance)) items =
-    sum_by-cons out_of (item, done.1) (zip items (answers_from done.0 items)) ∙ ap (λ (s : KindState). taken_by (Some done.1) item.method item.args + taken_in s items) one.left in
-    let in_all : sum_by into ((item, done.1) ∷ zip items (answers_from done.0 items)) ≡ put_by (Some done.1) item.method item.args + put_in (AccountAt (pos one.balance)) items =
-    sum_by-cons into (item, done.1) (zip items (answers_from done.0 items)) ∙ ap (λ (s : KindState). put_by (Some done.1) item.method item.args + put_in s items) one.left in
+    let out : sum_by out_of ((item, done.1) ∷ zip items (answers_from done.0 items)) ≡ paid_out_by (Some done.1) item.method item.args + taken_in (AccountAt (pos one.balance)) items =
+    sum_by-cons out_of (item, done.1) (zip items (answers_from done.0 items)) ∙ ap (λ (s : KindState). paid_out_by (Some done.1) item.method item.args + taken_in s items) one.left in
+    let in_all : sum_by into ((item, done.1) ∷ zip items (answers_from done.0 items)) ≡ paid_in_by (Some done.1) item.method item.args + put_in (AccountAt (pos one.balance)) items =
+    sum_by-cons into (item, done.1) (zip items (answers_from done.0 items)) ∙ ap (λ (s : KindState). paid_in_by (Some done.1) item.method item.args + put_in s items) one.left in
     record {
       balance = h.balance;
       left = ap (λ (s : KindState). state_after s items) one.left ∙ h.left;

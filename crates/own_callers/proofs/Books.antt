@@ -11,7 +11,7 @@ use Rattle.act_types.specs.KindState.{KindState}
 use Rattle.act_rules.specs.declared.history.RunItem.{RunItem}
 use Rattle.act_rules.specs.declared.history.Submission.{Submission}
 use Rattle.act_rules.specs.RunList.{Answer, answer_at, answers_from, after_item, items_of}
-use Rattle.act_rules.specs.Submissions.{calls_to, kept_at, settled}
+use Rattle.act_rules.specs.Submissions.{calls_to, kept_at, settle}
 use Rattle.act_rules.specs.History.{contains}
 use Rattle.act_rules.specs.Consistent.{Consistent, IsAsSubmitted, IsAnswerOfRun, IsCallToDead}
 use Rattle.act_rules.proofs.Lists.{All_at, slice_get-enumerate_from, slice_get-filter}
@@ -45,7 +45,7 @@ module _ (moved : Option Answer → Method → List Settled → ℕ) where
   by_log state items = sum_by ran (zip items (answers_from state items))
 
   abbrev pub call_moved : List (Option Answer) → ℕ × Submission → ℕ
-  call_moved kept call = moved (kept_at kept call.0) call.1.method (map (settled kept) call.1.args)
+  call_moved kept call = moved (kept_at kept call.0) call.1.method (map (settle kept) call.1.args)
 
   abbrev pub by_calls : ℕ → List Submission → List (Option Answer) → ℕ
   by_calls a calls kept = sum_by (call_moved kept) (calls_to a calls)

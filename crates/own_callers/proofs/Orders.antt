@@ -4,15 +4,15 @@ use Rattle.std.specs.Prelude.{Ok}
 use Rattle.act_types.specs.declared.value.Value.TheVariants.{Int}
 use Rattle.act_rules.specs.declared.script.Step.{Step}
 use Rattle.act_rules.specs.declared.history.Submission.{Submission}
-use Rattle.act_rules.specs.History.{Casting}
-use Rattle.act_owner.specs.Owner.{OwnerValue}
-use Rattle.act_drive.specs.Sessions.{Seen, seen_of, IsLater}
+use Rattle.act_rules.specs.History.{ActorSpec}
+use Rattle.act_owner.specs.Owner.{OwnerView}
+use Rattle.act_drive.specs.Sessions.{SessionView, session_view, IsLater}
 use Rattle.act_executor.specs.ByCode.{HasTold}
 use Rattle.own_callers.specs.declared.buyer.Buyer.{Buyer}
 use Rattle.own_callers.specs.Buyer.{HasPaid, buyer_tells, order}
 use Rattle.own_callers.specs.Buyers.{HasLeft}
 
-still_paid : (buyer : Buyer) (old new : Seen) → new.calls ≡ old.calls → IsLater old new → HasPaid buyer old → HasPaid buyer new
+still_paid : (buyer : Buyer) (old new : SessionView) → new.calls ≡ old.calls → IsLater old new → HasPaid buyer old → HasPaid buyer new
 still_paid buyer old new same later has =
     record {
       paid = λ args ordered.
@@ -20,10 +20,10 @@ still_paid buyer old new same later has =
           (paid.0, later.kept 0 (Ok (Int paid.0)) paid.1);
     }
 
-pub has_left : (casts : List Casting) (steps : List (ℕ × List Step)) (owners : List OwnerValue) (given : ℕ × Buyer) → HasTold buyer_tells casts steps owners given → HasLeft owners given
+pub has_left : (casts : List ActorSpec) (steps : List (ℕ × List Step)) (owners : List OwnerView) (given : ℕ × Buyer) → HasTold buyer_tells casts steps owners given → HasLeft owners given
 has_left casts steps owners given told =
     record {
       owner = told.owner;
       left = told.left;
-      paid = still_paid given.1 told.told.last (seen_of told.owner) told.told.calls told.told.on (told.told.told refl);
+      paid = still_paid given.1 told.told.last (session_view told.owner) told.told.calls told.told.on (told.told.told refl);
     }

@@ -7,13 +7,13 @@ use Rattle.act_types.specs.declared.call.Arg.TheVariants.{Plain}
 use Rattle.act_types.specs.declared.call.Method.TheVariants.{Withdraw}
 use Rattle.act_rules.specs.RunList.{Answer}
 use Rattle.act_rules.specs.Submissions.{kept_at}
-use Rattle.act_drive.specs.Sessions.{Seen, IsLater, Submits}
+use Rattle.act_drive.specs.Sessions.{SessionView, IsLater, Submits}
 use Rattle.own_callers.specs.declared.retry.Retry.{Retry}
 use Rattle.own_callers.specs.Retry.{tries, is_lacking, HasFailed, HasTried}
 use Rattle.own_callers.proofs.Calls.{called, kept_same}
 use Rattle.own_callers.proofs.Works.{replicate_more, length_of, last_or_before}
 
-pub none_failed : (r : Retry) (seen : Seen) → seen.calls ≡ [] → HasFailed r 0 seen
+pub none_failed : (r : Retry) (seen : SessionView) → seen.calls ≡ [] → HasFailed r 0 seen
 none_failed r seen none = record { calls = none; failed = λ k below. absurd (omega (arith, below)) }
 
 lacking_there : (o : Option Answer) → is_lacking o ≡ true → is_some o ≡ true
@@ -21,7 +21,7 @@ lacking_there None lacking = cc
 lacking_there (Some answer) lacking = refl
 
 -- one try more
-module _ (r : Retry) (n : ℕ) (old new : Seen) (k : ℕ) (args : List Arg) (so : HasFailed r n old) (amount : args ≡ Plain (Int r.amount) ∷ []) (future : k ≡ length old.calls)
+module _ (r : Retry) (n : ℕ) (old new : SessionView) (k : ℕ) (args : List Arg) (so : HasFailed r n old) (amount : args ≡ Plain (Int r.amount) ∷ []) (future : k ≡ length old.calls)
     (submits : Submits (record { actor = r.account; method = Withdraw; args = args }) old new) (on : IsLater old new) where
   place : k ≡ n
   place = future ∙ length_of old.calls n (tries r) so.calls

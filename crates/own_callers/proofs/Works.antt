@@ -11,9 +11,9 @@ use Rattle.act_types.specs.declared.call.Method.TheVariants.{Add, Own}
 use Rattle.act_rules.specs.declared.history.Submission.{Submission}
 use Rattle.act_rules.specs.RunList.{Answer}
 use Rattle.act_rules.specs.Submissions.{kept_at}
-use Rattle.act_drive.specs.Sessions.{Seen, IsLater, Submits}
+use Rattle.act_drive.specs.Sessions.{SessionView, IsLater, Submits}
 use Rattle.own_callers.specs.declared.worker.Worker.{Worker}
-use Rattle.own_callers.specs.Worker.{takes, is_job, HasWorked}
+use Rattle.own_callers.specs.Worker.{takes, is_job, HasDoneJobs}
 use Rattle.own_callers.proofs.Calls.{called, kept_same}
 
 pub replicate_more : {A : Type 0} (n : ℕ) (x : A) → replicate n x ++ x ∷ [] ≡ replicate (n + 1) x
@@ -26,22 +26,22 @@ pub last_or_before : (j n : ℕ) → j < n + 1 → (j ≡ n) ⊎ (j < n)
 last_or_before j n below = eq-or-lt_of_le (omega (arith, below))
 
 -- it was given so many jobs so far
-pub record AtWork (w : Worker) (n : ℕ) (seen : Seen) : Type 0 where
+pub record AtWork (w : Worker) (n : ℕ) (seen : SessionView) : Type 0 where
   pub calls : seen.calls ≡ replicate n (takes w)
   pub given : (k : ℕ) → k < n → is_job (kept_at seen.kept k) ≡ true
 
-pub at_work : (w : Worker) (seen : Seen) → seen.calls ≡ [] → AtWork w 0 seen
+pub at_work : (w : Worker) (seen : SessionView) → seen.calls ≡ [] → AtWork w 0 seen
 at_work w seen none = record { calls = none; given = λ k below. absurd (omega (arith, below)) }
 
 job_there : (o : Option Answer) → is_job o ≡ true → is_some o ≡ true
 job_there None job = cc
 job_there (Some answer) job = refl
 
-still : (old new : Seen) (n : ℕ) → IsLater old new → ((k : ℕ) → k < n → is_job (kept_at old.kept k) ≡ true) → (k : ℕ) → k < n → is_job (kept_at new.kept k) ≡ true
+still : (old new : SessionView) (n : ℕ) → IsLater old new → ((k : ℕ) → k < n → is_job (kept_at old.kept k) ≡ true) → (k : ℕ) → k < n → is_job (kept_at new.kept k) ≡ true
 still old new n on given k below = ap is_job (kept_same old new k on (job_there (kept_at old.kept k) (given k below))) ∙ given k below
 
 -- one question more
-module _ (w : Worker) (n : ℕ) (old new : Seen) (k : ℕ) (method : Method) (args : List Arg)
+module _ (w : Worker) (n : ℕ) (old new : SessionView) (k : ℕ) (method : Method) (args : List Arg)
     (work : AtWork w n old) (word : method ≡ Own (codes "dequeue")) (none : args ≡ []) (future : k ≡ length old.calls)
     (submits : Submits (record { actor = w.queue; method = method; args = args }) old new) (on : IsLater old new) where
   place : k ≡ n
@@ -61,8 +61,8 @@ module _ (w : Worker) (n : ℕ) (old new : Seen) (k : ℕ) (method : Method) (ar
       go j (inr less) = still old new n on work.given j less
 
   -- the last question, and then the number
-  pub worked : (last : Seen) (given : List Arg) → is_some (kept_at new.kept k) ≡ true → is_job (kept_at new.kept k) ≡ false
-      → given ≡ Plain (Int (pos n)) ∷ [] → Submits (record { actor = w.counter; method = Add; args = given }) new last → IsLater new last → HasWorked w last
+  pub worked : (last : SessionView) (given : List Arg) → is_some (kept_at new.kept k) ≡ true → is_job (kept_at new.kept k) ≡ false
+      → given ≡ Plain (Int (pos n)) ∷ [] → Submits (record { actor = w.counter; method = Add; args = given }) new last → IsLater new last → HasDoneJobs w last
   worked last given asked no_job number adding later =
       let same : kept_at last.kept n ≡ kept_at new.kept k = ap (kept_at last.kept) (sym place) ∙ kept_same new last k later asked in
       record {

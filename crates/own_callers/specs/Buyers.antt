@@ -1,13 +1,13 @@
 -- What a run of buyers leaves.
 use Rattle.std.specs.Prelude.{◌≡◌, ℕ, List, Some}
-use Rattle.act_owner.specs.Owner.{OwnerValue}
+use Rattle.act_owner.specs.Owner.{OwnerView}
 use Rattle.act_executor.specs.Joined.{owner_of}
-use Rattle.act_drive.specs.Sessions.{seen_of}
+use Rattle.act_drive.specs.Sessions.{session_view}
 use Rattle.own_callers.specs.declared.buyer.Buyer.{Buyer}
 use Rattle.own_callers.specs.Buyer.{HasPaid}
 
 -- an owner is left of the buyer's caller, and it has an order only where it has the answer of the payment
-pub record HasLeft (owners : List OwnerValue) (given : ℕ × Buyer) : Type 0 where
-  pub owner : OwnerValue
+pub record HasLeft (owners : List OwnerView) (given : ℕ × Buyer) : Type 0 where
+  pub owner : OwnerView
   pub left : owner_of given.0 owners ≡ Some owner
-  pub paid : HasPaid given.1 (seen_of owner)
+  pub paid : HasPaid given.1 (session_view owner)

@@ -1,5 +1,5 @@
 -- What a clerk tells.
-use Rattle.act_drive.specs.Sessions.{Seen}
+use Rattle.act_drive.specs.Sessions.{SessionView}
 use Rattle.own_callers.specs.declared.clerk.Clerk.{Clerk}
 use Rattle.own_callers.specs.declared.clerk.Clerk.TheVariants.{Transfer, Worker, Retry}
 use Rattle.own_callers.specs.Retry.{retry_tells}
@@ -7,7 +7,7 @@ use Rattle.own_callers.specs.Transfer.{transfer_tells}
 use Rattle.own_callers.specs.Worker.{worker_tells}
 
 -- what the code tells that it is
-abbrev pub clerk_tells : Clerk → Seen → Seen → Type 0
+abbrev pub clerk_tells : Clerk → SessionView → SessionView → Type 0
 clerk_tells (Transfer transfer) = transfer_tells transfer
 clerk_tells (Worker worker) = worker_tells worker
 clerk_tells (Retry retry) = retry_tells retry

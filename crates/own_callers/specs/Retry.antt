@@ -7,7 +7,7 @@ use Rattle.act_types.specs.declared.call.Method.TheVariants.{Withdraw}
 use Rattle.act_rules.specs.declared.history.Submission.{Submission}
 use Rattle.act_rules.specs.RunList.{Answer}
 use Rattle.act_rules.specs.Submissions.{kept_at}
-use Rattle.act_drive.specs.Sessions.{Seen}
+use Rattle.act_drive.specs.Sessions.{SessionView}
 use Rattle.own_callers.specs.declared.retry.Retry.{Retry}
 
 -- the call that it makes
@@ -20,12 +20,12 @@ is_lacking (Some (Err Insufficient)) = true
 is_lacking answer = false
 
 -- it tried so often as it may, and each time the account held too little
-pub record HasFailed (r : Retry) (count : ℕ) (seen : Seen) : Type 0 where
+pub record HasFailed (r : Retry) (count : ℕ) (seen : SessionView) : Type 0 where
   pub calls : seen.calls ≡ replicate count (tries r)
   pub failed : (k : ℕ) → k < count → is_lacking (kept_at seen.kept k) ≡ true
 
 -- it tried so often, and was answered otherwise the last time alone
-pub record HasTried (r : Retry) (seen : Seen) : Type 0 where
+pub record HasTried (r : Retry) (seen : SessionView) : Type 0 where
   pub before : ℕ
   pub few : before < r.most
   pub calls : seen.calls ≡ replicate (before + 1) (tries r)
@@ -33,5 +33,5 @@ pub record HasTried (r : Retry) (seen : Seen) : Type 0 where
   pub asked : is_some (kept_at seen.kept before) ≡ true
   pub last : is_lacking (kept_at seen.kept before) ≡ false
 
-abbrev pub retry_tells : Retry → Seen → Seen → Type 0
+abbrev pub retry_tells : Retry → SessionView → SessionView → Type 0
 retry_tells r old new = old.calls ≡ [] → HasFailed r r.most new ⊎ HasTried r new

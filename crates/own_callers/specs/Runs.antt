@@ -2,57 +2,59 @@
 use Rattle.std.specs.Prelude.{◌≡◌, ℕ, ◌+◌, List, Some, pos, All}
 use Rattle.std.specs.List.{sum_by}
 use Rattle.act_types.specs.KindState.{KindState, AccountAt}
-use Rattle.act_rules.specs.History.{Casting, opening, opening_of}
-use Rattle.act_owner.specs.Owner.{OwnerValue}
-use Rattle.act_actor.specs.View.{RetiredSeen}
-use Rattle.act_serve.specs.Served.{EndSeen, Retired, id_of}
-use Rattle.act_drive.specs.Sessions.{seen_of}
+use Rattle.act_rules.specs.History.{ActorSpec, opening, opening_of}
+use Rattle.act_owner.specs.Owner.{OwnerView}
+use Rattle.act_actor.specs.View.{RetiredView}
+use Rattle.act_serve.specs.Served.{EndView, Retired, end_id}
+use Rattle.act_drive.specs.Sessions.{session_view}
 use Rattle.act_executor.specs.Joined.{owner_of, end_of}
 use Rattle.own_callers.specs.declared.transfer.Transfer.{Transfer}
-use Rattle.own_callers.specs.Transfer.{HasEnded}
-use Rattle.own_callers.specs.Accounts.{put_of, taken_of, all_put, all_taken, held}
+use Rattle.own_callers.specs.Transfer.{HasTransferEnded}
+use Rattle.own_callers.specs.Accounts.{paid_in_of, paid_out_of, all_put, all_taken, funds_of}
 
 -- an owner is left of the caller that made a transfer, and what it submitted and keeps is how the transfer ended
-pub record HasTransferred (owners : List OwnerValue) (given : ℕ × Transfer) : Type 0 where
-  pub owner : OwnerValue
+pub record HasTransferred (owners : List OwnerView) (given : ℕ × Transfer) : Type 0 where
+  pub owner : OwnerView
   pub left : owner_of given.0 owners ≡ Some owner
-  pub ended : HasEnded given.1 (seen_of owner)
+  pub ended : HasTransferEnded given.1 (session_view owner)
 
 -- what the callers' granted calls put into an actor, and what they took out of it
-abbrev pub put_by_all : ℕ → List OwnerValue → ℕ
-put_by_all a owners = sum_by (λ owner. put_of a owner.calls owner.kept) owners
+abbrev pub put_by_all : ℕ → List OwnerView → ℕ
+put_by_all a owners = sum_by (λ owner. paid_in_of a owner.calls owner.kept) owners
 
-abbrev pub taken_by_all : ℕ → List OwnerValue → ℕ
-taken_by_all a owners = sum_by (λ owner. taken_of a owner.calls owner.kept) owners
+abbrev pub taken_by_all : ℕ → List OwnerView → ℕ
+taken_by_all a owners = sum_by (λ owner. paid_out_of a owner.calls owner.kept) owners
 
 -- an account is left, and what it holds, with what the callers took out, is what it opened with, with what they put in
-pub record IsBalanced (a n : ℕ) (owners : List OwnerValue) (state : KindState) : Type 0 where
+pub record IsBalanced (a n : ℕ) (owners : List OwnerView) (state : KindState) : Type 0 where
   pub balance : ℕ
   pub left : state ≡ AccountAt (pos balance)
   pub kept : balance + taken_by_all a owners ≡ n + put_by_all a owners
 
 -- so is each account that retired
-abbrev pub AreBalanced : List Casting → List OwnerValue → List EndSeen → Type 0
-AreBalanced casts owners ends = (a n : ℕ) (retired : RetiredSeen) → opening_of a (opening casts) ≡ Some (AccountAt (pos n)) →
+abbrev pub AreBalanced : List ActorSpec → List OwnerView → List EndView → Type 0
+AreBalanced casts owners ends = (a n : ℕ) (retired : RetiredView) →
+    opening_of a (opening casts) ≡ Some (AccountAt (pos n)) →
     end_of a ends ≡ Some (Retired retired) → IsBalanced a n owners retired.state
 
 -- what an actor holds at its end, if it retired, and what its cast opened it with
-abbrev pub held_last : EndSeen → ℕ
-held_last (Retired retired) = held (Some retired.state)
+abbrev pub held_last : EndView → ℕ
+held_last (Retired retired) = funds_of (Some retired.state)
 held_last end = 0
 
-abbrev pub held_first : List Casting → EndSeen → ℕ
-held_first casts end = held (opening_of (id_of end) (opening casts))
+abbrev pub held_first : List ActorSpec → EndView → ℕ
+held_first casts end = funds_of (opening_of (end_id end) (opening casts))
 
 -- an actor that opened as an account, and retired
-pub record IsAccount (casts : List Casting) (end : EndSeen) : Type 0 where
-  pub retired : RetiredSeen
+pub record IsAccount (casts : List ActorSpec) (end : EndView) : Type 0 where
+  pub retired : RetiredView
   pub is : end ≡ Retired retired
   pub n : ℕ
-  pub opens : opening_of (id_of end) (opening casts) ≡ Some (AccountAt (pos n))
+  pub opens : opening_of (end_id end) (opening casts) ≡ Some (AccountAt (pos n))
 
--- where all actors are accounts that retired: what they hold, and what all took out, is what they held, and what all put in
-abbrev pub KeepsTheSum : List Casting → List OwnerValue → List EndSeen → Type 0
+-- where all actors are accounts that retired: what they hold, and what all took out, is what they held, and what all
+-- put in
+abbrev pub KeepsTheSum : List ActorSpec → List OwnerView → List EndView → Type 0
 KeepsTheSum casts owners ends = All (IsAccount casts) ends →
     sum_by held_last ends + sum_by (λ owner. all_taken owner.calls owner.kept) owners
     ≡ sum_by (held_first casts) ends + sum_by (λ owner. all_put owner.calls owner.kept) owners

@@ -6,7 +6,7 @@ use Rattle.act_types.specs.declared.call.Method.TheVariants.{Balance, Deposit, W
 use Rattle.act_rules.specs.declared.history.Submission.{Submission}
 use Rattle.act_rules.specs.RunList.{Answer}
 use Rattle.act_rules.specs.Submissions.{kept_at}
-use Rattle.act_drive.specs.Sessions.{Seen}
+use Rattle.act_drive.specs.Sessions.{SessionView}
 use Rattle.own_callers.specs.declared.transfer.Transfer.{Transfer}
 
 -- ---- its three calls
@@ -23,35 +23,35 @@ deposits t = record { actor = t.to; method = Deposit; args = Plain (Int t.amount
 -- ---- how it ends
 
 -- whether the answer is a number, and one of at least the amount
-abbrev pub is_number : Option Answer → Bool
-is_number (Some (Ok (Int n))) = true
-is_number answer = false
+abbrev pub is_amount : Option Answer → Bool
+is_amount (Some (Ok (Int n))) = true
+is_amount answer = false
 
 abbrev pub is_enough : ℤ → Option Answer → Bool
 is_enough amount (Some (Ok (Int n))) = int_le amount n
 is_enough amount answer = false
 
 -- it asked for the balance, was not told as much, and did no more
-pub record HasStopped (t : Transfer) (seen : Seen) : Type 0 where
+pub record HasStoppedShort (t : Transfer) (seen : SessionView) : Type 0 where
   pub calls : seen.calls ≡ asks t ∷ []
   pub asked : is_some (kept_at seen.kept 0) ≡ true
   pub short : is_enough t.amount (kept_at seen.kept 0) ≡ false
 
 -- it was told as much, and was refused the withdrawal
-pub record IsRefused (t : Transfer) (seen : Seen) : Type 0 where
+pub record IsRefused (t : Transfer) (seen : SessionView) : Type 0 where
   pub calls : seen.calls ≡ asks t ∷ withdraws t ∷ []
   pub enough : is_enough t.amount (kept_at seen.kept 0) ≡ true
   pub asked : is_some (kept_at seen.kept 1) ≡ true
-  pub refused : is_number (kept_at seen.kept 1) ≡ false
+  pub refused : is_amount (kept_at seen.kept 1) ≡ false
 
 -- it was told as much, was granted the withdrawal, and deposited what it withdrew
-pub record HasMoved (t : Transfer) (seen : Seen) : Type 0 where
+pub record HasMoved (t : Transfer) (seen : SessionView) : Type 0 where
   pub calls : seen.calls ≡ asks t ∷ withdraws t ∷ deposits t ∷ []
   pub enough : is_enough t.amount (kept_at seen.kept 0) ≡ true
-  pub granted : is_number (kept_at seen.kept 1) ≡ true
+  pub granted : is_amount (kept_at seen.kept 1) ≡ true
 
-abbrev pub HasEnded : Transfer → Seen → Type 0
-HasEnded t seen = HasStopped t seen ⊎ (IsRefused t seen ⊎ HasMoved t seen)
+abbrev pub HasTransferEnded : Transfer → SessionView → Type 0
+HasTransferEnded t seen = HasStoppedShort t seen ⊎ (IsRefused t seen ⊎ HasMoved t seen)
 
-abbrev pub transfer_tells : Transfer → Seen → Seen → Type 0
-transfer_tells t old new = old.calls ≡ [] → HasEnded t new
+abbrev pub transfer_tells : Transfer → SessionView → SessionView → Type 0
+transfer_tells t old new = old.calls ≡ [] → HasTransferEnded t new

@@ -6,7 +6,7 @@ use Rattle.act_types.specs.declared.call.Method.TheVariants.{Add, Own}
 use Rattle.act_rules.specs.declared.history.Submission.{Submission}
 use Rattle.act_rules.specs.RunList.{Answer}
 use Rattle.act_rules.specs.Submissions.{kept_at}
-use Rattle.act_drive.specs.Sessions.{Seen}
+use Rattle.act_drive.specs.Sessions.{SessionView}
 use Rattle.own_callers.specs.declared.worker.Worker.{Worker}
 
 -- it takes a job, and it adds their number
@@ -22,12 +22,12 @@ is_job (Some (Ok job)) = true
 is_job answer = false
 
 -- it was given so many jobs, one after another, then none, and added their number to the counter
-pub record HasWorked (w : Worker) (seen : Seen) : Type 0 where
+pub record HasDoneJobs (w : Worker) (seen : SessionView) : Type 0 where
   pub jobs : ℕ
   pub calls : seen.calls ≡ replicate (jobs + 1) (takes w) ++ adds w jobs ∷ []
   pub given : (k : ℕ) → k < jobs → is_job (kept_at seen.kept k) ≡ true
   pub asked : is_some (kept_at seen.kept jobs) ≡ true
   pub none : is_job (kept_at seen.kept jobs) ≡ false
 
-abbrev pub worker_tells : Worker → Seen → Seen → Type 0
-worker_tells w old new = old.calls ≡ [] → HasWorked w new
+abbrev pub worker_tells : Worker → SessionView → SessionView → Type 0
+worker_tells w old new = old.calls ≡ [] → HasDoneJobs w new

@@ -2,12 +2,12 @@
 
 ghost use Rattle.std.specs.Prelude.{map, All, IfErr, IfOk};
 ghost use Rattle.act_actor.specs.Cast.{IsFitting};
-ghost use Rattle.act_actor.specs.Casts.{casting};
-ghost use Rattle.act_serve.specs.Served.{end_seen};
+ghost use Rattle.act_actor.specs.Casts.{actor_spec};
+ghost use Rattle.act_serve.specs.Served.{end_view};
 ghost use Rattle.act_plans.specs.Parts.{PlansFit};
 ghost use Rattle.act_executor.specs.ByCode.{IsJoinedBy};
 ghost use Rattle.act_executor.specs.Conducts.{CodesFit};
-ghost use Rattle.act_executor.specs.Runs.{plan_seen, IsFault};
+ghost use Rattle.act_executor.specs.Runs.{plan_view, IsFault};
 ghost use Rattle.own_callers.specs.Buyer.{buyer_tells};
 ghost use Rattle.own_callers.specs.Buyers.{HasLeft};
 
@@ -32,10 +32,10 @@ pub fn run_buyers<R: Threads + Wait + Sync, K: Actor + Send>(
     requires plans { PlansFit casts.items plans.items }
     requires codes { CodesFit casts.items plans.items buyers.items }
     ensures joined { IfOk result (λ joined.
-        IsJoinedBy buyer_tells (map (casting K.state) casts.items) (map plan_seen plans.items) buyers.items
-        joined.owners.items (map (λ actor. end_seen K.state actor.ended) joined.actors.items)) }
+        IsJoinedBy buyer_tells (map (actor_spec K.state) casts.items) (map plan_view plans.items) buyers.items
+        joined.owners.items (map (λ actor. end_view K.state actor.ended) joined.actors.items)) }
     ensures paid { IfOk result (λ joined. All (HasLeft joined.owners.items) buyers.items) }
-    ensures fault { IfErr result (IsFault (map (casting K.state) casts.items) (map plan_seen plans.items)) }
+    ensures fault { IfErr result (IsFault (map (actor_spec K.state) casts.items) (map plan_view plans.items)) }
 {
     let joined = run_callers(rt, alloc, casts, plans, buyers, &NoGate)?;
     Ok(joined)

@@ -2,13 +2,13 @@
 
 ghost use Rattle.std.specs.Prelude.{◌≡◌, [], ℕ, map, All, IfErr, IfOk};
 ghost use Rattle.act_actor.specs.Cast.{IsFitting};
-ghost use Rattle.act_actor.specs.Casts.{casting};
-ghost use Rattle.act_serve.specs.Served.{end_seen};
+ghost use Rattle.act_actor.specs.Casts.{actor_spec};
+ghost use Rattle.act_serve.specs.Served.{end_view};
 ghost use Rattle.act_plans.specs.Parts.{PlansFit};
 ghost use Rattle.act_executor.specs.ByCode.{IsJoinedBy};
 ghost use Rattle.act_executor.specs.Joined.{end_of};
 ghost use Rattle.act_executor.specs.Conducts.{CodesFit};
-ghost use Rattle.act_executor.specs.Runs.{plan_seen, IsFault};
+ghost use Rattle.act_executor.specs.Runs.{plan_view, IsFault};
 ghost use Rattle.act_own.specs.Kept.{EndKeeps, OpensAt};
 ghost use Rattle.own_kinds.specs.Queue.{IsInOrder, queue_at, queue_step, queue_text};
 ghost use Rattle.own_callers.specs.Clerk.{clerk_tells};
@@ -38,14 +38,14 @@ pub fn run_transfers<R: Threads + Wait + Sync, K: Actor + Send>(
     requires plans { PlansFit casts.items plans.items }
     requires codes { CodesFit casts.items plans.items transfers.items }
     ensures joined { IfOk result (λ joined.
-        IsJoinedBy transfer_tells (map (casting K.state) casts.items) (map plan_seen plans.items) transfers.items
-        joined.owners.items (map (λ actor. end_seen K.state actor.ended) joined.actors.items)) }
+        IsJoinedBy transfer_tells (map (actor_spec K.state) casts.items) (map plan_view plans.items) transfers.items
+        joined.owners.items (map (λ actor. end_view K.state actor.ended) joined.actors.items)) }
     ensures guarded { IfOk result (λ joined. All (HasTransferred joined.owners.items) transfers.items) }
-    ensures kept { IfOk result (λ joined. AreBalanced (map (casting K.state) casts.items) joined.owners.items
-        (map (λ actor. end_seen K.state actor.ended) joined.actors.items)) }
-    ensures sum { IfOk result (λ joined. KeepsTheSum (map (casting K.state) casts.items) joined.owners.items
-        (map (λ actor. end_seen K.state actor.ended) joined.actors.items)) }
-    ensures fault { IfErr result (IsFault (map (casting K.state) casts.items) (map plan_seen plans.items)) }
+    ensures kept { IfOk result (λ joined. AreBalanced (map (actor_spec K.state) casts.items) joined.owners.items
+        (map (λ actor. end_view K.state actor.ended) joined.actors.items)) }
+    ensures sum { IfOk result (λ joined. KeepsTheSum (map (actor_spec K.state) casts.items) joined.owners.items
+        (map (λ actor. end_view K.state actor.ended) joined.actors.items)) }
+    ensures fault { IfErr result (IsFault (map (actor_spec K.state) casts.items) (map plan_view plans.items)) }
 {
     let joined = run_callers(rt, alloc, casts, plans, transfers, &NoGate)?;
     Ok(joined)
@@ -64,15 +64,15 @@ pub fn run_clerks<R: Threads + Wait + Sync, K: Actor + Send>(
     requires plans { PlansFit casts.items plans.items }
     requires codes { CodesFit casts.items plans.items clerks.items }
     ensures joined { IfOk result (λ joined.
-        IsJoinedBy clerk_tells (map (casting K.state) casts.items) (map plan_seen plans.items) clerks.items
-        joined.owners.items (map (λ actor. end_seen K.state actor.ended) joined.actors.items)) }
-    ensures kept { IfOk result (λ joined. AreBalanced (map (casting K.state) casts.items) joined.owners.items
-        (map (λ actor. end_seen K.state actor.ended) joined.actors.items)) }
+        IsJoinedBy clerk_tells (map (actor_spec K.state) casts.items) (map plan_view plans.items) clerks.items
+        joined.owners.items (map (λ actor. end_view K.state actor.ended) joined.actors.items)) }
+    ensures kept { IfOk result (λ joined. AreBalanced (map (actor_spec K.state) casts.items) joined.owners.items
+        (map (λ actor. end_view K.state actor.ended) joined.actors.items)) }
     ensures order { IfOk result (λ joined. (a : ℕ) →
-        OpensAt queue_step queue_text (map (casting K.state) casts.items) a [] →
+        OpensAt queue_step queue_text (map (actor_spec K.state) casts.items) a [] →
         EndKeeps queue_step queue_text IsInOrder (queue_at [])
-        (end_of a (map (λ actor. end_seen K.state actor.ended) joined.actors.items))) }
-    ensures fault { IfErr result (IsFault (map (casting K.state) casts.items) (map plan_seen plans.items)) }
+        (end_of a (map (λ actor. end_view K.state actor.ended) joined.actors.items))) }
+    ensures fault { IfErr result (IsFault (map (actor_spec K.state) casts.items) (map plan_view plans.items)) }
 {
     let joined = run_callers(rt, alloc, casts, plans, clerks, &NoGate)?;
     Ok(joined)

@@ -5,7 +5,7 @@ ghost use Rattle.act_types.specs.declared.call.Method.TheVariants.{Own};
 
 use crate::args::number;
 use act_executor::{Code, GaveUp, Session};
-use act_types::{ActorId, ListOf, MOST_CALLS, Method, Name};
+use act_types::{ActorId, ListOf, MAX_CALLS, Method, Name};
 
 /// Takes jobs from a queue until it gives none, and adds their number to a counter.
 #[derive(Clone, Copy, Debug)]
@@ -28,7 +28,7 @@ impl Code for Worker {
 
     fn run<S: Session>(&mut self, session: &mut S) -> Result<(), GaveUp> {
         let alloc = session.alloc();
-        for jobs in 0..MOST_CALLS {
+        for jobs in 0..MAX_CALLS {
             let k = session.ask(self.queue, dequeue(), ListOf::new(alloc))?;
             let Some(Ok(_)) = session.answer(k) else {
                 session.ask(self.counter, Method::Add, number(alloc, i64::from(jobs))?)?;

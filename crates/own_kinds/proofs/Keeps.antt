@@ -15,18 +15,18 @@ use Rattle.act_types.specs.Own.{Ask, next_state, step_answer, on_call}
 use Rattle.act_types.specs.declared.value.Value.TheVariants.{Int}
 use Rattle.act_types.specs.KindState.{KindState}
 use Rattle.act_rules.specs.Kinds.{told_reply, reply_of}
-use Rattle.act_rules.specs.RunList.{Answer, replied}
+use Rattle.act_rules.specs.RunList.{Answer, step_of_reply}
 use Rattle.act_rules.specs.OwnRuns.{kind_answer, IsKept}
 use Rattle.own_kinds.specs.declared.bank.Bank.{Bank}
 use Rattle.own_kinds.specs.declared.bank.BankCall.{BankCall}
 use Rattle.own_kinds.specs.declared.bank.BankCall.TheVariants.{PayIn, PayOut, Transfer, Funds, Total}
-use Rattle.own_kinds.specs.Bank.{and_funds, asked_next, bank_at, bank_text, need, has_account, held, given, taken, bank_call, bank_does, bank_step, amount_in, amount_out, paid_in, paid_out, HoldsItsMoney}
+use Rattle.own_kinds.specs.Bank.{and_funds, asked_next, bank_at, bank_text, bank_need, has_account, funds_held, with_deposit, with_withdrawal, bank_call, bank_does, bank_step, amount_in, amount_out, paid_in, paid_out, HoldsItsMoney}
 use Rattle.act_rules.proofs.OwnRuns.{told_any}
 use Rattle.own_kinds.proofs.Money.{sum_given, sum_taken}
 
 -- what holds of each fault, and of what comes after three conditions
 after_three : (P : Result (Bank × Value) Fault → Type 0) (a b c : Bool) (f g h : Fault) (next : Result (Bank × Value) Fault)
-    → ((fault : Fault) → P (Err fault)) → (a ≡ true → c ≡ true → P next) → P (need a f (need b g (need c h next)))
+    → ((fault : Fault) → P (Err fault)) → (a ≡ true → c ≡ true → P next) → P (bank_need a f (bank_need b g (bank_need c h next)))
 after_three P true true true f g h next refused goes_on = goes_on refl refl
 after_three P true true false f g h next refused goes_on = refused h
 after_three P true false c f g h next refused goes_on = refused g
@@ -45,20 +45,20 @@ first_is_there bank from to h = grind arith
 second_is_there : (bank : Bank) (from to : ℤ) → has_account bank from && has_account bank to ≡ true → unsigned_abs to < length bank
 second_is_there bank from to h = grind arith
 
-is_enough : (bank : Bank) (account amount : ℤ) → nat_le (unsigned_abs amount) (held bank account) ≡ true → unsigned_abs amount ≤ held bank account
+is_enough : (bank : Bank) (account amount : ℤ) → nat_le (unsigned_abs amount) (funds_held bank account) ≡ true → unsigned_abs amount ≤ funds_held bank account
 is_enough bank account amount h = grind arith
 
-moved_on : (bank : Bank) (from to amount : ℤ) → unsigned_abs from < length bank → unsigned_abs to < length bank → unsigned_abs amount ≤ held bank from
-    → sum (given (taken bank from amount) to amount) ≡ sum bank
+moved_on : (bank : Bank) (from to amount : ℤ) → unsigned_abs from < length bank → unsigned_abs to < length bank → unsigned_abs amount ≤ funds_held bank from
+    → sum (with_deposit (with_withdrawal bank from amount) to amount) ≡ sum bank
 moved_on bank from to amount f t enough =
-    let there : unsigned_abs to < length (taken bank from amount) =
-    subst (λ n. unsigned_abs to < n) (sym (length-set bank (unsigned_abs from) (held bank from - unsigned_abs amount))) t in
-    let took : sum (taken bank from amount) + unsigned_abs amount ≡ sum bank = sum_taken bank (unsigned_abs from) (unsigned_abs amount) f enough in
-    let gave : sum (given (taken bank from amount) to amount) ≡ sum (taken bank from amount) + unsigned_abs amount =
-    sum_given (taken bank from amount) (unsigned_abs to) (unsigned_abs amount) there in
+    let there : unsigned_abs to < length (with_withdrawal bank from amount) =
+    subst (λ n. unsigned_abs to < n) (sym (length-set bank (unsigned_abs from) (funds_held bank from - unsigned_abs amount))) t in
+    let took : sum (with_withdrawal bank from amount) + unsigned_abs amount ≡ sum bank = sum_taken bank (unsigned_abs from) (unsigned_abs amount) f enough in
+    let gave : sum (with_deposit (with_withdrawal bank from amount) to amount) ≡ sum (with_withdrawal bank from amount) + unsigned_abs amount =
+    sum_given (with_withdrawal bank from amount) (unsigned_abs to) (unsigned_abs amount) there in
     gave ∙ took
 
-funds_balance : (bank : Bank) (account : ℤ) (there : Bool) (fault : Fault) → Balances bank (Ok (Funds account)) (need there fault (and_funds account bank))
+funds_balance : (bank : Bank) (account : ℤ) (there : Bool) (fault : Fault) → Balances bank (Ok (Funds account)) (bank_need there fault (and_funds account bank))
 funds_balance bank account true fault = record { same = refl }
 funds_balance bank account false fault = record { same = refl }
 
@@ -67,13 +67,13 @@ step_balances bank (Err fault) = record { same = refl }
 step_balances bank (Ok (PayIn account amount)) =
     after_three (Balances bank (Ok (PayIn account amount)))
     (has_account bank account) (int_lt (pos 0) amount) (nat_lt (sum bank + unsigned_abs amount) (2 ^ 63))
-    (Own (codes "NoAccount")) BadAmount (Own (codes "BankFull")) (and_funds account (given bank account amount))
+    (Own (codes "NoAccount")) BadAmount (Own (codes "BankFull")) (and_funds account (with_deposit bank account amount))
     (λ fault. record { same = refl })
     (λ there room. record { same = add-zero _ ∙ sum_given bank (unsigned_abs account) (unsigned_abs amount) (is_there bank account there) })
 step_balances bank (Ok (PayOut account amount)) =
     after_three (Balances bank (Ok (PayOut account amount)))
-    (has_account bank account) (int_lt (pos 0) amount) (nat_le (unsigned_abs amount) (held bank account))
-    (Own (codes "NoAccount")) BadAmount (Own (codes "TooLittle")) (and_funds account (taken bank account amount))
+    (has_account bank account) (int_lt (pos 0) amount) (nat_le (unsigned_abs amount) (funds_held bank account))
+    (Own (codes "NoAccount")) BadAmount (Own (codes "TooLittle")) (and_funds account (with_withdrawal bank account amount))
     (λ fault. record { same = refl })
     (λ there enough. record {
       same = sum_taken bank (unsigned_abs account) (unsigned_abs amount) (is_there bank account there) (is_enough bank account amount enough)
@@ -81,8 +81,8 @@ step_balances bank (Ok (PayOut account amount)) =
     })
 step_balances bank (Ok (Transfer from to amount)) =
     after_three (Balances bank (Ok (Transfer from to amount)))
-    (has_account bank from && has_account bank to) (int_lt (pos 0) amount) (nat_le (unsigned_abs amount) (held bank from))
-    (Own (codes "NoAccount")) BadAmount (Own (codes "TooLittle")) (and_funds from (given (taken bank from amount) to amount))
+    (has_account bank from && has_account bank to) (int_lt (pos 0) amount) (nat_le (unsigned_abs amount) (funds_held bank from))
+    (Own (codes "NoAccount")) BadAmount (Own (codes "TooLittle")) (and_funds from (with_deposit (with_withdrawal bank from amount) to amount))
     (λ fault. record { same = refl })
     (λ there enough. record {
       same = ap (λ n. n + 0) (moved_on bank from to amount (first_is_there bank from to there) (second_is_there bank from to there)
@@ -117,8 +117,8 @@ asked_total state bank into out left money =
 
 -- the state that a call leaves
 pub own_moved : (bank : Bank) (method : Method) (args : List Value) (call : BankCall) → bank_call method args ≡ Ok call
-    → bank_at (next_state bank (bank_does bank call)) ≡ (replied (bank_at bank) (reply_of (bank_at bank) method args)).0
+    → bank_at (next_state bank (bank_does bank call)) ≡ (step_of_reply (bank_at bank) (reply_of (bank_at bank) method args)).0
 own_moved bank method args call e =
     subst (λ (read : Result BankCall Fault). bank_at (next_state bank (bank_does bank call))
-    ≡ (replied (bank_at bank) (told_reply (bank_at (next_state bank (on_call bank_does bank read))) (step_answer (on_call bank_does bank read)))).0)
+    ≡ (step_of_reply (bank_at bank) (told_reply (bank_at (next_state bank (on_call bank_does bank read))) (step_answer (on_call bank_does bank read)))).0)
     (sym e) (sym (ap (λ (done : KindState × Answer). done.0) (told_any bank_step bank_text bank (bank_does bank call))))

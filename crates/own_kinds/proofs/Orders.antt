@@ -11,7 +11,7 @@ use Rattle.act_types.specs.Own.{Ask, next_state, step_answer, on_call}
 use Rattle.act_rules.specs.Kinds.{count_value}
 use Rattle.act_rules.specs.RunList.{Answer}
 use Rattle.act_rules.specs.OwnRuns.{kind_answer, IsKept}
-use Rattle.own_kinds.specs.declared.queue.TheConstants.{MOST_QUEUED}
+use Rattle.own_kinds.specs.declared.queue.TheConstants.{MAX_QUEUED}
 use Rattle.own_kinds.specs.Queue.{QueueCall, Enqueue, Dequeue, Waiting, queue_call, queue_does, queue_step, put_by, taken_by, taken_of, IsInOrder}
 
 -- what a call takes, and then what waits after it, is what waited before it, and then what it puts
@@ -28,7 +28,7 @@ enqueue_fits items value false = sym (append-nil items)
 
 call_fits : (items : List Value) (call : Result QueueCall Fault)
     → Fits items call (on_call queue_does items call)
-call_fits items (Ok (Enqueue value)) = enqueue_fits items value (nat_lt (length items) MOST_QUEUED)
+call_fits items (Ok (Enqueue value)) = enqueue_fits items value (nat_lt (length items) MAX_QUEUED)
 call_fits [] (Ok Dequeue) = refl
 call_fits (first ∷ rest) (Ok Dequeue) = sym (append-nil (first ∷ rest))
 call_fits items (Ok Waiting) = sym (append-nil items)

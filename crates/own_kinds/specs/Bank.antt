@@ -9,10 +9,10 @@ use Rattle.act_types.specs.declared.fault.Fault.{Fault}
 use Rattle.act_types.specs.declared.fault.Fault.TheVariants.{NoMethod, BadArgs, BadAmount, Own}
 use Rattle.act_types.specs.KindState.{KindState, OwnAt}
 use Rattle.act_types.specs.Own.{Ask, StepOf, behaves, by_calls}
-use Rattle.act_types.specs.Texts.{method_text, spaced}
+use Rattle.act_types.specs.Texts.{method_text, with_spaces}
 use Rattle.act_rules.specs.declared.history.RunItem.{RunItem}
 use Rattle.act_rules.specs.Kinds.{reply_of}
-use Rattle.act_rules.specs.RunList.{Answer, state_after, replied}
+use Rattle.act_rules.specs.RunList.{Answer, state_after, step_of_reply}
 use Rattle.act_rules.specs.OwnRuns.{told_in}
 use Rattle.own_kinds.specs.declared.bank.Bank.{Bank}
 use Rattle.own_kinds.specs.declared.bank.BankCall.{BankCall}
@@ -52,45 +52,46 @@ bank_call method args =
 -- ---- what they do
 
 -- the fault where the condition fails, and else what comes next
-abbrev pub need : Bool → Fault → Result (Bank × Value) Fault → Result (Bank × Value) Fault
-need condition fault next = if condition then next else Err fault
+abbrev pub bank_need : Bool → Fault → Result (Bank × Value) Fault → Result (Bank × Value) Fault
+bank_need condition fault next = if condition then next else Err fault
 
 abbrev pub has_account : Bank → ℤ → Bool
 has_account bank account = int_le (pos 0) account && nat_lt (unsigned_abs account) (length bank)
 
 -- what an account holds
-abbrev pub held : Bank → ℤ → ℕ
-held bank account = slice_index bank (unsigned_abs account)
+abbrev pub funds_held : Bank → ℤ → ℕ
+funds_held bank account = slice_index bank (unsigned_abs account)
 
 -- the bank after an amount went to an account, and after one was taken from it
-abbrev pub given : Bank → ℤ → ℤ → Bank
-given bank account amount = slice_set bank (unsigned_abs account) (held bank account + unsigned_abs amount)
+abbrev pub with_deposit : Bank → ℤ → ℤ → Bank
+with_deposit bank account amount = slice_set bank (unsigned_abs account) (funds_held bank account + unsigned_abs amount)
 
-abbrev pub taken : Bank → ℤ → ℤ → Bank
-taken bank account amount = slice_set bank (unsigned_abs account) (held bank account - unsigned_abs amount)
+abbrev pub with_withdrawal : Bank → ℤ → ℤ → Bank
+with_withdrawal bank account amount = slice_set bank (unsigned_abs account)
+    (funds_held bank account - unsigned_abs amount)
 
 -- the bank, and what the account then holds
 abbrev pub and_funds : ℤ → Bank → Result (Bank × Value) Fault
-and_funds account bank = Ok (bank, Int (pos (held bank account)))
+and_funds account bank = Ok (bank, Int (pos (funds_held bank account)))
 
 -- what a call does
 abbrev pub bank_does : Bank → BankCall → Result (Bank × Value) Fault
 bank_does bank (PayIn account amount) =
-    need (has_account bank account) (Own (codes "NoAccount")) (
-    need (int_lt (pos 0) amount) BadAmount (
-    need (nat_lt (sum bank + unsigned_abs amount) (2 ^ 63)) (Own (codes "BankFull")) (
-    and_funds account (given bank account amount))))
+    bank_need (has_account bank account) (Own (codes "NoAccount")) (
+    bank_need (int_lt (pos 0) amount) BadAmount (
+    bank_need (nat_lt (sum bank + unsigned_abs amount) (2 ^ 63)) (Own (codes "BankFull")) (
+    and_funds account (with_deposit bank account amount))))
 bank_does bank (PayOut account amount) =
-    need (has_account bank account) (Own (codes "NoAccount")) (
-    need (int_lt (pos 0) amount) BadAmount (
-    need (nat_le (unsigned_abs amount) (held bank account)) (Own (codes "TooLittle")) (
-    and_funds account (taken bank account amount))))
+    bank_need (has_account bank account) (Own (codes "NoAccount")) (
+    bank_need (int_lt (pos 0) amount) BadAmount (
+    bank_need (nat_le (unsigned_abs amount) (funds_held bank account)) (Own (codes "TooLittle")) (
+    and_funds account (with_withdrawal bank account amount))))
 bank_does bank (Transfer from to amount) =
-    need (has_account bank from && has_account bank to) (Own (codes "NoAccount")) (
-    need (int_lt (pos 0) amount) BadAmount (
-    need (nat_le (unsigned_abs amount) (held bank from)) (Own (codes "TooLittle")) (
-    and_funds from (given (taken bank from amount) to amount))))
-bank_does bank (Funds account) = need (has_account bank account) (Own (codes "NoAccount")) (and_funds account bank)
+    bank_need (has_account bank from && has_account bank to) (Own (codes "NoAccount")) (
+    bank_need (int_lt (pos 0) amount) BadAmount (
+    bank_need (nat_le (unsigned_abs amount) (funds_held bank from)) (Own (codes "TooLittle")) (
+    and_funds from (with_deposit (with_withdrawal bank from amount) to amount))))
+bank_does bank (Funds account) = bank_need (has_account bank account) (Own (codes "NoAccount")) (and_funds account bank)
 bank_does bank Total = Ok (bank, Int (pos (sum bank)))
 
 abbrev pub bank_step : StepOf Bank
@@ -98,7 +99,7 @@ bank_step = by_calls bank_call bank_does
 
 -- how a bank is written
 abbrev pub bank_text : Bank → List ℕ
-bank_text bank = codes "bank" ++ spaced (map decimal bank)
+bank_text bank = codes "bank" ++ with_spaces (map decimal bank)
 
 -- ---- its money
 
@@ -131,7 +132,7 @@ empty_bank accounts = bank_at (replicate accounts 0)
 
 -- what a call asked next answers
 abbrev pub asked_next : KindState → List ℕ → Answer
-asked_next state name = (replied state (reply_of state (method.Own name) [])).1
+asked_next state name = (step_of_reply state (reply_of state (method.Own name) [])).1
 
 -- after a run list there is a bank whose balances are what was paid in less what was paid out, and `total` answers so
 pub record MoneyIsKept (accounts : ℕ) (items : List RunItem) : Type 0 where
@@ -139,4 +140,5 @@ pub record MoneyIsKept (accounts : ℕ) (items : List RunItem) : Type 0 where
   pub left : state_after (empty_bank accounts) items ≡ bank_at bank
   pub balances : HoldsItsMoney (told_in (empty_bank accounts) items) bank
   pub total : asked_next (state_after (empty_bank accounts) items) (codes "total")
-      ≡ Ok (Int (pos (paid_in (told_in (empty_bank accounts) items)) -ℤ pos (paid_out (told_in (empty_bank accounts) items))))
+      ≡ Ok (Int (pos (paid_in (told_in (empty_bank accounts) items)) -ℤ pos
+      (paid_out (told_in (empty_bank accounts) items))))

@@ -48,14 +48,14 @@ limiter_at most = OwnAt (behaves limiter_step limiter_text (limiter_of most))
 -- ---- what it grants
 
 -- a call by this word that was answered with a value
-abbrev pub is_done : List ℕ → Ask × Answer → Bool
-is_done word told = bytes_eq (method_text told.0.method) word && is_ok told.1
+abbrev pub is_value_answer : List ℕ → Ask × Answer → Bool
+is_value_answer word told = bytes_eq (method_text told.0.method) word && is_ok told.1
 
 abbrev pub is_grant : Ask × Answer → Bool
-is_grant = is_done (codes "acquire")
+is_grant = is_value_answer (codes "acquire")
 
 abbrev pub is_reset : Ask × Answer → Bool
-is_reset = is_done (codes "reset")
+is_reset = is_value_answer (codes "reset")
 
 abbrev pub grants : List (Ask × Answer) → ℕ
 grants told = length (filter is_grant told)

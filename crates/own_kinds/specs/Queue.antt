@@ -6,10 +6,10 @@ use Rattle.act_types.specs.declared.fault.Fault.{Fault}
 use Rattle.act_types.specs.declared.fault.Fault.TheVariants.{NoMethod, BadArgs, Own}
 use Rattle.act_types.specs.KindState.{KindState, OwnAt}
 use Rattle.act_types.specs.Own.{Ask, StepOf, behaves, by_calls, alone}
-use Rattle.act_types.specs.Texts.{method_text, value_text, spaced}
+use Rattle.act_types.specs.Texts.{method_text, value_text, with_spaces}
 use Rattle.act_rules.specs.Kinds.{count_value}
 use Rattle.act_rules.specs.RunList.{Answer}
-use Rattle.own_kinds.specs.declared.queue.TheConstants.{MOST_QUEUED}
+use Rattle.own_kinds.specs.declared.queue.TheConstants.{MAX_QUEUED}
 use Rattle.own_kinds.specs.declared.queue.QueueCall.{QueueCall as Borrowed}
 use Rattle.own_kinds.specs.declared.queue.QueueCall.TheVariants as borrowed
 
@@ -23,10 +23,10 @@ pub data QueueCall : Type 0 where
   Waiting : QueueCall
 
 -- the call that the code's own is, which borrows its value
-abbrev pub meant : Borrowed → QueueCall
-meant (borrowed.Enqueue value) = Enqueue value.now
-meant borrowed.Dequeue = Dequeue
-meant borrowed.Waiting = Waiting
+abbrev pub call_meant : Borrowed → QueueCall
+call_meant (borrowed.Enqueue value) = Enqueue value.now
+call_meant borrowed.Dequeue = Dequeue
+call_meant borrowed.Waiting = Waiting
 
 abbrev pub enqueue_at : List Value → Result QueueCall Fault
 enqueue_at (value ∷ []) = Ok (Enqueue value)
@@ -47,7 +47,7 @@ queue_values call = []
 -- what a call does
 abbrev pub queue_does : List Value → QueueCall → Result (List Value × Value) Fault
 queue_does items (Enqueue value) =
-    if nat_lt (length items) MOST_QUEUED
+    if nat_lt (length items) MAX_QUEUED
     then Ok (items ++ value ∷ [], count_value (items ++ value ∷ []))
     else Err (Own (codes "QueueFull"))
 queue_does [] Dequeue = Err (Own (codes "QueueEmpty"))
@@ -59,7 +59,7 @@ queue_step = by_calls queue_call queue_does
 
 -- how a queue is written
 abbrev pub queue_text : List Value → List ℕ
-queue_text items = codes "queue" ++ spaced (map value_text items)
+queue_text items = codes "queue" ++ with_spaces (map value_text items)
 
 -- a queue in which these values wait
 abbrev pub queue_at : List Value → KindState

@@ -9,7 +9,7 @@ ghost use Rattle.act_types.specs.KindState.{OwnAt};
 ghost use Rattle.act_types.specs.Own.{behaves, next_state, step_answer};
 ghost use Rattle.act_rules.specs.declared.history.RunItem.{RunItem as Item};
 ghost use Rattle.own_kinds.specs.Bank.{bank_call, bank_does, bank_step, bank_text, funds_at, has_account, pay_in_at, pay_out_at, total_at, transfer_at, HoldsItsMoney, MoneyIsKept};
-ghost use Rattle.own_kinds.specs.declared.bank.TheConstants.{MOST_ACCOUNTS};
+ghost use Rattle.own_kinds.specs.declared.bank.TheConstants.{MAX_ACCOUNTS};
 ghost use Rattle.own_kinds.specs.declared.bank.BankCall.TheVariants.{PayIn, PayOut, Transfer, Funds};
 
 use act_kinds::{Actor, Meaning, append_line};
@@ -18,7 +18,7 @@ use std::alloc::Global;
 use std::marker::Model;
 
 /// A bank has at most this many accounts.
-pub const MOST_ACCOUNTS: usize = 1_024;
+pub const MAX_ACCOUNTS: usize = 1_024;
 
 /// The total stays below this, so that each balance is a value.
 const LIMIT: u64 = 1 << 63;
@@ -143,7 +143,7 @@ fn bank_full() -> Fault
 impl Bank {
     /// A bank with nothing in so many accounts.
     pub fn open(alloc: Global, accounts: usize) -> Result<Bank, NoMemory>
-        requires { accounts ≤ MOST_ACCOUNTS }
+        requires { accounts ≤ MAX_ACCOUNTS }
         ensures { IfOk result (λ bank. bank ≡ replicate accounts 0) }
     {
         let mut balances = Vec::new(alloc);

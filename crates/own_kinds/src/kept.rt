@@ -2,16 +2,16 @@
 
 ghost use Rattle.std.specs.Prelude.{◌≡◌, ℕ, List, map, option_map, replicate, IfErr, IfOk};
 ghost use Rattle.act_rules.specs.declared.event.Event.{Event as Happening};
-ghost use Rattle.act_rules.specs.History.{Casting};
+ghost use Rattle.act_rules.specs.History.{ActorSpec};
 ghost use Rattle.act_rules.specs.OwnRuns.{told_in};
 ghost use Rattle.act_actor.specs.Cast.{IsFitting};
-ghost use Rattle.act_actor.specs.Casts.{casting};
-ghost use Rattle.act_world.specs.Stands.{Stands};
-ghost use Rattle.act_world.specs.View.{stage_in, stage_seen, world_seen};
-ghost use Rattle.act_serve.specs.Served.{end_seen};
+ghost use Rattle.act_actor.specs.Casts.{actor_spec};
+ghost use Rattle.act_world.specs.IsReachedBy.{IsReachedBy};
+ghost use Rattle.act_world.specs.View.{stage_in, stage_view, world_view};
+ghost use Rattle.act_serve.specs.Served.{end_view};
 ghost use Rattle.act_plans.specs.Parts.{PlansFit};
 ghost use Rattle.act_executor.specs.Joined.{IsJoined, end_of, log_in};
-ghost use Rattle.act_executor.specs.Runs.{plan_seen, IsFault};
+ghost use Rattle.act_executor.specs.Runs.{plan_view, IsFault};
 ghost use Rattle.act_own.specs.Kept.{SlotKeeps, EndKeeps, OpensAt};
 ghost use Rattle.own_kinds.specs.Bank.{bank_step, bank_text, empty_bank, HoldsItsMoney};
 ghost use Rattle.own_kinds.specs.Limiter.{limiter_step, limiter_text, limiter_of, limiter_at, NeverAbove};
@@ -27,11 +27,11 @@ use std::thread::Threads;
 
 /// An actor of a world. One that opened as an empty bank has what was paid in less what was paid out.
 pub fn bank_stage<K: Actor>(world: &World<K>, a: ActorId) -> Option<Stage<'_, K>>
-    ensures shown { option_map (stage_seen K.state) result ≡ stage_in (world_seen K.state world.now) a }
-    ensures kept { (casts : List Casting) (events : List Happening) (accounts : ℕ) →
-        Stands casts events (world_seen K.state world.now) →
+    ensures shown { option_map (stage_view K.state) result ≡ stage_in (world_view K.state world.now) a }
+    ensures kept { (casts : List ActorSpec) (events : List Happening) (accounts : ℕ) →
+        IsReachedBy casts events (world_view K.state world.now) →
         OpensAt bank_step bank_text casts a (replicate accounts 0) →
-        SlotKeeps bank_step bank_text HoldsItsMoney (empty_bank accounts) (option_map (stage_seen K.state) result) }
+        SlotKeeps bank_step bank_text HoldsItsMoney (empty_bank accounts) (option_map (stage_view K.state) result) }
 {
     world.stage(a)
 }
@@ -46,13 +46,13 @@ pub fn run_banks<R: Threads + Wait + Sync, K: Actor + Send>(
     requires casts { IsFitting casts.items }
     requires plans { PlansFit casts.items plans.items }
     ensures joined { IfOk result (λ joined.
-        IsJoined (map (casting K.state) casts.items) (map plan_seen plans.items) joined.owners.items
-        (map (λ actor. end_seen K.state actor.ended) joined.actors.items)) }
+        IsJoined (map (actor_spec K.state) casts.items) (map plan_view plans.items) joined.owners.items
+        (map (λ actor. end_view K.state actor.ended) joined.actors.items)) }
     ensures kept { IfOk result (λ joined. (a accounts : ℕ) →
-        OpensAt bank_step bank_text (map (casting K.state) casts.items) a (replicate accounts 0) →
+        OpensAt bank_step bank_text (map (actor_spec K.state) casts.items) a (replicate accounts 0) →
         EndKeeps bank_step bank_text HoldsItsMoney (empty_bank accounts)
-        (end_of a (map (λ actor. end_seen K.state actor.ended) joined.actors.items))) }
-    ensures fault { IfErr result (IsFault (map (casting K.state) casts.items) (map plan_seen plans.items)) }
+        (end_of a (map (λ actor. end_view K.state actor.ended) joined.actors.items))) }
+    ensures fault { IfErr result (IsFault (map (actor_spec K.state) casts.items) (map plan_view plans.items)) }
 {
     let joined = run_plans(rt, alloc, casts, plans, &NoGate)?;
     Ok(joined)
@@ -68,13 +68,13 @@ pub fn run_limiters<R: Threads + Wait + Sync, K: Actor + Send>(
     requires casts { IsFitting casts.items }
     requires plans { PlansFit casts.items plans.items }
     ensures joined { IfOk result (λ joined.
-        IsJoined (map (casting K.state) casts.items) (map plan_seen plans.items) joined.owners.items
-        (map (λ actor. end_seen K.state actor.ended) joined.actors.items)) }
+        IsJoined (map (actor_spec K.state) casts.items) (map plan_view plans.items) joined.owners.items
+        (map (λ actor. end_view K.state actor.ended) joined.actors.items)) }
     ensures rate { IfOk result (λ joined. (a most : ℕ) →
-        OpensAt limiter_step limiter_text (map (casting K.state) casts.items) a (limiter_of most) →
+        OpensAt limiter_step limiter_text (map (actor_spec K.state) casts.items) a (limiter_of most) →
         NeverAbove most (told_in (limiter_at most)
-        (log_in (map (λ actor. end_seen K.state actor.ended) joined.actors.items) a))) }
-    ensures fault { IfErr result (IsFault (map (casting K.state) casts.items) (map plan_seen plans.items)) }
+        (log_in (map (λ actor. end_view K.state actor.ended) joined.actors.items) a))) }
+    ensures fault { IfErr result (IsFault (map (actor_spec K.state) casts.items) (map plan_view plans.items)) }
 {
     let left = run_plans(rt, alloc, casts, plans, &NoGate)?;
     Ok(left)

@@ -7,8 +7,8 @@ mod kept;
 mod limiter;
 mod queue;
 
-pub use bank::{Bank, BankCall, BankMeaning, MOST_ACCOUNTS, money_is_kept};
+pub use bank::{Bank, BankCall, BankMeaning, MAX_ACCOUNTS, money_is_kept};
 pub use gauge::{Gauge, GaugeCall};
 pub use kept::{bank_stage, run_banks, run_limiters};
 pub use limiter::{Limiter, LimiterCall, never_above_its_rate};
-pub use queue::{MOST_QUEUED, QueueCall, QueueMeaning, WorkQueue, first_in_first_out};
+pub use queue::{MAX_QUEUED, QueueCall, QueueMeaning, WorkQueue, first_in_first_out};

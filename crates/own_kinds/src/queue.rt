@@ -8,7 +8,7 @@ ghost use Rattle.act_types.specs.Own.{next_state, step_answer};
 ghost use Rattle.act_rules.specs.declared.history.RunItem.{RunItem};
 ghost use Rattle.act_rules.specs.Kinds.{count_value};
 ghost use Rattle.act_rules.specs.OwnRuns.{Left};
-ghost use Rattle.own_kinds.specs.Queue.{Enqueue, Dequeue, IsInOrder, meant, queue_at, queue_call, queue_does};
+ghost use Rattle.own_kinds.specs.Queue.{Enqueue, Dequeue, IsInOrder, call_meant, queue_at, queue_call, queue_does};
 ghost use Rattle.own_kinds.specs.Queue.{queue_step, queue_text, queue_values};
 
 use act_kinds::{Actor, Meaning, append_line, runs_by_its_steps};
@@ -19,7 +19,7 @@ use std::fmt;
 use std::marker::Model;
 
 /// The most values that wait in a work queue.
-pub const MOST_QUEUED: usize = 4_096;
+pub const MAX_QUEUED: usize = 4_096;
 
 /// What a work queue can be asked.
 #[derive(Clone, Copy, Debug, PartialEq, Eq)]
@@ -35,9 +35,9 @@ pub enum QueueCall<'a> {
 impl<'a> QueueCall<'a> {
     /// The method and the arguments that ask for it.
     pub fn spell(&self, alloc: Global) -> Result<(Method, ListOf<Arg>), NoMemory>
-        ensures args { IfOk result (λ spelled. spelled.1 ≡ map Plain (queue_values (meant self.now))) }
+        ensures args { IfOk result (λ spelled. spelled.1 ≡ map Plain (queue_values (call_meant self.now))) }
         ensures back { IfOk result (λ spelled.
-            queue_call spelled.0 (queue_values (meant self.now)) ≡ Ok (meant self.now)) }
+            queue_call spelled.0 (queue_values (call_meant self.now)) ≡ Ok (call_meant self.now)) }
     {
         let mut args = ListOf::new(alloc);
         let word = match self {
@@ -53,7 +53,7 @@ impl<'a> QueueCall<'a> {
 
     /// What a method and its values ask for.
     pub fn read(method: &Method, args: &'a [Value]) -> Result<QueueCall<'a>, Fault>
-        ensures ok { IfOk result (λ call. queue_call method.now args.now ≡ Ok (meant call)) }
+        ensures ok { IfOk result (λ call. queue_call method.now args.now ≡ Ok (call_meant call)) }
         ensures err { IfErr result (λ fault. queue_call method.now args.now ≡ Err fault) }
     {
         match (method.word(), args) {
@@ -74,14 +74,14 @@ pub struct WorkQueue {
 
 impl Model for WorkQueue {
     ghost use Rattle.std.specs.Prelude.{List, length, ◌≤◌};
-    ghost use Rattle.own_kinds.specs.declared.queue.TheConstants.{MOST_QUEUED};
+    ghost use Rattle.own_kinds.specs.declared.queue.TheConstants.{MAX_QUEUED};
     ghost use Rattle.act_types.specs.declared.value.Value.{Value as Item};
 
     ghost Value = { List Item };
 
     ghost view = { λ queue. queue.items.items };
 
-    ghost invariant = { λ queue. length queue.items.items ≤ MOST_QUEUED };
+    ghost invariant = { λ queue. length queue.items.items ≤ MAX_QUEUED };
 }
 
 /// No further value has room.
@@ -124,7 +124,7 @@ impl WorkQueue {
         ensures err { OnErr result (self.new ≡ self.old) }
         ensures memory_last { OnErr result (IsOk (queue_does self.old (Enqueue value.now))) }
     {
-        if self.items.len() >= MOST_QUEUED {
+        if self.items.len() >= MAX_QUEUED {
             return Ok(Err(queue_full()));
         }
         let alloc: Global = *self.items.allocator();
@@ -143,11 +143,11 @@ impl WorkQueue {
     /// Does a call.
     fn does(&mut self, call: QueueCall<'_>) -> Result<Answer, NoMemory>
         ensures answer { IfOk result (λ answer.
-            answer ≡ step_answer (queue_does self.old (meant call.entry))) }
+            answer ≡ step_answer (queue_does self.old (call_meant call.entry))) }
         ensures moved { OnOk result (
-            self.new ≡ next_state self.old (queue_does self.old (meant call.entry))) }
+            self.new ≡ next_state self.old (queue_does self.old (call_meant call.entry))) }
         ensures err { OnErr result (self.new ≡ self.old) }
-        ensures memory_last { OnErr result (IsOk (queue_does self.old (meant call.entry))) }
+        ensures memory_last { OnErr result (IsOk (queue_does self.old (call_meant call.entry))) }
     {
         match call {
             QueueCall::Enqueue(value) => self.enqueue(value),

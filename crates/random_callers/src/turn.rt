@@ -2,12 +2,12 @@
 
 ghost use Rattle.std.specs.Prelude.{◌≡◌, IfOk, map, true};
 ghost use Rattle.act_actor.specs.Cast.{IsFitting};
-ghost use Rattle.act_actor.specs.Casts.{casting};
-ghost use Rattle.act_serve.specs.Served.{end_seen};
+ghost use Rattle.act_actor.specs.Casts.{actor_spec};
+ghost use Rattle.act_serve.specs.Served.{end_view};
 ghost use Rattle.act_plans.specs.Parts.{PlansFit};
 ghost use Rattle.act_executor.specs.ByCode.{IsJoinedBy};
 ghost use Rattle.act_executor.specs.Conducts.{CodesFit};
-ghost use Rattle.act_executor.specs.Runs.{plan_seen};
+ghost use Rattle.act_executor.specs.Runs.{plan_view};
 
 use crate::coded::walkers_of;
 use crate::command::Order;
@@ -57,8 +57,8 @@ fn run_scene<Rt: Threads + Wait + Sync, K: Actor + Send, C: Code + Send>(
     requires plans { PlansFit scene.casts.items scene.plans.items }
     requires codes { CodesFit scene.casts.items scene.plans.items scene.codes.items }
     ensures { IfOk result (λ joined.
-        IsJoinedBy C.tells (map (casting K.state) scene.casts.items) (map plan_seen scene.plans.items) scene.codes.items
-        joined.owners.items (map (λ actor. end_seen K.state actor.ended) joined.actors.items)) }
+        IsJoinedBy C.tells (map (actor_spec K.state) scene.casts.items) (map plan_view scene.plans.items) scene.codes.items
+        joined.owners.items (map (λ actor. end_view K.state actor.ended) joined.actors.items)) }
 {
     let Scene {
         casts,

@@ -13,7 +13,7 @@ ghost use Rattle.act_console.specs.Threads.{Threaded};
 use act_console::{ConsoleFault, NoGate, Stock, play_script, threads_script};
 use act_kinds::{Account, Boxed, Counter, ListKind, Table};
 use act_rules::Mode;
-use act_types::MOST_ACTORS;
+use act_types::MAX_ACTORS;
 use command::mode_given;
 use status::{Stop, exit_code};
 use std::io;
@@ -30,9 +30,11 @@ fn run_script<Rt: AllocGlobal + Threads + Wait + Sync, R: Read, W: Write>(
     reader: &mut R,
     writer: &mut W,
 ) -> Result<(), ConsoleFault>
-    ensures played { mode ≡ Play → ScriptPlayed (R.remaining reader.old) (R.remaining reader.new) (W.contents writer.old)
+    ensures played { mode ≡ Play →
+        ScriptPlayed (R.remaining reader.old) (R.remaining reader.new) (W.contents writer.old)
         (W.contents writer.new) result }
-    ensures threaded { mode ≡ Threads → Threaded (R.remaining reader.old) (R.remaining reader.new) (W.contents writer.old)
+    ensures threaded { mode ≡ Threads →
+        Threaded (R.remaining reader.old) (R.remaining reader.new) (W.contents writer.old)
         (W.contents writer.new) result }
 {
     let alloc = rt.alloc();
@@ -42,7 +44,7 @@ fn run_script<Rt: AllocGlobal + Threads + Wait + Sync, R: Read, W: Write>(
         accounts: Vec::new(alloc),
         lists: Vec::new(alloc),
     };
-    for _ in 0..MOST_ACTORS {
+    for _ in 0..MAX_ACTORS {
         let counter: Boxed = Box::new(alloc, Counter::open())?;
         let table: Boxed = Box::new(alloc, Table::open(alloc))?;
         let account: Boxed = Box::new(alloc, Account::open())?;

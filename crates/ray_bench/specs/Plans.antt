@@ -18,9 +18,9 @@ abbrev pub steps_at : Work → ℕ → ℕ → List Step
 steps_at work caller place = Submit (actor_at work caller place) Add one_more ∷ awaits work.style place
 
 -- all that a caller does
-abbrev pub plan_of : Work → ℕ → List Step
-plan_of work caller = flat_map (steps_at work caller) (places work.calls)
+abbrev pub bench_plan : Work → ℕ → List Step
+bench_plan work caller = flat_map (steps_at work caller) (places work.calls)
 
 -- a caller, and all that it does
-abbrev pub part_of : Work → ℕ → ℕ × List Step
-part_of work caller = (caller, plan_of work caller)
+abbrev pub bench_part : Work → ℕ → ℕ × List Step
+bench_part work caller = (caller, bench_plan work caller)

@@ -2,8 +2,8 @@
 
 ghost use Rattle.std.specs.Prelude.{◌≡◌, IfOk, map};
 ghost use Rattle.act_rules.specs.Report.{one_to};
-ghost use Rattle.act_executor.specs.Runs.{plan_seen};
-ghost use Rattle.ray_bench.specs.Plans.{part_of, plan_of};
+ghost use Rattle.act_executor.specs.Runs.{plan_view};
+ghost use Rattle.ray_bench.specs.Plans.{bench_part, bench_plan};
 
 use act_executor::Plan;
 use act_rules::Step;
@@ -13,7 +13,7 @@ use std::alloc::Global;
 
 /// The steps of a caller.
 fn plan_of(alloc: Global, work: &Work, caller: CallerId) -> Result<Plan, NoMemory>
-    ensures { IfOk result (λ plan. plan.items ≡ plan_of work.now caller) }
+    ensures { IfOk result (λ plan. plan.items ≡ bench_plan work.now caller) }
 {
     let mut plan = Vec::new(alloc);
     for place in 0..work.calls {
@@ -27,7 +27,7 @@ fn plan_of(alloc: Global, work: &Work, caller: CallerId) -> Result<Plan, NoMemor
 
 /// The steps of each caller.
 pub(crate) fn plans_of(alloc: Global, work: &Work) -> Result<Vec<(CallerId, Plan)>, NoMemory>
-    ensures { IfOk result (λ plans. map plan_seen plans.items ≡ map (part_of work.now) (one_to work.now.callers)) }
+    ensures { IfOk result (λ plans. map plan_view plans.items ≡ map (bench_part work.now) (one_to work.now.callers)) }
 {
     let mut plans = Vec::new(alloc);
     for before in 0..work.callers.number() {

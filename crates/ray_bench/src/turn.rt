@@ -2,11 +2,11 @@
 
 ghost use Rattle.std.specs.Prelude.{IfOk, map};
 ghost use Rattle.act_actor.specs.Cast.{IsFitting};
-ghost use Rattle.act_actor.specs.Casts.{casting};
-ghost use Rattle.act_serve.specs.Served.{end_seen};
+ghost use Rattle.act_actor.specs.Casts.{actor_spec};
+ghost use Rattle.act_serve.specs.Served.{end_view};
 ghost use Rattle.act_plans.specs.Parts.{PlansFit};
 ghost use Rattle.act_executor.specs.Joined.{IsJoined};
-ghost use Rattle.act_executor.specs.Runs.{plan_seen};
+ghost use Rattle.act_executor.specs.Runs.{plan_view};
 
 use crate::plans::plans_of;
 use act_actor::{Cast, cast_fits};
@@ -37,8 +37,8 @@ fn run_measured<R: Clock + Threads + Wait + Sync, K: Actor + Send>(
     requires fit { IsFitting casts.items }
     requires plans { PlansFit casts.items plans.items }
     ensures { IfOk result (λ measured.
-        IsJoined (map (casting K.state) casts.items) (map plan_seen plans.items) measured.joined.owners.items
-        (map (λ actor. end_seen K.state actor.ended) measured.joined.actors.items)) }
+        IsJoined (map (actor_spec K.state) casts.items) (map plan_view plans.items) measured.joined.owners.items
+        (map (λ actor. end_view K.state actor.ended) measured.joined.actors.items)) }
 {
     let begin = Instant::now(rt)?;
     let joined = run_plans(rt, alloc, casts, plans, &NoGate)?;

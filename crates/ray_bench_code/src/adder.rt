@@ -2,7 +2,7 @@
 
 ghost use Rattle.std.specs.Prelude.{◌≡◌, ◌++◌, IfOk, OnOk, map};
 ghost use Rattle.act_rules.specs.Report.{one_to};
-ghost use Rattle.ray_bench_code.specs.Calls.{adder_of, calls_of};
+ghost use Rattle.ray_bench_code.specs.Calls.{adder_of, calls_of_code};
 
 use act_drive::{Code, GaveUp, Session};
 use act_types::{CallerId, FutureId, Method, NoMemory};
@@ -31,7 +31,7 @@ impl Task {
     /// Submits all calls and, where each is awaited, takes its answer before the next one.
     fn submit_all<S: Session>(&self, session: &mut S, prepared: &mut Prepared) -> Result<(), GaveUp>
         ensures { OnOk result ((S.seen session.new).calls ≡
-            (S.seen session.old).calls ++ calls_of self.now.work self.now.me self.now.work.calls) }
+            (S.seen session.old).calls ++ calls_of_code self.now.work self.now.me self.now.work.calls) }
     {
         for place in 0..self.work.calls {
             let actor = self.work.actor_at(self.me, place);

@@ -2,12 +2,12 @@
 
 ghost use Rattle.std.specs.Prelude.{◌≡◌, IfOk, map, []};
 ghost use Rattle.act_actor.specs.Cast.{IsFitting};
-ghost use Rattle.act_actor.specs.Casts.{casting};
-ghost use Rattle.act_serve.specs.Served.{end_seen};
+ghost use Rattle.act_actor.specs.Casts.{actor_spec};
+ghost use Rattle.act_serve.specs.Served.{end_view};
 ghost use Rattle.act_executor.specs.ByCode.{IsJoinedBy};
 ghost use Rattle.act_plans.specs.Parts.{PlansFit};
 ghost use Rattle.act_executor.specs.Conducts.{CodesFit};
-ghost use Rattle.act_executor.specs.Runs.{plan_seen};
+ghost use Rattle.act_executor.specs.Runs.{plan_view};
 
 use crate::adder::adders_of;
 use act_actor::{Cast, cast_fits};
@@ -40,8 +40,8 @@ fn run_measured<R: Clock + Threads + Wait + Sync, K: Actor + Send, C: Code + Sen
     requires plans { PlansFit casts.items plans.items }
     requires codes { CodesFit casts.items plans.items codes.items }
     ensures { IfOk result (λ measured.
-        IsJoinedBy C.tells (map (casting K.state) casts.items) (map plan_seen plans.items) codes.items
-        measured.joined.owners.items (map (λ actor. end_seen K.state actor.ended) measured.joined.actors.items)) }
+        IsJoinedBy C.tells (map (actor_spec K.state) casts.items) (map plan_view plans.items) codes.items
+        measured.joined.owners.items (map (λ actor. end_view K.state actor.ended) measured.joined.actors.items)) }
 {
     let begin = Instant::now(rt)?;
     let joined = run_callers(rt, alloc, casts, plans, codes, &NoGate)?;

@@ -8,7 +8,7 @@ ghost use Rattle.act_histories.specs.Checked.{Checked};
 
 use act_histories::{CheckFault, Stock, check_history};
 use act_kinds::{Account, Boxed, Counter, ListKind, Table};
-use act_types::MOST_ACTORS;
+use act_types::MAX_ACTORS;
 use command::check_words;
 use status::{Stop, exit_code};
 use std::io;
@@ -22,7 +22,8 @@ fn run_check<Rt: AllocGlobal, R: Read, W: Write>(
     reader: &mut R,
     writer: &mut W,
 ) -> Result<(), CheckFault>
-    ensures { Checked (R.remaining reader.old) (R.remaining reader.new) (W.contents writer.old) (W.contents writer.new) result }
+    ensures { Checked (R.remaining reader.old) (R.remaining reader.new) (W.contents writer.old)
+        (W.contents writer.new) result }
 {
     let alloc = rt.alloc();
     let mut stock = Stock {
@@ -31,7 +32,7 @@ fn run_check<Rt: AllocGlobal, R: Read, W: Write>(
         accounts: Vec::new(alloc),
         lists: Vec::new(alloc),
     };
-    for _ in 0..MOST_ACTORS {
+    for _ in 0..MAX_ACTORS {
         let counter: Boxed = Box::new(alloc, Counter::open())?;
         let table: Boxed = Box::new(alloc, Table::open(alloc))?;
         let account: Boxed = Box::new(alloc, Account::open())?;

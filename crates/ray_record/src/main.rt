@@ -11,7 +11,7 @@ ghost use Rattle.act_record.specs.Record.{IsRecorded};
 use act_console::{NoGate, Stock};
 use act_kinds::{Account, Boxed, Counter, ListKind, Table};
 use act_record::{RecordingFault, Source, Written, record_script};
-use act_types::MOST_ACTORS;
+use act_types::MAX_ACTORS;
 use command::no_words_given;
 use status::{Stop, exit_code};
 use std::io;
@@ -28,7 +28,8 @@ fn run_script<Rt: AllocGlobal + Threads + Wait + Sync, R: Read, W: Write>(
     reader: &mut R,
     writer: &mut W,
 ) -> Result<Written, RecordingFault>
-    ensures { IsRecorded (R.remaining reader.old) (R.remaining reader.new) (W.contents writer.old) (W.contents writer.new) result }
+    ensures { IsRecorded (R.remaining reader.old) (R.remaining reader.new) (W.contents writer.old)
+        (W.contents writer.new) result }
 {
     let alloc = rt.alloc();
     let mut stock = Stock {
@@ -43,14 +44,14 @@ fn run_script<Rt: AllocGlobal + Threads + Wait + Sync, R: Read, W: Write>(
         accounts: Vec::new(alloc),
         lists: Vec::new(alloc),
     };
-    for _ in 0..MOST_ACTORS {
+    for _ in 0..MAX_ACTORS {
         let counter: Boxed = Box::new(alloc, Counter::open())?;
         let table: Boxed = Box::new(alloc, Table::open(alloc))?;
         let account: Boxed = Box::new(alloc, Account::open())?;
         let list: Boxed = Box::new(alloc, ListKind::open(alloc))?;
         stock.add(counter, table, account, list)?;
     }
-    for _ in 0..MOST_ACTORS {
+    for _ in 0..MAX_ACTORS {
         let counter: Boxed = Box::new(alloc, Counter::open())?;
         let table: Boxed = Box::new(alloc, Table::open(alloc))?;
         let account: Boxed = Box::new(alloc, Account::open())?;

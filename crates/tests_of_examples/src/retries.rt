@@ -1,7 +1,7 @@
 //! Withdrawals that are tried again.
 
-use crate::first::{First, Put, Then};
 use crate::callers_scene::{alone, two_casts};
+use crate::first::{First, Put, Then};
 use act_actor::Cast;
 use act_kinds::{Account, Boxed, Counter};
 use act_types::NoMemory;

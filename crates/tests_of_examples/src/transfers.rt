@@ -1,7 +1,7 @@
 //! Transfers between two accounts.
 
-use crate::first::{First, Put, Then};
 use crate::callers_scene::{actor, alone, caller, ends_as, plan_of, report_of, two_casts};
+use crate::first::{First, Put, Then};
 use act_actor::{Cast, cast_fits};
 use act_executor::{codes_fit, plans_fit};
 use act_kinds::{Account, Boxed};

@@ -1,7 +1,7 @@
 //! A worker at a queue.
 
-use crate::first::{First, Put, Then};
 use crate::callers_scene::{alone, two_casts};
+use crate::first::{First, Put, Then};
 use act_actor::Cast;
 use act_kinds::{Boxed, Counter};
 use act_types::NoMemory;

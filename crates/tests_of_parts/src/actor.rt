@@ -5,8 +5,8 @@ ghost use Rattle.act_actor.specs.Cast.{CallersDiffer};
 use act_actor::{Arrival, Cast, Live, actors_of, cast_fits, limits_of};
 use act_kinds::{Actor, Boxed, Counter, ListKind, Table};
 use act_types::{
-    ActorId, CallerId, Fault, FewOf, FutureId, ListOf, Method, NoMemory, Packet, ReleaseNote,
-    Reply, Settled, Text, Value,
+    ActorId, CallerId, Fault, FutureId, ListOf, Method, NoMemory, Packet, ReleaseNote, Reply,
+    Settled, SmallList, Text, Value,
 };
 use std::alloc::Global;
 use std::process::Abort;
@@ -33,7 +33,7 @@ fn settled_of(alloc: Global, given: Given) -> Result<Settled, NoMemory> {
 
 fn packet_of(alloc: Global, row: &Row) -> Result<Packet, NoMemory> {
     let (number, method, givens, _) = *row;
-    let mut args = FewOf::new(alloc);
+    let mut args = SmallList::new(alloc);
     for given in givens {
         args.push(settled_of(alloc, *given)?)?;
     }

@@ -3,7 +3,7 @@
 
 use act_inbox::{Arrival, Inbox};
 use act_types::{
-    ActorId, CallerId, FewOf, FutureId, Method, NoMemory, Packet, ReleaseNote, Settled, Value,
+    ActorId, CallerId, FutureId, Method, NoMemory, Packet, ReleaseNote, Settled, SmallList, Value,
 };
 use std::alloc::{AllocError, Global};
 use std::process::Abort;
@@ -16,7 +16,7 @@ fn packet_of(
     number: u32,
     method: Method,
 ) -> Result<Packet, NoMemory> {
-    let mut args = FewOf::new(alloc);
+    let mut args = SmallList::new(alloc);
     args.push(Settled::Good(Value::Int(7)))?;
     Ok(Packet {
         caller,
@@ -225,7 +225,7 @@ impl Call {
             number: self.number,
             future: self.future,
             method: Method::Get,
-            args: FewOf::new(alloc),
+            args: SmallList::new(alloc),
         }
     }
 }

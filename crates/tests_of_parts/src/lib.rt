@@ -1,4 +1,5 @@
-//! Tests of the parts of a caller and of an actor: kinds, the queue of an actor's calls, an actor that runs them; handles,
+//! Tests of the parts of a caller and of an actor: kinds, the queue of an actor's calls, an actor that runs them;
+//! handles,
 //! calls and answers, the lists that they carry, and plans.
 #![tactic(auto)]
 

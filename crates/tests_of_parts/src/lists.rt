@@ -1,13 +1,13 @@
 //! The lists and texts that calls carry: what they hold, and whether they hold anything.
 
-use act_types::{CopyOf, FewOf, ListOf, NoMemory, Text, Value};
+use act_types::{CopyOf, ListOf, NoMemory, SmallList, Text, Value};
 use std::alloc::Global;
 use std::process::Abort;
 use std::test::Fail;
 
 /// A list of few with these numbers.
-fn few_of(alloc: Global, numbers: &[i64]) -> Result<FewOf<Value>, NoMemory> {
-    let mut few = FewOf::with_capacity(alloc, numbers.len())?;
+fn small_list(alloc: Global, numbers: &[i64]) -> Result<SmallList<Value>, NoMemory> {
+    let mut few = SmallList::with_capacity(alloc, numbers.len())?;
     for number in numbers {
         few.push(Value::Int(*number))?;
     }
@@ -24,7 +24,7 @@ fn list_of(alloc: Global, numbers: &[i64]) -> Result<ListOf<Value>, NoMemory> {
 }
 
 /// Lists that hold these numbers, and nothing else.
-fn assert_hold(rt: &impl Abort, few: &FewOf<Value>, list: &ListOf<Value>, numbers: &[i64]) {
+fn assert_hold(rt: &impl Abort, few: &SmallList<Value>, list: &ListOf<Value>, numbers: &[i64]) {
     let wanted = (numbers.len(), numbers.is_empty());
     assert_eq!(rt; (few.len(), few.is_empty()), wanted);
     assert_eq!(rt; (list.len(), list.is_empty()), wanted);
@@ -35,7 +35,7 @@ fn assert_hold(rt: &impl Abort, few: &FewOf<Value>, list: &ListOf<Value>, number
 fn lists_of_none_to_three(rt: HostRuntime) -> Result<(), Fail> {
     let rows: [&[i64]; 4] = [&[], &[7], &[7, 8], &[7, 8, 9]];
     for numbers in rows {
-        let few = few_of(rt.alloc(), numbers)?;
+        let few = small_list(rt.alloc(), numbers)?;
         let list = list_of(rt.alloc(), numbers)?;
         assert_hold(&rt, &few, &list, numbers);
     }
@@ -44,14 +44,14 @@ fn lists_of_none_to_three(rt: HostRuntime) -> Result<(), Fail> {
 
 /// Whether lists of these numbers are equal.
 fn are_equal(alloc: Global, one: &[i64], other: &[i64]) -> Result<bool, NoMemory> {
-    let one = few_of(alloc, one)?;
-    let other = few_of(alloc, other)?;
+    let one = small_list(alloc, one)?;
+    let other = small_list(alloc, other)?;
     Ok(one == other)
 }
 
 /// Whether a list of these numbers is equal to its copy.
 fn equals_its_copy(alloc: Global, numbers: &[i64]) -> Result<bool, NoMemory> {
-    let few = few_of(alloc, numbers)?;
+    let few = small_list(alloc, numbers)?;
     let copy = few.copy_of(alloc)?;
     Ok(copy == few)
 }

@@ -5,8 +5,8 @@ ghost use Rattle.std.specs.Prelude.{◌≢◌};
 
 use act_owner::{Collected, HandleRefusal, Owner, SendRefusal, SubmitRefusal};
 use act_types::{
-    ActorId, Answer, Arg, CallerId, Fault, FewOf, FutureId, ListOf, Method, NoMemory, Notice,
-    Packet, Reply, Settled, Value,
+    ActorId, Answer, Arg, CallerId, Fault, FutureId, ListOf, Method, NoMemory, Notice, Packet,
+    Reply, Settled, SmallList, Value,
 };
 use std::alloc::Global;
 use std::process::Abort;
@@ -231,7 +231,7 @@ fn assert_known(rt: &impl Abort, owner: &Owner, rows: [(ActorId, bool, u32); 3])
 
 /// The first call's packet as a whole: `add 5`.
 fn first_packet(alloc: Global) -> Result<Packet, NoMemory> {
-    let mut args = FewOf::new(alloc);
+    let mut args = SmallList::new(alloc);
     args.push(Settled::Good(Value::Int(5)))?;
     Ok(Packet {
         caller: CallerId::new(1).unwrap(),
@@ -610,9 +610,9 @@ fn forged_notices() -> [Notice; 6] {
 }
 
 /// A stray notice, after which the caller stands as before.
-fn assert_stray(rt: &impl Abort, owner: &mut Owner, notice: Notice, stands: Shown) {
+fn assert_stray(rt: &impl Abort, owner: &mut Owner, notice: Notice, reached: Shown) {
     assert_eq!(rt; owner.collect(notice), Collected::Stray);
-    assert_eq!(rt; shown_of(owner), stands);
+    assert_eq!(rt; shown_of(owner), reached);
 }
 
 /// How the caller stands after three calls. The last may be sent, and nobody died.

@@ -3,7 +3,7 @@
 
 use act_actor::{Cast, cast_fits};
 use act_kinds::Counter;
-use act_plans::{MOST_STEPS, Part, Plan, bad_step, first_bad_part, plans_fit, prepare};
+use act_plans::{CallerSetup, MAX_STEPS, Plan, bad_step, first_bad_setup, plans_fit, prepare};
 use act_rules::Step;
 use act_types::{ActorId, Arg, CallerId, FutureId, ListOf, Method, NoMemory};
 use std::alloc::Global;
@@ -81,7 +81,7 @@ fn assert_bad_at(
     plan: &[Step],
     wanted: Option<u32>,
 ) -> Result<(), NoMemory> {
-    assert!(rt; plan.len() < MOST_STEPS);
+    assert!(rt; plan.len() < MAX_STEPS);
     let bad = bad_step(alloc, &[ActorId::new(1).unwrap()], plan)?;
     assert_eq!(rt; bad, wanted);
     Ok(())
@@ -133,12 +133,16 @@ fn assert_actors(rt: &impl Abort, casts: &[Cast<Counter>], actors: &[ActorId]) {
 }
 
 /// Compares the callers of parts, their actors, and how many steps they have.
-fn assert_parts(rt: &impl Abort, parts: &[Part], wanted: &[(CallerId, [ActorId; 2], usize)]) {
-    assert_eq!(rt; parts.len(), wanted.len());
-    for (part, wanted) in parts.iter().zip(wanted.iter()) {
-        assert_eq!(rt; part.caller, wanted.0);
-        assert_eq!(rt; part.actors.as_slice(), &wanted.1[..]);
-        assert_eq!(rt; part.plan.len(), wanted.2);
+fn assert_setups(
+    rt: &impl Abort,
+    setups: &[CallerSetup],
+    wanted: &[(CallerId, [ActorId; 2], usize)],
+) {
+    assert_eq!(rt; setups.len(), wanted.len());
+    for (setup, wanted) in setups.iter().zip(wanted.iter()) {
+        assert_eq!(rt; setup.caller, wanted.0);
+        assert_eq!(rt; setup.actors.as_slice(), &wanted.1[..]);
+        assert_eq!(rt; setup.plan.len(), wanted.2);
     }
 }
 
@@ -159,8 +163,8 @@ fn a_run_is_prepared(rt: HostRuntime) -> Result<(), Fail> {
     let prepared = prepare(alloc, casts, plans)?;
     assert_actors(&rt, prepared.casts.as_slice(), &[a1, a2, a3]);
     let wanted = [(c2, [a3, a1], 0), (c5, [a3, a2], 3), (c9, [a1, a2], 2)];
-    assert_parts(&rt, prepared.parts.as_slice(), &wanted);
-    let bad = first_bad_part(alloc, prepared.parts.as_slice())?;
+    assert_setups(&rt, prepared.setups.as_slice(), &wanted);
+    let bad = first_bad_setup(alloc, prepared.setups.as_slice())?;
     assert_eq!(rt; bad, Some((c5, 2)));
     Ok(())
 }

@@ -1,8 +1,9 @@
 //! Three futures of two actors, with an answer, a death, and replies that come too late; how many
-//! futures of each wait, step by step; a table that grows where memory is refused; and random steps that compare a table with a plain list.
+//! futures of each wait, step by step; a table that grows where memory is refused; and random steps that compare a
+//! table with a plain list.
 
 use act_replies::{Kept, ReplyTable};
-use act_types::{ActorId, Answer, Fault, FutureId, MOST_CALLS, NoMemory, Value};
+use act_types::{ActorId, Answer, Fault, FutureId, MAX_CALLS, NoMemory, Value};
 use std::process::Abort;
 use std::test::Fail;
 
@@ -68,7 +69,7 @@ enum Step {
 fn play(rt: &impl Abort, table: &mut ReplyTable, step: Step) -> Result<(), NoMemory> {
     match step {
         Step::Enter(a) => {
-            assert!(rt; table.count() < MOST_CALLS);
+            assert!(rt; table.count() < MAX_CALLS);
             table.enter(a)?;
         }
         Step::Keep(k) => {
@@ -121,7 +122,7 @@ fn enter_again(rt: &impl Abort, table: &mut ReplyTable, a: ActorId) -> Result<Fu
         assert_eq!(rt; shown(table), before);
         assert_eq!(rt; table.reserve_one(), Ok(()));
     }
-    assert!(rt; table.count() < MOST_CALLS);
+    assert!(rt; table.count() < MAX_CALLS);
     let entered = table.enter(a);
     if entered.is_err() {
         assert_eq!(rt; shown(table), before);
@@ -206,7 +207,7 @@ fn take_step(
             assert_eq!(rt; table.died(actor) as usize, told);
         }
         1..=12 => {
-            assert!(rt; table.count() < MOST_CALLS);
+            assert!(rt; table.count() < MAX_CALLS);
             let future = table.enter(actor)?;
             assert_eq!(rt; future.number() as usize, futures.len());
             futures.push(Plain {

@@ -4,7 +4,7 @@
 ghost use Rattle.std.specs.Prelude.{◌≡◌, ◌<◌, ◌^◌, [], length, IfOk, OnErr};
 
 use act_resolver::{Futures, Resolver};
-use act_types::{FutureId, MOST_ARGS, NoMemory};
+use act_types::{FutureId, MAX_ARGS, NoMemory};
 use std::alloc::Global;
 use std::process::Abort;
 use std::test::Fail;
@@ -37,7 +37,7 @@ fn take(
         }
         Step::Enter(futures) => {
             assert!(rt; entered < u32::MAX);
-            assert!(rt; futures.len() <= MOST_ARGS);
+            assert!(rt; futures.len() <= MAX_ARGS);
             assert!(rt; futures.iter().all(|future| future.number() < entered));
             resolver.enter(FutureId::new(entered), futures)?;
             Ok(entered + 1)
@@ -253,7 +253,7 @@ fn scan_step(rt: &impl Abort, calls: &mut Vec<Scanned>, step: &Step) -> Result<(
     match *step {
         Step::Reserve(_) => {}
         Step::Enter(futures) => {
-            assert!(rt; futures.len() <= MOST_ARGS);
+            assert!(rt; futures.len() <= MAX_ARGS);
             calls.push(Scanned {
                 futures: Futures::new(futures),
                 answered: false,

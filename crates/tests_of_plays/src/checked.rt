@@ -2,7 +2,7 @@
 
 use act_histories::{CheckFault, Stock, check_history};
 use act_kinds::{Account, Boxed, Counter, ListKind, Table};
-use act_types::MOST_ACTORS;
+use act_types::MAX_ACTORS;
 use std::process::Abort;
 use std::test::Fail;
 
@@ -71,7 +71,7 @@ fn checked<Rt: AllocGlobal>(
         accounts: Vec::new(alloc),
         lists: Vec::new(alloc),
     };
-    for _ in 0..MOST_ACTORS {
+    for _ in 0..MAX_ACTORS {
         let counter: Boxed = Box::new(alloc, Counter::open())?;
         let table: Boxed = Box::new(alloc, Table::open(alloc))?;
         let account: Boxed = Box::new(alloc, Account::open())?;

@@ -1,4 +1,5 @@
-//! Tests of a world of callers and actors, event by event, of the small callers, of runs in threads that are written down
+//! Tests of a world of callers and actors, event by event, of the small callers, of runs in threads that are written
+//! down
 //! as plays, and of histories.
 #![tactic(auto)]
 

@@ -2,8 +2,8 @@
 
 ghost use Rattle.std.specs.Prelude.{◌≡◌, [], ◌∷◌, map, IfOk};
 ghost use Rattle.act_types.specs.KindState.{KindState};
-ghost use Rattle.act_actor.specs.Casts.{casting};
-ghost use Rattle.tests_of_plays.specs.Scene.{two_castings};
+ghost use Rattle.act_actor.specs.Casts.{actor_spec};
+ghost use Rattle.tests_of_plays.specs.Scene.{two_actor_specs};
 
 use act_actor::{Cast, cast_fits};
 use act_executor::{NoGate, Plan, RunFault, plans_fit, run_plans};
@@ -99,7 +99,8 @@ fn cast_of<K: Drop>(
     kind: K,
     pending: Option<u32>,
 ) -> Result<Cast<K>, NoMemory>
-    ensures { IfOk result (λ cast. cast ≡ record { actor = actor; callers = 1 ∷ 2 ∷ []; kind = kind; pending = pending }) }
+    ensures { IfOk result (λ cast.
+        cast ≡ record { actor = actor; callers = 1 ∷ 2 ∷ []; kind = kind; pending = pending }) }
 {
     let Ids { c1, c2, .. } = few_ids();
     let mut callers = ListOf::new(alloc);
@@ -121,7 +122,7 @@ pub(super) fn pair<K: Drop>(
     pending: Option<u32>,
 ) -> Result<Vec<Cast<K>>, NoMemory>
     ensures { IfOk result (λ casts. (state : K → KindState) →
-        map (casting state) casts.items ≡ two_castings pending (state one) (state two)) }
+        map (actor_spec state) casts.items ≡ two_actor_specs pending (state one) (state two)) }
 {
     let Ids { a1, a2, .. } = few_ids();
     let mut casts = Vec::new(alloc);

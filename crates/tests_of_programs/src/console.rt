@@ -8,7 +8,7 @@ mod threads;
 use act_console::{ConsoleFault, Gate, NoGate, Stock, play_script, threads_script};
 use act_kinds::{Account, Boxed, Counter, ListKind, Table};
 use act_rules::Mode;
-use act_types::{MOST_ACTORS, MOST_SCRIPT_BYTES};
+use act_types::{MAX_ACTORS, MAX_SCRIPT_BYTES};
 use fakes::{Failure, FakeReader, FakeWriter};
 use rows::Row;
 use std::io::ErrorKind;
@@ -42,7 +42,7 @@ fn ran<Rt: AllocGlobal + Threads + Wait + Sync, G: Gate>(
         accounts: Vec::new(alloc),
         lists: Vec::new(alloc),
     };
-    for _ in 0..MOST_ACTORS {
+    for _ in 0..MAX_ACTORS {
         let counter: Boxed = Box::new(alloc, Counter::open())?;
         let table: Boxed = Box::new(alloc, Table::open(alloc))?;
         let account: Boxed = Box::new(alloc, Account::open())?;
@@ -59,13 +59,13 @@ fn ran<Rt: AllocGlobal + Threads + Wait + Sync, G: Gate>(
 /// than one byte too many.
 #[test]
 fn a_byte_a_read(rt: HostRuntime) -> Result<(), Fail> {
-    const MOST_READ: usize = MOST_SCRIPT_BYTES + 1;
+    const MAX_READ: usize = MAX_SCRIPT_BYTES + 1;
     for (len, reads, wanted) in [
         (0, 1, Ok(())),
         (10, 11, Ok(())),
-        (MOST_SCRIPT_BYTES, MOST_READ, Ok(())),
-        (MOST_READ, MOST_READ, Err(ConsoleFault::Script)),
-        (MOST_READ + 10, MOST_READ, Err(ConsoleFault::Script)),
+        (MAX_SCRIPT_BYTES, MAX_READ, Ok(())),
+        (MAX_READ, MAX_READ, Err(ConsoleFault::Script)),
+        (MAX_READ + 10, MAX_READ, Err(ConsoleFault::Script)),
     ] {
         let bytes = vec![in rt.alloc(); b'\n'; len]?;
         let mut reader = FakeReader::new(&bytes);

@@ -3,7 +3,7 @@
 use act_console::{ConsoleFault, NoGate, Stock};
 use act_kinds::{Account, Boxed, Counter, ListKind, Table};
 use act_record::{RecordingFault, Written, record_script};
-use act_types::MOST_ACTORS;
+use act_types::MAX_ACTORS;
 use std::sync::Wait;
 use std::test::Fail;
 use std::thread::Threads;
@@ -27,14 +27,14 @@ fn recorded<Rt: AllocGlobal + Threads + Wait + Sync>(
         accounts: Vec::new(alloc),
         lists: Vec::new(alloc),
     };
-    for _ in 0..MOST_ACTORS {
+    for _ in 0..MAX_ACTORS {
         let counter: Boxed = Box::new(alloc, Counter::open())?;
         let table: Boxed = Box::new(alloc, Table::open(alloc))?;
         let account: Boxed = Box::new(alloc, Account::open())?;
         let list: Boxed = Box::new(alloc, ListKind::open(alloc))?;
         stock.add(counter, table, account, list)?;
     }
-    for _ in 0..MOST_ACTORS {
+    for _ in 0..MAX_ACTORS {
         let counter: Boxed = Box::new(alloc, Counter::open())?;
         let table: Boxed = Box::new(alloc, Table::open(alloc))?;
         let account: Boxed = Box::new(alloc, Account::open())?;

@@ -9,7 +9,7 @@ ghost use Rattle.act_rules.specs.declared.script.Step.TheVariants.{Submit};
 ghost use Rattle.act_rules.specs.Plans.{first_bad};
 ghost use Rattle.act_owner.specs.Owner.{opened_under};
 ghost use Rattle.act_mailbox.specs.Notices.{new_exec};
-ghost use Rattle.act_drive.specs.Driven.{IsUnused};
+ghost use Rattle.act_drive.specs.Driven.{IsUnusedCaller};
 
 mod executor;
 mod pair;
@@ -105,7 +105,7 @@ fn driven<R: Wait>(
 ) -> Told
     requires owner { owner ≡ opened_under owner.limits 1 (1 ∷ []) }
     requires fits { first_bad (1 ∷ []) plan.items ≡ None }
-    requires unused { IsUnused lines.now.mails.now lines.now.controls.now lines.now.replies.now 1 passes }
+    requires unused { IsUnusedCaller lines.now.mails.now lines.now.controls.now lines.now.replies.now 1 passes }
 {
     let driven = drive(rt, alloc, owner, plan, lines, passes);
     Told {
@@ -128,7 +128,7 @@ fn beside<R: Threads + Wait + Sync>(
     requires sync { IsSync R.row }
     requires owner { caller.0 ≡ opened_under caller.0.limits 1 (1 ∷ []) }
     requires fits { first_bad (1 ∷ []) caller.1.items ≡ None }
-    requires unused { IsUnused lines.0.now.mails.now lines.0.now.controls.now lines.0.now.replies.now 1 caller.2 }
+    requires unused { IsUnusedCaller lines.0.now.mails.now lines.0.now.controls.now lines.0.now.replies.now 1 caller.2 }
     requires letters { exec.letters.line ≡ lines.1.now.mail.now.line }
     requires kills { (exec.kills.line ≡ lines.1.now.control.now.line) × (exec.kills.actor ≡ 1) }
     requires gives { exec.gives ≡ new_exec lines.1.now.replies.now.line 1 }
@@ -139,7 +139,7 @@ fn beside<R: Threads + Wait + Sync>(
         rt,
         move || -> Told
             requires { (owner ≡ opened_under owner.limits 1 (1 ∷ [])) × (first_bad (1 ∷ []) plan.items ≡ None) ×
-                IsUnused lines.now.mails.now lines.now.controls.now lines.now.replies.now 1 passes }
+                IsUnusedCaller lines.now.mails.now lines.now.controls.now lines.now.replies.now 1 passes }
         { driven(rt, alloc, owner, plan, lines, passes) },
         move || -> Result<bool, NoMemory>
             requires { (exec.letters.line ≡ exec_lines.now.mail.now.line) ×

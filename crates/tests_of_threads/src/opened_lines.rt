@@ -1,13 +1,13 @@
 //! The lines of two casts with three callers, of which they share one.
 
 ghost use Rattle.std.specs.Prelude.{◌≡◌, ◌≤◌, [], ◌∷◌, IfOk};
-ghost use Rattle.act_plans.specs.Parts.{AreMatched};
+ghost use Rattle.act_plans.specs.Setups.{AreMatched};
 
 use act_actor::Cast;
 use act_drive::CallerPasses;
 use act_executor::{Opened, open_lines};
-use act_plans::Part;
-use act_seats::Seat;
+use act_mailbox::Endpoint;
+use act_plans::CallerSetup;
 use act_serve::ExecPasses;
 use act_types::{ActorId, CallerId, ListOf, NoMemory};
 use std::alloc::{AllocError, Global};
@@ -48,11 +48,11 @@ fn cast(
 }
 
 /// A part without limits and with an empty plan.
-fn part(alloc: Global, caller: CallerId, actors: Vec<ActorId>) -> Part
+fn setup(alloc: Global, caller: CallerId, actors: Vec<ActorId>) -> CallerSetup
     ensures caller { result.caller ≡ caller }
     ensures actors { result.actors.items ≡ actors.items }
 {
-    Part {
+    CallerSetup {
         caller,
         actors,
         limits: Vec::new(alloc),
@@ -61,28 +61,31 @@ fn part(alloc: Global, caller: CallerId, actors: Vec<ActorId>) -> Part
 }
 
 /// Actor 5 with callers 2 and 7, and actor 3 with callers 7 and 1; and the parts of 7, 1 and 2.
-fn matched(alloc: Global) -> Result<(Vec<Cast<()>>, Vec<Part>), NoMemory>
+fn matched(alloc: Global) -> Result<(Vec<Cast<()>>, Vec<CallerSetup>), NoMemory>
     ensures { IfOk result (λ made. AreMatched made.0.items made.1.items) }
 {
     let one = cast(alloc, actor(5), caller(2), caller(7))?;
     let two = cast(alloc, actor(3), caller(7), caller(1))?;
-    let both = part(alloc, caller(7), vec![in alloc; actor(5), actor(3)]?);
-    let last = part(alloc, caller(1), vec![in alloc; actor(3)]?);
-    let first = part(alloc, caller(2), vec![in alloc; actor(5)]?);
+    let both = setup(alloc, caller(7), vec![in alloc; actor(5), actor(3)]?);
+    let last = setup(alloc, caller(1), vec![in alloc; actor(3)]?);
+    let first = setup(alloc, caller(2), vec![in alloc; actor(5)]?);
     let casts = vec![in alloc; one, two]?;
-    let parts = vec![in alloc; both, last, first]?;
-    Ok((casts, parts))
+    let setups = vec![in alloc; both, last, first]?;
+    Ok((casts, setups))
 }
 
-fn places<P>(alloc: Global, seats: &[Seat<P>]) -> Result<Vec<usize>, AllocError> {
-    seats.iter().map(|seat| seat.place).collect(alloc)
+fn places<P>(alloc: Global, endpoints: &[Endpoint<P>]) -> Result<Vec<usize>, AllocError> {
+    endpoints
+        .iter()
+        .map(|endpoint| endpoint.place)
+        .collect(alloc)
 }
 
 /// Each executor gives notices at the lines of these places.
 fn assert_execs(
     rt: &impl Abort,
     alloc: Global,
-    execs: &[Seat<ExecPasses>],
+    execs: &[Endpoint<ExecPasses>],
     wanted: &[&[usize]],
 ) -> Result<(), AllocError> {
     assert_eq!(rt; execs.len(), wanted.len());
@@ -97,7 +100,7 @@ fn assert_execs(
 fn assert_callers(
     rt: &impl Abort,
     alloc: Global,
-    callers: &[Seat<CallerPasses>],
+    callers: &[Endpoint<CallerPasses>],
     wanted: &[&[usize]],
 ) -> Result<(), AllocError> {
     assert_eq!(rt; callers.len(), wanted.len());
@@ -126,8 +129,8 @@ fn assert_counts(rt: &impl Abort, opened: &Opened) {
 #[test]
 fn two_casts_and_three_callers(rt: HostRuntime) -> Result<(), Fail> {
     let alloc = rt.alloc();
-    let (casts, parts) = matched(alloc)?;
-    let opened = open_lines(alloc, casts.as_slice(), parts.as_slice())?;
+    let (casts, setups) = matched(alloc)?;
+    let opened = open_lines(alloc, casts.as_slice(), setups.as_slice())?;
     assert_counts(&rt, &opened);
     assert_execs(&rt, alloc, opened.execs.as_slice(), &[&[0, 2], &[0, 1]])?;
     assert_callers(

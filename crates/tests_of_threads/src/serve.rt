@@ -1,8 +1,8 @@
 //! An actor that serves lines which a test filled.
 
 ghost use Rattle.std.specs.Prelude.{◌≡◌, [], ◌∷◌, slice_index_or};
-ghost use Rattle.act_mailbox.specs.Notices.{RepliesValue};
-ghost use Rattle.act_serve.specs.Turns.{PassesFit, PassesOf, IsUnused};
+ghost use Rattle.act_mailbox.specs.Notices.{RepliesView};
+ghost use Rattle.act_serve.specs.Turns.{PassesFit, PassesOf, IsUnusedExec};
 
 mod kill_at_place;
 mod least_caller;
@@ -73,7 +73,7 @@ fn serve_counter<R: Wait, G: Gate>(
     gate: &G,
 ) -> Result<End, NoMemory>
     requires fit { PassesOf lines.now 1 [] passes }
-    requires fresh { IsUnused lines.now.replies.now (1 ∷ []) passes }
+    requires fresh { IsUnusedExec lines.now.replies.now (1 ∷ []) passes }
 {
     let live = Live::open(alloc, actor(), &[caller()], Counter::open())?;
     Ok(end_of(&serve(rt, live, lines, passes, gate)))
@@ -88,8 +88,8 @@ fn served<R: Wait>(
     passes: ExecPasses,
 ) -> Result<(End, Option<Counted>), NoMemory>
     requires fit { PassesFit station.now.mail.line station.now.control.line station.now.replies 1 [] passes }
-    requires fresh { IsUnused station.now.replies (1 ∷ []) passes }
-    requires collector { (r : RepliesValue) → collector.old.line ≡ (slice_index_or station.now.replies 0 r).line }
+    requires fresh { IsUnusedExec station.now.replies (1 ∷ []) passes }
+    requires collector { (r : RepliesView) → collector.old.line ≡ (slice_index_or station.now.replies 0 r).line }
 {
     let lines = ExecLines {
         mail: &station.mail,

@@ -17,9 +17,9 @@ pub struct ControlExec {
 }
 
 impl Model for ControlExec {
-    ghost use Rattle.act_mailbox.specs.Controls.{ControlExecValue};
+    ghost use Rattle.act_mailbox.specs.Controls.{ControlExecView};
 
-    ghost Value = { ControlExecValue };
+    ghost Value = { ControlExecView };
 
     ghost view = { λ p. record {
       line = p.pass.line;

@@ -20,11 +20,16 @@ impl<T, N> Model for Putter<T, N> {
     ghost use Rattle.std.specs.Prelude.{◌≡◌, [], List};
     ghost use Rattle.crossbeam_queue.specs.Passes.{view as known};
     ghost use Rattle.act_mailbox.specs.Lines.{putting, put_of, note_of};
-    ghost use Rattle.act_mailbox.specs.Passes.{PutterValue};
+    ghost use Rattle.act_mailbox.specs.Passes.{PutterView};
 
-    ghost Value = { PutterValue T N };
+    ghost Value = { PutterView T N };
 
-    ghost view = { λ p. record { line = p.pass.table_id; number = p.number; put = put_of (known p.pass); note = note_of (known p.pass) } };
+    ghost view = { λ p. record {
+      line = p.pass.table_id;
+      number = p.number;
+      put = put_of (known p.pass);
+      note = note_of (known p.pass);
+    } };
 
     // It is at rest, and its view is a putter's.
     ghost invariant = { λ p. (p.pass.me.1 ≡ []) ×
@@ -50,9 +55,9 @@ impl<T, N> Model for Taker<T, N> {
     ghost use Rattle.std.specs.Prelude.{◌≡◌, []};
     ghost use Rattle.crossbeam_queue.specs.Passes.{view as known};
     ghost use Rattle.act_mailbox.specs.Lines.{taking, taken_of, note_of, putters_of};
-    ghost use Rattle.act_mailbox.specs.Passes.{TakerValue};
+    ghost use Rattle.act_mailbox.specs.Passes.{TakerView};
 
-    ghost Value = { TakerValue T N };
+    ghost Value = { TakerView T N };
 
     ghost view = { λ p. record {
       line = p.pass.table_id;

@@ -17,9 +17,9 @@ pub struct ReplyExec {
 
 impl Model for ReplyExec {
     ghost use Rattle.std.specs.Prelude.{◌≡◌};
-    ghost use Rattle.act_mailbox.specs.Notices.{ReplyExecValue, IsGiven};
+    ghost use Rattle.act_mailbox.specs.Notices.{ReplyExecView, IsGiven};
 
-    ghost Value = { ReplyExecValue };
+    ghost Value = { ReplyExecView };
 
     ghost view = { λ p. record { line = p.pass.line; actor = p.actor; given = p.pass.put; seen = p.pass.note } };
 

@@ -11,10 +11,10 @@ use std::test::Fail;
 use std::thread::Threads;
 
 /// So many copies of its handle a caller may have of an actor.
-const MOST_COPIES: u32 = 65_535;
+const MAX_COPIES: u32 = 65_535;
 
 /// So many keys a table may have.
-const MOST_KEYS: u32 = 1_024;
+const MAX_KEYS: u32 = 1_024;
 
 /// The script is played to its end, and gives this report.
 fn assert_report<Rt: AllocGlobal + Threads + Wait + Sync + Abort>(
@@ -35,7 +35,7 @@ fn a_copy_too_many(rt: HostRuntime) -> Result<(), Fail> {
     let mut script = String::new(rt.alloc());
     let mut report = String::new(rt.alloc());
     script.push_str("actor a1 counter c1\n")?;
-    for (place, copies) in (2..=MOST_COPIES).enumerate() {
+    for (place, copies) in (2..=MAX_COPIES).enumerate() {
         script.push_str("copy c1 a1\n")?;
         writeln!(report, "{place}: copies {copies}")?;
     }
@@ -65,15 +65,15 @@ fn push_told(report: &mut String, key: u32, place: u32) -> Result<(), NoMemory> 
 
 /// Adds the futures, the table and its run list.
 fn push_summary(report: &mut String) -> Result<(), NoMemory> {
-    for key in 0..MOST_KEYS {
+    for key in 0..MAX_KEYS {
         writeln!(report, "c1.{key} a1 = unit")?;
     }
     write!(report, "c1.{MOST_KEYS} a1 = KindFull\na1 live table")?;
-    for key in 0..MOST_KEYS {
+    for key in 0..MAX_KEYS {
         write!(report, " \"k{key}\" {key}")?;
     }
     writeln!(report)?;
-    for key in 0..=MOST_KEYS {
+    for key in 0..=MAX_KEYS {
         writeln!(report, "a1.{key} c1.{key} put \"k{key}\" {key}")?;
     }
     Ok(())
@@ -85,7 +85,7 @@ fn a_key_too_many(rt: HostRuntime) -> Result<(), Fail> {
     let mut script = String::new(rt.alloc());
     let mut report = String::new(rt.alloc());
     script.push_str("actor a1 table c1\n")?;
-    for key in 0..=MOST_KEYS {
+    for key in 0..=MAX_KEYS {
         push_put(&mut script, key)?;
         push_told(&mut report, key, 5 * key)?;
     }

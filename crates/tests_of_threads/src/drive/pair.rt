@@ -1,17 +1,18 @@
 //! The lines between two actors and one caller.
 
 ghost use Rattle.std.specs.Prelude.{◌≡◌, ◌+◌, ◌≤◌, [], ◌∷◌, slice_index_or, vec_len, vec_capacity, IfOk};
-ghost use Rattle.act_mailbox.specs.Mails.{MailValue};
-ghost use Rattle.act_mailbox.specs.Controls.{ControlValue};
+ghost use Rattle.act_mailbox.specs.Mails.{MailView};
+ghost use Rattle.act_mailbox.specs.Controls.{ControlView};
 ghost use Rattle.act_mailbox.specs.Notices.{new_exec};
 ghost use Rattle.act_mailbox.specs.Passes.{new_putter, new_taker};
-ghost use Rattle.act_drive.specs.Driven.{IsUnused};
+ghost use Rattle.act_drive.specs.Driven.{IsUnusedCaller};
 
 use super::station::ExecPasses;
 use crate::lines::{Lines, actor, caller, opened_lines};
 use act_drive::CallerPasses;
-use act_mailbox::{Control, ControlCaller, Mail, MailCaller, Replies, ReplyCaller, ReplyExec};
-use act_seats::Seat;
+use act_mailbox::{
+    Control, ControlCaller, Endpoint, Mail, MailCaller, Replies, ReplyCaller, ReplyExec,
+};
 use act_types::{ActorId, NoMemory};
 use std::alloc::Global;
 
@@ -32,11 +33,11 @@ fn opened_replies(alloc: Global) -> Result<(Replies, ReplyCaller, ReplyExec, Rep
     Ok((replies, collects, first, second))
 }
 
-/// Room for the seats of the caller's passes.
+/// Room for the endpoints of the caller's passes.
 #[derive(Drop)]
 struct Room {
-    letters: Vec<Seat<MailCaller>>,
-    kills: Vec<Seat<ControlCaller>>,
+    letters: Vec<Endpoint<MailCaller>>,
+    kills: Vec<Endpoint<ControlCaller>>,
 }
 
 fn make_room(alloc: Global) -> Result<Room, NoMemory>
@@ -50,35 +51,38 @@ fn make_room(alloc: Global) -> Result<Room, NoMemory>
 }
 
 /// The caller's passes, by the places of its actors.
-fn seated(
+fn endpoints_at(
     room: Room,
     posts: (MailCaller, MailCaller),
     asks: (ControlCaller, ControlCaller),
     collects: ReplyCaller,
 ) -> CallerPasses
     requires empty { (room.letters.items ≡ []) × (room.kills.items ≡ []) }
-    requires room { (vec_len room.letters + 2 ≤ vec_capacity room.letters) × (vec_len room.kills + 2 ≤ vec_capacity room.kills) }
-    ensures letters { result.letters.items ≡ record { place = 0; pass = posts.0 } ∷ record { place = 1; pass = posts.1 } ∷ [] }
-    ensures kills { result.kills.items ≡ record { place = 0; pass = asks.0 } ∷ record { place = 1; pass = asks.1 } ∷ [] }
+    requires room { (vec_len room.letters + 2 ≤ vec_capacity room.letters)
+        × (vec_len room.kills + 2 ≤ vec_capacity room.kills) }
+    ensures letters { result.letters.items
+        ≡ record { place = 0; pass = posts.0 } ∷ record { place = 1; pass = posts.1 } ∷ [] }
+    ensures kills { result.kills.items
+        ≡ record { place = 0; pass = asks.0 } ∷ record { place = 1; pass = asks.1 } ∷ [] }
     ensures collects { result.collects ≡ collects }
 {
     let Room {
         mut letters,
         mut kills,
     } = room;
-    letters.push_reserved(Seat {
+    letters.push_reserved(Endpoint {
         place: 0,
         pass: posts.0,
     });
-    letters.push_reserved(Seat {
+    letters.push_reserved(Endpoint {
         place: 1,
         pass: posts.1,
     });
-    kills.push_reserved(Seat {
+    kills.push_reserved(Endpoint {
         place: 0,
         pass: asks.0,
     });
-    kills.push_reserved(Seat {
+    kills.push_reserved(Endpoint {
         place: 1,
         pass: asks.1,
     });
@@ -112,13 +116,14 @@ fn paired(
     replies: (Replies, ReplyCaller, ReplyExec, ReplyExec),
 ) -> (Pair, Passes)
     requires empty { (room.letters.items ≡ []) × (room.kills.items ≡ []) }
-    requires room { (vec_len room.letters + 2 ≤ vec_capacity room.letters) × (vec_len room.kills + 2 ≤ vec_capacity room.kills) }
+    requires room { (vec_len room.letters + 2 ≤ vec_capacity room.letters)
+        × (vec_len room.kills + 2 ≤ vec_capacity room.kills) }
     requires mails { (one.mail.actor ≡ 1) × (two.mail.actor ≡ 2) }
     requires actors { (one.control.actor ≡ 1) × (two.control.actor ≡ 2) }
     requires posts { (one.post ≡ new_putter one.mail.line 1) × (two.post ≡ new_putter two.mail.line 1) }
     requires asks { (one.ask ≡ new_putter one.control.line 1) × (two.ask ≡ new_putter two.control.line 1) }
     requires collects { replies.1 ≡ new_taker replies.0.line (1 ∷ 2 ∷ []) }
-    ensures caller { IsUnused result.0.mails result.0.controls result.0.replies 1 result.1.caller }
+    ensures caller { IsUnusedCaller result.0.mails result.0.controls result.0.replies 1 result.1.caller }
     ensures mails { result.0.mails ≡ one.mail ∷ two.mail ∷ [] }
     ensures controls { result.0.controls ≡ one.control ∷ two.control ∷ [] }
     ensures replies { result.0.replies ≡ replies.0 }
@@ -126,7 +131,7 @@ fn paired(
     ensures other_exec { result.1.other_exec ≡ record { letters = two.letters; kills = two.kills; gives = replies.3 } }
 {
     let (replies, collects, gives, other_gives) = replies;
-    let caller = seated(room, (one.post, two.post), (one.ask, two.ask), collects);
+    let caller = endpoints_at(room, (one.post, two.post), (one.ask, two.ask), collects);
     let exec = ExecPasses {
         letters: one.letters,
         kills: one.kills,
@@ -152,15 +157,16 @@ fn paired(
 
 /// The lines, and the passes of the caller.
 pub(super) fn opened_pair(alloc: Global) -> Result<(Pair, Passes), NoMemory>
-    ensures caller { IfOk result (λ opened. IsUnused opened.0.mails opened.0.controls opened.0.replies 1 opened.1.caller) }
+    ensures caller { IfOk result (λ opened.
+        IsUnusedCaller opened.0.mails opened.0.controls opened.0.replies 1 opened.1.caller) }
     ensures exec { IfOk result (λ opened.
         let mails = opened.0.mails in let controls = opened.0.controls in let exec = opened.1.exec in
-        (m : MailValue) (k : ControlValue) → (exec.letters.line ≡ (slice_index_or mails 0 m).line) ×
+        (m : MailView) (k : ControlView) → (exec.letters.line ≡ (slice_index_or mails 0 m).line) ×
         (exec.kills.line ≡ (slice_index_or controls 0 k).line) × (exec.kills.actor ≡ 1) ×
         (exec.gives ≡ new_exec opened.0.replies.line 1)) }
     ensures other_exec { IfOk result (λ opened.
         let mails = opened.0.mails in let controls = opened.0.controls in let exec = opened.1.other_exec in
-        (m : MailValue) (k : ControlValue) → (exec.letters.line ≡ (slice_index_or mails 1 m).line) ×
+        (m : MailView) (k : ControlView) → (exec.letters.line ≡ (slice_index_or mails 1 m).line) ×
         (exec.kills.line ≡ (slice_index_or controls 1 k).line) × (exec.kills.actor ≡ 2) ×
         (exec.gives ≡ new_exec opened.0.replies.line 2)) }
 {

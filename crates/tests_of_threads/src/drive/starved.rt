@@ -2,12 +2,12 @@
 
 ghost use Rattle.std.specs.Prelude.{◌≡◌, [], ◌∷◌, All, None, IfOk};
 ghost use Rattle.std.specs.Thread.{IsSync};
-ghost use Rattle.act_rules.specs.Consistent.{IsFront};
+ghost use Rattle.act_rules.specs.Consistent.{IsPrefix};
 ghost use Rattle.act_rules.specs.Plans.{first_bad};
-ghost use Rattle.act_actor.specs.StateViews.{live_seen};
-ghost use Rattle.act_owner.specs.Owner.{opened as opened_owner};
-ghost use Rattle.act_mailbox.specs.Notices.{new_exec, IsReply};
-ghost use Rattle.act_drive.specs.Driven.{IsUnused};
+ghost use Rattle.act_actor.specs.StateViews.{live_view};
+ghost use Rattle.act_owner.specs.Owner.{open_owner as opened_owner};
+ghost use Rattle.act_mailbox.specs.Notices.{new_exec, IsNoDeath};
+ghost use Rattle.act_drive.specs.Driven.{IsUnusedCaller};
 
 use super::executor::{ExecLines, run_one, tell_death};
 use super::pair::{Passes, opened_pair, other};
@@ -40,7 +40,8 @@ fn take_in<R: Wait, K: Actor>(
 ) -> Result<bool, NoMemory>
     requires line { letters.old.line ≡ mail.now.line }
     ensures line { letters.new.line ≡ letters.old.line }
-    ensures same { let after = live_seen K.state live.new in after ≡ record (live_seen K.state live.old) { inbox = after.inbox } }
+    ensures same { let after = live_view K.state live.new in
+        after ≡ record (live_view K.state live.old) { inbox = after.inbox } }
 {
     match mail.take(rt, letters) {
         None => Ok(false),
@@ -64,10 +65,11 @@ fn attend<R: Wait, K: Actor>(
     lines: &ExecLines,
     passes: &mut ExecPasses,
 ) -> bool
-    requires log { (live_seen K.state live.old).log ≡ [] }
+    requires log { (live_view K.state live.old).log ≡ [] }
     requires letters { passes.old.letters.line ≡ lines.now.mail.now.line }
-    requires kills { (passes.old.kills.line ≡ lines.now.control.now.line) × (passes.old.kills.actor ≡ (live_seen K.state live.old).id) }
-    requires gives { passes.old.gives ≡ new_exec lines.now.replies.now.line (live_seen K.state live.old).id }
+    requires kills { (passes.old.kills.line ≡ lines.now.control.now.line)
+        × (passes.old.kills.actor ≡ (live_view K.state live.old).id) }
+    requires gives { passes.old.gives ≡ new_exec lines.now.replies.now.line (live_view K.state live.old).id }
 {
     for _ in 0..LOOKS {
         if lines.control.take(rt, &mut passes.kills, live).is_some() {
@@ -139,7 +141,7 @@ fn driven<R: Wait>(
 ) -> Left
     requires owner { owner ≡ opened_owner 1 (1 ∷ 2 ∷ []) }
     requires fits { first_bad (1 ∷ 2 ∷ []) plan.items ≡ None }
-    requires unused { IsUnused lines.now.mails.now lines.now.controls.now lines.now.replies.now 1 passes }
+    requires unused { IsUnusedCaller lines.now.mails.now lines.now.controls.now lines.now.replies.now 1 passes }
 {
     let driven = drive(rt, alloc, owner, plan, lines, passes);
     let owner = &driven.owner;
@@ -224,10 +226,11 @@ fn joined<R: Threads + Wait + Sync>(rt: &R, alloc: Global) -> Result<(Left, (boo
         rt,
         move || -> Left
             requires { (owner ≡ opened_owner 1 (1 ∷ 2 ∷ [])) × (first_bad (1 ∷ 2 ∷ []) plan.items ≡ None) ×
-                IsUnused lines.mails.now lines.controls.now lines.replies.now 1 caller }
+                IsUnusedCaller lines.mails.now lines.controls.now lines.replies.now 1 caller }
         { driven(rt, alloc, owner, plan, &lines, caller) },
         move || -> (bool, bool)
-            requires { ((exec.letters.line ≡ exec_lines.mail.now.line) × (exec.kills.line ≡ exec_lines.control.now.line) ×
+            requires { ((exec.letters.line ≡ exec_lines.mail.now.line)
+                × (exec.kills.line ≡ exec_lines.control.now.line) ×
                 (exec.kills.actor ≡ 1) × (exec.gives ≡ new_exec exec_lines.replies.now.line 1)) ×
                 ((other_exec.letters.line ≡ other_lines.mail.now.line) ×
                 (other_exec.kills.line ≡ other_lines.control.now.line) × (other_exec.kills.actor ≡ 2) ×

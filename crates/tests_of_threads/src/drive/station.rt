@@ -1,18 +1,17 @@
 //! The lines between one actor and one caller.
 
 ghost use Rattle.std.specs.Prelude.{◌≡◌, [], ◌∷◌, slice_index_or, IfOk};
-ghost use Rattle.act_mailbox.specs.Mails.{MailValue};
-ghost use Rattle.act_mailbox.specs.Controls.{ControlValue};
+ghost use Rattle.act_mailbox.specs.Mails.{MailView};
+ghost use Rattle.act_mailbox.specs.Controls.{ControlView};
 ghost use Rattle.act_mailbox.specs.Notices.{new_exec};
-ghost use Rattle.act_drive.specs.Driven.{IsUnused};
+ghost use Rattle.act_drive.specs.Driven.{IsUnusedCaller};
 
 use crate::lines::{actor, caller, opened_lines, opened_replies};
 use act_drive::CallerPasses;
 use act_mailbox::{
-    Control, ControlCaller, ControlExec, Mail, MailCaller, MailExec, Replies, ReplyCaller,
-    ReplyExec,
+    Control, ControlCaller, ControlExec, Endpoint, Mail, MailCaller, MailExec, Replies,
+    ReplyCaller, ReplyExec,
 };
-use act_seats::Seat;
 use act_types::NoMemory;
 use std::alloc::Global;
 
@@ -33,7 +32,7 @@ pub(super) struct ExecPasses {
 }
 
 /// The caller's passes, at the place of its one actor.
-fn seated(
+fn endpoints_at(
     alloc: Global,
     post: MailCaller,
     ask: ControlCaller,
@@ -45,11 +44,11 @@ fn seated(
 {
     let mut letters = Vec::new(alloc);
     let mut kills = Vec::new(alloc);
-    letters.push(Seat {
+    letters.push(Endpoint {
         place: 0,
         pass: post,
     })?;
-    kills.push(Seat {
+    kills.push(Endpoint {
         place: 0,
         pass: ask,
     })?;
@@ -62,16 +61,17 @@ fn seated(
 
 /// The lines, and the passes of the caller and of the executor.
 pub(super) fn opened(alloc: Global) -> Result<(Station, CallerPasses, ExecPasses), NoMemory>
-    ensures caller { IfOk result (λ opened. IsUnused opened.0.mails opened.0.controls opened.0.replies 1 opened.1) }
+    ensures caller { IfOk result (λ opened.
+        IsUnusedCaller opened.0.mails opened.0.controls opened.0.replies 1 opened.1) }
     ensures exec { IfOk result (λ opened.
         let mails = opened.0.mails in let controls = opened.0.controls in let exec = opened.2 in
-        (m : MailValue) (k : ControlValue) → (exec.letters.line ≡ (slice_index_or mails 0 m).line) ×
+        (m : MailView) (k : ControlView) → (exec.letters.line ≡ (slice_index_or mails 0 m).line) ×
         (exec.kills.line ≡ (slice_index_or controls 0 k).line) × (exec.kills.actor ≡ 1) ×
         (exec.gives ≡ new_exec opened.0.replies.line 1)) }
 {
     let lines = opened_lines(alloc, actor())?;
     let (replies, gives, collects) = opened_replies(alloc, caller())?;
-    let passes = seated(alloc, lines.post, lines.ask, collects)?;
+    let passes = endpoints_at(alloc, lines.post, lines.ask, collects)?;
     Ok((
         Station {
             mails: [lines.mail],

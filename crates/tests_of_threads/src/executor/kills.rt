@@ -9,7 +9,7 @@ use std::sync::Wait;
 use std::test::Fail;
 use std::thread::Threads;
 
-/// All that a kill beside two calls can leave: the log is a front of the calls, an answer is a
+/// All that a kill beside two calls can leave: the log is a prefix of the calls, an answer is a
 /// number only where its call is in the log, and the second only where the first is.
 const KILLED: [&str; 6] = [
     "c1: ActorDied ActorDied\nc2:\na1 killed:\n",

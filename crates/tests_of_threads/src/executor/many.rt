@@ -7,7 +7,7 @@ use act_executor::{Ended, Finished, Joined, NoGate, RunFault};
 use act_kinds::{Actor, Counter};
 use act_owner::Owner;
 use act_rules::RunItem;
-use act_types::{FutureId, MOST_ACTORS, MOST_CALLERS, Method, NoMemory, Value};
+use act_types::{FutureId, MAX_ACTORS, MAX_CALLERS, Method, NoMemory, Value};
 use std::alloc::Global;
 use std::sync::Wait;
 use std::test::Fail;
@@ -32,15 +32,15 @@ fn has_numbers(owner: &Owner) -> bool {
 
 /// Whether these are all callers by rising number, each with a number from each actor.
 fn all_have_numbers(owners: &[Owner]) -> bool {
-    for (caller, owner) in (1..=MOST_CALLERS).zip(owners) {
+    for (caller, owner) in (1..=MAX_CALLERS).zip(owners) {
         if owner.id().number() != caller
-            || owner.count() != MOST_ACTORS as u32
+            || owner.count() != MAX_ACTORS as u32
             || !has_numbers(owner)
         {
             return false;
         }
     }
-    owners.len() == MOST_CALLERS as usize
+    owners.len() == MAX_CALLERS as usize
 }
 
 fn has_call_of(log: &[RunItem], caller: u8) -> bool {
@@ -54,12 +54,12 @@ fn has_call_of(log: &[RunItem], caller: u8) -> bool {
 
 /// Whether a log has one call of each caller.
 fn has_one_of_each(log: &[RunItem]) -> bool {
-    for caller in 1..=MOST_CALLERS {
+    for caller in 1..=MAX_CALLERS {
         if !has_call_of(log, caller) {
             return false;
         }
     }
-    log.len() == MOST_CALLERS as usize
+    log.len() == MAX_CALLERS as usize
 }
 
 /// Whether this is the actor of a number, and retired as a counter that each caller added 1 to.
@@ -82,12 +82,12 @@ fn has_counted<K: Actor>(
 
 /// Whether these are all actors by rising number, each of which ran a call of each caller.
 fn all_have_counted<K: Actor>(alloc: Global, actors: &[Finished<K>]) -> Result<bool, NoMemory> {
-    for (actor, finished) in (1..=MOST_ACTORS).zip(actors) {
+    for (actor, finished) in (1..=MAX_ACTORS).zip(actors) {
         if !has_counted(alloc, actor, finished)? {
             return Ok(false);
         }
     }
-    Ok(actors.len() == MOST_ACTORS as usize)
+    Ok(actors.len() == MAX_ACTORS as usize)
 }
 
 /// Runs what adds 1 to each of eight counters for each of sixteen callers.

@@ -5,7 +5,7 @@ use act_executor::{Gate, Joined, Plan, RunFault, plans_fit, run_plans};
 use act_kinds::{Actor, Counter};
 use act_rules::Step;
 use act_types::{
-    ActorId, Arg, CallerId, FutureId, ListOf, MOST_ACTORS, MOST_CALLERS, Method, NoMemory, Text,
+    ActorId, Arg, CallerId, FutureId, ListOf, MAX_ACTORS, MAX_CALLERS, Method, NoMemory, Text,
     Value,
 };
 use std::alloc::Global;
@@ -165,7 +165,7 @@ pub(super) fn limited<K>(mut casts: Vec<Cast<K>>, limit: u32) -> Vec<Cast<K>> {
 
 pub(super) fn all_actors(alloc: Global) -> Result<Vec<ActorId>, NoMemory> {
     let mut actors = Vec::new(alloc);
-    for before in 0..MOST_ACTORS {
+    for before in 0..MAX_ACTORS {
         actors.push(ActorId::new(before + 1).unwrap())?;
     }
     Ok(actors)
@@ -173,7 +173,7 @@ pub(super) fn all_actors(alloc: Global) -> Result<Vec<ActorId>, NoMemory> {
 
 pub(super) fn all_callers(alloc: Global) -> Result<Vec<CallerId>, NoMemory> {
     let mut callers = Vec::new(alloc);
-    for before in 0..MOST_CALLERS {
+    for before in 0..MAX_CALLERS {
         callers.push(CallerId::new(before + 1).unwrap())?;
     }
     Ok(callers)

@@ -4,7 +4,7 @@ ghost use Rattle.std.specs.Prelude.{◌≡◌, IfOk};
 ghost use Rattle.act_mailbox.specs.Mails.{caller_of};
 
 use act_mailbox::{Letter, Mail, MailCaller, MailExec};
-use act_types::{ActorId, CallerId, FewOf, FutureId, Method, NoMemory, Packet, ReleaseNote};
+use act_types::{ActorId, CallerId, FutureId, Method, NoMemory, Packet, ReleaseNote, SmallList};
 use std::alloc::Global;
 use std::process::Abort;
 use std::sync::Wait;
@@ -29,7 +29,7 @@ pub(super) fn letter(alloc: Global, caller: CallerId, number: u32) -> Letter
         number,
         future: FutureId::new(number),
         method: Method::Get,
-        args: FewOf::new(alloc),
+        args: SmallList::new(alloc),
     })
 }
 

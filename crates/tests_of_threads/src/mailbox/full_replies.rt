@@ -1,12 +1,12 @@
 //! A reply line that is filled and emptied.
 
 ghost use Rattle.std.specs.Prelude.{◌≡◌, [], ◌∷◌, All, IfOk};
-ghost use Rattle.act_rules.specs.Consistent.{IsFront};
-ghost use Rattle.act_mailbox.specs.Notices.{IsReply, NamesPlace, actor_of, new_exec};
+ghost use Rattle.act_rules.specs.Consistent.{IsPrefix};
+ghost use Rattle.act_mailbox.specs.Notices.{IsNoDeath, NamesPlace, notice_actor, new_exec};
 
 use act_mailbox::{Replies, ReplyCaller, ReplyExec};
 use act_rules::RunItem;
-use act_types::{ActorId, CallerId, FewOf, FutureId, Method, NoMemory, Notice, Reply, Value};
+use act_types::{ActorId, CallerId, FutureId, Method, NoMemory, Notice, Reply, SmallList, Value};
 use std::alloc::Global;
 use std::process::Abort;
 use std::sync::Wait;
@@ -14,8 +14,8 @@ use std::test::Fail;
 
 /// A reply of actor 8 to caller 1 at the first place, told from others by its answer.
 fn reply(number: u32) -> Notice
-    ensures actor { actor_of result ≡ 8 }
-    ensures reply { IsReply result }
+    ensures actor { notice_actor result ≡ 8 }
+    ensures reply { IsNoDeath result }
     ensures place { (item : RunItem) → item.caller ≡ 1 → item.future ≡ 0 → NamesPlace (item ∷ []) result }
 {
     Notice::Answered(Reply {
@@ -37,11 +37,11 @@ fn handed_back<R: Wait>(
 ) -> Option<u32>
     requires pass { (pass.old.line ≡ replies.now.line) × (pass.old.actor ≡ 8) }
     requires log { (item : RunItem) × (log.now ≡ item ∷ []) × (item.caller ≡ 1) × (item.future ≡ 0) }
-    requires alive { All IsReply pass.old.given }
-    requires grown { IsFront pass.old.seen log.now }
+    requires alive { All IsNoDeath pass.old.given }
+    requires grown { IsPrefix pass.old.seen log.now }
     ensures pass { (pass.new.line ≡ replies.now.line) × (pass.new.actor ≡ 8) }
-    ensures alive { All IsReply pass.new.given }
-    ensures grown { IsFront pass.new.seen log.now }
+    ensures alive { All IsNoDeath pass.new.given }
+    ensures grown { IsPrefix pass.new.seen log.now }
 {
     for number in from..1000 {
         if let Err(back) = replies.give(rt, pass, log, reply(number)) {
@@ -111,12 +111,12 @@ fn assert_filled<R: Wait + Abort>(
 )
     requires pass { (pass.old.line ≡ replies.now.line) × (pass.old.actor ≡ 8) }
     requires log { (item : RunItem) × (log.now ≡ item ∷ []) × (item.caller ≡ 1) × (item.future ≡ 0) }
-    requires alive { All IsReply pass.old.given }
-    requires grown { IsFront pass.old.seen log.now }
+    requires alive { All IsNoDeath pass.old.given }
+    requires grown { IsPrefix pass.old.seen log.now }
     requires collector { collector.old.line ≡ replies.now.line }
     ensures pass { (pass.new.line ≡ replies.now.line) × (pass.new.actor ≡ 8) }
-    ensures alive { All IsReply pass.new.given }
-    ensures grown { IsFront pass.new.seen log.now }
+    ensures alive { All IsNoDeath pass.new.given }
+    ensures grown { IsPrefix pass.new.seen log.now }
     ensures collector { collector.new ≡ collector.old }
 {
     let (from, end) = numbers;
@@ -155,8 +155,8 @@ fn assert_fills<R: Wait + Abort>(
     requires log { (item : RunItem) × (log.now ≡ item ∷ []) × (item.caller ≡ 1) × (item.future ≡ 0) }
     requires collector { collector.old.line ≡ replies.now.line }
     ensures pass { (pass.new.line ≡ replies.now.line) × (pass.new.actor ≡ 8) }
-    ensures alive { All IsReply pass.new.given }
-    ensures grown { IsFront pass.new.seen log.now }
+    ensures alive { All IsNoDeath pass.new.given }
+    ensures grown { IsPrefix pass.new.seen log.now }
     ensures collector { collector.new.line ≡ replies.now.line }
 {
     assert!(rt; is_next(rt, replies, collector, None));
@@ -192,7 +192,7 @@ fn full_and_empty(rt: HostRuntime) -> Result<(), Fail> {
         number: 0,
         future: FutureId::new(0),
         method: Method::Get,
-        args: FewOf::new(rt.alloc()),
+        args: SmallList::new(rt.alloc()),
     }];
     let death = ActorId::new(8).unwrap();
     let (replies, mut pass, mut collector) = opened(rt.alloc())?;

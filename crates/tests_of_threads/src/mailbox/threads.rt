@@ -118,7 +118,7 @@ fn both_post<R: Threads + Wait + Sync>(
 }
 
 /// Both callers post while the executor takes.
-fn exchange<R: Threads + Wait + Sync>(
+fn network<R: Threads + Wait + Sync>(
     rt: &R,
     alloc: Global,
     mail: &Mail,
@@ -184,7 +184,7 @@ fn mail_two_threads(rt: HostRuntime) -> Result<(), Fail> {
     let callers = [CallerId::new(1).unwrap(), CallerId::new(2).unwrap()];
     let alloc = rt.alloc();
     let (mail, passes, executor) = opened(alloc)?;
-    let (posted, taken) = exchange(&rt, alloc, &mail, passes, executor, callers, 200);
+    let (posted, taken) = network(&rt, alloc, &mail, passes, executor, callers, 200);
     let (mut first, mut second) = posted;
     let (mut executor, in_order) = taken;
     assert_eq!(rt; in_order, [200, 200]);

@@ -2,8 +2,8 @@
 
 ghost use Rattle.std.specs.Prelude.{◌≡◌, [], ◌∷◌, slice_index_or};
 ghost use Rattle.std.specs.Thread.{IsSync};
-ghost use Rattle.act_mailbox.specs.Notices.{RepliesValue};
-ghost use Rattle.act_serve.specs.Turns.{PassesFit, PassesOf, IsUnused};
+ghost use Rattle.act_mailbox.specs.Notices.{RepliesView};
+ghost use Rattle.act_serve.specs.Turns.{PassesFit, PassesOf, IsUnusedExec};
 
 use super::station::{Station, opened};
 use super::{Counted, End, given, serve_counter};
@@ -73,9 +73,9 @@ fn killed_at<R: Threads + Wait + Sync>(
 ) -> Result<(End, Option<Counted>, bool), NoMemory>
     requires sync { IsSync R.row }
     requires fit { PassesFit station.mail.line station.control.line station.replies 1 [] passes }
-    requires fresh { IsUnused station.replies (1 ∷ []) passes }
+    requires fresh { IsUnusedExec station.replies (1 ∷ []) passes }
     requires ask { station.ask.line ≡ station.control.line }
-    requires collector { (r : RepliesValue) → collector.old.line ≡ (slice_index_or station.replies 0 r).line }
+    requires collector { (r : RepliesView) → collector.old.line ≡ (slice_index_or station.replies 0 r).line }
 {
     let Station {
         mail,
@@ -98,7 +98,7 @@ fn killed_at<R: Threads + Wait + Sync>(
     let (end, is_asked) = thread::join(
         rt,
         move || -> Result<End, NoMemory>
-            requires { PassesOf lines 1 [] passes × IsUnused lines.replies.now (1 ∷ []) passes }
+            requires { PassesOf lines 1 [] passes × IsUnusedExec lines.replies.now (1 ∷ []) passes }
         { serve_counter(rt, alloc, &lines, passes, gate) },
         move || -> bool
             requires { ask.line ≡ control.now.line }

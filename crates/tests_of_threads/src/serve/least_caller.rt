@@ -1,7 +1,7 @@
 //! Which call an actor runs where the next calls of two callers came.
 
 ghost use Rattle.std.specs.Prelude.{◌≡◌, [], ◌∷◌};
-ghost use Rattle.act_serve.specs.Turns.{PassesFit, PassesOf, IsUnused};
+ghost use Rattle.act_serve.specs.Turns.{PassesFit, PassesOf, IsUnusedExec};
 
 use super::places::{COUNTED, Counting};
 use super::station::call;
@@ -80,7 +80,7 @@ fn serves<R: Wait, G: Gate>(
     wanted: &[(CallerId, u32)],
 ) -> Result<bool, NoMemory>
     requires fit { PassesFit pair.now.mail.line pair.now.control.line pair.now.replies 1 [] passes }
-    requires fresh { IsUnused pair.now.replies (1 ∷ 2 ∷ []) passes }
+    requires fresh { IsUnusedExec pair.now.replies (1 ∷ 2 ∷ []) passes }
 {
     let lines = ExecLines {
         mail: &pair.mail,

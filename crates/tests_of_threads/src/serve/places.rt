@@ -1,6 +1,6 @@
 //! That an actor passes its gate once before each run, at the place of that run.
 
-ghost use Rattle.act_serve.specs.Turns.{PassesOf, IsUnused};
+ghost use Rattle.act_serve.specs.Turns.{PassesOf, IsUnusedExec};
 ghost use Rattle.std.specs.Prelude.{[], ◌∷◌};
 
 use super::station::{Posted, opened};

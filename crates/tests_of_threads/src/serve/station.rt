@@ -1,16 +1,17 @@
 //! The lines between one actor and one caller.
 
 ghost use Rattle.std.specs.Prelude.{◌≡◌, [], ◌∷◌, slice_index_or, IfOk};
-ghost use Rattle.act_mailbox.specs.Notices.{RepliesValue};
-ghost use Rattle.act_serve.specs.Turns.{PassesFit, IsUnused};
+ghost use Rattle.act_mailbox.specs.Notices.{RepliesView};
+ghost use Rattle.act_serve.specs.Turns.{PassesFit, IsUnusedExec};
 
 use crate::lines::{actor, caller, opened_lines, opened_replies};
-use act_mailbox::{Control, ControlCaller, Letter, Mail, MailCaller, Replies, ReplyCaller};
-use act_seats::Seat;
+use act_mailbox::{
+    Control, ControlCaller, Endpoint, Letter, Mail, MailCaller, Replies, ReplyCaller,
+};
 use act_serve::ExecPasses;
 use act_types::{
-    ActorId, CallerId, FewOf, FutureId, KillNote, Method, NoMemory, Packet, ReleaseNote, Settled,
-    Value,
+    ActorId, CallerId, FutureId, KillNote, Method, NoMemory, Packet, ReleaseNote, Settled,
+    SmallList, Value,
 };
 use std::alloc::Global;
 use std::sync::Wait;
@@ -29,14 +30,16 @@ pub(super) struct Station {
 pub(super) fn opened(alloc: Global) -> Result<(Station, ReplyCaller, ExecPasses), NoMemory>
     ensures post { IfOk result (λ opened. (opened.0.post.line ≡ opened.0.mail.line) × (opened.0.post.number ≡ 1)) }
     ensures ask { IfOk result (λ opened. opened.0.ask.line ≡ opened.0.control.line) }
-    ensures collector { IfOk result (λ opened. (r : RepliesValue) → opened.1.line ≡ (slice_index_or opened.0.replies 0 r).line) }
-    ensures fit { IfOk result (λ opened. PassesFit opened.0.mail.line opened.0.control.line opened.0.replies 1 [] opened.2) }
-    ensures fresh { IfOk result (λ opened. IsUnused opened.0.replies (1 ∷ []) opened.2) }
+    ensures collector { IfOk result (λ opened. (r : RepliesView) →
+        opened.1.line ≡ (slice_index_or opened.0.replies 0 r).line) }
+    ensures fit { IfOk result (λ opened.
+        PassesFit opened.0.mail.line opened.0.control.line opened.0.replies 1 [] opened.2) }
+    ensures fresh { IfOk result (λ opened. IsUnusedExec opened.0.replies (1 ∷ []) opened.2) }
 {
     let mut notices = Vec::with_capacity(alloc, 1)?;
     let lines = opened_lines(alloc, actor())?;
     let (replies, pass, collector) = opened_replies(alloc, caller())?;
-    notices.push_reserved(Seat { place: 0, pass });
+    notices.push_reserved(Endpoint { place: 0, pass });
     Ok((
         Station {
             mail: lines.mail,
@@ -63,7 +66,7 @@ pub(super) fn call(
 ) -> Result<Packet, NoMemory>
     ensures { IfOk result (λ packet. packet.caller ≡ caller) }
 {
-    let mut args = FewOf::new(alloc);
+    let mut args = SmallList::new(alloc);
     args.push(Settled::Good(Value::Int(1)))?;
     Ok(Packet {
         caller,
@@ -85,7 +88,7 @@ pub(super) fn terminate(alloc: Global, caller: CallerId, actor: ActorId, number:
         number,
         future: FutureId::new(number),
         method: Method::Terminate,
-        args: FewOf::new(alloc),
+        args: SmallList::new(alloc),
     }
 }
 

@@ -1,8 +1,8 @@
 //! An actor with two callers, one of which terminates it.
 
 ghost use Rattle.std.specs.Prelude.{◌≡◌, [], ◌∷◌, slice_index_or, IfOk};
-ghost use Rattle.act_mailbox.specs.Notices.{RepliesValue};
-ghost use Rattle.act_serve.specs.Turns.{PassesFit, PassesOf, IsUnused};
+ghost use Rattle.act_mailbox.specs.Notices.{RepliesView};
+ghost use Rattle.act_serve.specs.Turns.{PassesFit, PassesOf, IsUnusedExec};
 
 use super::station::{call, terminate};
 use super::{Counted, End, end_of, given};
@@ -10,9 +10,9 @@ use crate::lines::{actor, caller, opened_replies};
 use act_actor::Live;
 use act_kinds::Counter;
 use act_mailbox::{
-    Control, ControlExec, Letter, Mail, MailCaller, MailExec, Replies, ReplyCaller, ReplyExec,
+    Control, ControlExec, Endpoint, Letter, Mail, MailCaller, MailExec, Replies, ReplyCaller,
+    ReplyExec,
 };
-use act_seats::Seat;
 use act_serve::{ExecLines, ExecPasses, NoGate, serve};
 use act_types::{CallerId, NoMemory, Packet};
 use std::alloc::Global;
@@ -95,23 +95,25 @@ fn opened_both(alloc: Global) -> Result<BothLines, NoMemory>
 /// The lines, and the passes of the collectors and of the executor.
 pub(super) fn opened(alloc: Global) -> Result<(Pair, Collectors, ExecPasses), NoMemory>
     ensures first { IfOk result (λ opened. (opened.0.first.line ≡ opened.0.mail.line) × (opened.0.first.number ≡ 1)) }
-    ensures second { IfOk result (λ opened. (opened.0.second.line ≡ opened.0.mail.line) × (opened.0.second.number ≡ 2)) }
-    ensures first_collector { IfOk result (λ opened. (r : RepliesValue) →
+    ensures second { IfOk result (λ opened.
+        (opened.0.second.line ≡ opened.0.mail.line) × (opened.0.second.number ≡ 2)) }
+    ensures first_collector { IfOk result (λ opened. (r : RepliesView) →
         opened.1.first.line ≡ (slice_index_or opened.0.replies 0 r).line) }
-    ensures second_collector { IfOk result (λ opened. (r : RepliesValue) →
+    ensures second_collector { IfOk result (λ opened. (r : RepliesView) →
         opened.1.second.line ≡ (slice_index_or opened.0.replies 1 r).line) }
-    ensures fit { IfOk result (λ opened. PassesFit opened.0.mail.line opened.0.control.line opened.0.replies 1 [] opened.2) }
-    ensures fresh { IfOk result (λ opened. IsUnused opened.0.replies (1 ∷ 2 ∷ []) opened.2) }
+    ensures fit { IfOk result (λ opened.
+        PassesFit opened.0.mail.line opened.0.control.line opened.0.replies 1 [] opened.2) }
+    ensures fresh { IfOk result (λ opened. IsUnusedExec opened.0.replies (1 ∷ 2 ∷ []) opened.2) }
 {
     let mut notices = Vec::with_capacity(alloc, 2)?;
     let lines = opened_both(alloc)?;
     let (first, first_pass, first_collector) = opened_replies(alloc, caller())?;
     let (other, other_pass, second_collector) = opened_replies(alloc, second())?;
-    notices.push_reserved(Seat {
+    notices.push_reserved(Endpoint {
         place: 0,
         pass: first_pass,
     });
-    notices.push_reserved(Seat {
+    notices.push_reserved(Endpoint {
         place: 1,
         pass: other_pass,
     });
@@ -172,7 +174,7 @@ fn serve_both<R: Wait>(
     passes: ExecPasses,
 ) -> Result<End, NoMemory>
     requires fit { PassesOf lines.now 1 [] passes }
-    requires fresh { IsUnused lines.now.replies.now (1 ∷ 2 ∷ []) passes }
+    requires fresh { IsUnusedExec lines.now.replies.now (1 ∷ 2 ∷ []) passes }
 {
     let live = Live::open(alloc, actor(), &[caller(), second()], Counter::open())?;
     Ok(end_of(&serve(rt, live, lines, passes, &NoGate)))
@@ -187,9 +189,9 @@ fn ended<R: Wait>(
     passes: ExecPasses,
 ) -> Result<(End, [Option<Counted>; 2]), NoMemory>
     requires fit { PassesFit pair.now.mail.line pair.now.control.line pair.now.replies 1 [] passes }
-    requires fresh { IsUnused pair.now.replies (1 ∷ 2 ∷ []) passes }
-    requires first { (r : RepliesValue) → collectors.old.first.line ≡ (slice_index_or pair.now.replies 0 r).line }
-    requires second { (r : RepliesValue) → collectors.old.second.line ≡ (slice_index_or pair.now.replies 1 r).line }
+    requires fresh { IsUnusedExec pair.now.replies (1 ∷ 2 ∷ []) passes }
+    requires first { (r : RepliesView) → collectors.old.first.line ≡ (slice_index_or pair.now.replies 0 r).line }
+    requires second { (r : RepliesView) → collectors.old.second.line ≡ (slice_index_or pair.now.replies 1 r).line }
 {
     let lines = ExecLines {
         mail: &pair.mail,

@@ -2,10 +2,10 @@ use Rattle.std.proofs.Common.{List, map, arith, refl}
 use Rattle.std.specs.String.{string_bytes}
 use Rattle.std.proofs.lemmas.Result.{IfOk-weaker}
 use Rattle.act_rules.specs.declared.event.Event.{Event}
-use Rattle.act_rules.specs.History.{Casting, opening}
+use Rattle.act_rules.specs.History.{ActorSpec, opening}
 use Rattle.act_rules.specs.Report.{report}
-use Rattle.act_rules.specs.Scripts.{role_casting}
-use Rattle.act_actor.specs.Casts.{casting}
+use Rattle.act_rules.specs.Scripts.{actor_spec_of}
+use Rattle.act_actor.specs.Casts.{actor_spec}
 use Rattle.act_console.proofs.Roles.{casts_fit}
 use Rattle.act_console.proofs.Shown.{told_of_same}
 use Rattle.act_console.proofs.console.report_on.Goals as goal
@@ -18,9 +18,9 @@ open-requires g c = (
 
 pub returns : goal.returns
 returns g c =
-    let casts = map (casting (λ b. (goal.Actor-dyn g (b.vtable, b.value)).state b.value)) c.in_ok-casts.casts.items in
+    let casts = map (actor_spec (λ b. (goal.Actor-dyn g (b.vtable, b.value)).state b.value)) c.in_ok-casts.casts.items in
     IfOk-weaker c.play_and_report.result _ _
     (λ text written.
-    told_of_same (λ (casts : List Casting) (events : List Event). report (opening casts) events) (string_bytes text) casts (map role_casting c.args.roles) c.args.events c.args.events
-    c.in_ok-casts.ensures refl (written casts c.in_ok-world.ensures.stands))
+    told_of_same (λ (casts : List ActorSpec) (events : List Event). report (opening casts) events) (string_bytes text) casts (map actor_spec_of c.args.roles) c.args.events c.args.events
+    c.in_ok-casts.ensures refl (written casts c.in_ok-world.ensures.reached))
     c.play_and_report.ensures.report

@@ -1,13 +1,13 @@
 use Rattle.std.proofs.Common.{◌≡◌, ◌∙◌, [], ◌∷◌, List, ℕ, ◌-◌, take, reverse, ap, sym, string_bytes}
 use Rattle.std.proofs.lemmas.List.{append-nil, reverse-append, reverse-reverse}
 use Rattle.act_rules.specs.declared.event.Event.{Event}
-use Rattle.act_world.specs.View.{world_seen}
+use Rattle.act_world.specs.View.{world_view}
 use Rattle.act_console.proofs.Playing.{begins, goes_on, ends}
 use Rattle.act_console.proofs.report.play_all.Goals as goal
 
 pub loop-event-init : goal.loop-event-init
 loop-event-init g c =
-    begins c.args.events (reverse c.reverse.new.self.items) (world_seen g.K.Actor.state c.args.world.now) (string_bytes c.args.text.now)
+    begins c.args.events (reverse c.reverse.new.self.items) (world_view g.K.Actor.state c.args.world.now) (string_bytes c.args.text.now)
     (ap reverse c.reverse.ensures.items ∙ reverse-reverse c.into_vec-left.result.items ∙ c.into_vec-left.ensures) c.requires.room
 
 pub loop-event-preserved-in_ok-push_outcome : goal.loop-event-preserved-in_ok-push_outcome
@@ -18,9 +18,9 @@ loop-event-preserved-in_ok-push_outcome g c =
     ap reverse c.in-Some.ensures.items ∙ reverse-append c.pop.new.self.items (c.in-Some.event ∷ [])
     ∙ ap (λ (l : List Event). c.in-Some.event ∷ reverse l) (sym {A = List Event} c.give_back.ensures.items) in
     goes_on c.args.events (reverse c.loop-event.left.items) (reverse c.give_back.new.left.items) c.in-Some.event c.apply-outcome.result
-    (world_seen state c.args.world.now) (world_seen state c.loop-event.world) (world_seen state c.apply-outcome.new.self)
+    (world_view state c.args.world.now) (world_view state c.loop-event.world) (world_view state c.apply-outcome.new.self)
     (string_bytes c.args.text.now) (string_bytes c.loop-event.text) (string_bytes c.push_outcome.new.text) c.loop-event.place
-    next (c.apply-outcome.ensures.outcome told) (c.apply-outcome.ensures.stands told) c.apply-outcome.ensures.grown
+    next (c.apply-outcome.ensures.outcome told) (c.apply-outcome.ensures.reached told) c.apply-outcome.ensures.grown
     c.in_ok-push_outcome.ensures c.loop-event.invariant
 
 pub loop-event-preserved : goal.loop-event-preserved
@@ -31,9 +31,9 @@ loop-event-preserved g c =
     ap reverse c.in-Some.ensures.items ∙ reverse-append c.pop.new.self.items (c.in-Some.event ∷ [])
     ∙ ap (λ (l : List Event). c.in-Some.event ∷ reverse l) (sym {A = List Event} c.give_back.ensures.items) in
     goes_on c.args.events (reverse c.loop-event.left.items) (reverse c.give_back.new.left.items) c.in-Some.event c.apply-outcome.result
-    (world_seen state c.args.world.now) (world_seen state c.loop-event.world) (world_seen state c.apply-outcome.new.self)
+    (world_view state c.args.world.now) (world_view state c.loop-event.world) (world_view state c.apply-outcome.new.self)
     (string_bytes c.args.text.now) (string_bytes c.loop-event.text) (string_bytes c.push_outcome.new.text) c.loop-event.place
-    next (c.apply-outcome.ensures.outcome told) (c.apply-outcome.ensures.stands told) c.apply-outcome.ensures.grown
+    next (c.apply-outcome.ensures.outcome told) (c.apply-outcome.ensures.reached told) c.apply-outcome.ensures.grown
     c.in_ok-push_outcome.ensures c.loop-event.invariant
 
 pub returns : goal.returns
@@ -42,5 +42,5 @@ returns g c =
     let none : c.loop-event.left.items ≡ [] =
     c.in_default.ensures.items ∙ append-nil c.pop.new.self.items ∙ c.in_default.ensures.rest
     ∙ ap (λ (n : ℕ). take (n - 1) c.loop-event.left.items) c.in_default.ensures.cases.0 in
-    ends c.args.events (reverse c.loop-event.left.items) (world_seen state c.args.world.now) (world_seen state c.loop-event.world) (string_bytes c.args.text.now) (string_bytes c.loop-event.text) c.loop-event.place
+    ends c.args.events (reverse c.loop-event.left.items) (world_view state c.args.world.now) (world_view state c.loop-event.world) (string_bytes c.args.text.now) (string_bytes c.loop-event.text) c.loop-event.place
     (ap reverse none) c.loop-event.invariant

@@ -1,7 +1,7 @@
 use Rattle.std.proofs.Common.{◌≡◌, ◌++◌, drop, string_bytes}
-use Rattle.act_rules.specs.Report.{placed, item_line}
+use Rattle.act_rules.specs.Report.{numbered_lines, item_line}
 use Rattle.act_console.proofs.report.push_items.Given as goal
 
 -- what is written so far, and what is still to be written
 abbrev pub invariant-loop-place : goal.invariant-loop-place
-invariant-loop-place l = string_bytes l.text ++ placed (item_line l.actor) l.place (drop l.place l.items) ≡ string_bytes l.fn.text ++ placed (item_line l.actor) 0 l.items
+invariant-loop-place l = string_bytes l.text ++ numbered_lines (item_line l.actor) l.place (drop l.place l.items) ≡ string_bytes l.fn.text ++ numbered_lines (item_line l.actor) 0 l.items

@@ -2,8 +2,8 @@ use Rattle.std.proofs.Common.{rules, ◌≡◌, ◌≤◌, ◌++◌, [], List, l
 use Rattle.std.specs.Vec.Iter.{into_iter_items}
 use Rattle.std.proofs.lemmas.List.{nil_from_length}
 use Rattle.act_rules.specs.declared.script.Role.{Role}
-use Rattle.act_rules.specs.Scripts.{role_casting}
-use Rattle.act_actor.specs.Casts.{casting}
+use Rattle.act_rules.specs.Scripts.{actor_spec_of}
+use Rattle.act_actor.specs.Casts.{actor_spec}
 use Rattle.act_console.proofs.Stocked.{fewer, one_of, one_made, all_made, found_cast}
 use Rattle.act_console.proofs.stock.casts_of.Goals as goal
 
@@ -13,8 +13,8 @@ loop-role-init g c =
     let count : length (into_iter_items c.into_iter-role-iterator.result) ≡ length c.args.roles = ap length items in
     let few : length c.args.roles ≤ 8 = c.requires.few in (
       search rules,
-      ap (λ (casts : List _). map (casting g.K.Actor.state) casts ++ map role_casting (into_iter_items c.into_iter-role-iterator.result)) c.new-casts.ensures.items
-          ∙ ap (λ (roles : List Role). map role_casting roles) items,
+      ap (λ (casts : List _). map (actor_spec g.K.Actor.state) casts ++ map actor_spec_of (into_iter_items c.into_iter-role-iterator.result)) c.new-casts.ensures.items
+          ∙ ap (λ (roles : List Role). map actor_spec_of roles) items,
       fewer g.K.Actor.state 8 (length (into_iter_items c.into_iter-role-iterator.result)) c.args.stock (omega arith) c.requires.ready,
     )
 
@@ -30,10 +30,10 @@ loop-role-preserved g c =
     let rest = into_iter_items c.next.new.self in
     let step = c.in-Some.ensures.steps.0 in
     let has = one_of state c.loop-role.stock c.in-Some.role old rest step c.loop-role.invariant.2 in
-    let same = found_cast (λ cast. casting state cast ≡ role_casting c.in-Some.role) c.cast_for.result c.unwrap-cast.result c.unwrap-cast.ensures (c.cast_for.ensures.cast (length old) c.loop-role.invariant.2) in (
+    let same = found_cast (λ cast. actor_spec state cast ≡ actor_spec_of c.in-Some.role) c.cast_for.result c.unwrap-cast.result c.unwrap-cast.ensures (c.cast_for.ensures.cast (length old) c.loop-role.invariant.2) in (
       search rules,
-      ap (λ (casts : List _). map (casting state) casts ++ map role_casting rest) c.in_ok-push.ensures.items
-          ∙ one_made state c.loop-role.casts.items c.unwrap-cast.result c.in-Some.role old rest (map role_casting c.args.roles) step same c.loop-role.invariant.1,
+      ap (λ (casts : List _). map (actor_spec state) casts ++ map actor_spec_of rest) c.in_ok-push.ensures.items
+          ∙ one_made state c.loop-role.casts.items c.unwrap-cast.result c.in-Some.role old rest (map actor_spec_of c.args.roles) step same c.loop-role.invariant.1,
       c.cast_for.ensures.left (length rest) has,
     )
 
@@ -41,4 +41,4 @@ pub returns : goal.returns
 returns g c =
     let left = into_iter_items c.loop-role.role-iterator in
     let none : left ≡ [] = nil_from_length left (sym c.loop-role.invariant.0 ∙ c.in-None.ensures.steps.0) in
-    all_made g.K.Actor.state c.loop-role.casts.items left (map role_casting c.args.roles) none c.loop-role.invariant.1
+    all_made g.K.Actor.state c.loop-role.casts.items left (map actor_spec_of c.args.roles) none c.loop-role.invariant.1

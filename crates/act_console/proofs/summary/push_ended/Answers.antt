@@ -2,9 +2,9 @@ use Rattle.std.proofs.Common.{◌≡◌, ◌++◌, List, ℕ, map, string_bytes,
 use Rattle.std.proofs.lemmas.List.{append-nil}
 use Rattle.act_types.specs.Texts.{space, actor_text}
 use Rattle.act_rules.specs.declared.history.RunItem.{RunItem}
-use Rattle.act_rules.specs.Report.{line, placed, item_line}
-use Rattle.act_serve.specs.Served.{end_seen}
-use Rattle.act_serve.specs.declared.seat.Finished.{Finished}
+use Rattle.act_rules.specs.Report.{line, numbered_lines, item_line}
+use Rattle.act_serve.specs.Served.{end_view}
+use Rattle.act_serve.specs.declared.endpoint.Finished.{Finished}
 use Rattle.act_console.specs.Threads.{end_text}
 use Rattle.act_console.proofs.Joined.{no_end, one_end, two_parts}
 use Rattle.act_console.proofs.summary.push_ended.Goals as goal
@@ -13,19 +13,19 @@ pub returns-in_default : goal.returns-in_default
 returns-in_default g c =
     let before = string_bytes c.args.text.now in
     let state = g.K.Actor.state in
-    let ends = map (λ (actor : Finished _). end_seen state actor.ended) c.args.actors.now in
+    let ends = map (λ (actor : Finished _). end_view state actor.ended) c.args.actors.now in
     let number : c.unwrap-actor.result ≡ c.args.number = rw c.unwrap-actor.ensures at c.new.ensures.value in
-    let none = no_end ends c.unwrap-actor.result c.args.number number (sym c.end_of.ensures ∙ ap (λ found. option_map (end_seen state) (option_copied found)) c.in_default.is) in
+    let none = no_end ends c.unwrap-actor.result c.args.number number (sym c.end_of.ensures ∙ ap (λ found. option_map (end_view state) (option_copied found)) c.in_default.is) in
     sym (append-nil before) ∙ ap (λ (lines : List ℕ). before ++ lines) (sym none)
 
 pub returns : goal.returns
 returns g c =
     let state = g.K.Actor.state in
-    let ends = map (λ (actor : Finished _). end_seen state actor.ended) c.args.actors.now in
+    let ends = map (λ (actor : Finished _). end_view state actor.ended) c.args.actors.now in
     let number : c.unwrap-actor.result ≡ c.args.number = rw c.unwrap-actor.ensures at c.new.ensures.value in
     let a = c.unwrap-actor.result in
-    let seen = end_seen state c.in-Some.ended.now in
+    let seen = end_view state c.in-Some.ended.now in
     let head = line (actor_text a ++ space ++ end_text seen) in
     let one = one_end ends seen a c.args.number number (sym c.in-Some.ensures) in
-    two_parts (string_bytes c.args.text.now) head (placed (item_line a) 0 c.log_of.result.now) _ _ _ c.in_ok-push_actor.ensures c.in_ok-push_items.ensures
-    (ap (λ (items : List RunItem). head ++ placed (item_line a) 0 items) c.log_of.ensures ∙ one)
+    two_parts (string_bytes c.args.text.now) head (numbered_lines (item_line a) 0 c.log_of.result.now) _ _ _ c.in_ok-push_actor.ensures c.in_ok-push_items.ensures
+    (ap (λ (items : List RunItem). head ++ numbered_lines (item_line a) 0 items) c.log_of.ensures ∙ one)

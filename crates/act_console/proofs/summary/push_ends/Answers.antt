@@ -1,10 +1,10 @@
 use Rattle.std.proofs.Common.{map, string_bytes}
-use Rattle.act_serve.specs.Served.{end_seen}
-use Rattle.act_serve.specs.declared.seat.Finished.{Finished}
+use Rattle.act_serve.specs.Served.{end_view}
+use Rattle.act_serve.specs.declared.endpoint.Finished.{Finished}
 use Rattle.act_console.specs.Threads.{end_lines_in}
 use Rattle.act_console.proofs.Shown.{next_lines}
 use Rattle.act_console.proofs.summary.push_ends.Goals as goal
 
 pub loop-before-preserved : goal.loop-before-preserved
 loop-before-preserved g c =
-    next_lines (end_lines_in (map (λ (actor : Finished _). end_seen g.K.Actor.state actor.ended) c.args.actors.now)) c.loop-before.before (string_bytes c.args.text.now) (string_bytes c.push_ended.new.text) (string_bytes c.loop-before.text) c.in_ok-push_ended.ensures c.loop-before.invariant
+    next_lines (end_lines_in (map (λ (actor : Finished _). end_view g.K.Actor.state actor.ended) c.args.actors.now)) c.loop-before.before (string_bytes c.args.text.now) (string_bytes c.push_ended.new.text) (string_bytes c.loop-before.text) c.in_ok-push_ended.ensures c.loop-before.invariant

@@ -1,12 +1,12 @@
 use Rattle.std.proofs.Common.{map, string_bytes}
-use Rattle.act_serve.specs.Served.{end_seen}
-use Rattle.act_serve.specs.declared.seat.Finished.{Finished}
+use Rattle.act_serve.specs.Served.{end_view}
+use Rattle.act_serve.specs.declared.endpoint.Finished.{Finished}
 use Rattle.act_console.proofs.Joined.{both_parts}
 use Rattle.act_console.proofs.summary.summary_of.Goals as goal
 
 pub returns : goal.returns
 returns g c =
-    let ends = map (λ (actor : Finished _). end_seen g.K.Actor.state actor.ended) c.args.joined.now.actors.items in
+    let ends = map (λ (actor : Finished _). end_view g.K.Actor.state actor.ended) c.args.joined.now.actors.items in
     both_parts c.args.joined.now.owners.items ends (string_bytes c.new-text.result) (string_bytes c.push_owners.new.text) (string_bytes c.push_ends.new.text) c.new-text.ensures.bytes
     (rw c.as_slice.ensures.value at c.in_ok-push_owners.ensures)
     (rw c.as_slice-2.ensures.value at c.in_ok-push_ends.ensures)

@@ -1,5 +1,5 @@
 use Rattle.std.proofs.Common.{subst}
-use Rattle.act_owner.specs.Owner.{OwnerValue}
+use Rattle.act_owner.specs.Owner.{OwnerView}
 use Rattle.act_drive.specs.Coded.{HasRunCode}
 use Rattle.act_drive.proofs.Done.{fresh_calling, fresh_follows, unset_flags}
 use Rattle.act_drive.proofs.Worked.{run_code}
@@ -13,5 +13,5 @@ work-requires-clause-follows g c = rw c.make_room.ensures (fresh_follows c.args.
 
 pub returns : goal.returns
 returns g c =
-    subst (λ (o : OwnerValue). HasRunCode c.args.lines.now o c.args.passes (g.C.Code.tells c.args.code) c.work.result) c.make_room.ensures
+    subst (λ (o : OwnerView). HasRunCode c.args.lines.now o c.args.passes (g.C.Code.tells c.args.code) c.work.result) c.make_room.ensures
     (run_code c.args.lines.now _ _ c.work.result c.requires.fresh.unused.distinct c.work.ensures)

@@ -1,20 +1,20 @@
 use Rattle.std.proofs.Common.{rules, subst}
-use Rattle.act_drive.specs.declared.desk.CallerLines.{CallerLines}
+use Rattle.act_drive.specs.declared.driver.CallerLines.{CallerLines}
 use Rattle.act_drive.specs.Driven.{IsCalling}
 use Rattle.act_drive.proofs.AtWork.{work_begun}
 use Rattle.act_drive.proofs.Worked.{has_worked}
 use Rattle.act_drive.proofs.coded.work.Goals as goal
 
 pub invariant_of-lent : goal.invariant_of-lent
-invariant_of-lent g c = work_begun _ _ _ c.args.desk c.requires.calling c.requires.began c.requires.follows
+invariant_of-lent g c = work_begun _ _ _ c.args.driver c.requires.calling c.requires.began c.requires.follows
 
 pub end_code-starved-requires : goal.end_code-starved-requires
-end_code-starved-requires g c = record { calling = subst (λ (l : CallerLines). IsCalling l c.lent.inside.desk) (c.requires.only _ _ c.lent.invariant.began_so).0 c.lent.invariant.calling }
+end_code-starved-requires g c = record { calling = subst (λ (l : CallerLines). IsCalling l c.lent.inside.driver) (c.requires.only _ _ c.lent.invariant.began_so).0 c.lent.invariant.calling }
 
 pub returns : goal.returns
 returns g c =
     let end = c.end_code-starved in
-    has_worked g.O.Opening.actors g.O.Opening.began c.args.lines.now c.lent.inside.lines.now c.args.desk c.lent.inside.desk end.new.self c.lent.inside.kills end.result (g.C.Code.tells c.args.code) _
+    has_worked g.O.Opening.actors g.O.Opening.began c.args.lines.now c.lent.inside.lines.now c.args.driver c.lent.inside.driver end.new.self c.lent.inside.kills end.result (g.C.Code.tells c.args.code) _
     c.lent.invariant c.requires.only end.ensures.calling end.ensures.stays end.ensures.calls end.ensures.done end.ensures.ended
     (λ well. let l = end.ensures.given_up well in let e = c.run.ensures in search rules)
     c.lent.view_is

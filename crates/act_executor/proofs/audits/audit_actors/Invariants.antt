@@ -1,5 +1,5 @@
 use Rattle.std.proofs.Common.{◌≡◌, ℕ, ◌<◌, map, get_or, All}
-use Rattle.act_serve.specs.declared.seat.Finished.{Finished}
+use Rattle.act_serve.specs.declared.endpoint.Finished.{Finished}
 use Rattle.act_executor.specs.Audits.{NoticeTold, left_of}
 use Rattle.act_executor.proofs.audits.audit_actors.Given as goal
 

@@ -1,7 +1,7 @@
 use Rattle.std.proofs.Common.{◌≡◌, ◌<◌, List, length, get_or, set, ap, ◌∙◌, subst, arith}
 use Rattle.std.proofs.lemmas.List.{set-get_or}
-use Rattle.act_mailbox.specs.Notices.{ReplyExecValue}
-use Rattle.act_seats.specs.declared.seat.Seat.{Seat}
+use Rattle.act_mailbox.specs.Notices.{ReplyExecView}
+use Rattle.act_mailbox.specs.declared.endpoint.Endpoint.{Endpoint}
 use Rattle.act_drive.specs.declared.caller.Driven.{Driven}
 use Rattle.act_executor.specs.Audits.{NoticeTold}
 use Rattle.act_executor.proofs.Lists.{told_next, any_default}
@@ -11,15 +11,15 @@ pub loop-at-preserved : goal.loop-at-preserved
 loop-at-preserved g c =
     let inv = c.loop-at.invariant in
     let i = c.loop-at.at in
-    let seats = c.args.seats.now.items in
+    let endpoints = c.args.endpoints.now.items in
     let callers = c.args.callers.now.items in
     let x = c.index_mut.result.now in
-    let lt : i < length seats = omega (arith, c.len-at-end.ensures, c.args.seats.now.ok) in
-    let old : x ≡ get_or c.loop-at.seats.items i x = c.index_mut.ensures.value in
-    let here : x ≡ get_or seats i x = old ∙ ap (λ (l : List (Seat ReplyExecValue)). get_or l i x) inv.same_seats in
+    let lt : i < length endpoints = omega (arith, c.len-at-end.ensures, c.args.endpoints.now.ok) in
+    let old : x ≡ get_or c.loop-at.endpoints.items i x = c.index_mut.ensures.value in
+    let here : x ≡ get_or endpoints i x = old ∙ ap (λ (l : List (Endpoint ReplyExecView)). get_or l i x) inv.same_endpoints in
     let told : NoticeTold callers x = subst (λ (l : List Driven). NoticeTold l x) inv.same c.audit_notice.ensures.told in
     record {
-      same_seats = ap (set c.loop-at.seats.items i) (c.audit_notice.ensures.same_seat ∙ old) ∙ set-get_or c.loop-at.seats.items i x ∙ inv.same_seats;
+      same_endpoints = ap (set c.loop-at.endpoints.items i) (c.audit_notice.ensures.same_endpoint ∙ old) ∙ set-get_or c.loop-at.endpoints.items i x ∙ inv.same_endpoints;
       same = c.audit_notice.ensures.same ∙ inv.same;
-      told = told_next (NoticeTold callers) seats i x inv.told (any_default seats i x lt) (subst (NoticeTold callers) here told);
+      told = told_next (NoticeTold callers) endpoints i x inv.told (any_default endpoints i x lt) (subst (NoticeTold callers) here told);
     }

@@ -1,23 +1,23 @@
 use Rattle.std.proofs.Common.{rules, List, map, All, ap, sym, ◌∙◌, subst}
-use Rattle.act_mailbox.specs.Controls.{ControlValue}
-use Rattle.act_serve.specs.declared.seat.Finished.{Finished}
+use Rattle.act_mailbox.specs.Controls.{ControlView}
+use Rattle.act_serve.specs.declared.endpoint.Finished.{Finished}
 use Rattle.act_drive.specs.declared.caller.Driven.{Driven}
-use Rattle.act_executor.specs.Audits.{HasSeats, KillTold, CallerTold, Left, left_of}
+use Rattle.act_executor.specs.Audits.{HasEndpoints, KillTold, CallerTold, ActorLeft, left_of}
 use Rattle.act_executor.specs.Joins.{ended_starved}
 use Rattle.act_executor.proofs.Settled.{seen_through, none_any}
 use Rattle.act_executor.proofs.joined.settle.Goals as goal
 
 pub audit_kills-requires-clause-lines : goal.audit_kills-requires-clause-lines
-audit_kills-requires-clause-lines g c = ap (map (λ (k : ControlValue). k.line)) c.as_slice-3.ensures.value ∙ c.requires.controls ∙ sym (seen_through (λ (l : Left _). l.kills.line) c.audit_actors.new.actors.items c.args.ends.actors.items c.audit_actors.ensures.same_actors)
+audit_kills-requires-clause-lines g c = ap (map (λ (k : ControlView). k.line)) c.as_slice-3.ensures.value ∙ c.requires.controls ∙ sym (seen_through (λ (l : ActorLeft _). l.kills.line) c.audit_actors.new.actors.items c.args.ends.actors.items c.audit_actors.ensures.same_actors)
 
 pub audit_callers-requires-clause-mails : goal.audit_callers-requires-clause-mails
-audit_callers-requires-clause-mails g c = c.requires.mails ∙ sym (seen_through (λ (l : Left _). l.letters.line) c.audit_actors.new.actors.items c.args.ends.actors.items c.audit_actors.ensures.same_actors) ∙ ap (map (λ (f : Finished _). f.passes.letters.line)) (sym c.audit_kills.ensures.same)
+audit_callers-requires-clause-mails g c = c.requires.mails ∙ sym (seen_through (λ (l : ActorLeft _). l.letters.line) c.audit_actors.new.actors.items c.args.ends.actors.items c.audit_actors.ensures.same_actors) ∙ ap (map (λ (f : Finished _). f.passes.letters.line)) (sym c.audit_kills.ensures.same)
 
 pub audit_callers-requires-clause-controls : goal.audit_callers-requires-clause-controls
-audit_callers-requires-clause-controls g c = c.requires.controls ∙ sym (seen_through (λ (l : Left _). l.kills.line) c.audit_actors.new.actors.items c.args.ends.actors.items c.audit_actors.ensures.same_actors) ∙ ap (map (λ (f : Finished _). f.passes.kills.line)) (sym c.audit_kills.ensures.same)
+audit_callers-requires-clause-controls g c = c.requires.controls ∙ sym (seen_through (λ (l : ActorLeft _). l.kills.line) c.audit_actors.new.actors.items c.args.ends.actors.items c.audit_actors.ensures.same_actors) ∙ ap (map (λ (f : Finished _). f.passes.kills.line)) (sym c.audit_kills.ensures.same)
 
 pub audit_callers-requires-clause-sit : goal.audit_callers-requires-clause-sit
-audit_callers-requires-clause-sit g c = subst (λ (l : List Driven). All (HasSeats c.args.lines.now) l) (sym c.audit_actors.ensures.same) c.requires.callers
+audit_callers-requires-clause-sit g c = subst (λ (l : List Driven). All (HasEndpoints c.args.lines.now) l) (sym c.audit_actors.ensures.same) c.requires.callers
 
 pub returns : goal.returns
 returns g c =

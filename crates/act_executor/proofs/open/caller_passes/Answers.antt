@@ -1,9 +1,9 @@
 use Rattle.std.proofs.Common.{map, refl, ap, sym, ◌∙◌}
 use Rattle.std.specs.Vec.Iter.{into_iter_items}
 use Rattle.std.proofs.lemmas.Simd.{map-map}
-use Rattle.act_seats.specs.declared.seat.Seat.{Seat}
-use Rattle.act_drive.specs.declared.desk.CallerPasses.{CallerPasses}
-use Rattle.act_executor.specs.Groups.{items_of}
+use Rattle.act_mailbox.specs.declared.endpoint.Endpoint.{Endpoint}
+use Rattle.act_drive.specs.declared.driver.CallerPasses.{CallerPasses}
+use Rattle.act_executor.specs.Groups.{items_of_vec}
 use Rattle.act_executor.proofs.Pairs.{zipped, one_done, placed}
 use Rattle.act_executor.proofs.open.caller_passes.Goals as goal
 
@@ -14,8 +14,8 @@ loop-letters-init c =
     let left = c.into_iter-letters-iterator.ensures.into_iter_gives.0 in
     record {
       places = rw none refl;
-      letters = rw none (ap (map _) left ∙ sym (map-map items_of (λ p. p.0.0) c.in_ok-passes.passes.items) ∙ ap (map items_of) are.first);
-      kills = rw none (ap (map _) left ∙ sym (map-map items_of (λ p. p.0.1) c.in_ok-passes.passes.items) ∙ ap (map items_of) are.second);
+      letters = rw none (ap (map _) left ∙ sym (map-map items_of_vec (λ p. p.0.0) c.in_ok-passes.passes.items) ∙ ap (map items_of_vec) are.first);
+      kills = rw none (ap (map _) left ∙ sym (map-map items_of_vec (λ p. p.0.1) c.in_ok-passes.passes.items) ∙ ap (map items_of_vec) are.second);
       collects = rw none (ap (map _) left ∙ are.third);
     }
 
@@ -25,7 +25,7 @@ loop-letters-preserved c =
     let rest = into_iter_items c.next.new.self in
     record {
       places = placed c.loop-letters.callers.items c.push.new.self.items _ inv.places c.in_ok-push.ensures.items (c.len-place.ensures ∙ c.loop-letters.callers.ok.0);
-      letters = one_done (λ (caller : Seat CallerPasses). caller.pass.letters.items) _ c.loop-letters.callers.items c.push.new.self.items _ _ rest _ _ inv.letters c.in_ok-push.ensures.items c.in-Some.ensures.steps.0 refl;
-      kills = one_done (λ (caller : Seat CallerPasses). caller.pass.kills.items) _ c.loop-letters.callers.items c.push.new.self.items _ _ rest _ _ inv.kills c.in_ok-push.ensures.items c.in-Some.ensures.steps.0 refl;
-      collects = one_done (λ (caller : Seat CallerPasses). caller.pass.collects) _ c.loop-letters.callers.items c.push.new.self.items _ _ rest _ _ inv.collects c.in_ok-push.ensures.items c.in-Some.ensures.steps.0 refl;
+      letters = one_done (λ (caller : Endpoint CallerPasses). caller.pass.letters.items) _ c.loop-letters.callers.items c.push.new.self.items _ _ rest _ _ inv.letters c.in_ok-push.ensures.items c.in-Some.ensures.steps.0 refl;
+      kills = one_done (λ (caller : Endpoint CallerPasses). caller.pass.kills.items) _ c.loop-letters.callers.items c.push.new.self.items _ _ rest _ _ inv.kills c.in_ok-push.ensures.items c.in-Some.ensures.steps.0 refl;
+      collects = one_done (λ (caller : Endpoint CallerPasses). caller.pass.collects) _ c.loop-letters.callers.items c.push.new.self.items _ _ rest _ _ inv.collects c.in_ok-push.ensures.items c.in-Some.ensures.steps.0 refl;
     }

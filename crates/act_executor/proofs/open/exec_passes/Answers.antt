@@ -1,9 +1,9 @@
 use Rattle.std.proofs.Common.{map, refl, ap, sym, ◌∙◌}
 use Rattle.std.specs.Vec.Iter.{into_iter_items}
 use Rattle.std.proofs.lemmas.Simd.{map-map}
-use Rattle.act_seats.specs.declared.seat.Seat.{Seat}
-use Rattle.act_serve.specs.declared.seat.ExecPasses.{ExecPasses}
-use Rattle.act_executor.specs.Groups.{items_of}
+use Rattle.act_mailbox.specs.declared.endpoint.Endpoint.{Endpoint}
+use Rattle.act_serve.specs.declared.endpoint.ExecPasses.{ExecPasses}
+use Rattle.act_executor.specs.Groups.{items_of_vec}
 use Rattle.act_executor.proofs.Pairs.{zipped, one_done, placed}
 use Rattle.act_executor.proofs.open.exec_passes.Goals as goal
 
@@ -16,7 +16,7 @@ loop-letters-init c =
       places = rw none refl;
       letters = rw none (ap (map _) left ∙ are.first);
       kills = rw none (ap (map _) left ∙ are.second);
-      notices = rw none (ap (map _) left ∙ sym (map-map items_of (λ p. p.1) c.in_ok-passes.passes.items) ∙ ap (map items_of) are.third);
+      notices = rw none (ap (map _) left ∙ sym (map-map items_of_vec (λ p. p.1) c.in_ok-passes.passes.items) ∙ ap (map items_of_vec) are.third);
     }
 
 pub loop-letters-preserved : goal.loop-letters-preserved
@@ -25,7 +25,7 @@ loop-letters-preserved c =
     let rest = into_iter_items c.next.new.self in
     record {
       places = placed c.loop-letters.execs.items c.push.new.self.items _ inv.places c.in_ok-push.ensures.items (c.len-place.ensures ∙ c.loop-letters.execs.ok.0);
-      letters = one_done (λ (exec : Seat ExecPasses). exec.pass.letters) _ c.loop-letters.execs.items c.push.new.self.items _ _ rest _ _ inv.letters c.in_ok-push.ensures.items c.in-Some.ensures.steps.0 refl;
-      kills = one_done (λ (exec : Seat ExecPasses). exec.pass.kills) _ c.loop-letters.execs.items c.push.new.self.items _ _ rest _ _ inv.kills c.in_ok-push.ensures.items c.in-Some.ensures.steps.0 refl;
-      notices = one_done (λ (exec : Seat ExecPasses). exec.pass.notices.items) _ c.loop-letters.execs.items c.push.new.self.items _ _ rest _ _ inv.notices c.in_ok-push.ensures.items c.in-Some.ensures.steps.0 refl;
+      letters = one_done (λ (exec : Endpoint ExecPasses). exec.pass.letters) _ c.loop-letters.execs.items c.push.new.self.items _ _ rest _ _ inv.letters c.in_ok-push.ensures.items c.in-Some.ensures.steps.0 refl;
+      kills = one_done (λ (exec : Endpoint ExecPasses). exec.pass.kills) _ c.loop-letters.execs.items c.push.new.self.items _ _ rest _ _ inv.kills c.in_ok-push.ensures.items c.in-Some.ensures.steps.0 refl;
+      notices = one_done (λ (exec : Endpoint ExecPasses). exec.pass.notices.items) _ c.loop-letters.execs.items c.push.new.self.items _ _ rest _ _ inv.notices c.in_ok-push.ensures.items c.in-Some.ensures.steps.0 refl;
     }

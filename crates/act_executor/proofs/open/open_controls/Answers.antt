@@ -1,12 +1,12 @@
 use Rattle.std.proofs.Common.{◌≡◌, ℕ, ◌<◌, List, [], ◌∷◌, All, arith, length, map, ap, sym, ◌∙◌, subst}
 use Rattle.std.proofs.lemmas.List.Elements.{All-push}
 use Rattle.act_actor.specs.declared.cast.Cast.{Cast}
-use Rattle.act_mailbox.specs.Controls.{ControlValue, ControlExecValue, starter}
+use Rattle.act_mailbox.specs.Controls.{ControlView, ControlExecView, starter}
 use Rattle.act_mailbox.specs.Passes.{new_putter}
-use Rattle.act_executor.proofs.Seats.{seats_more, one_more, next_taken, next_pushed, one_longer}
+use Rattle.act_executor.proofs.Endpoints.{endpoints_more, one_more, next_taken, next_pushed, one_longer}
 use Rattle.act_executor.proofs.open.open_controls.Goals as goal
 
-abbrev IsBare : ControlExecValue → Type 0
+abbrev IsBare : ControlExecView → Type 0
 IsBare exec = (exec.taken ≡ []) × (exec.lengths ≡ [])
 
 pub loop-place-preserved : goal.loop-place-preserved
@@ -25,13 +25,13 @@ loop-place-preserved g c =
     let to_lines = c.in_ok-push.ensures.items in
     let to_execs = c.in_ok-push-2.ensures.items in
     record {
-      actors = one_more (λ (control : ControlValue). control.actor) lines _ line _ _ _ inv.actors to_lines (next_taken (λ (cast : Cast g.row.K.Denot). cast.actor) casts place cast below at) c.in_ok-line.ensures.actor;
-      lines = one_more (λ (exec : ControlExecValue). exec.line) execs _ exec _ _ _ inv.lines to_execs (next_pushed (λ (control : ControlValue). control.line) lines _ line to_lines) (ap (λ (exec : ControlExecValue). exec.line) is);
-      execs = one_more (λ (exec : ControlExecValue). exec.actor) execs _ exec _ _ _ inv.execs to_execs (next_taken (λ (cast : Cast g.row.K.Denot). cast.actor) casts place cast below at) (ap (λ (exec : ControlExecValue). exec.actor) is);
-      askers = one_more (λ (exec : ControlExecValue). exec.askers) execs _ exec _ _ _ inv.askers to_execs (next_taken (λ (cast : Cast g.row.K.Denot). starter ∷ cast.callers) casts place cast below at) (ap (λ (exec : ControlExecValue). exec.askers) is ∙ ap (λ (l : List ℕ). starter ∷ l) c.as_slice.ensures);
-      unused = subst (λ (l : List ControlExecValue). All IsBare l) (sym {A = List ControlExecValue} to_execs) (All-push IsBare execs exec inv.unused (ap (λ (exec : ControlExecValue). exec.taken) is, ap (λ (exec : ControlExecValue). exec.lengths) is));
-      starters = sym (one_more (λ (control : ControlValue). new_putter control.line starter) lines _ line _ _ _ (sym inv.starters) to_lines c.in_ok-push-3.ensures.items (sym c.in_ok-line.ensures.starter));
+      actors = one_more (λ (control : ControlView). control.actor) lines _ line _ _ _ inv.actors to_lines (next_taken (λ (cast : Cast g.row.K.Denot). cast.actor) casts place cast below at) c.in_ok-line.ensures.actor;
+      lines = one_more (λ (exec : ControlExecView). exec.line) execs _ exec _ _ _ inv.lines to_execs (next_pushed (λ (control : ControlView). control.line) lines _ line to_lines) (ap (λ (exec : ControlExecView). exec.line) is);
+      execs = one_more (λ (exec : ControlExecView). exec.actor) execs _ exec _ _ _ inv.execs to_execs (next_taken (λ (cast : Cast g.row.K.Denot). cast.actor) casts place cast below at) (ap (λ (exec : ControlExecView). exec.actor) is);
+      askers = one_more (λ (exec : ControlExecView). exec.askers) execs _ exec _ _ _ inv.askers to_execs (next_taken (λ (cast : Cast g.row.K.Denot). starter ∷ cast.callers) casts place cast below at) (ap (λ (exec : ControlExecView). exec.askers) is ∙ ap (λ (l : List ℕ). starter ∷ l) c.as_slice.ensures);
+      unused = subst (λ (l : List ControlExecView). All IsBare l) (sym {A = List ControlExecView} to_execs) (All-push IsBare execs exec inv.unused (ap (λ (exec : ControlExecView). exec.taken) is, ap (λ (exec : ControlExecView). exec.lengths) is));
+      starters = sym (one_more (λ (control : ControlView). new_putter control.line starter) lines _ line _ _ _ (sym inv.starters) to_lines c.in_ok-push-3.ensures.items (sym c.in_ok-line.ensures.starter));
       long = one_longer lines _ line place inv.long to_lines;
-      seats = seats_more new_putter (λ (control : ControlValue). control.line) (λ (cast : Cast g.row.K.Denot). cast.callers) lines c.push.new.self.items line casts place cast c.loop-place.seats.items c.in_ok-seats.seats.items c.in_ok-line.passes.items
-          inv.seats inv.long below at to_lines (c.in_ok-line.ensures.callers ∙ ap (map (new_putter line.line)) c.as_slice.ensures) c.in_ok-seats.ensures;
+      endpoints = endpoints_more new_putter (λ (control : ControlView). control.line) (λ (cast : Cast g.row.K.Denot). cast.callers) lines c.push.new.self.items line casts place cast c.loop-place.endpoints.items c.in_ok-endpoints.endpoints.items c.in_ok-line.passes.items
+          inv.endpoints inv.long below at to_lines (c.in_ok-line.ensures.callers ∙ ap (map (new_putter line.line)) c.as_slice.ensures) c.in_ok-endpoints.ensures;
     }

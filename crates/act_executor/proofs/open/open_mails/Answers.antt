@@ -2,12 +2,12 @@ use Rattle.std.proofs.Common.{◌≡◌, ◌<◌, List, [], All, arith, length, 
 use Rattle.std.proofs.lemmas.List.Elements.{All-push}
 use Rattle.act_actor.specs.declared.cast.Cast.{Cast}
 use Rattle.act_mailbox.specs.declared.mail.Letter.{Letter}
-use Rattle.act_mailbox.specs.Mails.{MailValue}
-use Rattle.act_mailbox.specs.Passes.{TakerValue, new_putter}
-use Rattle.act_executor.proofs.Seats.{seats_more, one_more, next_taken, next_pushed, one_longer}
+use Rattle.act_mailbox.specs.Mails.{MailView}
+use Rattle.act_mailbox.specs.Passes.{TakerView, new_putter}
+use Rattle.act_executor.proofs.Endpoints.{endpoints_more, one_more, next_taken, next_pushed, one_longer}
 use Rattle.act_executor.proofs.open.open_mails.Goals as goal
 
-abbrev IsBare : TakerValue Letter Unit → Type 0
+abbrev IsBare : TakerView Letter Unit → Type 0
 IsBare exec = exec.taken ≡ []
 
 pub loop-place-preserved : goal.loop-place-preserved
@@ -26,10 +26,10 @@ loop-place-preserved g c =
     let to_lines = c.in_ok-push.ensures.items in
     let to_execs = c.in_ok-push-2.ensures.items in
     record {
-      actors = one_more (λ (mail : MailValue). mail.actor) lines _ line _ _ _ inv.actors to_lines (next_taken (λ (cast : Cast g.row.K.Denot). cast.actor) casts place cast below at) c.in_ok-line.ensures.actor;
-      lines = one_more (λ (exec : TakerValue Letter Unit). exec.line) execs _ exec _ _ _ inv.lines to_execs (next_pushed (λ (mail : MailValue). mail.line) lines _ line to_lines) (ap (λ (exec : TakerValue Letter Unit). exec.line) is);
-      unused = subst (λ (l : List (TakerValue Letter Unit)). All IsBare l) (sym {A = List (TakerValue Letter Unit)} to_execs) (All-push IsBare execs exec inv.unused (ap (λ (exec : TakerValue Letter Unit). exec.taken) is));
+      actors = one_more (λ (mail : MailView). mail.actor) lines _ line _ _ _ inv.actors to_lines (next_taken (λ (cast : Cast g.row.K.Denot). cast.actor) casts place cast below at) c.in_ok-line.ensures.actor;
+      lines = one_more (λ (exec : TakerView Letter Unit). exec.line) execs _ exec _ _ _ inv.lines to_execs (next_pushed (λ (mail : MailView). mail.line) lines _ line to_lines) (ap (λ (exec : TakerView Letter Unit). exec.line) is);
+      unused = subst (λ (l : List (TakerView Letter Unit)). All IsBare l) (sym {A = List (TakerView Letter Unit)} to_execs) (All-push IsBare execs exec inv.unused (ap (λ (exec : TakerView Letter Unit). exec.taken) is));
       long = one_longer lines _ line place inv.long to_lines;
-      seats = seats_more new_putter (λ (mail : MailValue). mail.line) (λ (cast : Cast g.row.K.Denot). cast.callers) lines c.push.new.self.items line casts place cast c.loop-place.seats.items c.in_ok-seats.seats.items c.in_ok-line.passes.items
-          inv.seats inv.long below at to_lines (c.in_ok-line.ensures.callers ∙ ap (map (new_putter line.line)) c.as_slice.ensures) c.in_ok-seats.ensures;
+      endpoints = endpoints_more new_putter (λ (mail : MailView). mail.line) (λ (cast : Cast g.row.K.Denot). cast.callers) lines c.push.new.self.items line casts place cast c.loop-place.endpoints.items c.in_ok-endpoints.endpoints.items c.in_ok-line.passes.items
+          inv.endpoints inv.long below at to_lines (c.in_ok-line.ensures.callers ∙ ap (map (new_putter line.line)) c.as_slice.ensures) c.in_ok-endpoints.ensures;
     }

@@ -1,22 +1,22 @@
 use Rattle.std.proofs.Common.{◌≡◌, map, sym, subst}
-use Rattle.act_actor.specs.Casts.{casting}
+use Rattle.act_actor.specs.Casts.{actor_spec}
 use Rattle.act_executor.specs.declared.run.RunFault.{RunFault}
 use Rattle.act_executor.specs.Conducts.{does_plan}
-use Rattle.act_executor.specs.Runs.{plan_seen, IsFault, IsThreadFault}
+use Rattle.act_executor.specs.Runs.{plan_view, IsFault, IsThreadFault}
 use Rattle.act_executor.proofs.Faults.{err_only, of_threads}
 use Rattle.act_executor.proofs.Joining.{is_joined}
 use Rattle.act_executor.proofs.run.run_plans_noting.Goals as goal
 
 pub returns-in_err-prepared-clause-fault : goal.returns-in_err-prepared-clause-fault
 returns-in_err-prepared-clause-fault g c =
-    let casts = map (casting g.K.Actor.state) c.args.casts.items in
-    let plans = map plan_seen c.args.plans.items in
+    let casts = map (actor_spec g.K.Actor.state) c.args.casts.items in
+    let plans = map plan_view c.args.plans.items in
     err_only c.from_residual.result (λ (f : RunFault). f ≡ c.in_err-prepared.field-0.0) (IsFault casts plans) c.from_residual.ensures.1 (λ f is. subst (IsFault casts plans) (sym is) c.in_err-prepared.ensures.fault)
 
 pub returns-in_err-ran-clause-fault : goal.returns-in_err-ran-clause-fault
 returns-in_err-ran-clause-fault g c =
-    let casts = map (casting g.K.Actor.state) c.args.casts.items in
-    let plans = map plan_seen c.args.plans.items in
+    let casts = map (actor_spec g.K.Actor.state) c.args.casts.items in
+    let plans = map plan_view c.args.plans.items in
     err_only c.from_residual-in_err-ran.result (λ (f : RunFault). f ≡ c.in_err-ran.field-0.0) (IsFault casts plans) c.from_residual-in_err-ran.ensures.1 (λ f is. of_threads casts plans f c.in_ok-prepared.ensures.prepared.good (subst IsThreadFault (sym is) c.in_err-ran.ensures.fault))
 
 pub returns-clause-joined : goal.returns-clause-joined

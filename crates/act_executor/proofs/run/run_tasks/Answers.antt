@@ -1,8 +1,8 @@
 use Rattle.std.proofs.Common.{◌≡◌, List, sym, subst}
 use Rattle.act_tasks.specs.Each.{Each}
-use Rattle.act_serve.specs.declared.seat.Finished.{Finished}
+use Rattle.act_serve.specs.declared.endpoint.Finished.{Finished}
 use Rattle.act_drive.specs.declared.caller.Driven.{Driven}
-use Rattle.act_executor.specs.Work.{IsServedBy, IsDrivenBy}
+use Rattle.act_executor.specs.Work.{IsServedBy, IsDrivenTo}
 use Rattle.act_executor.specs.declared.run.RunFault.{RunFault}
 use Rattle.act_executor.specs.Runs.{IsThreadFault, fault_of}
 use Rattle.act_executor.proofs.Faults.{err_only, refused}
@@ -13,7 +13,7 @@ pub returns-clause-actors : goal.returns-clause-actors
 returns-clause-actors g c = subst (λ (l : List (Finished _)). Each (IsServedBy g.K.Actor.state) c.args.servings.items l) (sym c.in_ok-actors.ensures) (each_first (IsServedBy g.K.Actor.state) c.args.servings.items c.in_ok-served.served.items c.in_ok-served.ensures.first)
 
 pub returns-clause-callers : goal.returns-clause-callers
-returns-clause-callers g c = subst (λ (l : List Driven). Each (IsDrivenBy g.D.Conduct.does) c.args.drivings.items l) (sym c.in_ok-callers.ensures) (each_first (IsDrivenBy g.D.Conduct.does) c.args.drivings.items c.in_ok-served.driven.items c.in_ok-served.ensures.second)
+returns-clause-callers g c = subst (λ (l : List Driven). Each (IsDrivenTo g.D.Conduct.does) c.args.drivings.items l) (sym c.in_ok-callers.ensures) (each_first (IsDrivenTo g.D.Conduct.does) c.args.drivings.items c.in_ok-served.driven.items c.in_ok-served.ensures.second)
 
 pub returns-in_err-served-clause-fault : goal.returns-in_err-served-clause-fault
 returns-in_err-served-clause-fault g c =

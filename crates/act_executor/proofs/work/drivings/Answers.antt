@@ -3,97 +3,97 @@ use Rattle.std.specs.Vec.Iter.{into_iter_items}
 use Rattle.std.proofs.lemmas.List.{append-nil}
 use Rattle.std.proofs.lemmas.List.Elements.{All-push}
 use Rattle.act_rules.specs.Plans.{first_bad}
-use Rattle.act_seats.specs.declared.seat.Seat.{Seat}
-use Rattle.act_drive.specs.declared.desk.CallerPasses.{CallerPasses}
+use Rattle.act_mailbox.specs.declared.endpoint.Endpoint.{Endpoint}
+use Rattle.act_drive.specs.declared.driver.CallerPasses.{CallerPasses}
 use Rattle.act_actor.specs.Cast.{CallersDiffer}
 use Rattle.act_tasks.specs.Each.{Each}
-use Rattle.act_plans.specs.declared.part.Part.{Part}
-use Rattle.act_plans.specs.Parts.{HasLimits}
+use Rattle.act_plans.specs.declared.setup.CallerSetup.{CallerSetup}
+use Rattle.act_plans.specs.Setups.{HasLimits}
 use Rattle.act_executor.specs.Opened.{IsCaller}
-use Rattle.act_executor.specs.Work.{CanDrive, driving_start, part_start}
+use Rattle.act_executor.specs.Work.{CanDrive, driving_start, setup_start}
 use Rattle.act_executor.proofs.Lists.{all_head, all_tail, each_pop, map_over, nothing_zips}
 use Rattle.act_executor.proofs.work.drivings.Goals as goal
 
-pub loop-part-init : goal.loop-part-init
-loop-part-init g c =
-    let parts = into_iter_items c.into_iter-part-iterator.result.a in
-    let callers = into_iter_items c.into_iter-part-iterator.result.b in
-    let first : parts ≡ c.args.parts.items = search rules in
+pub loop-setup-init : goal.loop-setup-init
+loop-setup-init g c =
+    let setups = into_iter_items c.into_iter-setup-iterator.result.a in
+    let callers = into_iter_items c.into_iter-setup-iterator.result.b in
+    let first : setups ≡ c.args.setups.items = search rules in
     let second : callers ≡ c.args.callers.items = search rules in
-    let At : List Part × List (Seat CallerPasses) → Type 0 = λ p. Each (IsCaller c.args.lines.now) p.0 p.1 in
+    let At : List CallerSetup × List (Endpoint CallerPasses) → Type 0 = λ p. Each (IsCaller c.args.lines.now) p.0 p.1 in
     record {
       first_long = search rules;
       second_long = search rules;
-      actors = subst (λ (l : List Part). All (λ (part : Part). CallersDiffer part.actors.items) l) (sym first) c.requires.actors;
-      limits = subst (λ (l : List Part). All HasLimits l) (sym first) c.requires.limits;
-      places = subst (λ (l : List (Seat CallerPasses)). All (λ (caller : Seat CallerPasses). caller.place < length c.args.lines.now.replies.items) l) (sym second) c.requires.places;
+      actors = subst (λ (l : List CallerSetup). All (λ (setup : CallerSetup). CallersDiffer setup.actors.items) l) (sym first) c.requires.actors;
+      limits = subst (λ (l : List CallerSetup). All HasLimits l) (sym first) c.requires.limits;
+      places = subst (λ (l : List (Endpoint CallerPasses)). All (λ (caller : Endpoint CallerPasses). caller.place < length c.args.lines.now.replies.items) l) (sym second) c.requires.places;
       callers = subst At (λ i. (sym first i, sym second i)) c.requires.callers;
-      differ = subst (λ (l : List Part). AllPairs (λ (one other : Part). one.caller ≢ other.caller) l) (sym first) c.requires.differ;
+      differ = subst (λ (l : List CallerSetup). AllPairs (λ (one other : CallerSetup). one.caller ≢ other.caller) l) (sym first) c.requires.differ;
       left = λ k d below. refl;
-      fits = subst (λ (l : List Part). All (λ (part : Part). first_bad part.actors.items part.plan.items ≡ None) l) (sym first) c.requires.fits;
+      fits = subst (λ (l : List CallerSetup). All (λ (setup : CallerSetup). first_bad setup.actors.items setup.plan.items ≡ None) l) (sym first) c.requires.fits;
       ready = search rules;
       starts = search (rules, first, second);
     }
 
 pub one_driving-requires-clause-caller : goal.one_driving-requires-clause-caller
-one_driving-requires-clause-caller g c = (each_pop (IsCaller c.args.lines.now) _ _ _ _ _ _ c.in-Some.ensures.steps.0.0 c.in-Some.ensures.steps.1.0 c.loop-part.invariant.callers).0
+one_driving-requires-clause-caller g c = (each_pop (IsCaller c.args.lines.now) _ _ _ _ _ _ c.in-Some.ensures.steps.0.0 c.in-Some.ensures.steps.1.0 c.loop-setup.invariant.callers).0
 
 pub one_driving-requires-clause-actors : goal.one_driving-requires-clause-actors
-one_driving-requires-clause-actors g c = all_head (λ (part : Part). CallersDiffer part.actors.items) _ _ (subst (λ (l : List Part). All (λ (part : Part). CallersDiffer part.actors.items) l) c.in-Some.ensures.steps.0.0 c.loop-part.invariant.actors)
+one_driving-requires-clause-actors g c = all_head (λ (setup : CallerSetup). CallersDiffer setup.actors.items) _ _ (subst (λ (l : List CallerSetup). All (λ (setup : CallerSetup). CallersDiffer setup.actors.items) l) c.in-Some.ensures.steps.0.0 c.loop-setup.invariant.actors)
 
 pub one_driving-requires-clause-limits : goal.one_driving-requires-clause-limits
-one_driving-requires-clause-limits g c = all_head HasLimits _ _ (subst (λ (l : List Part). All HasLimits l) c.in-Some.ensures.steps.0.0 c.loop-part.invariant.limits)
+one_driving-requires-clause-limits g c = all_head HasLimits _ _ (subst (λ (l : List CallerSetup). All HasLimits l) c.in-Some.ensures.steps.0.0 c.loop-setup.invariant.limits)
 
-pub loop-part-preserved : goal.loop-part-preserved
-loop-part-preserved g c =
-    let inv = c.loop-part.invariant in
+pub loop-setup-preserved : goal.loop-setup-preserved
+loop-setup-preserved g c =
+    let inv = c.loop-setup.invariant in
     let lines = c.args.lines.now in
-    let before = c.loop-part.drivings.items in
-    let parts = into_iter_items c.next.new.self.a in
+    let before = c.loop-setup.drivings.items in
+    let setups = into_iter_items c.next.new.self.a in
     let callers = into_iter_items c.next.new.self.b in
     let one = c.in_ok-one_driving.field-0 in
-    let first : into_iter_items c.loop-part.part-iterator.a ≡ c.in-Some.part ∷ parts = c.in-Some.ensures.steps.0.0 in
-    let second : into_iter_items c.loop-part.part-iterator.b ≡ c.in-Some.caller ∷ callers = c.in-Some.ensures.steps.1.0 in
-    let P : Seat CallerPasses → Type 0 = λ caller. caller.place < length lines.replies.items in
-    let Q : Part → Type 0 = λ part. CallersDiffer part.actors.items in
-    let F : Part → Type 0 = λ part. first_bad part.actors.items part.plan.items ≡ None in
+    let first : into_iter_items c.loop-setup.setup-iterator.a ≡ c.in-Some.setup ∷ setups = c.in-Some.ensures.steps.0.0 in
+    let second : into_iter_items c.loop-setup.setup-iterator.b ≡ c.in-Some.caller ∷ callers = c.in-Some.ensures.steps.1.0 in
+    let P : Endpoint CallerPasses → Type 0 = λ caller. caller.place < length lines.replies.items in
+    let Q : CallerSetup → Type 0 = λ setup. CallersDiffer setup.actors.items in
+    let F : CallerSetup → Type 0 = λ setup. first_bad setup.actors.items setup.plan.items ≡ None in
     let of = g.D.Conducts.of in
     let all = of c.args.conducts in
-    let D : Part → Part → Type 0 = λ one other. one.caller ≢ other.caller in
-    let L : Part → Type 0 = λ part. of c.loop-part.conducts part.caller ≡ all part.caller in
-    let differ : AllPairs D (c.in-Some.part ∷ parts) = subst (λ (l : List Part). AllPairs D l) first inv.differ in
-    let left : All L (c.in-Some.part ∷ parts) = subst (λ (l : List Part). All L l) first inv.left in
+    let D : CallerSetup → CallerSetup → Type 0 = λ one other. one.caller ≢ other.caller in
+    let L : CallerSetup → Type 0 = λ setup. of c.loop-setup.conducts setup.caller ≡ all setup.caller in
+    let differ : AllPairs D (c.in-Some.setup ∷ setups) = subst (λ (l : List CallerSetup). AllPairs D l) first inv.differ in
+    let left : All L (c.in-Some.setup ∷ setups) = subst (λ (l : List CallerSetup). All L l) first inv.left in
     let mine = c.take-conduct.ensures.taken ∙ all_head L _ _ left in
-    let rest = map (part_start lines all) (zip parts callers) in
+    let rest = map (setup_start lines all) (zip setups callers) in
     record {
       first_long = search (rules, first);
       second_long = search (rules, second);
-      actors = all_tail Q _ _ (subst (λ (l : List Part). All Q l) first inv.actors);
-      limits = all_tail HasLimits _ _ (subst (λ (l : List Part). All HasLimits l) first inv.limits);
-      places = all_tail P _ _ (subst (λ (l : List (Seat CallerPasses)). All P l) second inv.places);
+      actors = all_tail Q _ _ (subst (λ (l : List CallerSetup). All Q l) first inv.actors);
+      limits = all_tail HasLimits _ _ (subst (λ (l : List CallerSetup). All HasLimits l) first inv.limits);
+      places = all_tail P _ _ (subst (λ (l : List (Endpoint CallerPasses)). All P l) second inv.places);
       callers = (each_pop (IsCaller lines) _ _ _ _ _ _ first second inv.callers).1;
       differ = λ i j d lt below. differ (suc i) (suc j) d (omega (arith, lt)) (omega (arith, below));
-      left = λ k d below. c.take-conduct.ensures.others (get_or parts k d).caller (λ same. differ 0 (suc k) d (omega arith) (omega (arith, below)) (sym same)) ∙ all_tail L _ _ left k d below;
-      fits = all_tail F _ _ (subst (λ (l : List Part). All F l) first inv.fits);
+      left = λ k d below. c.take-conduct.ensures.others (get_or setups k d).caller (λ same. differ 0 (suc k) d (omega arith) (omega (arith, below)) (sym same)) ∙ all_tail L _ _ left k d below;
+      fits = all_tail F _ _ (subst (λ (l : List CallerSetup). All F l) first inv.fits);
       ready = subst (λ l. All CanDrive l) (sym c.in_ok-push.ensures.items) (All-push CanDrive before one inv.ready c.in_ok-one_driving.ensures.ready);
       starts = ap (λ l. map driving_start l ++ rest) c.in_ok-push.ensures.items ∙ map_over driving_start before one rest
-          ∙ ap (λ x. map driving_start before ++ x ∷ rest) (c.in_ok-one_driving.ensures.start ∙ ap (λ x. part_start lines (λ _. x) (c.in-Some.part, c.in-Some.caller)) mine)
-          ∙ (λ i. map driving_start before ++ map (part_start lines all) (zip (sym first i) (sym second i))) ∙ inv.starts;
+          ∙ ap (λ x. map driving_start before ++ x ∷ rest) (c.in_ok-one_driving.ensures.start ∙ ap (λ x. setup_start lines (λ _. x) (c.in-Some.setup, c.in-Some.caller)) mine)
+          ∙ (λ i. map driving_start before ++ map (setup_start lines all) (zip (sym first i) (sym second i))) ∙ inv.starts;
     }
 
 pub returns-clause-starts : goal.returns-clause-starts
 returns-clause-starts g c =
-    let inv = c.loop-part.invariant in
+    let inv = c.loop-setup.invariant in
     let lines = c.args.lines.now in
-    let parts = into_iter_items c.loop-part.part-iterator.a in
-    let callers = into_iter_items c.loop-part.part-iterator.b in
-    let ends : (length parts ≡ 0) ⊎ (length callers ≡ 0) = elim c.in-None.ensures.steps [ inl s ↦ inl (sym inv.first_long ∙ s.1.0) | inr s ↦ inr (sym inv.second_long ∙ s.1.0) ] in
-    sym (append-nil (map driving_start c.loop-part.drivings.items)) ∙ ap (λ l. map driving_start c.loop-part.drivings.items ++ map (part_start lines (g.D.Conducts.of c.args.conducts)) l) (sym (nothing_zips parts callers ends)) ∙ inv.starts
+    let setups = into_iter_items c.loop-setup.setup-iterator.a in
+    let callers = into_iter_items c.loop-setup.setup-iterator.b in
+    let ends : (length setups ≡ 0) ⊎ (length callers ≡ 0) = elim c.in-None.ensures.steps [ inl s ↦ inl (sym inv.first_long ∙ s.1.0) | inr s ↦ inr (sym inv.second_long ∙ s.1.0) ] in
+    sym (append-nil (map driving_start c.loop-setup.drivings.items)) ∙ ap (λ l. map driving_start c.loop-setup.drivings.items ++ map (setup_start lines (g.D.Conducts.of c.args.conducts)) l) (sym (nothing_zips setups callers ends)) ∙ inv.starts
 
 pub one_driving-requires-clause-fits : goal.one_driving-requires-clause-fits
-one_driving-requires-clause-fits g c = all_head (λ (part : Part). first_bad part.actors.items part.plan.items ≡ None) _ _ (subst (λ (l : List Part). All (λ (part : Part). first_bad part.actors.items part.plan.items ≡ None) l) c.in-Some.ensures.steps.0.0 c.loop-part.invariant.fits)
+one_driving-requires-clause-fits g c = all_head (λ (setup : CallerSetup). first_bad setup.actors.items setup.plan.items ≡ None) _ _ (subst (λ (l : List CallerSetup). All (λ (setup : CallerSetup). first_bad setup.actors.items setup.plan.items ≡ None) l) c.in-Some.ensures.steps.0.0 c.loop-setup.invariant.fits)
 
 pub one_driving-requires-clause-place : goal.one_driving-requires-clause-place
 one_driving-requires-clause-place g c =
-    let P : Seat CallerPasses → Type 0 = λ caller. caller.place < length c.args.lines.now.replies.items in
-    all_head P _ _ (subst (λ (l : List (Seat CallerPasses)). All P l) c.in-Some.ensures.steps.1.0 c.loop-part.invariant.places)
+    let P : Endpoint CallerPasses → Type 0 = λ caller. caller.place < length c.args.lines.now.replies.items in
+    all_head P _ _ (subst (λ (l : List (Endpoint CallerPasses)). All P l) c.in-Some.ensures.steps.1.0 c.loop-setup.invariant.places)

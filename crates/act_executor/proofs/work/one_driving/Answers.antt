@@ -1,10 +1,10 @@
 use Rattle.std.proofs.Common.{rules, ◌≡◌, ◌≢◌, ℕ, List, AllPairs, Option, get_or, ap, sym, ◌∙◌, subst}
-use Rattle.act_mailbox.specs.Mails.{MailValue}
-use Rattle.act_mailbox.specs.Controls.{ControlValue}
-use Rattle.act_mailbox.specs.Notices.{RepliesValue}
-use Rattle.act_drive.specs.Driven.{IsUnused}
+use Rattle.act_mailbox.specs.Mails.{MailView}
+use Rattle.act_mailbox.specs.Controls.{ControlView}
+use Rattle.act_mailbox.specs.Notices.{RepliesView}
+use Rattle.act_drive.specs.Driven.{IsUnusedCaller}
 use Rattle.act_owner.specs.Owner.{opened_with}
-use Rattle.act_executor.proofs.Owners.{can_drive, opened_for_part, limits_differ}
+use Rattle.act_executor.proofs.Owners.{can_drive, opened_for_setup, limits_differ}
 use Rattle.act_executor.proofs.work.one_driving.Goals as goal
 
 pub returns-clause-ready : goal.returns-clause-ready
@@ -13,21 +13,21 @@ returns-clause-ready g c =
     let mails : c.as_slice-2.result.now ≡ lines.mails.items = search rules in
     let controls : c.as_slice-3.result.now ≡ lines.controls.items = search rules in
     let reply : c.index.result.now ≡ get_or lines.replies.items c.args.caller.place c.index.result.now = search rules in
-    let limits : c.as_slice.result.now ≡ c.args.part.limits.items = search rules in
-    let At : List MailValue × List ControlValue × RepliesValue → Type 0 = λ l. IsUnused l.0 l.1 l.2 c.args.part.caller c.args.caller.pass in
+    let limits : c.as_slice.result.now ≡ c.args.setup.limits.items = search rules in
+    let At : List MailView × List ControlView × RepliesView → Type 0 = λ l. IsUnusedCaller l.0 l.1 l.2 c.args.setup.caller c.args.caller.pass in
     let unused = subst At (λ i. (sym mails i, sym controls i, sym reply i)) (c.requires.caller c.index.result.now) in
-    can_drive (record { mails = c.as_slice-2.result; controls = c.as_slice-3.result; replies = c.index.result }) c.in_ok-owner.owner c.args.part.limits.items c.args.part.caller c.args.part.actors.items c.args.caller.pass c.args.part.plan.items (c.in_ok-owner.ensures ∙ ap (opened_with c.args.part.caller) limits ∙ opened_for_part c.args.part c.requires.limits) unused c.requires.fits
+    can_drive (record { mails = c.as_slice-2.result; controls = c.as_slice-3.result; replies = c.index.result }) c.in_ok-owner.owner c.args.setup.limits.items c.args.setup.caller c.args.setup.actors.items c.args.caller.pass c.args.setup.plan.items (c.in_ok-owner.ensures ∙ ap (opened_with c.args.setup.caller) limits ∙ opened_for_setup c.args.setup c.requires.limits) unused c.requires.fits
 
 pub open_with-requires-clause-distinct : goal.open_with-requires-clause-distinct
 open_with-requires-clause-distinct g c =
-    let limits : c.as_slice.result.now ≡ c.args.part.limits.items = search rules in
-    subst (AllPairs (λ (one other : ℕ × Option ℕ). one.0 ≢ other.0)) (sym limits) (limits_differ c.args.part c.requires.limits c.requires.actors)
+    let limits : c.as_slice.result.now ≡ c.args.setup.limits.items = search rules in
+    subst (AllPairs (λ (one other : ℕ × Option ℕ). one.0 ≢ other.0)) (sym limits) (limits_differ c.args.setup c.requires.limits c.requires.actors)
 
 pub returns-clause-start : goal.returns-clause-start
 returns-clause-start g c =
     let lines = c.args.lines.now in
-    let limits : c.as_slice.result.now ≡ c.args.part.limits.items = search rules in
+    let limits : c.as_slice.result.now ≡ c.args.setup.limits.items = search rules in
     let mails : c.as_slice-2.result.now ≡ lines.mails.items = search rules in
     let controls : c.as_slice-3.result.now ≡ lines.controls.items = search rules in
-    let owner = c.in_ok-owner.ensures ∙ ap (opened_with c.args.part.caller) limits ∙ opened_for_part c.args.part c.requires.limits in
-    λ i. record { owner = owner i; plan = c.args.part.plan.items; conduct = c.args.conduct; passes = c.args.caller.pass; mails = mails i; controls = controls i }
+    let owner = c.in_ok-owner.ensures ∙ ap (opened_with c.args.setup.caller) limits ∙ opened_for_setup c.args.setup c.requires.limits in
+    λ i. record { owner = owner i; plan = c.args.setup.plan.items; conduct = c.args.conduct; passes = c.args.caller.pass; mails = mails i; controls = controls i }

@@ -2,13 +2,13 @@ use Rattle.std.proofs.Common.{rules, ◌≡◌, ◌<◌, ◌++◌, ◌∷◌, Li
 use Rattle.std.specs.Vec.Iter.{into_iter_items}
 use Rattle.std.proofs.lemmas.List.{append-nil}
 use Rattle.std.proofs.lemmas.List.Elements.{All-push}
-use Rattle.act_seats.specs.declared.seat.Seat.{Seat}
-use Rattle.act_serve.specs.declared.seat.ExecPasses.{ExecPasses}
+use Rattle.act_mailbox.specs.declared.endpoint.Endpoint.{Endpoint}
+use Rattle.act_serve.specs.declared.endpoint.ExecPasses.{ExecPasses}
 use Rattle.act_actor.specs.declared.cast.Cast.{Cast}
 use Rattle.act_actor.specs.Cast.{CallersDiffer}
 use Rattle.act_tasks.specs.Each.{Each}
 use Rattle.act_executor.specs.Opened.{IsExec}
-use Rattle.act_executor.specs.Work.{IsReady, serving_start, cast_start}
+use Rattle.act_executor.specs.Work.{CanServe, serving_start, cast_start}
 use Rattle.act_executor.proofs.Lists.{all_head, all_tail, each_pop, map_over, nothing_zips}
 use Rattle.act_executor.proofs.work.servings.Goals as goal
 
@@ -18,12 +18,12 @@ loop-cast-init g c =
     let execs = into_iter_items c.into_iter-cast-iterator.result.b in
     let first : casts ≡ c.args.casts.items = search rules in
     let second : execs ≡ c.args.execs.items = search rules in
-    let At : List (Cast _) × List (Seat ExecPasses) → Type 0 = λ p. Each (IsExec c.args.lines.now) p.0 p.1 in
+    let At : List (Cast _) × List (Endpoint ExecPasses) → Type 0 = λ p. Each (IsExec c.args.lines.now) p.0 p.1 in
     record {
       first_long = search rules;
       second_long = search rules;
       callers = subst (λ (l : List (Cast _)). All (λ (cast : Cast _). CallersDiffer cast.callers) l) (sym first) c.requires.callers;
-      places = subst (λ (l : List (Seat ExecPasses)). All (λ (exec : Seat ExecPasses). (exec.place < length c.args.lines.now.mails.items) × (exec.place < length c.args.lines.now.controls.items)) l) (sym second) c.requires.places;
+      places = subst (λ (l : List (Endpoint ExecPasses)). All (λ (exec : Endpoint ExecPasses). (exec.place < length c.args.lines.now.mails.items) × (exec.place < length c.args.lines.now.controls.items)) l) (sym second) c.requires.places;
       execs = subst At (λ i. (sym first i, sym second i)) c.requires.execs;
       ready = search rules;
       starts = search (rules, first, second);
@@ -34,8 +34,8 @@ one_serving-requires-clause-callers g c = all_head (λ (cast : Cast _). CallersD
 
 pub one_serving-requires-clause-place : goal.one_serving-requires-clause-place
 one_serving-requires-clause-place g c =
-    let P : Seat ExecPasses → Type 0 = λ exec. (exec.place < length c.args.lines.now.mails.items) × (exec.place < length c.args.lines.now.controls.items) in
-    all_head P _ _ (subst (λ (l : List (Seat ExecPasses)). All P l) c.in-Some.ensures.steps.1.0 c.loop-cast.invariant.places)
+    let P : Endpoint ExecPasses → Type 0 = λ exec. (exec.place < length c.args.lines.now.mails.items) × (exec.place < length c.args.lines.now.controls.items) in
+    all_head P _ _ (subst (λ (l : List (Endpoint ExecPasses)). All P l) c.in-Some.ensures.steps.1.0 c.loop-cast.invariant.places)
 
 pub one_serving-requires-clause-exec : goal.one_serving-requires-clause-exec
 one_serving-requires-clause-exec g c = (each_pop (IsExec c.args.lines.now) _ _ _ _ _ _ c.in-Some.ensures.steps.0.0 c.in-Some.ensures.steps.1.0 c.loop-cast.invariant.execs).0
@@ -51,16 +51,16 @@ loop-cast-preserved g c =
     let one = c.in_ok-one_serving.field-0 in
     let first : into_iter_items c.loop-cast.cast-iterator.a ≡ c.in-Some.cast ∷ casts = c.in-Some.ensures.steps.0.0 in
     let second : into_iter_items c.loop-cast.cast-iterator.b ≡ c.in-Some.exec ∷ execs = c.in-Some.ensures.steps.1.0 in
-    let P : Seat ExecPasses → Type 0 = λ exec. (exec.place < length c.args.lines.now.mails.items) × (exec.place < length c.args.lines.now.controls.items) in
+    let P : Endpoint ExecPasses → Type 0 = λ exec. (exec.place < length c.args.lines.now.mails.items) × (exec.place < length c.args.lines.now.controls.items) in
     let Q : Cast _ → Type 0 = λ cast. CallersDiffer cast.callers in
     let rest = map (cast_start state replies) (zip casts execs) in
     record {
       first_long = search (rules, first);
       second_long = search (rules, second);
       callers = all_tail Q _ _ (subst (λ (l : List (Cast _)). All Q l) first inv.callers);
-      places = all_tail P _ _ (subst (λ (l : List (Seat ExecPasses)). All P l) second inv.places);
+      places = all_tail P _ _ (subst (λ (l : List (Endpoint ExecPasses)). All P l) second inv.places);
       execs = (each_pop (IsExec c.args.lines.now) _ _ _ _ _ _ first second inv.execs).1;
-      ready = subst (λ l. All (IsReady state) l) (sym c.in_ok-push.ensures.items) (All-push (IsReady state) before one inv.ready c.in_ok-one_serving.ensures.ready);
+      ready = subst (λ l. All (CanServe state) l) (sym c.in_ok-push.ensures.items) (All-push (CanServe state) before one inv.ready c.in_ok-one_serving.ensures.ready);
       starts = ap (λ l. map (serving_start state) l ++ rest) c.in_ok-push.ensures.items ∙ map_over (serving_start state) before one rest
           ∙ ap (λ x. map (serving_start state) before ++ x ∷ rest) c.in_ok-one_serving.ensures.start
           ∙ (λ i. map (serving_start state) before ++ map (cast_start state replies) (zip (sym first i) (sym second i))) ∙ inv.starts;

@@ -3,7 +3,7 @@ use Rattle.std.specs.Vec.Iter.{into_iter_items, into_iter_len}
 use Rattle.act_actor.specs.Cast.{CallersDiffer}
 use Rattle.act_tasks.specs.Each.{Each}
 use Rattle.act_executor.specs.Opened.{IsExec}
-use Rattle.act_executor.specs.Work.{IsReady, serving_start, cast_start}
+use Rattle.act_executor.specs.Work.{CanServe, serving_start, cast_start}
 use Rattle.act_executor.proofs.work.servings.Given as goal
 
 abbrev pub invariant-loop-cast : goal.invariant-loop-cast
@@ -13,6 +13,6 @@ invariant-loop-cast g l = record {
   callers : All (λ cast. CallersDiffer cast.callers) (into_iter_items l.cast-iterator.a);
   places : All (λ exec. (exec.place < length l.lines.mails.items) × (exec.place < length l.lines.controls.items)) (into_iter_items l.cast-iterator.b);
   execs : Each (IsExec l.lines) (into_iter_items l.cast-iterator.a) (into_iter_items l.cast-iterator.b);
-  ready : All (IsReady g.K.Actor.state) l.servings.items;
+  ready : All (CanServe g.K.Actor.state) l.servings.items;
   starts : map (serving_start g.K.Actor.state) l.servings.items ++ map (cast_start g.K.Actor.state l.lines.replies.items) (zip (into_iter_items l.cast-iterator.a) (into_iter_items l.cast-iterator.b)) ≡ map (cast_start g.K.Actor.state l.lines.replies.items) (zip l.fn.casts.items l.fn.execs.items);
 }

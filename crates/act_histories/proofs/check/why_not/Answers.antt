@@ -1,13 +1,13 @@
 use Rattle.std.proofs.Common.{◌<◌, length, arith}
 use Rattle.std.proofs.lemmas.Result.{IfOk-weaker}
-use Rattle.act_types.specs.declared.limits.TheConstants.{MOST_SCRIPT_BYTES}
+use Rattle.act_types.specs.declared.limits.TheConstants.{MAX_SCRIPT_BYTES}
 use Rattle.act_console.specs.Plans.{script_of}
 use Rattle.act_histories.proofs.Verdicts.{is_long}
 use Rattle.act_histories.proofs.check.why_not.Goals as goal
 
 pub returns : goal.returns
 returns g c =
-    let long : MOST_SCRIPT_BYTES < length c.args.text.now = omega arith in
+    let long : MAX_SCRIPT_BYTES < length c.args.text.now = omega arith in
     IfOk-weaker c.why_not_events.result _ _
     (λ why ends none. is_long (script_of c.args.roles c.args.lines.steps.now) c.args.events.now c.args.lines.rest.now c.args.text.now long (ends none))
     c.why_not_events.ensures

@@ -1,6 +1,6 @@
 use Rattle.std.proofs.Common.{map, arith}
-use Rattle.act_rules.specs.Scripts.{role_casting}
-use Rattle.act_actor.specs.Casts.{casting}
+use Rattle.act_rules.specs.Scripts.{actor_spec_of}
+use Rattle.act_actor.specs.Casts.{actor_spec}
 use Rattle.act_console.proofs.Roles.{casts_fit}
 use Rattle.act_histories.specs.Lines.{told_lines}
 use Rattle.act_histories.proofs.Verdicts.{ends_same}
@@ -14,7 +14,7 @@ open-requires g c = (
 
 pub returns-then-branch : goal.returns-then-branch
 returns-then-branch g c = λ _.
-    let casts = map (casting (λ b. (goal.Actor-dyn g (b.vtable, b.value)).state b.value)) c.in_ok-casts.casts.items in
-    ends_same casts (map role_casting c.args.roles) c.args.lines.steps.now c.args.events.now c.deref.result.now c.in_ok-shown.shown.items (told_lines c.args.lines.rest.now)
+    let casts = map (actor_spec (λ b. (goal.Actor-dyn g (b.vtable, b.value)).state b.value)) c.in_ok-casts.casts.items in
+    ends_same casts (map actor_spec_of c.args.roles) c.args.lines.steps.now c.args.events.now c.deref.result.now c.in_ok-shown.shown.items (told_lines c.args.lines.rest.now)
     c.in_ok-casts.ensures c.deref.ensures.value c.in_ok-shown.ensures
-    (c.in_ok-ends_so.ensures c.if-branch.true casts c.in_ok-world.ensures.stands)
+    (c.in_ok-ends_so.ensures c.if-branch.true casts c.in_ok-world.ensures.reached)

@@ -1,9 +1,9 @@
 use Rattle.std.proofs.Common.{◌∙◌, sym, string_bytes}
-use Rattle.act_world.specs.View.{world_seen}
+use Rattle.act_world.specs.View.{world_view}
 use Rattle.act_histories.proofs.Shown.{shown}
 use Rattle.act_histories.proofs.compared.shows.Goals as goal
 
 pub returns : goal.returns
-returns g c = λ holds casts events stands.
-    shown casts events (world_seen g.K.Actor.state c.args.world.now) (string_bytes c.new-text.result) (string_bytes c.play_report.new.text) c.args.told.now
-    stands c.new-text.ensures.bytes c.in_ok-play_report.ensures.ok (sym c.as_bytes.ensures.value ∙ c.same_bytes.ensures holds)
+returns g c = λ holds casts events reached.
+    shown casts events (world_view g.K.Actor.state c.args.world.now) (string_bytes c.new-text.result) (string_bytes c.play_report.new.text) c.args.told.now
+    reached c.new-text.ensures.bytes c.in_ok-play_report.ensures.ok (sym c.as_bytes.ensures.value ∙ c.same_bytes.ensures holds)

@@ -1,13 +1,13 @@
 use Rattle.std.proofs.Common.{refl}
 use Rattle.act_owner.specs.Owner.{opened_under}
-use Rattle.act_owner.specs.Life.{after_all}
+use Rattle.act_owner.specs.Life.{after_changes}
 use Rattle.act_owner.proofs.Life.{places_all, packet_stays_all, after_all-append}
 use Rattle.act_owner.proofs.laws.one_packet_for_good.Goals as goal
 
 pub returns-clause-known : goal.returns-clause-known
 returns-clause-known _ limits id actors changes later k known =
-    rw after_all-append (packet_stays_all (after_all (opened_under limits id actors) changes) later k (places_all (opened_under limits id actors) changes refl) known).0
+    rw after_all-append (packet_stays_all (after_changes (opened_under limits id actors) changes) later k (places_all (opened_under limits id actors) changes refl) known).0
 
 pub returns-clause-packet : goal.returns-clause-packet
 returns-clause-packet _ limits id actors changes later k known =
-    rw after_all-append (packet_stays_all (after_all (opened_under limits id actors) changes) later k (places_all (opened_under limits id actors) changes refl) known).1
+    rw after_all-append (packet_stays_all (after_changes (opened_under limits id actors) changes) later k (places_all (opened_under limits id actors) changes refl) known).1

@@ -1,12 +1,12 @@
 use Rattle.std.proofs.Common.{refl, []}
 use Rattle.act_owner.specs.Owner.{opened_under}
-use Rattle.act_owner.specs.Life.{after_all}
+use Rattle.act_owner.specs.Life.{after_changes}
 use Rattle.act_owner.proofs.Life.{after_all-append}
 use Rattle.act_owner.proofs.Told.{sent_stays_all, hears_all, hears_opened}
 use Rattle.act_owner.proofs.laws.told_by_notices.Goals as goal
 
 pub returns-clause-sent : goal.returns-clause-sent
-returns-clause-sent _ limits id actors changes later k sent = rw after_all-append (sent_stays_all (after_all (opened_under limits id actors) changes) later k sent)
+returns-clause-sent _ limits id actors changes later k sent = rw after_all-append (sent_stays_all (after_changes (opened_under limits id actors) changes) later k sent)
 
 pub returns-clause-heard : goal.returns-clause-heard
 returns-clause-heard _ limits id actors changes = hears_all (opened_under limits id actors) [] changes refl (hears_opened limits id actors)

@@ -2,21 +2,21 @@ use Rattle.std.proofs.Common.{◌≡◌, ℕ, List, map, None, Ok, ap, sym, ◌�
 use Rattle.act_rules.specs.declared.event.Event.{Event}
 use Rattle.act_rules.specs.declared.script.Role.{Role}
 use Rattle.act_rules.specs.declared.script.Step.{Step}
-use Rattle.act_rules.specs.History.{Casting}
-use Rattle.act_rules.specs.Scripts.{callers_of, checked, role_casting}
-use Rattle.act_actor.specs.Casts.{casting}
+use Rattle.act_rules.specs.History.{ActorSpec}
+use Rattle.act_rules.specs.Scripts.{callers_of_roles, with_good_plans, actor_spec_of}
+use Rattle.act_actor.specs.Casts.{actor_spec}
 use Rattle.act_scripts.specs.Roles.{AreFitting}
-use Rattle.act_serve.specs.Served.{end_seen}
+use Rattle.act_serve.specs.Served.{end_view}
 use Rattle.act_plans.specs.Runs.{first_bad_plan}
 use Rattle.act_executor.specs.declared.run.RunFault.TheVariants.{NoThread}
-use Rattle.act_executor.specs.Runs.{plan_seen}
+use Rattle.act_executor.specs.Runs.{plan_view}
 use Rattle.act_replay.specs.declared.run.RecordFault.{RecordFault}
 use Rattle.act_replay.specs.declared.run.RecordFault.TheVariants.{Run, Unplayed}
 use Rattle.act_replay.specs.Faults.{IsRecordFault}
 use Rattle.act_replay.specs.Play.{IsPlayOf}
 use Rattle.act_console.specs.declared.plans.Mark.{Mark}
 use Rattle.act_console.specs.declared.plans.Sorted.{Sorted}
-use Rattle.act_console.specs.Plans.{AreSorted, plan_from, script_of, mark_seen, step_seen, first_stranger}
+use Rattle.act_console.specs.Plans.{AreSorted, plan_from, script_of, mark_view, step_view, first_stranger}
 use Rattle.act_console.specs.Threads.{plans_in}
 use Rattle.act_console.proofs.Roles.{casts_fit}
 use Rattle.act_console.proofs.PlansOf.{no_bad_line}
@@ -27,36 +27,36 @@ use Rattle.act_record.proofs.Ends.{plays}
 use Rattle.act_record.proofs.record.answer_of_steps.Goals as goal
 
 -- the plans are those of the roles' callers
-sorted_plans : (roles seen : List Role) (steps : List (ℕ × Step × ℕ)) (sorted : Sorted) → seen ≡ roles → AreSorted (callers_of seen) steps sorted → map plan_seen sorted.plans.items ≡ map (plan_from steps) (callers_of roles)
-sorted_plans roles seen steps sorted same are = are.plans ∙ ap (λ (roles : List Role). map (plan_from steps) (callers_of roles)) same
+sorted_plans : (roles seen : List Role) (steps : List (ℕ × Step × ℕ)) (sorted : Sorted) → seen ≡ roles → AreSorted (callers_of_roles seen) steps sorted → map plan_view sorted.plans.items ≡ map (plan_from steps) (callers_of_roles roles)
+sorted_plans roles seen steps sorted same are = are.plans ∙ ap (λ (roles : List Role). map (plan_from steps) (callers_of_roles roles)) same
 
 -- the casts are those of the roles, of a copy of which they were made
-of_roles : (casts : List Casting) (copies seen roles : List Role) → casts ≡ map role_casting copies → copies ≡ seen → seen ≡ roles → casts ≡ map role_casting roles
-of_roles casts copies seen roles made copied same = made ∙ ap (map role_casting) (copied ∙ same)
+of_roles : (casts : List ActorSpec) (copies seen roles : List Role) → casts ≡ map actor_spec_of copies → copies ≡ seen → seen ≡ roles → casts ≡ map actor_spec_of roles
+of_roles casts copies seen roles made copied same = made ∙ ap (map actor_spec_of) (copied ∙ same)
 
-module _ (roles : List Role) (steps : List (ℕ × Step × ℕ)) (marks : List Mark) (marked : map mark_seen marks ≡ map step_seen steps) (known : first_stranger roles steps ≡ None) (casts : List Casting) (plans : List (ℕ × List Step))
-    (same : first_bad_plan casts plans ≡ first_bad_plan (map role_casting roles) (plans_in (script_of roles steps))) where
+module _ (roles : List Role) (steps : List (ℕ × Step × ℕ)) (marks : List Mark) (marked : map mark_view marks ≡ map step_view steps) (known : first_stranger roles steps ≡ None) (casts : List ActorSpec) (plans : List (ℕ × List Step))
+    (same : first_bad_plan casts plans ≡ first_bad_plan (map actor_spec_of roles) (plans_in (script_of roles steps))) where
   has_line_of : (fault : RecordFault) → IsRecordFault casts plans fault → HasLineOf marks fault
   has_line_of (Run fault) told = has_line roles steps marks marked known casts plans same fault told
   has_line_of Unplayed told = tt
 
-  is_explained : (fault : RecordFault) → AreFitting (map role_casting roles) → IsRecordFault casts plans fault → IsExplained marks fault (checked 16 8 (Ok (script_of roles steps)))
+  is_explained : (fault : RecordFault) → AreFitting (map actor_spec_of roles) → IsRecordFault casts plans fault → IsExplained marks fault (with_good_plans 16 8 (Ok (script_of roles steps)))
   is_explained (Run fault) fit told = explains roles steps marks marked known casts plans same fault fit told
   is_explained Unplayed fit told = explains roles steps marks marked known casts plans same NoThread fit told
 
 pub run_recorded-requires-clause-fit : goal.run_recorded-requires-clause-fit
 run_recorded-requires-clause-fit g c κs within =
-    let same = of_roles (map (casting (λ b. (goal.Actor-dyn g (b.vtable, b.value)).state b.value)) c.in_ok-casts.casts.items) c.in_ok-one.one c.as_slice-2.result.now c.args.roles c.in_ok-casts.ensures c.in_ok-one.ensures c.as_slice-2.ensures in
+    let same = of_roles (map (actor_spec (λ b. (goal.Actor-dyn g (b.vtable, b.value)).state b.value)) c.in_ok-casts.casts.items) c.in_ok-one.one c.as_slice-2.result.now c.args.roles c.in_ok-casts.ensures c.in_ok-one.ensures c.as_slice-2.ensures in
     casts_fit (λ b. (goal.Actor-dyn g (b.vtable, b.value)).state b.value) c.in_ok-casts.casts.items c.args.roles same c.requires.roles
 
 pub run_recorded-requires-clause-twins : goal.run_recorded-requires-clause-twins
 run_recorded-requires-clause-twins g c κs within =
-    let same = of_roles (map (casting (λ b. (goal.Actor-dyn g (b.vtable, b.value)).state b.value)) c.in_ok-casts.casts.items) c.in_ok-one.one c.as_slice-2.result.now c.args.roles c.in_ok-casts.ensures c.in_ok-one.ensures c.as_slice-2.ensures in
-    of_roles (map (casting (λ b. (goal.Actor-dyn g (b.vtable, b.value)).state b.value)) c.in_ok-twins.twins.items) c.in_ok-other.other c.as_slice-3.result.now c.args.roles c.in_ok-twins.ensures c.in_ok-other.ensures c.as_slice-3.ensures ∙ sym same
+    let same = of_roles (map (actor_spec (λ b. (goal.Actor-dyn g (b.vtable, b.value)).state b.value)) c.in_ok-casts.casts.items) c.in_ok-one.one c.as_slice-2.result.now c.args.roles c.in_ok-casts.ensures c.in_ok-one.ensures c.as_slice-2.ensures in
+    of_roles (map (actor_spec (λ b. (goal.Actor-dyn g (b.vtable, b.value)).state b.value)) c.in_ok-twins.twins.items) c.in_ok-other.other c.as_slice-3.result.now c.args.roles c.in_ok-twins.ensures c.in_ok-other.ensures c.as_slice-3.ensures ∙ sym same
 
 pub run_recorded-requires-clause-plans : goal.run_recorded-requires-clause-plans
 run_recorded-requires-clause-plans g c κs within =
-    let same = of_roles (map (casting (λ b. (goal.Actor-dyn g (b.vtable, b.value)).state b.value)) c.in_ok-casts.casts.items) c.in_ok-one.one c.as_slice-2.result.now c.args.roles c.in_ok-casts.ensures c.in_ok-one.ensures c.as_slice-2.ensures in
+    let same = of_roles (map (actor_spec (λ b. (goal.Actor-dyn g (b.vtable, b.value)).state b.value)) c.in_ok-casts.casts.items) c.in_ok-one.one c.as_slice-2.result.now c.args.roles c.in_ok-casts.ensures c.in_ok-one.ensures c.as_slice-2.ensures in
     let sorted = sorted_plans c.args.roles c.as_slice.result.now c.args.steps c.in_ok-sorted.sorted c.as_slice.ensures c.in_ok-sorted.ensures in
     plans_fit (λ b. (goal.Actor-dyn g (b.vtable, b.value)).state b.value) c.in_ok-casts.casts.items c.args.roles same c.args.steps c.in_ok-sorted.sorted.plans.items sorted c.requires.few
 
@@ -65,14 +65,14 @@ returns-in-Ok g c =
     let casts = c.in_ok-casts.casts.items in
     let plans = c.in_ok-sorted.sorted.plans.items in
     let script = script_of c.args.roles c.args.steps in
-    let same = of_roles (map (casting (λ b. (goal.Actor-dyn g (b.vtable, b.value)).state b.value)) casts) c.in_ok-one.one c.as_slice-2.result.now c.args.roles c.in_ok-casts.ensures c.in_ok-one.ensures c.as_slice-2.ensures in
+    let same = of_roles (map (actor_spec (λ b. (goal.Actor-dyn g (b.vtable, b.value)).state b.value)) casts) c.in_ok-one.one c.as_slice-2.result.now c.args.roles c.in_ok-casts.ensures c.in_ok-one.ensures c.as_slice-2.ensures in
     let sorted = sorted_plans c.args.roles c.as_slice.result.now c.args.steps c.in_ok-sorted.sorted c.as_slice.ensures c.in_ok-sorted.ensures in
     let good = sym (bad_same (λ b. (goal.Actor-dyn g (b.vtable, b.value)).state b.value) casts c.args.roles same c.args.steps plans sorted) ∙ c.in-Ok.ensures.good in
     let owners = c.in-Ok.recorded.joined.owners.items in
-    let ends = map (λ actor. end_seen (λ b. (goal.Actor-dyn g (b.vtable, b.value)).state b.value) actor.ended) c.in-Ok.recorded.joined.actors.items in
+    let ends = map (λ actor. end_view (λ b. (goal.Actor-dyn g (b.vtable, b.value)).state b.value) actor.ended) c.in-Ok.recorded.joined.actors.items in
     let play = plays c.args.roles c.args.steps owners ends c.in-Ok.recorded.events.items
     (joined_same (λ b. (goal.Actor-dyn g (b.vtable, b.value)).state b.value) casts c.args.roles same c.args.steps plans sorted owners ends c.in-Ok.ensures.joined)
-    (subst (λ (casts : List Casting). IsPlayOf casts c.in-Ok.recorded.events.items owners ends) same c.in-Ok.ensures.played) in
+    (subst (λ (casts : List ActorSpec). IsPlayOf casts c.in-Ok.recorded.events.items owners ends) same c.in-Ok.ensures.played) in
     subst (IsAnswer c.answer_of_play.result) (sym (good_script c.args.roles c.args.steps c.requires.roles (no_bad_line script good c.requires.known)))
     (c.answer_of_play.ensures script (sym c.as_slice-in-Ok.ensures) (subst (IsPlay script) (sym c.deref.ensures.value) play))
 
@@ -80,17 +80,17 @@ pub answer_of_no_play-requires : goal.answer_of_no_play-requires
 answer_of_no_play-requires g c =
     let casts = c.in_ok-casts.casts.items in
     let plans = c.in_ok-sorted.sorted.plans.items in
-    let same = of_roles (map (casting (λ b. (goal.Actor-dyn g (b.vtable, b.value)).state b.value)) casts) c.in_ok-one.one c.as_slice-2.result.now c.args.roles c.in_ok-casts.ensures c.in_ok-one.ensures c.as_slice-2.ensures in
+    let same = of_roles (map (actor_spec (λ b. (goal.Actor-dyn g (b.vtable, b.value)).state b.value)) casts) c.in_ok-one.one c.as_slice-2.result.now c.args.roles c.in_ok-casts.ensures c.in_ok-one.ensures c.as_slice-2.ensures in
     let sorted = sorted_plans c.args.roles c.as_slice.result.now c.args.steps c.in_ok-sorted.sorted c.as_slice.ensures c.in_ok-sorted.ensures in
-    has_line_of c.args.roles c.args.steps c.deref-in-Err.result.now (ap (map mark_seen) c.deref-in-Err.ensures.value ∙ c.in_ok-sorted.ensures.marks) c.requires.known (map (casting (λ b. (goal.Actor-dyn g (b.vtable, b.value)).state b.value)) casts) (map plan_seen plans)
+    has_line_of c.args.roles c.args.steps c.deref-in-Err.result.now (ap (map mark_view) c.deref-in-Err.ensures.value ∙ c.in_ok-sorted.ensures.marks) c.requires.known (map (actor_spec (λ b. (goal.Actor-dyn g (b.vtable, b.value)).state b.value)) casts) (map plan_view plans)
     (bad_same (λ b. (goal.Actor-dyn g (b.vtable, b.value)).state b.value) casts c.args.roles same c.args.steps plans sorted) c.in-Err.fault c.in-Err.ensures.fault
 
 pub returns : goal.returns
 returns g c =
     let casts = c.in_ok-casts.casts.items in
     let plans = c.in_ok-sorted.sorted.plans.items in
-    let same = of_roles (map (casting (λ b. (goal.Actor-dyn g (b.vtable, b.value)).state b.value)) casts) c.in_ok-one.one c.as_slice-2.result.now c.args.roles c.in_ok-casts.ensures c.in_ok-one.ensures c.as_slice-2.ensures in
+    let same = of_roles (map (actor_spec (λ b. (goal.Actor-dyn g (b.vtable, b.value)).state b.value)) casts) c.in_ok-one.one c.as_slice-2.result.now c.args.roles c.in_ok-casts.ensures c.in_ok-one.ensures c.as_slice-2.ensures in
     let sorted = sorted_plans c.args.roles c.as_slice.result.now c.args.steps c.in_ok-sorted.sorted c.as_slice.ensures c.in_ok-sorted.ensures in
-    c.answer_of_no_play.ensures (checked 16 8 (Ok (script_of c.args.roles c.args.steps)))
-    (is_explained c.args.roles c.args.steps c.deref-in-Err.result.now (ap (map mark_seen) c.deref-in-Err.ensures.value ∙ c.in_ok-sorted.ensures.marks) c.requires.known (map (casting (λ b. (goal.Actor-dyn g (b.vtable, b.value)).state b.value)) casts) (map plan_seen plans)
+    c.answer_of_no_play.ensures (with_good_plans 16 8 (Ok (script_of c.args.roles c.args.steps)))
+    (is_explained c.args.roles c.args.steps c.deref-in-Err.result.now (ap (map mark_view) c.deref-in-Err.ensures.value ∙ c.in_ok-sorted.ensures.marks) c.requires.known (map (actor_spec (λ b. (goal.Actor-dyn g (b.vtable, b.value)).state b.value)) casts) (map plan_view plans)
     (bad_same (λ b. (goal.Actor-dyn g (b.vtable, b.value)).state b.value) casts c.args.roles same c.args.steps plans sorted) c.in-Err.fault c.requires.roles c.in-Err.ensures.fault)

@@ -1,7 +1,7 @@
 use Rattle.std.proofs.Common.{map}
 use Rattle.act_rules.specs.Laws.{history}
-use Rattle.act_serve.specs.declared.seat.Finished.{Finished}
-use Rattle.act_serve.specs.Served.{end_seen}
+use Rattle.act_serve.specs.declared.endpoint.Finished.{Finished}
+use Rattle.act_serve.specs.Served.{end_view}
 use Rattle.act_replay.specs.Play.{IsEndIn}
 use Rattle.act_replay.proofs.Each.{over_map}
 use Rattle.act_replay.proofs.Playing.{not_accepted, not_callers, play_is}
@@ -9,20 +9,20 @@ use Rattle.act_replay.proofs.compared.ends_so.Goals as goal
 
 pub returns-then-not-accepted : goal.returns-then-not-accepted
 returns-then-not-accepted g c = λ casts opened.
-    not_accepted casts c.args.events.now c.args.owners.now (map (λ (actor : Finished _). end_seen g.K.Actor.state actor.ended) c.args.actors.now) c.in_ok-accepted.accepted
+    not_accepted casts c.args.events.now c.args.owners.now (map (λ (actor : Finished _). end_view g.K.Actor.state actor.ended) c.args.actors.now) c.in_ok-accepted.accepted
     (c.in_ok-accepted.ensures.accepted casts opened) c.if-not-accepted.true
 
 pub returns-then-not-has_owners : goal.returns-then-not-has_owners
 returns-then-not-has_owners g c = λ casts opened.
-    not_callers casts c.args.events.now c.args.owners.now (map (λ (actor : Finished _). end_seen g.K.Actor.state actor.ended) c.args.actors.now) c.has_owners.result
-    (c.has_owners.ensures casts c.args.events.now (c.in_ok-accepted.ensures.stands casts opened)) c.if-not-has_owners.true
+    not_callers casts c.args.events.now c.args.owners.now (map (λ (actor : Finished _). end_view g.K.Actor.state actor.ended) c.args.actors.now) c.has_owners.result
+    (c.has_owners.ensures casts c.args.events.now (c.in_ok-accepted.ensures.reached casts opened)) c.if-not-has_owners.true
 
 pub returns : goal.returns
 returns g c = λ casts opened.
-    let stands = c.in_ok-accepted.ensures.stands casts opened in
-    play_is casts c.args.events.now c.args.owners.now (map (λ (actor : Finished _). end_seen g.K.Actor.state actor.ended) c.args.actors.now)
+    let reached = c.in_ok-accepted.ensures.reached casts opened in
+    play_is casts c.args.events.now c.args.owners.now (map (λ (actor : Finished _). end_view g.K.Actor.state actor.ended) c.args.actors.now)
     c.in_ok-accepted.accepted c.has_owners.result c.has_ends.result
     (c.in_ok-accepted.ensures.accepted casts opened)
-    (c.has_owners.ensures casts c.args.events.now stands)
-    (over_map (IsEndIn (history casts c.args.events.now)) (λ (actor : Finished _). end_seen g.K.Actor.state actor.ended) c.args.actors.now c.has_ends.result (c.has_ends.ensures casts c.args.events.now stands))
+    (c.has_owners.ensures casts c.args.events.now reached)
+    (over_map (IsEndIn (history casts c.args.events.now)) (λ (actor : Finished _). end_view g.K.Actor.state actor.ended) c.args.actors.now c.has_ends.result (c.has_ends.ensures casts c.args.events.now reached))
     c.if-not-accepted.false c.if-not-has_owners.false

@@ -1,20 +1,20 @@
 use Rattle.std.proofs.Common.{arith}
 use Rattle.act_rules.specs.Laws.{history}
-use Rattle.act_serve.specs.declared.seat.Finished.{Finished}
-use Rattle.act_serve.specs.Served.{end_seen}
+use Rattle.act_serve.specs.declared.endpoint.Finished.{Finished}
+use Rattle.act_serve.specs.Served.{end_view}
 use Rattle.act_replay.specs.Play.{IsEndIn}
 use Rattle.act_replay.proofs.Each.{each_more, not_each, each}
 use Rattle.act_replay.proofs.compared.has_ends.Goals as goal
 
 pub loop-actor-preserved : goal.loop-actor-preserved
-loop-actor-preserved g c = λ casts events stands.
-    each_more (λ (actor : Finished _). IsEndIn (history casts events) (end_seen g.K.Actor.state actor.ended)) c.args.actors.now c.loop-actor.actor-index c.actor-item.result c.has_end.result c.loop-actor-test.true c.actor-item.is
-    (c.has_end.ensures casts events stands) c.if-not-has_end.false (c.loop-actor.invariant casts events stands)
+loop-actor-preserved g c = λ casts events reached.
+    each_more (λ (actor : Finished _). IsEndIn (history casts events) (end_view g.K.Actor.state actor.ended)) c.args.actors.now c.loop-actor.actor-index c.actor-item.result c.has_end.result c.loop-actor-test.true c.actor-item.is
+    (c.has_end.ensures casts events reached) c.if-not-has_end.false (c.loop-actor.invariant casts events reached)
 
 pub returns-then-not-has_end : goal.returns-then-not-has_end
-returns-then-not-has_end g c = λ casts events stands.
-    not_each (λ (actor : Finished _). IsEndIn (history casts events) (end_seen g.K.Actor.state actor.ended)) c.args.actors.now c.loop-actor.actor-index c.actor-item.result c.has_end.result c.loop-actor-test.true c.actor-item.is
-    (c.has_end.ensures casts events stands) c.if-not-has_end.true
+returns-then-not-has_end g c = λ casts events reached.
+    not_each (λ (actor : Finished _). IsEndIn (history casts events) (end_view g.K.Actor.state actor.ended)) c.args.actors.now c.loop-actor.actor-index c.actor-item.result c.has_end.result c.loop-actor-test.true c.actor-item.is
+    (c.has_end.ensures casts events reached) c.if-not-has_end.true
 
 pub returns : goal.returns
-returns g c = λ casts events stands. each (λ (actor : Finished _). IsEndIn (history casts events) (end_seen g.K.Actor.state actor.ended)) c.args.actors.now c.loop-actor.actor-index (omega arith) (c.loop-actor.invariant casts events stands)
+returns g c = λ casts events reached. each (λ (actor : Finished _). IsEndIn (history casts events) (end_view g.K.Actor.state actor.ended)) c.args.actors.now c.loop-actor.actor-index (omega arith) (c.loop-actor.invariant casts events reached)

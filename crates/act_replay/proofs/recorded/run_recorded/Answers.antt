@@ -1,9 +1,9 @@
 use Rattle.std.proofs.Common.{◌≡◌, List, map, sym, subst}
-use Rattle.act_rules.specs.History.{Casting}
-use Rattle.act_actor.specs.Casts.{casting}
-use Rattle.act_serve.specs.declared.seat.Finished.{Finished}
-use Rattle.act_serve.specs.Served.{end_seen}
-use Rattle.act_executor.specs.Runs.{plan_seen}
+use Rattle.act_rules.specs.History.{ActorSpec}
+use Rattle.act_actor.specs.Casts.{actor_spec}
+use Rattle.act_serve.specs.declared.endpoint.Finished.{Finished}
+use Rattle.act_serve.specs.Served.{end_view}
+use Rattle.act_executor.specs.Runs.{plan_view}
 use Rattle.act_executor.proofs.Faults.{err_only}
 use Rattle.act_replay.specs.declared.run.RecordFault.{RecordFault}
 use Rattle.act_replay.specs.Play.{IsPlayOf}
@@ -17,12 +17,12 @@ played-requires g c = record { fit = twins_fit g.K.Actor.state _ c.args.casts.it
 
 pub returns-in_err-events-clause-fault : goal.returns-in_err-events-clause-fault
 returns-in_err-events-clause-fault g c =
-    let casts = map (casting g.K.Actor.state) c.args.casts.items in
-    let plans = map plan_seen c.args.plans.items in
+    let casts = map (actor_spec g.K.Actor.state) c.args.casts.items in
+    let plans = map plan_view c.args.plans.items in
     err_only c.from_residual-in_err-events.result (λ (f : RecordFault). f ≡ c.in_err-events.field-0.0) (IsRecordFault casts plans) c.from_residual-in_err-events.ensures.1
     (λ f is. subst (IsRecordFault casts plans) (sym is) (play_fault casts plans c.in_ok-ran.ensures.good c.in_err-events.field-0.0 c.in_err-events.ensures.fault))
 
 pub returns-clause-played : goal.returns-clause-played
 returns-clause-played g c =
-    subst (λ (casts : List Casting). IsPlayOf casts c.in_ok-events.events.items c.in_ok-ran.ran.0.owners.items (map (λ (actor : Finished _). end_seen g.K.Actor.state actor.ended) c.in_ok-ran.ran.0.actors.items))
+    subst (λ (casts : List ActorSpec). IsPlayOf casts c.in_ok-events.events.items c.in_ok-ran.ran.0.owners.items (map (λ (actor : Finished _). end_view g.K.Actor.state actor.ended) c.in_ok-ran.ran.0.actors.items))
     c.requires.twins c.in_ok-events.ensures.played

@@ -1,6 +1,6 @@
 use Rattle.std.proofs.Common.{map, List, sym, ◌∙◌, subst}
 use Rattle.act_rules.specs.declared.script.Role.{Role}
-use Rattle.act_rules.specs.Scripts.{role_casting}
+use Rattle.act_rules.specs.Scripts.{actor_spec_of}
 use Rattle.act_scripts.specs.Spelled.{spelled_script}
 use Rattle.act_scripts.specs.Roles.{AreSound}
 use Rattle.act_scripts.proofs.Roles.{unrefused, one_role_more}
@@ -9,5 +9,5 @@ use Rattle.act_scripts.proofs.script.add_role.Goals as goal
 pub returns-clause-sound : goal.returns-clause-sound
 returns-clause-sound c = λ sound.
     let fine = unrefused (spelled_script c.args.script.now) c.args.role (sym c.fault_of.ensures ∙ c.in_default.is) in
-    subst (λ (roles : List Role). AreSound (map role_casting roles)) (sym c.in_ok-push.ensures.ok)
+    subst (λ (roles : List Role). AreSound (map actor_spec_of roles)) (sym c.in_ok-push.ensures.ok)
     (one_role_more c.args.script.now.casts c.args.role fine.0 fine.1 c.number.ensures.valid c.requires sound)

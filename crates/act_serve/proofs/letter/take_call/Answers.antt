@@ -1,76 +1,76 @@
 use Rattle.std.proofs.Common.{List, [], ◌∷◌, ◌++◌, map, ap, sym, ◌∙◌, subst, refl, All}
-use Rattle.act_actor.specs.Actor.{with_call}
-use Rattle.act_actor.specs.StateViews.{live_seen}
+use Rattle.act_actor.specs.Actor.{with_packet}
+use Rattle.act_actor.specs.StateViews.{live_view}
 use Rattle.act_mailbox.specs.declared.mail.Letter.TheVariants.{Call}
-use Rattle.act_mailbox.specs.Notices.{ReplyExecValue}
-use Rattle.act_seats.specs.declared.seat.Seat.{Seat}
-use Rattle.act_serve.specs.Served.{bare}
-use Rattle.act_serve.specs.Turns.{IsSeated, IsServing}
-use Rattle.act_serve.proofs.AtOnce.{serving_held, serving_refused, goes_on, seats_on, seats_given, bare_given, serving_given, found}
+use Rattle.act_mailbox.specs.Notices.{ReplyExecView}
+use Rattle.act_mailbox.specs.declared.endpoint.Endpoint.{Endpoint}
+use Rattle.act_serve.specs.Served.{without_given}
+use Rattle.act_serve.specs.Turns.{IsAtItsEndpoint, IsServing}
+use Rattle.act_serve.proofs.AtOnce.{serving_held, serving_refused, goes_on, endpoints_on, endpoints_given, bare_given, serving_given, found}
 use Rattle.act_serve.proofs.Nexts.{replied_place}
 use Rattle.act_serve.proofs.Serving.{serving_in}
 use Rattle.act_serve.proofs.letter.take_call.Goals as goal
 
 pub returns-in_err-hold-clause-serving : goal.returns-in_err-hold-clause-serving
 returns-in_err-hold-clause-serving g c = λ opening callers letters h.
-    serving_in opening callers c.args.replies.now letters (letters ++ Call c.args.packet ∷ []) (live_seen g.K.Actor.state c.args.live.now) (live_seen g.K.Actor.state c.hold.new.live) c.args.notices.now.items
+    serving_in opening callers c.args.replies.now letters (letters ++ Call c.args.packet ∷ []) (live_view g.K.Actor.state c.args.live.now) (live_view g.K.Actor.state c.hold.new.live) c.args.notices.now.items
     c.hold.ensures.same (λ who. c.hold.ensures.fed who letters) h
 
 pub returns-in_default-clause-serving : goal.returns-in_default-clause-serving
 returns-in_default-clause-serving g c = λ opening callers letters h.
-    serving_in opening callers c.args.replies.now letters (letters ++ Call c.args.packet ∷ []) (live_seen g.K.Actor.state c.args.live.now) (live_seen g.K.Actor.state c.hold.new.live) c.args.notices.now.items
+    serving_in opening callers c.args.replies.now letters (letters ++ Call c.args.packet ∷ []) (live_view g.K.Actor.state c.args.live.now) (live_view g.K.Actor.state c.hold.new.live) c.args.notices.now.items
     c.hold.ensures.same (λ who. c.hold.ensures.fed who letters) h
 
 pub returns-in_err-reply-clause-serving : goal.returns-in_err-reply-clause-serving
 returns-in_err-reply-clause-serving g c = λ opening callers letters h.
-    serving_refused opening callers c.args.replies.now letters c.args.packet (live_seen g.K.Actor.state c.args.live.now) (live_seen g.K.Actor.state c.run_now.new.live) c.args.notices.now.items c.in_err-reply.ensures.err h
+    serving_refused opening callers c.args.replies.now letters c.args.packet (live_view g.K.Actor.state c.args.live.now) (live_view g.K.Actor.state c.run_now.new.live) c.args.notices.now.items c.in_err-reply.ensures.err h
 
-pub give_reply-requires-clause-seats : goal.give_reply-requires-clause-seats
-give_reply-requires-clause-seats g c =
-    let before = with_call c.args.packet (live_seen g.K.Actor.state c.args.live.now) in
-    let after = live_seen g.K.Actor.state c.run_now.new.live in
-    seats_on c.args.replies.now c.args.packet.caller c.in_ok-reply.reply before after c.args.notices.now.items c.in_ok-reply.ensures.ran c.requires.seats
+pub give_reply-requires-clause-endpoints : goal.give_reply-requires-clause-endpoints
+give_reply-requires-clause-endpoints g c =
+    let before = with_packet c.args.packet (live_view g.K.Actor.state c.args.live.now) in
+    let after = live_view g.K.Actor.state c.run_now.new.live in
+    endpoints_on c.args.replies.now c.args.packet.caller c.in_ok-reply.reply before after c.args.notices.now.items c.in_ok-reply.ensures.ran c.requires.endpoints
 
 pub give_reply-requires-clause-place : goal.give_reply-requires-clause-place
 give_reply-requires-clause-place g c =
-    let before = with_call c.args.packet (live_seen g.K.Actor.state c.args.live.now) in
-    let after = live_seen g.K.Actor.state c.run_now.new.live in
+    let before = with_packet c.args.packet (live_view g.K.Actor.state c.args.live.now) in
+    let after = live_view g.K.Actor.state c.run_now.new.live in
     replied_place c.args.packet.caller c.in_ok-reply.reply before after after.log c.in_ok-reply.ensures.ran refl
 
-pub returns-clause-seats : goal.returns-clause-seats
-returns-clause-seats g c =
-    let before = with_call c.args.packet (live_seen g.K.Actor.state c.args.live.now) in
-    let after = live_seen g.K.Actor.state c.run_now.new.live in
+pub returns-clause-endpoints : goal.returns-clause-endpoints
+returns-clause-endpoints g c =
+    let before = with_packet c.args.packet (live_view g.K.Actor.state c.args.live.now) in
+    let after = live_view g.K.Actor.state c.run_now.new.live in
     let replies = c.args.replies.now in
-    let seats = c.args.notices.now.items in
-    let at = found replies c.args.packet.caller c.in-Some.at seats c.as_slice.result.now c.as_slice.ensures.value c.in-Some.ensures.seat in
-    subst (λ (l : List (Seat ReplyExecValue)). All (IsSeated replies after.id after.log) l) (sym (c.give_reply.ensures at.seat (sym (at.here at.seat))))
-    (seats_given replies seats c.in-Some.at at.seat at.here c.in_ok-reply.reply after.id after.log
-    (seats_on replies c.args.packet.caller c.in_ok-reply.reply before after seats c.in_ok-reply.ensures.ran c.requires.seats) at.below)
+    let endpoints = c.args.notices.now.items in
+    let at = found replies c.args.packet.caller c.in-Some.at endpoints c.as_slice.result.now c.as_slice.ensures.value c.in-Some.ensures.endpoint in
+    subst (λ (l : List (Endpoint ReplyExecView)). All (IsAtItsEndpoint replies after.id after.log) l) (sym (c.give_reply.ensures at.endpoint (sym (at.here at.endpoint))))
+    (endpoints_given replies endpoints c.in-Some.at at.endpoint at.here c.in_ok-reply.reply after.id after.log
+    (endpoints_on replies c.args.packet.caller c.in_ok-reply.reply before after endpoints c.in_ok-reply.ensures.ran c.requires.endpoints) at.below)
 
 pub returns-clause-stay : goal.returns-clause-stay
 returns-clause-stay g c =
-    let after = live_seen g.K.Actor.state c.run_now.new.live in
+    let after = live_view g.K.Actor.state c.run_now.new.live in
     let replies = c.args.replies.now in
-    let seats = c.args.notices.now.items in
-    let at = found replies c.args.packet.caller c.in-Some.at seats c.as_slice.result.now c.as_slice.ensures.value c.in-Some.ensures.seat in
-    ap (map bare) (c.give_reply.ensures at.seat (sym (at.here at.seat))) ∙ bare_given replies seats c.in-Some.at at.seat at.here c.in_ok-reply.reply after.log
+    let endpoints = c.args.notices.now.items in
+    let at = found replies c.args.packet.caller c.in-Some.at endpoints c.as_slice.result.now c.as_slice.ensures.value c.in-Some.ensures.endpoint in
+    ap (map without_given) (c.give_reply.ensures at.endpoint (sym (at.here at.endpoint))) ∙ bare_given replies endpoints c.in-Some.at at.endpoint at.here c.in_ok-reply.reply after.log
 
 pub returns-clause-on : goal.returns-clause-on
 returns-clause-on g c =
-    let before = with_call c.args.packet (live_seen g.K.Actor.state c.args.live.now) in
-    let on = goes_on c.args.packet.caller c.in_ok-reply.reply before (live_seen g.K.Actor.state c.run_now.new.live) c.in_ok-reply.ensures.ran in
+    let before = with_packet c.args.packet (live_view g.K.Actor.state c.args.live.now) in
+    let on = goes_on c.args.packet.caller c.in_ok-reply.reply before (live_view g.K.Actor.state c.run_now.new.live) c.in_ok-reply.ensures.ran in
     record { id = on.id; front = on.front; long = on.long; last = on.last }
 
 pub returns-clause-serving : goal.returns-clause-serving
 returns-clause-serving g c =
-    let before = live_seen g.K.Actor.state c.args.live.now in
-    let after = live_seen g.K.Actor.state c.run_now.new.live in
+    let before = live_view g.K.Actor.state c.args.live.now in
+    let after = live_view g.K.Actor.state c.run_now.new.live in
     let packet = c.args.packet in
     let replies = c.args.replies.now in
-    let seats = c.args.notices.now.items in
-    let at = found replies packet.caller c.in-Some.at seats c.as_slice.result.now c.as_slice.ensures.value c.in-Some.ensures.seat in
+    let endpoints = c.args.notices.now.items in
+    let at = found replies packet.caller c.in-Some.at endpoints c.as_slice.result.now c.as_slice.ensures.value c.in-Some.ensures.endpoint in
     λ opening callers letters h.
-    subst (λ (l : List (Seat ReplyExecValue)). IsServing opening callers replies (letters ++ Call packet ∷ []) after l) (sym (c.give_reply.ensures at.seat (sym (at.here at.seat))))
-    (serving_given replies seats c.in-Some.at at.seat at.here c.in_ok-reply.reply opening callers (letters ++ Call packet ∷ []) packet.caller (with_call packet before) after
-    c.in_ok-reply.ensures.ran at.below at.mine c.requires.differ (serving_held packet before c.in-Some.ensures.at_once opening callers replies letters seats h))
+    subst (λ (l : List (Endpoint ReplyExecView)). IsServing opening callers replies (letters ++ Call packet ∷ []) after l) (sym (c.give_reply.ensures at.endpoint (sym (at.here at.endpoint))))
+    (serving_given replies endpoints c.in-Some.at at.endpoint at.here c.in_ok-reply.reply opening callers (letters ++ Call packet ∷ []) packet.caller (with_packet packet before) after
+    c.in_ok-reply.ensures.ran at.below at.mine c.requires.differ (serving_held packet before c.in-Some.ensures.at_once opening callers replies letters endpoints h))

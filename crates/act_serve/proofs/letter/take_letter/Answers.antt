@@ -1,6 +1,6 @@
 use Rattle.std.proofs.Common.{◌≡◌, IfOk, List, [], ◌∷◌, ◌++◌, ap, sym, ◌∙◌, subst}
-use Rattle.act_actor.specs.StateViews.{live_seen}
-use Rattle.act_actor.specs.View.{ActorSeen}
+use Rattle.act_actor.specs.StateViews.{live_view}
+use Rattle.act_actor.specs.View.{ActorView}
 use Rattle.act_mailbox.specs.declared.mail.Letter.{Letter}
 use Rattle.act_mailbox.specs.declared.mail.Letter.TheVariants.{Call, Note}
 use Rattle.act_serve.specs.Turns.{IsFed, IsServing, HasCome}
@@ -13,7 +13,7 @@ returns-in-Some-Call-clause-came g c =
     let letters = c.args.letters.now.taken in
     let packet = c.in-Some-Call.packet in
     let taken : c.try_take.new.pass.taken ≡ letters ++ Call packet ∷ [] = ap (λ p. p.taken) c.in-Some-Call.ensures.taken ∙ ap (λ (x : Letter). letters ++ x ∷ []) c.in-Some-Call.field-0-is in
-    subst (λ (l : List Letter). IfOk c.take_call.result (λ came. HasCome came letters l c.args.notices.now.items c.take_call.new.notices.items (live_seen g.K.Actor.state c.args.live.now) (live_seen g.K.Actor.state c.take_call.new.live))) (sym taken)
+    subst (λ (l : List Letter). IfOk c.take_call.result (λ came. HasCome came letters l c.args.notices.now.items c.take_call.new.notices.items (live_view g.K.Actor.state c.args.live.now) (live_view g.K.Actor.state c.take_call.new.live))) (sym taken)
     (c.take_call.ensures.came letters)
 
 pub returns-in-Some-Call-clause-serving : goal.returns-in-Some-Call-clause-serving
@@ -22,13 +22,13 @@ returns-in-Some-Call-clause-serving g c =
     let packet = c.in-Some-Call.packet in
     let taken : c.try_take.new.pass.taken ≡ letters ++ Call packet ∷ [] = ap (λ p. p.taken) c.in-Some-Call.ensures.taken ∙ ap (λ (x : Letter). letters ++ x ∷ []) c.in-Some-Call.field-0-is in
     λ opening callers h.
-    subst (λ (l : List Letter). IsServing opening callers c.args.lines.now.replies.now l (live_seen g.K.Actor.state c.take_call.new.live) c.take_call.new.notices.items) (sym taken)
+    subst (λ (l : List Letter). IsServing opening callers c.args.lines.now.replies.now l (live_view g.K.Actor.state c.take_call.new.live) c.take_call.new.notices.items) (sym taken)
     (c.take_call.ensures.serving opening callers letters h)
 
 pub returns-in-Some-Note-clause-serving : goal.returns-in-Some-Note-clause-serving
 returns-in-Some-Note-clause-serving g c =
-    let before = live_seen g.K.Actor.state c.args.live.now in
-    let after = live_seen g.K.Actor.state c.released.new.self in
+    let before = live_view g.K.Actor.state c.args.live.now in
+    let after = live_view g.K.Actor.state c.released.new.self in
     let letters = c.args.letters.now.taken in
     let note = c.in-Some-Note.note in
     let taken : c.try_take.new.pass.taken ≡ letters ++ Note note ∷ [] = ap (λ p. p.taken) c.in-Some-Note.ensures.taken ∙ ap (λ (x : Letter). letters ++ x ∷ []) c.in-Some-Note.field-0-is in
@@ -36,6 +36,6 @@ returns-in-Some-Note-clause-serving g c =
     serving_in opening callers c.args.lines.now.replies.now letters c.try_take.new.pass.taken before after c.args.notices.now.items c.released.ensures.same
     (λ who fed.
     subst (λ (l : List Letter). IsFed who l after) (sym taken)
-    (subst (λ (s : ActorSeen). IsFed who (letters ++ Note note ∷ []) s) (sym c.released.ensures.same)
+    (subst (λ (s : ActorView). IsFed who (letters ++ Note note ∷ []) s) (sym c.released.ensures.same)
     (fed_note who letters note before after.inbox c.released.result c.released.ensures.arrival c.released.ensures.calls.0 c.released.ensures.calls.1 c.released.ensures.notes fed)))
     h

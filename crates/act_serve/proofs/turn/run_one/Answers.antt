@@ -2,105 +2,105 @@ use Rattle.std.proofs.Common.{rules, ◌≡◌, ◌<◌, ◌∙◌, List, map, a
 use Rattle.std.specs.Prelude.{position}
 use Rattle.std.proofs.lemmas.List.{get_or_default}
 use Rattle.act_actor.specs.Actor.{next_call}
-use Rattle.act_actor.specs.StateViews.{live_seen}
-use Rattle.act_mailbox.specs.Notices.{ReplyExecValue}
-use Rattle.act_seats.specs.declared.seat.Seat.{Seat}
-use Rattle.act_serve.specs.Served.{bare, caller_at}
-use Rattle.act_serve.specs.Turns.{IsSeated, IsServing, HasReplied, has_next}
-use Rattle.act_serve.proofs.AtOnce.{goes_on, seats_on, seats_given, bare_given, serving_given}
+use Rattle.act_actor.specs.StateViews.{live_view}
+use Rattle.act_mailbox.specs.Notices.{ReplyExecView}
+use Rattle.act_mailbox.specs.declared.endpoint.Endpoint.{Endpoint}
+use Rattle.act_serve.specs.Served.{without_given, caller_at}
+use Rattle.act_serve.specs.Turns.{IsAtItsEndpoint, IsServing, HasReplied, has_next}
+use Rattle.act_serve.proofs.AtOnce.{goes_on, endpoints_on, endpoints_given, bare_given, serving_given}
 use Rattle.act_serve.proofs.Serving.{caller_here}
 use Rattle.act_serve.proofs.Nexts.{next_is, nowhere, somewhere, replied_place}
 use Rattle.act_serve.proofs.turn.run_one.Goals as goal
 
-pub give_reply-requires-clause-seats : goal.give_reply-requires-clause-seats
-give_reply-requires-clause-seats g c =
-    let before = live_seen g.K.Actor.state c.args.live.now in
-    let after = live_seen g.K.Actor.state c.run_next.new.live in
+pub give_reply-requires-clause-endpoints : goal.give_reply-requires-clause-endpoints
+give_reply-requires-clause-endpoints g c =
+    let before = live_view g.K.Actor.state c.args.live.now in
+    let after = live_view g.K.Actor.state c.run_next.new.live in
     let ran : HasReplied c.caller.result c.in-Ok-Some.reply before after = rw c.in-Ok-Some.field-0-is at c.in-Ok-Some.ensures.ran in
-    seats_on c.args.replies.now c.caller.result c.in-Ok-Some.reply before after c.args.notices.now.items ran c.requires.seats
+    endpoints_on c.args.replies.now c.caller.result c.in-Ok-Some.reply before after c.args.notices.now.items ran c.requires.endpoints
 
 pub give_reply-requires-clause-place : goal.give_reply-requires-clause-place
 give_reply-requires-clause-place g c =
-    let before = live_seen g.K.Actor.state c.args.live.now in
-    let after = live_seen g.K.Actor.state c.run_next.new.live in
+    let before = live_view g.K.Actor.state c.args.live.now in
+    let after = live_view g.K.Actor.state c.run_next.new.live in
     let ran : HasReplied c.caller.result c.in-Ok-Some.reply before after = rw c.in-Ok-Some.field-0-is at c.in-Ok-Some.ensures.ran in
     replied_place c.caller.result c.in-Ok-Some.reply before after after.log ran refl
 
-pub returns-in-Ok-Some-clause-seats : goal.returns-in-Ok-Some-clause-seats
-returns-in-Ok-Some-clause-seats g c =
-    let before = live_seen g.K.Actor.state c.args.live.now in
-    let after = live_seen g.K.Actor.state c.run_next.new.live in
+pub returns-in-Ok-Some-clause-endpoints : goal.returns-in-Ok-Some-clause-endpoints
+returns-in-Ok-Some-clause-endpoints g c =
+    let before = live_view g.K.Actor.state c.args.live.now in
+    let after = live_view g.K.Actor.state c.run_next.new.live in
     let ran : HasReplied c.caller.result c.in-Ok-Some.reply before after = rw c.in-Ok-Some.field-0-is at c.in-Ok-Some.ensures.ran in
     let replies = c.args.replies.now in
-    let seats = c.args.notices.now.items in
-    let seat = c.index.result.now in
-    let below : c.in-Some.at < length seats = search rules in
-    let here : (d : Seat ReplyExecValue) → get_or seats c.in-Some.at d ≡ seat = (λ d. get_or_default seats c.in-Some.at d seat below ∙ sym c.index.ensures) in
-    subst (λ (l : List (Seat ReplyExecValue)). All (IsSeated replies after.id after.log) l) (sym (c.give_reply.ensures seat (sym (here seat))))
-    (seats_given replies seats c.in-Some.at seat here c.in-Ok-Some.reply after.id after.log (seats_on replies c.caller.result c.in-Ok-Some.reply before after seats ran c.requires.seats) below)
+    let endpoints = c.args.notices.now.items in
+    let endpoint = c.index.result.now in
+    let below : c.in-Some.at < length endpoints = search rules in
+    let here : (d : Endpoint ReplyExecView) → get_or endpoints c.in-Some.at d ≡ endpoint = (λ d. get_or_default endpoints c.in-Some.at d endpoint below ∙ sym c.index.ensures) in
+    subst (λ (l : List (Endpoint ReplyExecView)). All (IsAtItsEndpoint replies after.id after.log) l) (sym (c.give_reply.ensures endpoint (sym (here endpoint))))
+    (endpoints_given replies endpoints c.in-Some.at endpoint here c.in-Ok-Some.reply after.id after.log (endpoints_on replies c.caller.result c.in-Ok-Some.reply before after endpoints ran c.requires.endpoints) below)
 
 pub returns-in-Ok-Some-clause-stay : goal.returns-in-Ok-Some-clause-stay
 returns-in-Ok-Some-clause-stay g c =
-    let after = live_seen g.K.Actor.state c.run_next.new.live in
+    let after = live_view g.K.Actor.state c.run_next.new.live in
     let replies = c.args.replies.now in
-    let seats = c.args.notices.now.items in
-    let seat = c.index.result.now in
-    let below : c.in-Some.at < length seats = search rules in
-    let here : (d : Seat ReplyExecValue) → get_or seats c.in-Some.at d ≡ seat = (λ d. get_or_default seats c.in-Some.at d seat below ∙ sym c.index.ensures) in
-    ap (map bare) (c.give_reply.ensures seat (sym (here seat))) ∙ bare_given replies seats c.in-Some.at seat here c.in-Ok-Some.reply after.log
+    let endpoints = c.args.notices.now.items in
+    let endpoint = c.index.result.now in
+    let below : c.in-Some.at < length endpoints = search rules in
+    let here : (d : Endpoint ReplyExecView) → get_or endpoints c.in-Some.at d ≡ endpoint = (λ d. get_or_default endpoints c.in-Some.at d endpoint below ∙ sym c.index.ensures) in
+    ap (map without_given) (c.give_reply.ensures endpoint (sym (here endpoint))) ∙ bare_given replies endpoints c.in-Some.at endpoint here c.in-Ok-Some.reply after.log
 
 pub returns-in-Ok-Some-clause-on : goal.returns-in-Ok-Some-clause-on
 returns-in-Ok-Some-clause-on g c =
-    let before = live_seen g.K.Actor.state c.args.live.now in
-    let after = live_seen g.K.Actor.state c.run_next.new.live in
+    let before = live_view g.K.Actor.state c.args.live.now in
+    let after = live_view g.K.Actor.state c.run_next.new.live in
     let ran : HasReplied c.caller.result c.in-Ok-Some.reply before after = rw c.in-Ok-Some.field-0-is at c.in-Ok-Some.ensures.ran in
     goes_on c.caller.result c.in-Ok-Some.reply before after ran
 
 pub returns-in-Ok-Some-clause-serving : goal.returns-in-Ok-Some-clause-serving
 returns-in-Ok-Some-clause-serving g c =
-    let before = live_seen g.K.Actor.state c.args.live.now in
-    let after = live_seen g.K.Actor.state c.run_next.new.live in
+    let before = live_view g.K.Actor.state c.args.live.now in
+    let after = live_view g.K.Actor.state c.run_next.new.live in
     let ran : HasReplied c.caller.result c.in-Ok-Some.reply before after = rw c.in-Ok-Some.field-0-is at c.in-Ok-Some.ensures.ran in
     let replies = c.args.replies.now in
-    let seats = c.args.notices.now.items in
-    let seat = c.index.result.now in
-    let below : c.in-Some.at < length seats = search rules in
-    let here : (d : Seat ReplyExecValue) → get_or seats c.in-Some.at d ≡ seat = (λ d. get_or_default seats c.in-Some.at d seat below ∙ sym c.index.ensures) in
-    let was : IsSeated replies before.id before.log seat = search rules in
-    let mine : c.caller.result ≡ caller_at replies seat.place = c.caller.ensures ∙ caller_here replies seat.place c.index-replies-place.result was.below c.index-replies-place.is in
+    let endpoints = c.args.notices.now.items in
+    let endpoint = c.index.result.now in
+    let below : c.in-Some.at < length endpoints = search rules in
+    let here : (d : Endpoint ReplyExecView) → get_or endpoints c.in-Some.at d ≡ endpoint = (λ d. get_or_default endpoints c.in-Some.at d endpoint below ∙ sym c.index.ensures) in
+    let was : IsAtItsEndpoint replies before.id before.log endpoint = search rules in
+    let mine : c.caller.result ≡ caller_at replies endpoint.place = c.caller.ensures ∙ caller_here replies endpoint.place c.index-replies-place.result was.below c.index-replies-place.is in
     λ opening callers letters h.
-    subst (λ (l : List (Seat ReplyExecValue)). IsServing opening callers replies letters after l) (sym (c.give_reply.ensures seat (sym (here seat))))
-    (serving_given replies seats c.in-Some.at seat here c.in-Ok-Some.reply opening callers letters c.caller.result before after ran below mine c.requires.differ h)
+    subst (λ (l : List (Endpoint ReplyExecView)). IsServing opening callers replies letters after l) (sym (c.give_reply.ensures endpoint (sym (here endpoint))))
+    (serving_given replies endpoints c.in-Some.at endpoint here c.in-Ok-Some.reply opening callers letters c.caller.result before after ran below mine c.requires.differ h)
 
 pub returns-in-Ok-Some-clause-first : goal.returns-in-Ok-Some-clause-first
 returns-in-Ok-Some-clause-first g c =
-    let before = live_seen g.K.Actor.state c.args.live.now in
-    let after = live_seen g.K.Actor.state c.run_next.new.live in
+    let before = live_view g.K.Actor.state c.args.live.now in
+    let after = live_view g.K.Actor.state c.run_next.new.live in
     let ran : HasReplied c.caller.result c.in-Ok-Some.reply before after = rw c.in-Ok-Some.field-0-is at c.in-Ok-Some.ensures.ran in
     let replies = c.args.replies.now in
-    let seats = c.args.notices.now.items in
-    let seat = c.index.result.now in
-    let below : c.in-Some.at < length seats = search rules in
-    let was : IsSeated replies before.id before.log seat = search rules in
-    let mine : c.caller.result ≡ caller_at replies seat.place = c.caller.ensures ∙ caller_here replies seat.place c.index-replies-place.result was.below c.index-replies-place.is in
+    let endpoints = c.args.notices.now.items in
+    let endpoint = c.index.result.now in
+    let below : c.in-Some.at < length endpoints = search rules in
+    let was : IsAtItsEndpoint replies before.id before.log endpoint = search rules in
+    let mine : c.caller.result ≡ caller_at replies endpoint.place = c.caller.ensures ∙ caller_here replies endpoint.place c.index-replies-place.result was.below c.index-replies-place.is in
     λ _. (
       c.in-Some.at,
-      ap (position (has_next replies before)) (sym c.as_slice.ensures.value) ∙ sym c.next_seat.ensures ∙ c.in-Some.is,
+      ap (position (has_next replies before)) (sym c.as_slice.ensures.value) ∙ sym c.next_endpoint.ensures ∙ c.in-Some.is,
       ran.item,
       ran.log,
-      λ d. ran.of_caller ∙ mine ∙ ap (λ (s : Seat ReplyExecValue). caller_at replies s.place) (sym (get_or_default seats c.in-Some.at d seat below ∙ sym c.index.ensures)),
+      λ d. ran.of_caller ∙ mine ∙ ap (λ (s : Endpoint ReplyExecView). caller_at replies s.place) (sym (get_or_default endpoints c.in-Some.at d endpoint below ∙ sym c.index.ensures)),
     )
 
 pub returns-in_default-clause-gone : goal.returns-in_default-clause-gone
-returns-in_default-clause-gone g c = (refl, nowhere (has_next c.args.replies.now (live_seen g.K.Actor.state c.args.live.now)) c.as_slice.result.now c.args.notices.now.items c.next_seat.result c.next_seat.ensures c.as_slice.ensures.value c.in_default.is)
+returns-in_default-clause-gone g c = (refl, nowhere (has_next c.args.replies.now (live_view g.K.Actor.state c.args.live.now)) c.as_slice.result.now c.args.notices.now.items c.next_endpoint.result c.next_endpoint.ensures c.as_slice.ensures.value c.in_default.is)
 
 pub returns-in-Ok-None-clause-gone : goal.returns-in-Ok-None-clause-gone
 returns-in-Ok-None-clause-gone g c =
-    let before = live_seen g.K.Actor.state c.args.live.now in
-    let seat = c.index.result.now in
+    let before = live_view g.K.Actor.state c.args.live.now in
+    let endpoint = c.index.result.now in
     let came : false ≡ is_some (next_call before.log before.inbox c.caller.result) = rw c.in-Ok-None.field-0-is at c.in-Ok-None.ensures.next in
-    let was : IsSeated c.args.replies.now before.id before.log seat = search rules in
-    let one : has_next c.args.replies.now before (get_or c.args.notices.now.items c.in-Some.at seat) ≡ true = somewhere (has_next c.args.replies.now before) c.as_slice.result.now c.args.notices.now.items c.next_seat.result c.in-Some.at seat c.next_seat.ensures c.as_slice.ensures.value c.in-Some.is in
-    let none : has_next c.args.replies.now before (get_or c.args.notices.now.items c.in-Some.at seat) ≡ false =
-    next_is c.args.replies.now before c.args.notices.now.items c.in-Some.at seat seat c.index-replies-place.result c.caller.result false false (search rules) c.index.ensures was.below c.index-replies-place.is c.caller.ensures came refl in
+    let was : IsAtItsEndpoint c.args.replies.now before.id before.log endpoint = search rules in
+    let one : has_next c.args.replies.now before (get_or c.args.notices.now.items c.in-Some.at endpoint) ≡ true = somewhere (has_next c.args.replies.now before) c.as_slice.result.now c.args.notices.now.items c.next_endpoint.result c.in-Some.at endpoint c.next_endpoint.ensures c.as_slice.ensures.value c.in-Some.is in
+    let none : has_next c.args.replies.now before (get_or c.args.notices.now.items c.in-Some.at endpoint) ≡ false =
+    next_is c.args.replies.now before c.args.notices.now.items c.in-Some.at endpoint endpoint c.index-replies-place.result c.caller.result false false (search rules) c.index.ensures was.below c.index-replies-place.is c.caller.ensures came refl in
     absurd (true≢false (sym one ∙ none))

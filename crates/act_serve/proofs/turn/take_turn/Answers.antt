@@ -1,6 +1,6 @@
-use Rattle.act_actor.specs.StateViews.{live_seen}
+use Rattle.act_actor.specs.StateViews.{live_view}
 use Rattle.act_serve.specs.Turns.{HasCome}
-use Rattle.act_serve.specs.declared.letter.Came.TheVariants.{Nothing}
+use Rattle.act_serve.specs.declared.letter.Received.TheVariants.{Nothing}
 use Rattle.act_serve.proofs.Nexts.{idle_turn}
 use Rattle.act_serve.proofs.turn.take_turn.Goals as goal
 
@@ -33,9 +33,9 @@ returns-else-ran-clause-serving g c = λ opening callers h.
 pub returns-else-ran-clause-idle : goal.returns-else-ran-clause-idle
 returns-else-ran-clause-idle g c = λ _.
     let replies = c.args.lines.now.replies.now in
-    let before = live_seen g.K.Actor.state c.args.live.now in
-    let between = live_seen g.K.Actor.state c.take_letter.new.live in
-    let after = live_seen g.K.Actor.state c.run_one-in-Ok-Nothing.new.live in
+    let before = live_view g.K.Actor.state c.args.live.now in
+    let between = live_view g.K.Actor.state c.take_letter.new.live in
+    let after = live_view g.K.Actor.state c.run_one-in-Ok-Nothing.new.live in
     let none : HasCome Nothing c.args.letters.now.taken c.take_letter.new.letters.taken c.args.notices.now.items c.take_letter.new.notices.items before between = rw c.in-Ok-Nothing.field-0-is at c.in-Ok-Nothing.ensures.came in
     idle_turn replies c.args.notices.now.items c.take_letter.new.notices.items c.args.letters.now c.take_letter.new.letters before between after c.take_letter.ensures.letters none
     (rw c.if-ran.false at c.in-Ok-run_one.ensures.gone)

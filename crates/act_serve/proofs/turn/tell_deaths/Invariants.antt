@@ -1,6 +1,6 @@
 use Rattle.std.proofs.Common.{◌≡◌, ◌++◌, map, take, drop}
-use Rattle.act_serve.specs.Turns.{told}
+use Rattle.act_serve.specs.Turns.{with_death_given}
 use Rattle.act_serve.proofs.turn.tell_deaths.Given as goal
 
-abbrev pub invariant-loop-seat : goal.invariant-loop-seat
-invariant-loop-seat g l = l.seat-items ≡ map (told l.dead.id l.dead.log) (take l.seat-index l.initial.seat-items) ++ drop l.seat-index l.initial.seat-items
+abbrev pub invariant-loop-endpoint : goal.invariant-loop-endpoint
+invariant-loop-endpoint g l = l.endpoint-items ≡ map (with_death_given l.dead.id l.dead.log) (take l.endpoint-index l.initial.endpoint-items) ++ drop l.endpoint-index l.initial.endpoint-items

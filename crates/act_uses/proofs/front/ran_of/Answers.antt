@@ -1,10 +1,10 @@
 use Rattle.std.proofs.Common.{ℕ, List, subst, sym}
-use Rattle.act_rules.specs.Consistent.{IsFront}
-use Rattle.act_world.specs.View.{world_seen}
+use Rattle.act_rules.specs.Consistent.{IsPrefix}
+use Rattle.act_world.specs.View.{world_view}
 use Rattle.act_uses.specs.Fronts.{submitted_in}
 use Rattle.act_uses.proofs.front.ran_of.Goals as goal
 
 pub returns-clause-front : goal.returns-clause-front
-returns-clause-front g c = λ casts events stands.
-    subst (λ (ran : List (ℕ × ℕ)). IsFront ran (submitted_in (world_seen g.K.Actor.state c.args.world.now) c.args.a c.args.c)) (sym c.in_ok-ran.ensures)
-    ((c.consistent.ensures casts events stands).in_order c.args.a c.args.c)
+returns-clause-front g c = λ casts events reached.
+    subst (λ (ran : List (ℕ × ℕ)). IsPrefix ran (submitted_in (world_view g.K.Actor.state c.args.world.now) c.args.a c.args.c)) (sym c.in_ok-ran.ensures)
+    ((c.consistent.ensures casts events reached).in_order c.args.a c.args.c)

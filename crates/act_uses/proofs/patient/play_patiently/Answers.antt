@@ -1,12 +1,12 @@
 use Rattle.std.proofs.Common.{◌+◌, ◌≤◌, length, length-drop, arith}
-use Rattle.act_world.specs.View.{world_seen}
+use Rattle.act_world.specs.View.{world_view}
 use Rattle.act_uses.proofs.Playing.{played_on, played_out}
 use Rattle.act_uses.proofs.patient.play_patiently.Goals as goal
 
 pub loop-attempt-preserved : goal.loop-attempt-preserved
 loop-attempt-preserved g c = record {
   within = within;
-  played = played_on c.args.events.now c.loop-attempt.place c.in-Err.more (world_seen g.K.Actor.state c.args.world.now) (world_seen g.K.Actor.state c.loop-attempt.world) (world_seen g.K.Actor.state c.play.new.self)
+  played = played_on c.args.events.now c.loop-attempt.place c.in-Err.more (world_view g.K.Actor.state c.args.world.now) (world_view g.K.Actor.state c.loop-attempt.world) (world_view g.K.Actor.state c.play.new.self)
       c.args.told.now.items c.loop-attempt.told.items c.play.new.told.items c.loop-attempt.invariant.played c.in-Err.ensures.err;
 }
   where
@@ -15,5 +15,5 @@ loop-attempt-preserved g c = record {
 
 pub returns-in-Ok-clause-ok : goal.returns-in-Ok-clause-ok
 returns-in-Ok-clause-ok g c =
-    played_out c.args.events.now c.loop-attempt.place (world_seen g.K.Actor.state c.args.world.now) (world_seen g.K.Actor.state c.loop-attempt.world) (world_seen g.K.Actor.state c.play.new.self)
+    played_out c.args.events.now c.loop-attempt.place (world_view g.K.Actor.state c.args.world.now) (world_view g.K.Actor.state c.loop-attempt.world) (world_view g.K.Actor.state c.play.new.self)
     c.args.told.now.items c.loop-attempt.told.items c.play.new.told.items c.loop-attempt.invariant.played c.in-Ok.ensures.ok

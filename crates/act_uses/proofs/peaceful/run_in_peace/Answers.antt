@@ -1,9 +1,9 @@
 use Rattle.std.proofs.Common.{◌≡◌, true, map, ap, sym, ◌∙◌}
 use Rattle.std.specs.List.{list_all}
 use Rattle.std.proofs.lemmas.List.Folds.{list_all-map}
-use Rattle.act_actor.specs.Casts.{casting}
-use Rattle.act_serve.specs.Served.{end_seen}
-use Rattle.act_executor.specs.Runs.{plan_seen}
+use Rattle.act_actor.specs.Casts.{actor_spec}
+use Rattle.act_serve.specs.Served.{end_view}
+use Rattle.act_executor.specs.Runs.{plan_view}
 use Rattle.act_uses.specs.Peaceful.{is_peaceful, are_peaceful}
 use Rattle.act_uses.proofs.Peace.{all_ran}
 use Rattle.act_uses.proofs.peaceful.run_in_peace.Goals as goal
@@ -14,5 +14,5 @@ returns-clause-answered g c =
     let plans = c.args.plans.items in
     let left = c.in_ok-joined.joined in
     let peace : are_peaceful plans ≡ true = ap are_peaceful (sym c.as_slice.ensures.value) ∙ sym c.are_peaceful.ensures ∙ c.if-not-are_peaceful.false in
-    all_ran (map (casting state) c.args.casts.items) (map plan_seen plans) left.owners.items (map (λ actor. end_seen state actor.ended) left.actors.items) c.in_ok-joined.ensures.joined
-    (list_all-map (λ plan. list_all is_peaceful plan.1) plan_seen plans ∙ peace)
+    all_ran (map (actor_spec state) c.args.casts.items) (map plan_view plans) left.owners.items (map (λ actor. end_view state actor.ended) left.actors.items) c.in_ok-joined.ensures.joined
+    (list_all-map (λ plan. list_all is_peaceful plan.1) plan_view plans ∙ peace)

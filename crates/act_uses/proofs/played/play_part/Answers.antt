@@ -1,11 +1,11 @@
 use Rattle.std.proofs.Common.{List, take, ap, ◌∙◌, subst}
 use Rattle.act_rules.specs.declared.event.Event.{Event}
-use Rattle.act_world.specs.Stands.{Played}
-use Rattle.act_world.specs.View.{world_seen}
+use Rattle.act_world.specs.IsReachedBy.{HasPlayed}
+use Rattle.act_world.specs.View.{world_view}
 use Rattle.act_uses.proofs.played.play_part.Goals as goal
 
 pub returns-clause-err : goal.returns-clause-err
 returns-clause-err g c = λ script read.
-    subst (λ (events : List Event). Played (take c.in-Err.place events) (world_seen g.K.Actor.state c.args.world.now) (world_seen g.K.Actor.state c.play.new.self) c.args.told.now.items c.play.new.told.items)
+    subst (λ (events : List Event). HasPlayed (take c.in-Err.place events) (world_view g.K.Actor.state c.args.world.now) (world_view g.K.Actor.state c.play.new.self) c.args.told.now.items c.play.new.told.items)
     (c.first-part.ensures ∙ ap (λ (events : List Event). take c.args.count events) (c.as_slice.ensures ∙ c.in_ok-events.ensures.events script read))
     c.in-Err.ensures.err

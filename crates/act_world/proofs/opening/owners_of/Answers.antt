@@ -1,15 +1,15 @@
 use Rattle.std.proofs.Common.{List, ◌++◌, take, ap, subst}
 use Rattle.std.specs.Prelude.{find}
 use Rattle.std.proofs.lemmas.List.{take_all}
-use Rattle.act_owner.specs.Owner.{OwnerValue}
-use Rattle.act_world.specs.Exchange.{is_owner}
+use Rattle.act_owner.specs.Owner.{OwnerView}
+use Rattle.act_world.specs.Network.{is_owner}
 use Rattle.act_actor.specs.Casts.{callers_named}
 use Rattle.act_world.specs.Openings.{HasOwners}
 use Rattle.act_world.proofs.OpenedOwners.{cast_more}
 use Rattle.act_world.proofs.opening.owners_of.Goals as goal
 
 pub loop-cast-init : goal.loop-cast-init
-loop-cast-init g c = λ caller. ap (λ (owners : List OwnerValue). find (is_owner caller) owners) c.new-owners.ensures.items
+loop-cast-init g c = λ caller. ap (λ (owners : List OwnerView). find (is_owner caller) owners) c.new-owners.ensures.items
 
 pub loop-cast-preserved : goal.loop-cast-preserved
 loop-cast-preserved g c =

@@ -3,25 +3,25 @@ use Rattle.std.specs.Prelude.{IfOk}
 use Rattle.std.proofs.Math.Seq.{map-set_same}
 use Rattle.std.proofs.lemmas.Result.{IfOk-weaker, on_err_weaker}
 use Rattle.act_world.specs.Slots.{IsRun, IsRunAt}
-use Rattle.act_world.specs.View.{slot_seen}
+use Rattle.act_world.specs.View.{slot_view}
 use Rattle.act_world.proofs.Running.{ran_there}
 use Rattle.act_world.proofs.slot.run_at.Goals as goal
 
 pub returns-clause-ok : goal.returns-clause-ok
 returns-clause-ok g c =
     let within : c.slot_of.result < length c.args.slots.now = omega arith in
-    subst (λ a. IfOk c.run_in.result (IsRunAt c.args.c a (map (slot_seen g.K.Actor.state) c.args.slots.now) (map (slot_seen g.K.Actor.state) (slice_set c.args.slots.now c.slot_of.result c.run_in.new.slot))))
+    subst (λ a. IfOk c.run_in.result (IsRunAt c.args.c a (map (slot_view g.K.Actor.state) c.args.slots.now) (map (slot_view g.K.Actor.state) (slice_set c.args.slots.now c.slot_of.result c.run_in.new.slot))))
     c.slot_of.ensures.value
-    (IfOk-weaker c.run_in.result (IsRun c.args.c (slot_seen g.K.Actor.state c.index-slots-slot_of.result) (slot_seen g.K.Actor.state c.run_in.new.slot)) _
-    (λ told went. ran_there (slot_seen g.K.Actor.state) c.args.slots.now c.args.c c.slot_of.result c.index-slots-slot_of.result c.run_in.new.slot told within c.index-slots-slot_of.is went)
-    (subst (λ slot. IfOk c.run_in.result (IsRun c.args.c (slot_seen g.K.Actor.state slot) (slot_seen g.K.Actor.state c.run_in.new.slot))) (sym c.index-slots-slot_of.is) c.run_in.ensures.ok))
+    (IfOk-weaker c.run_in.result (IsRun c.args.c (slot_view g.K.Actor.state c.index-slots-slot_of.result) (slot_view g.K.Actor.state c.run_in.new.slot)) _
+    (λ told went. ran_there (slot_view g.K.Actor.state) c.args.slots.now c.args.c c.slot_of.result c.index-slots-slot_of.result c.run_in.new.slot told within c.index-slots-slot_of.is went)
+    (subst (λ slot. IfOk c.run_in.result (IsRun c.args.c (slot_view g.K.Actor.state slot) (slot_view g.K.Actor.state c.run_in.new.slot))) (sym c.index-slots-slot_of.is) c.run_in.ensures.ok))
 
 pub returns-clause-err : goal.returns-clause-err
 returns-clause-err g c = on_err_weaker c.run_in.result
-    (λ same. map-set_same (slot_seen g.K.Actor.state) c.args.slots.now c.slot_of.result c.run_in.new.slot c.index-slots-slot_of.result same)
+    (λ same. map-set_same (slot_view g.K.Actor.state) c.args.slots.now c.slot_of.result c.run_in.new.slot c.index-slots-slot_of.result same)
     c.run_in.ensures.err
 
 pub returns-clause-refused : goal.returns-clause-refused
 returns-clause-refused g c = IfOk-weaker c.run_in.result _ _
-    (λ ran refused. on_err_weaker ran (λ same. map-set_same (slot_seen g.K.Actor.state) c.args.slots.now c.slot_of.result c.run_in.new.slot c.index-slots-slot_of.result same) refused)
+    (λ ran refused. on_err_weaker ran (λ same. map-set_same (slot_view g.K.Actor.state) c.args.slots.now c.slot_of.result c.run_in.new.slot c.index-slots-slot_of.result same) refused)
     c.run_in.ensures.refused

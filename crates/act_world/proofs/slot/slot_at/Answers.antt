@@ -1,12 +1,12 @@
 use Rattle.std.proofs.Common.{◌≡◌, ◌<◌, length, map, Some, subst, arith}
 use Rattle.std.specs.Prelude.{slice_get}
-use Rattle.act_world.specs.View.{slot_seen}
+use Rattle.act_world.specs.View.{slot_view}
 use Rattle.act_world.proofs.Changes.{slot_within}
 use Rattle.act_world.proofs.slot.slot_at.Goals as goal
 
 pub returns : goal.returns
 returns g c =
-    let seen = slot_seen g.K.Actor.state in
+    let seen = slot_view g.K.Actor.state in
     let within : c.slot_of.result < length c.args.slots.now = omega arith in
     let here = slot_within seen c.args.slots.now c.slot_of.result c.index-slots-slot_of.result within c.index-slots-slot_of.is in
     subst (λ (slot : _). slice_get (map seen c.args.slots.now) c.args.a ≡ Some (seen slot)) c.index-slots-slot_of.is

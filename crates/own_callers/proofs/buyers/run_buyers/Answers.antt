@@ -1,5 +1,5 @@
 use Rattle.std.proofs.Common.{map}
-use Rattle.act_actor.specs.Casts.{casting}
+use Rattle.act_actor.specs.Casts.{actor_spec}
 use Rattle.own_callers.specs.declared.buyer.Buyer.{Buyer}
 use Rattle.own_callers.proofs.Orders.{has_left}
 use Rattle.own_callers.proofs.buyers.run_buyers.Goals as goal
@@ -7,4 +7,4 @@ use Rattle.own_callers.proofs.buyers.run_buyers.Goals as goal
 pub returns-clause-paid : goal.returns-clause-paid
 returns-clause-paid g c = λ k (d : _ × Buyer) less.
     let by = c.in_ok-joined.ensures.joined in
-    has_left (map (casting g.K.Actor.state) c.args.casts.items) by.steps c.in_ok-joined.joined.owners.items _ (by.told k d less)
+    has_left (map (actor_spec g.K.Actor.state) c.args.casts.items) by.steps c.in_ok-joined.joined.owners.items _ (by.told k d less)

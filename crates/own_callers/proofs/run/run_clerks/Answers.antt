@@ -1,6 +1,6 @@
 use Rattle.std.proofs.Common.{map, [], refl}
-use Rattle.act_actor.specs.Casts.{casting}
-use Rattle.act_serve.specs.Served.{end_seen}
+use Rattle.act_actor.specs.Casts.{actor_spec}
+use Rattle.act_serve.specs.Served.{end_view}
 use Rattle.act_own.proofs.Kept.{run_keeps}
 use Rattle.own_kinds.specs.Queue.{queue_step, queue_text, IsInOrder}
 use Rattle.own_kinds.proofs.Orders.{order_is_kept}
@@ -12,7 +12,7 @@ returns-clause-kept g c =
     let state = g.K.Actor.state in
     let left = c.in_ok-joined.joined in
     let by = c.in_ok-joined.ensures.joined in
-    are_balanced (map (casting state) c.args.casts.items) by.steps left.owners.items (map (λ actor. end_seen state actor.ended) left.actors.items) by.joined
+    are_balanced (map (actor_spec state) c.args.casts.items) by.steps left.owners.items (map (λ actor. end_view state actor.ended) left.actors.items) by.joined
 
 pub returns-clause-order : goal.returns-clause-order
 returns-clause-order g c = λ a opens.
@@ -20,5 +20,5 @@ returns-clause-order g c = λ a opens.
     let left = c.in_ok-joined.joined in
     let by = c.in_ok-joined.ensures.joined in
     run_keeps queue_step queue_text IsInOrder order_is_kept [] refl
-    (map (casting state) c.args.casts.items) by.steps left.owners.items
-    (map (λ actor. end_seen state actor.ended) left.actors.items) by.joined a opens
+    (map (actor_spec state) c.args.casts.items) by.steps left.owners.items
+    (map (λ actor. end_view state actor.ended) left.actors.items) by.joined a opens

@@ -1,13 +1,13 @@
 use Rattle.std.proofs.Common.{map}
-use Rattle.act_actor.specs.Casts.{casting}
-use Rattle.act_serve.specs.Served.{end_seen}
+use Rattle.act_actor.specs.Casts.{actor_spec}
+use Rattle.act_serve.specs.Served.{end_view}
 use Rattle.own_callers.proofs.Left.{transferred, are_balanced}
 use Rattle.own_callers.proofs.Totals.{keeps_the_sum}
 use Rattle.own_callers.proofs.run.run_transfers.Goals as goal
 
 pub returns-clause-guarded : goal.returns-clause-guarded
 returns-clause-guarded g c =
-    let casts = map (casting g.K.Actor.state) c.args.casts.items in
+    let casts = map (actor_spec g.K.Actor.state) c.args.casts.items in
     let left = c.in_ok-joined.joined in
     let by = c.in_ok-joined.ensures.joined in
     λ k d below. transferred casts by.steps left.owners.items _ (by.told k d below)
@@ -17,11 +17,11 @@ returns-clause-kept g c =
     let state = g.K.Actor.state in
     let left = c.in_ok-joined.joined in
     let by = c.in_ok-joined.ensures.joined in
-    are_balanced (map (casting state) c.args.casts.items) by.steps left.owners.items (map (λ actor. end_seen state actor.ended) left.actors.items) by.joined
+    are_balanced (map (actor_spec state) c.args.casts.items) by.steps left.owners.items (map (λ actor. end_view state actor.ended) left.actors.items) by.joined
 
 pub returns-clause-sum : goal.returns-clause-sum
 returns-clause-sum g c =
     let state = g.K.Actor.state in
     let left = c.in_ok-joined.joined in
     let by = c.in_ok-joined.ensures.joined in
-    keeps_the_sum (map (casting state) c.args.casts.items) by.steps left.owners.items (map (λ actor. end_seen state actor.ended) left.actors.items) by.joined
+    keeps_the_sum (map (actor_spec state) c.args.casts.items) by.steps left.owners.items (map (λ actor. end_view state actor.ended) left.actors.items) by.joined

@@ -1,11 +1,11 @@
 use Rattle.std.specs.Prelude.{option_map, replicate}
-use Rattle.act_world.specs.View.{stage_seen}
+use Rattle.act_world.specs.View.{stage_view}
 use Rattle.act_own.proofs.Kept.{slot_keeps}
 use Rattle.own_kinds.specs.Bank.{bank_step, bank_text, HoldsItsMoney}
 use Rattle.own_kinds.proofs.Keeps.{keeps, empty}
 use Rattle.own_kinds.proofs.kept.bank_stage.Goals as goal
 
 pub returns-clause-kept : goal.returns-clause-kept
-returns-clause-kept g c = λ casts events accounts stands opens.
+returns-clause-kept g c = λ casts events accounts reached opens.
     slot_keeps bank_step bank_text HoldsItsMoney keeps (replicate accounts 0) (empty accounts) casts events c.args.a opens
-    (option_map (stage_seen g.K.Actor.state) c.stage.result) (c.stage.ensures.stands casts events stands)
+    (option_map (stage_view g.K.Actor.state) c.stage.result) (c.stage.ensures.reached casts events reached)

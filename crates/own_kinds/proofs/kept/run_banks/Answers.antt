@@ -1,7 +1,7 @@
 use Rattle.std.proofs.Common.{map, replicate}
-use Rattle.act_actor.specs.Casts.{casting}
-use Rattle.act_serve.specs.Served.{end_seen}
-use Rattle.act_executor.specs.Runs.{plan_seen}
+use Rattle.act_actor.specs.Casts.{actor_spec}
+use Rattle.act_serve.specs.Served.{end_view}
+use Rattle.act_executor.specs.Runs.{plan_view}
 use Rattle.act_own.proofs.Kept.{run_keeps}
 use Rattle.own_kinds.specs.Bank.{bank_step, bank_text, HoldsItsMoney}
 use Rattle.own_kinds.proofs.Keeps.{keeps, empty}
@@ -12,5 +12,5 @@ returns-clause-kept g c = λ a accounts opens.
     let state = g.K.Actor.state in
     let left = c.in_ok-joined.joined in
     run_keeps bank_step bank_text HoldsItsMoney keeps (replicate accounts 0) (empty accounts)
-    (map (casting state) c.args.casts.items) (map plan_seen c.args.plans.items) left.owners.items
-    (map (λ actor. end_seen state actor.ended) left.actors.items) c.in_ok-joined.ensures.joined a opens
+    (map (actor_spec state) c.args.casts.items) (map plan_view c.args.plans.items) left.owners.items
+    (map (λ actor. end_view state actor.ended) left.actors.items) c.in_ok-joined.ensures.joined a opens

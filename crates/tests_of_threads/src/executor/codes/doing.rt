@@ -1,7 +1,7 @@
 //! What the code of a test's caller does.
 
 use act_executor::{Code, GaveUp, Session};
-use act_types::{ActorId, Answer, Arg, FutureId, ListOf, MOST_ACTORS, Method, NoMemory, Value};
+use act_types::{ActorId, Answer, Arg, FutureId, ListOf, MAX_ACTORS, Method, NoMemory, Value};
 use std::alloc::Global;
 
 /// What one caller does.
@@ -99,7 +99,7 @@ fn fill_up<S: Session>(session: &mut S, a: ActorId, calls: u32) -> Result<(), Ga
 }
 
 fn add_to_each<S: Session>(session: &mut S) -> Result<(), GaveUp> {
-    for before in 0..MOST_ACTORS {
+    for before in 0..MAX_ACTORS {
         submit_one(session, ActorId::new(before + 1).unwrap())?;
     }
     Ok(())

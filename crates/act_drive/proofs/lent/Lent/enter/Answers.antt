@@ -3,7 +3,7 @@ use Rattle.std.specs.Prelude.{unwrap_or}
 use Rattle.act_rules.specs.declared.outcome.SubmitRefusal.{SubmitRefusal}
 use Rattle.act_rules.specs.declared.outcome.SubmitRefusal.TheVariants.{NoMemory}
 use Rattle.act_rules.specs.declared.script.Step.TheVariants.{Submit}
-use Rattle.act_drive.specs.Sessions.{Seen, call_refusal}
+use Rattle.act_drive.specs.Sessions.{SessionView, call_refusal}
 use Rattle.act_drive.proofs.CodeSteps.{handed_on}
 use Rattle.act_drive.proofs.AtWork.{work_does, work_waits}
 use Rattle.act_drive.proofs.lent.Lent.enter.Goals as goal
@@ -17,4 +17,4 @@ invariant_of-self-2 g c = work_does _ _ _ _ _ (Submit c.args.actor c.args.method
 pub returns-in_err-k-clause-refusal : goal.returns-in_err-k-clause-refusal
 returns-in_err-k-clause-refusal g c =
     handed_on c.from_residual.result c.in_err-k.field-0.0 (λ (r : SubmitRefusal). r ≡ unwrap_or (call_refusal c.args.self.now c.args.actor c.args.args) NoMemory) c.from_residual.ensures.1
-    (c.in_err-k.ensures.refusal ∙ ap (λ (s : Seen). unwrap_or (call_refusal s c.args.actor c.args.args) NoMemory) c.self.view_is)
+    (c.in_err-k.ensures.refusal ∙ ap (λ (s : SessionView). unwrap_or (call_refusal s c.args.actor c.args.args) NoMemory) c.self.view_is)

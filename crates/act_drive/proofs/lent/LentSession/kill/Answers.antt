@@ -1,16 +1,16 @@
 use Rattle.std.proofs.Common.{rules, ◌≡◌, ◌<◌, length, None}
-use Rattle.act_drive.specs.Sessions.{seen_of, use_refusal}
+use Rattle.act_drive.specs.Sessions.{session_view, use_refusal}
 use Rattle.act_drive.proofs.AtWork.{work_kill, work_waits}
 use Rattle.act_drive.proofs.CodeSteps.{does_kill}
 use Rattle.act_drive.proofs.lent.LentSession.kill.Goals as goal
 
 pub invariant_of-self : goal.invariant_of-self
 invariant_of-self g c =
-    let desk = c.self.inside.desk in
-    let fine : use_refusal (seen_of desk.owner) c.args.actor ≡ None = search rules in
+    let driver = c.self.inside.driver in
+    let fine : use_refusal (session_view driver.owner) c.args.actor ≡ None = search rules in
     let same : c.number-number.result ≡ c.args.actor = search rules in
     let below : c.number-number.result < length c.self.inside.kills = search rules in
-    work_kill _ _ _ _ _ c.args.actor c.number-number.result c.self.inside.kills same below c.self.invariant c.kill.ensures.calling c.kill.ensures.stays (does_kill c.self.inside.lines.now desk c.kill.new.self c.args.actor c.in-Ok.ensures.follows fine)
+    work_kill _ _ _ _ _ c.args.actor c.number-number.result c.self.inside.kills same below c.self.invariant c.kill.ensures.calling c.kill.ensures.stays (does_kill c.self.inside.lines.now driver c.kill.new.self c.args.actor c.in-Ok.ensures.follows fine)
 
 pub invariant_of-self-in-Err : goal.invariant_of-self-in-Err
 invariant_of-self-in-Err g c = work_waits _ _ _ _ _ _ c.self.invariant c.kill.ensures.calling c.in-Err.ensures.waits

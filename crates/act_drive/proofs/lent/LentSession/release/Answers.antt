@@ -1,12 +1,12 @@
 use Rattle.std.proofs.Common.{rules, ◌≡◌, refl, None}
 use Rattle.act_rules.specs.declared.script.Step.TheVariants.{Release}
-use Rattle.act_drive.specs.Sessions.{seen_of, use_refusal}
+use Rattle.act_drive.specs.Sessions.{session_view, use_refusal}
 use Rattle.act_drive.proofs.AtWork.{work_does}
 use Rattle.act_drive.proofs.CodeSteps.{does_release}
 use Rattle.act_drive.proofs.lent.LentSession.release.Goals as goal
 
 pub invariant_of-self : goal.invariant_of-self
 invariant_of-self g c =
-    let desk = c.self.inside.desk in
-    let fine : use_refusal (seen_of desk.owner) c.args.actor ≡ None = search rules in
-    work_does _ _ _ _ _ (Release c.args.actor) _ (λ a. refl) c.self.invariant c.release.ensures.calling c.release.ensures.winds.stay (does_release c.self.inside.lines.now desk c.release.new.self c.args.actor c.in-Ok.ensures.follows fine)
+    let driver = c.self.inside.driver in
+    let fine : use_refusal (session_view driver.owner) c.args.actor ≡ None = search rules in
+    work_does _ _ _ _ _ (Release c.args.actor) _ (λ a. refl) c.self.invariant c.release.ensures.calling c.release.ensures.only_releases.stay (does_release c.self.inside.lines.now driver c.release.new.self c.args.actor c.in-Ok.ensures.follows fine)

@@ -4,7 +4,7 @@ use Rattle.std.proofs.lemmas.List.{length-set}
 use Rattle.slab.specs.Slab.{values}
 use Rattle.act_types.specs.declared.message.Packet.{Packet}
 use Rattle.act_inbox.specs.View.{key_of, IsHeld}
-use Rattle.act_inbox.specs.Inbox.{is_call}
+use Rattle.act_inbox.specs.Inbox.{is_packet_of}
 use Rattle.act_inbox.proofs.Keys.{key_of-set, key_of-kept, updates_at, held_same, not_keyed, held_came, found_came, all_after}
 use Rattle.act_inbox.proofs.held.HeldCalls.insert.Goals as goal
 
@@ -25,7 +25,7 @@ invariant_of-self-then-is_err-2 c =
     (key_of-kept keys c.number.result c.index_mut-index.result.now c.insert.new.self (omega (arith, c.self.invariant.one_each)) c.index_mut-index.ensures.value same)
 
 -- the call's index names the key that the slab gives next
-keyed : (c : goal.After-insert_reserved) (caller number : ℕ) → key_of (slice_set c.self.inside.keys.items c.number.result c.insert.new.self) caller number ≡ (if is_call caller number c.args.packet then Some c.insert_reserved.result else key_of c.self.inside.keys.items caller number)
+keyed : (c : goal.After-insert_reserved) (caller number : ℕ) → key_of (slice_set c.self.inside.keys.items c.number.result c.insert.new.self) caller number ≡ (if is_packet_of caller number c.args.packet then Some c.insert_reserved.result else key_of c.self.inside.keys.items caller number)
 keyed c caller number =
     let keys = c.self.inside.keys.items in
     let updates = on_ok c.insert.result _ (sym c.is_err-2.ensures.value ∙ c.if-is_err-2.false) c.insert.ensures.updates in

@@ -27,7 +27,7 @@ returns-in_err-key-clause-gone c =
 
 pub remove-requires-2 : goal.remove-requires-2
 remove-requires-2 c = let named = names c.self.inside.packets c.self.inside.keys.items c.self.invariant c.args.caller c.args.number c.in_ok-key.key
-    (key_at c.self.inside.keys.items c.number.result c.index_mut.result.now (omega (arith, c.self.invariant.one_each)) c.index_mut.ensures.value c.args.caller c.args.number c.number.ensures.value ∙ sym c.in_ok-key.ensures.value) in rw named.stands refl
+    (key_at c.self.inside.keys.items c.number.result c.index_mut.result.now (omega (arith, c.self.invariant.one_each)) c.index_mut.ensures.value c.args.caller c.args.number c.number.ensures.value ∙ sym c.in_ok-key.ensures.value) in rw named.reached refl
 
 -- the key of the call that goes
 at : (c : After-remove-2) → key_of c.self.inside.keys.items c.args.caller c.args.number ≡ Some c.in_ok-key.key

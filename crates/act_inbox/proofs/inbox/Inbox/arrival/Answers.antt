@@ -1,35 +1,35 @@
 use Rattle.std.proofs.Common.{◌≡◌, Some, None, position, find, sym, ◌∙◌, ap}
 use Rattle.std.specs.Option.{option_copied}
-use Rattle.act_inbox.specs.Inbox.{InboxValue, is_lane_of, is_call}
+use Rattle.act_inbox.specs.Inbox.{InboxView, is_lane_of, is_packet_of}
 use Rattle.act_inbox.proofs.Lanes.{lane_is, no_lane}
 use Rattle.act_inbox.proofs.Packets.{unlisted, handed_out, held_already, comes_first}
 use Rattle.act_inbox.proofs.inbox.Inbox.arrival.Goals as goal
 
 pub returns-in_default : goal.returns-in_default
 returns-in_default c =
-    let inbox : InboxValue = record { lanes = c.self.inside.lanes.items; held = c.self.inside.held; notes = c.self.inside.notes } in
+    let inbox : InboxView = record { lanes = c.self.inside.lanes.items; held = c.self.inside.held; notes = c.self.inside.notes } in
     let at : position (is_lane_of c.args.packet.now.caller) inbox.lanes ≡ None = rw c.deref.ensures.value at (sym c.place_of_lane.ensures ∙ c.in_default.is) in
     record { value = rw (← c.self.view_is) (unlisted inbox c.args.packet.now (no_lane inbox c.args.packet.now.caller at)) }
 
 pub returns-then-packet-index : goal.returns-then-packet-index
 returns-then-packet-index c =
-    let inbox : InboxValue = record { lanes = c.self.inside.lanes.items; held = c.self.inside.held; notes = c.self.inside.notes } in
+    let inbox : InboxView = record { lanes = c.self.inside.lanes.items; held = c.self.inside.held; notes = c.self.inside.notes } in
     let at : position (is_lane_of c.args.packet.now.caller) inbox.lanes ≡ Some c.in-Some.place = rw c.deref.ensures.value at (sym c.place_of_lane.ensures ∙ c.in-Some.is) in
     let listed = lane_is inbox c.args.packet.now.caller c.in-Some.place at c.index.result.now c.index.ensures in
-    record { value = rw (← c.self.view_is) (handed_out inbox c.args.packet.now c.index.result.now listed c.if-packet-ge-MOST_CALLS.false c.if-packet-index.true) }
+    record { value = rw (← c.self.view_is) (handed_out inbox c.args.packet.now c.index.result.now listed c.if-packet-ge-MAX_CALLS.false c.if-packet-index.true) }
 
 pub returns-in-Some-get : goal.returns-in-Some-get
 returns-in-Some-get c =
-    let inbox : InboxValue = record { lanes = c.self.inside.lanes.items; held = c.self.inside.held; notes = c.self.inside.notes } in
+    let inbox : InboxView = record { lanes = c.self.inside.lanes.items; held = c.self.inside.held; notes = c.self.inside.notes } in
     let at : position (is_lane_of c.args.packet.now.caller) inbox.lanes ≡ Some c.in-Some.place = rw c.deref.ensures.value at (sym c.place_of_lane.ensures ∙ c.in-Some.is) in
     let listed = lane_is inbox c.args.packet.now.caller c.in-Some.place at c.index.result.now c.index.ensures in
-    let there : find (is_call c.args.packet.now.caller c.args.packet.now.number) inbox.held ≡ Some c.in-Some-get.field-0.now = sym c.get.ensures ∙ ap option_copied c.in-Some-get.is in
-    record { value = rw (← c.self.view_is) (held_already inbox c.args.packet.now c.index.result.now listed c.if-packet-ge-MOST_CALLS.false c.if-packet-index.false c.in-Some-get.field-0.now there) }
+    let there : find (is_packet_of c.args.packet.now.caller c.args.packet.now.number) inbox.held ≡ Some c.in-Some-get.field-0.now = sym c.get.ensures ∙ ap option_copied c.in-Some-get.is in
+    record { value = rw (← c.self.view_is) (held_already inbox c.args.packet.now c.index.result.now listed c.if-packet-ge-MAX_CALLS.false c.if-packet-index.false c.in-Some-get.field-0.now there) }
 
 pub returns-in-None : goal.returns-in-None
 returns-in-None c =
-    let inbox : InboxValue = record { lanes = c.self.inside.lanes.items; held = c.self.inside.held; notes = c.self.inside.notes } in
+    let inbox : InboxView = record { lanes = c.self.inside.lanes.items; held = c.self.inside.held; notes = c.self.inside.notes } in
     let at : position (is_lane_of c.args.packet.now.caller) inbox.lanes ≡ Some c.in-Some.place = rw c.deref.ensures.value at (sym c.place_of_lane.ensures ∙ c.in-Some.is) in
     let listed = lane_is inbox c.args.packet.now.caller c.in-Some.place at c.index.result.now c.index.ensures in
-    let nowhere : find (is_call c.args.packet.now.caller c.args.packet.now.number) inbox.held ≡ None = sym c.get.ensures ∙ ap option_copied c.in-None.is in
-    record { value = rw (← c.self.view_is) (comes_first inbox c.args.packet.now c.index.result.now listed c.if-packet-ge-MOST_CALLS.false c.if-packet-index.false nowhere) }
+    let nowhere : find (is_packet_of c.args.packet.now.caller c.args.packet.now.number) inbox.held ≡ None = sym c.get.ensures ∙ ap option_copied c.in-None.is in
+    record { value = rw (← c.self.view_is) (comes_first inbox c.args.packet.now c.index.result.now listed c.if-packet-ge-MAX_CALLS.false c.if-packet-index.false nowhere) }

@@ -1,5 +1,5 @@
 use Rattle.std.proofs.Common.{◌≡◌, Some, position, sym, ◌∙◌, ap, is_some}
-use Rattle.act_inbox.specs.Inbox.{InboxValue, is_lane_of, IsNextToCome}
+use Rattle.act_inbox.specs.Inbox.{InboxView, is_lane_of, IsNextToCome}
 use Rattle.act_inbox.proofs.Packets.{new_listed}
 use Rattle.act_inbox.proofs.Notes.{listed_is}
 use Rattle.act_inbox.proofs.Taking.{sound_passed, next_passed, is_there}
@@ -7,18 +7,18 @@ use Rattle.act_inbox.proofs.inbox.Inbox.pass_by.Goals as goal
 
 pub unwrap-place-requires : goal.unwrap-place-requires
 unwrap-place-requires c =
-    let inbox : InboxValue = record { lanes = c.self.inside.lanes.items; held = c.self.inside.held; notes = c.self.inside.notes } in
+    let inbox : InboxView = record { lanes = c.self.inside.lanes.items; held = c.self.inside.held; notes = c.self.inside.notes } in
     let next : IsNextToCome c.args.packet.now inbox = rw (← c.self.view_is) at c.requires.next in
     is_there c.place_of_lane.result (ap is_some (rw c.deref.ensures.value at c.place_of_lane.ensures) ∙ listed_is inbox c.args.packet.now.caller ∙ new_listed inbox c.args.packet.now next.is_new)
 
 pub invariant_of-self : goal.invariant_of-self
 invariant_of-self c =
-    let inbox : InboxValue = record { lanes = c.self.inside.lanes.items; held = c.self.inside.held; notes = c.self.inside.notes } in
+    let inbox : InboxView = record { lanes = c.self.inside.lanes.items; held = c.self.inside.held; notes = c.self.inside.notes } in
     let at : position (is_lane_of c.args.packet.now.caller) inbox.lanes ≡ Some c.unwrap-place.result = rw c.deref.ensures.value at (sym c.place_of_lane.ensures ∙ c.unwrap-place.ensures) in
     sound_passed inbox c.args.packet.now c.unwrap-place.result c.index_mut-lane.result.now at c.index_mut-lane.ensures.value (rw (← c.self.view_is) at c.requires.next) c.self.invariant
 
 pub returns-clause-taken : goal.returns-clause-taken
 returns-clause-taken c =
-    let inbox : InboxValue = record { lanes = c.self.inside.lanes.items; held = c.self.inside.held; notes = c.self.inside.notes } in
+    let inbox : InboxView = record { lanes = c.self.inside.lanes.items; held = c.self.inside.held; notes = c.self.inside.notes } in
     let at : position (is_lane_of c.args.packet.now.caller) inbox.lanes ≡ Some c.unwrap-place.result = rw c.deref.ensures.value at (sym c.place_of_lane.ensures ∙ c.unwrap-place.ensures) in
     rw (← c.self.view_is) (next_passed inbox c.args.packet.now c.unwrap-place.result c.index_mut-lane.result.now at c.index_mut-lane.ensures.value (rw (← c.self.view_is) at c.requires.next) c.self.invariant)

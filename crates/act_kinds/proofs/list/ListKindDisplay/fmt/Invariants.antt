@@ -1,10 +1,10 @@
 use Rattle.std.proofs.Common.{map, take}
 use Rattle.std.specs.Fmt.{HasWritten, IsPlainFormatter}
-use Rattle.act_types.specs.Texts.{spaced, value_text}
+use Rattle.act_types.specs.Texts.{with_spaces, value_text}
 use Rattle.act_kinds.proofs.list.ListKindDisplay.fmt.Given as goal
 
 -- the items so far are written
 abbrev pub invariant-loop-item : goal.invariant-loop-item
 invariant-loop-item g l =
     IsPlainFormatter l.initial.f
-    → HasWritten g.W.Write.write_str_gives l.initial.f (spaced (map value_text (take l.item-index l.item-items))) l.f
+    → HasWritten g.W.Write.write_str_gives l.initial.f (with_spaces (map value_text (take l.item-index l.item-items))) l.f

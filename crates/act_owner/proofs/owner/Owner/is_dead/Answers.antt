@@ -1,10 +1,10 @@
 use Rattle.std.proofs.Common.{◌∙◌, ap, sym, slice_index_or, false}
 use Rattle.std.proofs.lemmas.Option.{unwrap_or-slice_get}
-use Rattle.act_owner.specs.Owner.{OwnerValue, is_dead}
+use Rattle.act_owner.specs.Owner.{OwnerView, is_known_dead}
 use Rattle.act_owner.proofs.owner.Owner.is_dead.Goals as goal
 
 pub returns : goal.returns
 returns c =
     ap (λ i. slice_index_or c.self.inside.dead i false) c.number-number.ensures.value
     ∙ sym (unwrap_or-slice_get c.self.inside.dead c.args.a false)
-    ∙ ap (λ (owner : OwnerValue). is_dead owner c.args.a) c.self.view_is
+    ∙ ap (λ (owner : OwnerView). is_known_dead owner c.args.a) c.self.view_is

@@ -1,7 +1,7 @@
 use Rattle.std.proofs.Common.{◌≡◌, ◌∙◌, Some, ap, sym, map, option_copied}
 use Rattle.act_types.specs.declared.message.Packet.{Packet}
-use Rattle.act_rules.specs.Submissions.{settled}
-use Rattle.act_owner.specs.Owner.{OwnerValue, packet_at}
+use Rattle.act_rules.specs.Submissions.{settle}
+use Rattle.act_owner.specs.Owner.{OwnerView, packet_at}
 use Rattle.act_owner.proofs.Waiting.{ready_is_there, packet_is}
 use Rattle.act_owner.proofs.owner.Owner.packet_now.Goals as goal
 
@@ -12,6 +12,6 @@ unreachable-requires c =
 pub returns-clause-value : goal.returns-clause-value
 returns-clause-value c =
     let call = c.in-Some.call.now in
-    let made : OwnerValue → Packet = λ owner. record { caller = owner.id; actor = call.actor; number = call.number; future = c.args.k; method = call.method; args = map (settled owner.kept) call.args } in
+    let made : OwnerView → Packet = λ owner. record { caller = owner.id; actor = call.actor; number = call.number; future = c.args.k; method = call.method; args = map (settle owner.kept) call.args } in
     packet_is c.args.self.now c.args.k call (sym (ap option_copied c.in-Some.is) ∙ c.call.ensures)
     ∙ ap Some (sym (c.in_ok-packet.ensures ∙ ap made c.self.view_is))

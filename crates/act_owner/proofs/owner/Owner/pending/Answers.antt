@@ -1,6 +1,6 @@
 use Rattle.std.proofs.Common.{◌∙◌, ap, count_by}
 use Rattle.std.specs.Prelude.{zip}
-use Rattle.act_owner.specs.Owner.{OwnerValue, waits_for}
+use Rattle.act_owner.specs.Owner.{OwnerView, call_waits_for}
 use Rattle.act_owner.proofs.Answers.{pending_count}
 use Rattle.act_owner.proofs.owner.Owner.pending.Goals as goal
 
@@ -9,4 +9,4 @@ returns c =
     let inside = c.self.inside in
     c.pending.ensures
     ∙ pending_count c.args.a inside.table.rows inside.calls.items c.self.invariant.actors
-    ∙ ap (λ (owner : OwnerValue). count_by (waits_for c.args.a) (zip owner.calls owner.kept)) c.self.view_is
+    ∙ ap (λ (owner : OwnerView). count_by (call_waits_for c.args.a) (zip owner.calls owner.kept)) c.self.view_is

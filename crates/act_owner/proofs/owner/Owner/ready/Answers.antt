@@ -1,5 +1,5 @@
 use Rattle.std.proofs.Common.{◌∙◌, ap}
-use Rattle.act_owner.specs.Owner.{OwnerValue, first_ready}
+use Rattle.act_owner.specs.Owner.{OwnerView, first_ready}
 use Rattle.act_owner.proofs.Waiting.{first_ready_same}
 use Rattle.act_owner.proofs.owner.Owner.ready.Goals as goal
 
@@ -8,4 +8,4 @@ returns c =
     let inside = c.self.inside in
     c.ready.ensures
     ∙ first_ready_same inside.id inside.handles inside.calls.items inside.table.rows inside.resolver.calls inside.dead inside.limits.items c.self.invariant
-    ∙ ap (λ (owner : OwnerValue). first_ready owner) c.self.view_is
+    ∙ ap (λ (owner : OwnerView). first_ready owner) c.self.view_is

@@ -1,5 +1,5 @@
 use Rattle.std.proofs.Common.{◌<◌, ◌∙◌, length, sym, arith, ap}
-use Rattle.act_replies.specs.Table.{TableValue}
+use Rattle.act_replies.specs.Table.{TableView}
 use Rattle.act_replies.proofs.Deaths.{kept_open, keep_open, keep_fine}
 use Rattle.act_replies.proofs.table.ReplyTable.keep.Goals as goal
 
@@ -12,11 +12,11 @@ invariant_of-self c =
 pub returns-clause-value : goal.returns-clause-value
 returns-clause-value c =
     let below : c.number-place.result < length c.self.inside.rows.items = omega arith in
-    kept_open c.self.inside.rows.items c.args.self.now.rows c.args.future c.number-place.result c.index.result.now (ap (λ (t : TableValue). t.rows) c.self.view_is)
+    kept_open c.self.inside.rows.items c.args.self.now.rows c.args.future c.number-place.result c.index.result.now (ap (λ (t : TableView). t.rows) c.self.view_is)
     c.number-place.ensures below c.index.ensures (sym c.is_some.ensures ∙ c.if-is_some.false)
 
 pub returns-clause-rows : goal.returns-clause-rows
 returns-clause-rows c =
     let below : c.number-place.result < length c.self.inside.rows.items = omega arith in
-    keep_open c.self.inside.rows.items c.args.self.now.rows c.args.future c.number-place.result c.args.answer c.index.result.now c.index_mut.result.now (ap (λ (t : TableValue). t.rows) c.self.view_is)
+    keep_open c.self.inside.rows.items c.args.self.now.rows c.args.future c.number-place.result c.args.answer c.index.result.now c.index_mut.result.now (ap (λ (t : TableView). t.rows) c.self.view_is)
     c.number-place.ensures below c.index.ensures (sym c.is_some.ensures ∙ c.if-is_some.false) c.index_mut.ensures.value

@@ -1,7 +1,7 @@
 use Rattle.std.proofs.Common.{◌==◌, ◌∙◌, ap, false}
 use Rattle.std.specs.Prelude.{slice_get}
 use Rattle.std.specs.Option.{option_map_or}
-use Rattle.act_resolver.specs.Resolver.{is_known}
+use Rattle.act_resolver.specs.Resolver.{is_told}
 use Rattle.act_resolver.proofs.Counting.{known_is}
 use Rattle.act_resolver.proofs.resolver.Resolver.is_known.Goals as goal
 
@@ -10,4 +10,4 @@ returns c =
     c.is_zero.ensures
     ∙ ap (λ counts. option_map_or (λ count. count == 0) (slice_get counts c.args.k) false) c.deref.ensures.value
     ∙ known_is c.self.inside.calls.items c.self.inside.missing.items c.args.k c.self.invariant.size_counts c.self.invariant.counted
-    ∙ ap (λ v. is_known v.calls c.args.k) c.self.view_is
+    ∙ ap (λ v. is_told v.calls c.args.k) c.self.view_is

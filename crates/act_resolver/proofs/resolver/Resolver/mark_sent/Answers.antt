@@ -1,6 +1,6 @@
 use Rattle.std.proofs.Common.{◌≡◌, ◌∙◌, true, Some, refl, ap}
 use Rattle.std.specs.Prelude.{slice_get}
-use Rattle.act_resolver.specs.Resolver.{Entered, with_sent}
+use Rattle.act_resolver.specs.Resolver.{Entered, with_mark}
 use Rattle.act_resolver.proofs.Counting.{changed_is, found_at, sent_fine}
 use Rattle.act_resolver.proofs.resolver.Resolver.mark_sent.Goals as goal
 
@@ -21,5 +21,5 @@ returns-clause-calls c =
     let lists : calls ≡ c.args.self.now.calls = ap (λ v. v.calls) c.self.view_is in
     let read : slice_get calls i ≡ Some found = found_at calls c.args.self.now.calls c.self.inside.calls.len i c.args.k found c.index_mut-call.result.now lists c.self.inside.calls.ok.0 c.number-place.ensures c.requires c.index_mut-call.ensures.value c.call.view_is in
     changed_is calls i i found (λ call. record call { sent = true }) refl read
-    ∙ ap (λ n. with_sent calls n) c.number-place.ensures
-    ∙ ap (λ cs. with_sent cs c.args.k) lists
+    ∙ ap (λ n. with_mark calls n) c.number-place.ensures
+    ∙ ap (λ cs. with_mark cs c.args.k) lists

@@ -1,5 +1,5 @@
 use Rattle.std.proofs.Common.{◌≡◌, ◌∙◌, ap, rules}
-use Rattle.act_resolver.specs.Resolver.{first_ready}
+use Rattle.act_resolver.specs.Resolver.{least_ready}
 use Rattle.act_resolver.proofs.Counting.{first_ready_is}
 use Rattle.act_resolver.proofs.resolver.Resolver.ready.Goals as goal
 
@@ -8,4 +8,4 @@ returns c =
     let same : c.map.result ≡ c.least.result = search rules in
     same
     ∙ first_ready_is c.self.inside.calls.items c.self.inside.missing.items c.self.inside.ready c.least.result c.self.invariant.counted c.self.invariant.free c.least.ensures
-    ∙ ap (λ v. first_ready v.calls) c.self.view_is
+    ∙ ap (λ v. least_ready v.calls) c.self.view_is

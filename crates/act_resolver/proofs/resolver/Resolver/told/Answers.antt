@@ -1,7 +1,7 @@
 use Rattle.std.proofs.Common.{◌≡◌, ◌-◌, ◌∙◌, length, get_or, true, false, Some, refl, sym, ap, subst, rules}
 use Rattle.std.specs.Prelude.{slice_get, slice_set}
 use Rattle.std.proofs.lemmas.List.{length-set}
-use Rattle.act_resolver.specs.Resolver.{Entered, with_answered}
+use Rattle.act_resolver.specs.Resolver.{Entered, with_told}
 use Rattle.act_resolver.specs.Counts.{IsTelling, is_free}
 use Rattle.act_resolver.proofs.Counting.{changed_is, found_at, told_start, told_step, waiter_entered, waiter_counted, whole}
 use Rattle.act_resolver.proofs.resolver.Resolver.told.Goals as goal
@@ -62,5 +62,5 @@ returns-clause-calls c =
     let read : slice_get calls i ≡ Some found = found_at calls c.args.self.now.calls c.self.inside.calls.len i c.args.k found c.index_mut-call.result.now lists c.self.inside.calls.ok.0 c.number-place.ensures c.requires c.index_mut-call.ensures.value c.call.view_is in
     ap (λ v. v.items) c.loop-waiter.invariant.calls
     ∙ changed_is calls i i found (λ call. record call { answered = true }) refl read
-    ∙ ap (λ n. with_answered calls n) c.number-place.ensures
-    ∙ ap (λ cs. with_answered cs c.args.k) lists
+    ∙ ap (λ n. with_told calls n) c.number-place.ensures
+    ∙ ap (λ cs. with_told cs c.args.k) lists

@@ -1,6 +1,6 @@
 use Rattle.std.proofs.Common.{◌≡◌, length, vec_capacity, vec_len}
 use Rattle.act_resolver.specs.Counts.{IsTelling}
-use Rattle.act_resolver.specs.Waiters.{waiting}
+use Rattle.act_resolver.specs.Waiters.{waiters_of}
 use Rattle.act_resolver.proofs.resolver.Resolver.told.Given as goal
 
 -- the calls that wait are yet to be counted down, and the room stays
@@ -16,4 +16,4 @@ invariant-loop-waiter l = record {
 }
 
 abbrev pub decreases-loop-waiter : goal.decreases-loop-waiter
-decreases-loop-waiter l = length (waiting l.self-inside.waiters.lists l.k)
+decreases-loop-waiter l = length (waiters_of l.self-inside.waiters.lists l.k)

@@ -2,7 +2,7 @@ use Rattle.std.proofs.Common.{◌≡◌, ◌<◌, ◌++◌, ◌∷◌, [], lengt
 use Rattle.std.specs.Prelude.{slice_set}
 use Rattle.std.proofs.lemmas.List.{length-map, get_or_read}
 use Rattle.act_resolver.specs.declared.waiters.Place.{Place}
-use Rattle.act_resolver.specs.Waiters.{chains_of, chain_from, chains_after, waiting}
+use Rattle.act_resolver.specs.Waiters.{chains_of, chain_from, chains_after, waiters_of}
 use Rattle.act_resolver.proofs.Chains.{added}
 use Rattle.act_resolver.proofs.waiters.Waiters.add.Goals as goal
 
@@ -20,5 +20,5 @@ returns-clause-lists c =
     ap (λ ps. chains_of (slice_set firsts k (Some c.len-place.result)) ps) c.push_reserved.ensures.items
     ∙ ap (λ n. chains_of (slice_set firsts k (Some n)) (places ++ place ∷ [])) size
     ∙ added firsts places place k c.self.invariant within next
-    ∙ ap (λ ls. slice_set ls k (c.args.call ∷ waiting ls k)) lists
-    ∙ ap (λ i. slice_set c.args.self.now.lists i (c.args.call ∷ waiting c.args.self.now.lists i)) c.number-future.ensures
+    ∙ ap (λ ls. slice_set ls k (c.args.call ∷ waiters_of ls k)) lists
+    ∙ ap (λ i. slice_set c.args.self.now.lists i (c.args.call ∷ waiters_of c.args.self.now.lists i)) c.number-future.ensures

@@ -2,7 +2,7 @@ use Rattle.std.proofs.Common.{◌≡◌, ◌<◌, [], length, drop, get_or, Some
 use Rattle.std.specs.Prelude.{slice_set, slice_get}
 use Rattle.std.proofs.lemmas.List.{length-map, get_or_read}
 use Rattle.act_resolver.specs.declared.waiters.Place.{Place}
-use Rattle.act_resolver.specs.Waiters.{chains_of, chain_from, chains_after, waiting}
+use Rattle.act_resolver.specs.Waiters.{chains_of, chain_from, chains_after, waiters_of}
 use Rattle.act_resolver.proofs.Chains.{popped_call, popped_lists}
 use Rattle.act_resolver.proofs.waiters.Waiters.pop.Goals as goal
 
@@ -19,8 +19,8 @@ returns-clause-value c =
     let is : get_or firsts k None ≡ Some first = sym (get_or_read firsts k c.index.result.now within c.index.ensures None) ∙ c.in_ok-first.was in
     ap (λ (p : Place). Some p.call) c.index-place.ensures
     ∙ popped_call firsts places k first place c.self.invariant within is
-    ∙ ap (λ ls. slice_get (waiting ls k) 0) lists
-    ∙ ap (λ i. slice_get (waiting c.args.self.now.lists i) 0) c.number-future.ensures
+    ∙ ap (λ ls. slice_get (waiters_of ls k) 0) lists
+    ∙ ap (λ i. slice_get (waiters_of c.args.self.now.lists i) 0) c.number-future.ensures
 
 pub returns-clause-lists : goal.returns-clause-lists
 returns-clause-lists c =
@@ -35,5 +35,5 @@ returns-clause-lists c =
     let is : get_or firsts k None ≡ Some first = sym (get_or_read firsts k c.index.result.now within c.index.ensures None) ∙ c.in_ok-first.was in
     ap (λ (p : Place). chains_of (slice_set firsts k p.next) places) c.index-place.ensures
     ∙ popped_lists firsts places k first place c.self.invariant within is
-    ∙ ap (λ ls. slice_set ls k (drop 1 (waiting ls k))) lists
-    ∙ ap (λ i. slice_set c.args.self.now.lists i (drop 1 (waiting c.args.self.now.lists i))) c.number-future.ensures
+    ∙ ap (λ ls. slice_set ls k (drop 1 (waiters_of ls k))) lists
+    ∙ ap (λ i. slice_set c.args.self.now.lists i (drop 1 (waiters_of c.args.self.now.lists i))) c.number-future.ensures

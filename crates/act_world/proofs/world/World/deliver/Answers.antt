@@ -3,37 +3,37 @@ use Rattle.std.specs.Prelude.{OnErr}
 use Rattle.std.proofs.Math.Seq.{map-set_same}
 use Rattle.std.proofs.lemmas.Result.{IfOk-weaker, on_err_weaker}
 use Rattle.act_world.specs.Slots.{IsNewCall, IsBrought}
-use Rattle.act_world.specs.View.{slot_seen, world_seen}
+use Rattle.act_world.specs.View.{slot_view, world_view}
 use Rattle.act_world.proofs.Delivering.{new_unrefused, new_takes, brought_follows}
 use Rattle.act_world.proofs.world.World.deliver.Goals as goal
 
 pub returns-clause-ok : goal.returns-clause-ok
 returns-clause-ok g c = IfOk-weaker c.bring.result
-    (λ told. IsBrought c.args.self.now.exchange.owners c.in-Some.letter.now (slot_seen g.K.Actor.state c.index-slots-slot_of.result) (slot_seen g.K.Actor.state c.bring.new.slot) told) _
-    (λ told went. brought_follows (slot_seen g.K.Actor.state) c.args.self.now.exchange c.args.self.now.slots c.args.i c.slot_of.result c.in-Some.letter.now c.index-slots-slot_of.result
+    (λ told. IsBrought c.args.self.now.network.owners c.in-Some.letter.now (slot_view g.K.Actor.state c.index-slots-slot_of.result) (slot_view g.K.Actor.state c.bring.new.slot) told) _
+    (λ told went. brought_follows (slot_view g.K.Actor.state) c.args.self.now.network c.args.self.now.slots c.args.i c.slot_of.result c.in-Some.letter.now c.index-slots-slot_of.result
     c.in-Some.ensures (c.slot_of.ensures.value ∙ c.actor.ensures) c.index-slots-slot_of.is c.bring.new.slot told went)
     (rw c.index-slots-slot_of.is c.bring.ensures.ok)
 
-pub returns-clause-last : goal.returns-clause-last
-returns-clause-last g c = on_err_weaker c.bring.result
-    (λ takes. new_unrefused (slot_seen g.K.Actor.state) c.args.self.now.exchange c.args.self.now.slots c.args.i c.slot_of.result c.in-Some.letter.now c.index-slots-slot_of.result
+pub returns-clause-memory_last : goal.returns-clause-memory_last
+returns-clause-memory_last g c = on_err_weaker c.bring.result
+    (λ takes. new_unrefused (slot_view g.K.Actor.state) c.args.self.now.network c.args.self.now.slots c.args.i c.slot_of.result c.in-Some.letter.now c.index-slots-slot_of.result
     c.in-Some.ensures (c.slot_of.ensures.value ∙ c.actor.ensures) c.index-slots-slot_of.is takes)
-    (subst (λ slot. OnErr c.bring.result (IsNewCall c.in-Some.letter.now (slot_seen g.K.Actor.state slot))) (sym c.index-slots-slot_of.is) c.bring.ensures.last)
+    (subst (λ slot. OnErr c.bring.result (IsNewCall c.in-Some.letter.now (slot_view g.K.Actor.state slot))) (sym c.index-slots-slot_of.is) c.bring.ensures.memory_last)
 
 pub returns-clause-memory : goal.returns-clause-memory
 returns-clause-memory g c = on_err_weaker c.bring.result
-    (λ takes. new_takes (slot_seen g.K.Actor.state) c.args.self.now.exchange c.args.self.now.slots c.args.i c.slot_of.result c.in-Some.letter.now c.index-slots-slot_of.result
+    (λ takes. new_takes (slot_view g.K.Actor.state) c.args.self.now.network c.args.self.now.slots c.args.i c.slot_of.result c.in-Some.letter.now c.index-slots-slot_of.result
     c.in-Some.ensures (c.slot_of.ensures.value ∙ c.actor.ensures) c.index-slots-slot_of.is takes)
-    (subst (λ slot. OnErr c.bring.result (IsNewCall c.in-Some.letter.now (slot_seen g.K.Actor.state slot))) (sym c.index-slots-slot_of.is) c.bring.ensures.last)
+    (subst (λ slot. OnErr c.bring.result (IsNewCall c.in-Some.letter.now (slot_view g.K.Actor.state slot))) (sym c.index-slots-slot_of.is) c.bring.ensures.memory_last)
 
 pub returns-clause-err : goal.returns-clause-err
 returns-clause-err g c = on_err_weaker c.bring.result
-    (λ same. ap (λ slots. record (world_seen g.K.Actor.state c.args.self.now) { slots = slots }) (map-set_same (slot_seen g.K.Actor.state) c.args.self.now.slots c.slot_of.result c.bring.new.slot c.index-slots-slot_of.result same))
+    (λ same. ap (λ slots. record (world_view g.K.Actor.state c.args.self.now) { slots = slots }) (map-set_same (slot_view g.K.Actor.state) c.args.self.now.slots c.slot_of.result c.bring.new.slot c.index-slots-slot_of.result same))
     c.bring.ensures.err
 
 pub returns-clause-refused : goal.returns-clause-refused
 returns-clause-refused g c = IfOk-weaker c.bring.result _ _
     (λ told refused. on_err_weaker told
-    (λ same. ap (λ slots. record (world_seen g.K.Actor.state c.args.self.now) { slots = slots }) (map-set_same (slot_seen g.K.Actor.state) c.args.self.now.slots c.slot_of.result c.bring.new.slot c.index-slots-slot_of.result same))
+    (λ same. ap (λ slots. record (world_view g.K.Actor.state c.args.self.now) { slots = slots }) (map-set_same (slot_view g.K.Actor.state) c.args.self.now.slots c.slot_of.result c.bring.new.slot c.index-slots-slot_of.result same))
     refused)
     c.bring.ensures.refused

@@ -1,19 +1,19 @@
 use Rattle.std.proofs.Common.{List, length, ap, subst}
 use Rattle.std.specs.Prelude.{slice_get}
-use Rattle.act_world.specs.declared.exchange.Mailed.{Mailed}
-use Rattle.act_world.specs.declared.exchange.Posted.{Posted}
+use Rattle.act_world.specs.declared.network.MailEntry.{MailEntry}
+use Rattle.act_world.specs.declared.network.Posted.{Posted}
 use Rattle.act_actor.specs.Casts.{callers_named}
 use Rattle.act_world.specs.Openings.{HasOwners}
 use Rattle.act_world.proofs.OpenedOwners.{owners_opened, nothing_asked}
 use Rattle.act_world.proofs.world.World.open.Goals as goal
 
-pub returns-clause-stands : goal.returns-clause-stands
-returns-clause-stands g c = record {
+pub returns-clause-reached : goal.returns-clause-reached
+returns-clause-reached g c = record {
   owners = owners_opened g.K.Actor.state c.args.casts.items c.in_ok-owners.owners.items c.requires.fit.actors
       (subst (λ casts. HasOwners casts (callers_named casts) c.in_ok-owners.owners.items) c.as_slice.ensures.value c.in_ok-owners.ensures);
   actors = c.in_ok-slots.ensures;
-  mail = λ i. ap (λ (mail : List Mailed). slice_get mail i) c.new.ensures.items;
-  mail_count = ap (λ (mail : List Mailed). length mail) c.new.ensures.items;
+  mail = λ i. ap (λ (mail : List MailEntry). slice_get mail i) c.new.ensures.items;
+  mail_count = ap (λ (mail : List MailEntry). length mail) c.new.ensures.items;
   replies = λ j. ap (λ (replies : List Posted). slice_get replies j) c.new-2.ensures.items;
   reply_count = ap (λ (replies : List Posted). length replies) c.new-2.ensures.items;
   asked = nothing_asked;

@@ -1,16 +1,16 @@
 use Rattle.std.proofs.Common.{rules, ◌+◌, ◌-◌, List, length, subst, arith}
 use Rattle.std.proofs.lemmas.List.{take_all}
 use Rattle.act_rules.specs.declared.event.Event.{Event}
-use Rattle.act_world.specs.View.{world_seen}
-use Rattle.act_world.specs.Stands.{Follows, HasRoom, IsGrownBy, Played}
+use Rattle.act_world.specs.View.{world_view}
+use Rattle.act_world.specs.IsReachedBy.{FollowsRules, HasRoom, IsGrownBy, HasPlayed}
 use Rattle.act_world.proofs.Playing.{Played_next, unrefused_at, memory_at}
 use Rattle.act_world.proofs.world.World.play.Goals as goal
 
 pub loop-i-preserved : goal.loop-i-preserved
 loop-i-preserved g c = record {
-  played = Played_next c.args.events.now c.loop-i.i c.index-events-i.result (world_seen g.K.Actor.state c.args.self.now) (world_seen g.K.Actor.state c.loop-i.self) (world_seen g.K.Actor.state c.step.new.self)
+  played = Played_next c.args.events.now c.loop-i.i c.index-events-i.result (world_view g.K.Actor.state c.args.self.now) (world_view g.K.Actor.state c.loop-i.self) (world_view g.K.Actor.state c.step.new.self)
       c.args.told.now.items c.loop-i.told.items c.push_reserved.new.self.items c.in-Ok-step.outcome c.loop-i-test.true c.loop-i.invariant.played
-      (subst (λ (event : Event). Follows event (world_seen g.K.Actor.state c.loop-i.self) (world_seen g.K.Actor.state c.step.new.self) c.in-Ok-step.outcome) c.index-events-i.is c.in-Ok-step.ensures.ok)
+      (subst (λ (event : Event). FollowsRules event (world_view g.K.Actor.state c.loop-i.self) (world_view g.K.Actor.state c.step.new.self) c.in-Ok-step.outcome) c.index-events-i.is c.in-Ok-step.ensures.ok)
       c.push_reserved.ensures.items;
   room = room;
   grown = grown;
@@ -19,13 +19,13 @@ loop-i-preserved g c = record {
   capacity = search rules;
 }
   where
-    grown : IsGrownBy (c.loop-i.i + 1) c.args.self.now.exchange c.step.new.self.exchange
+    grown : IsGrownBy (c.loop-i.i + 1) c.args.self.now.network c.step.new.self.network
     grown =
         let before = c.loop-i.invariant.grown in
         let more = c.step.ensures.grown in
         omega arith
 
-    room : HasRoom (length c.args.events.now - (c.loop-i.i + 1)) c.step.new.self.exchange
+    room : HasRoom (length c.args.events.now - (c.loop-i.i + 1)) c.step.new.self.network
     room =
         let before = c.loop-i.invariant.room in
         let grown = c.step.ensures.grown in
@@ -34,24 +34,24 @@ loop-i-preserved g c = record {
 
 pub returns-clause-ok : goal.returns-clause-ok
 returns-clause-ok g c =
-    subst (λ (events : List Event). Played events (world_seen g.K.Actor.state c.args.self.now) (world_seen g.K.Actor.state c.loop-i.self) c.args.told.now.items c.loop-i.told.items) (take_all c.loop-i.i c.args.events.now c.loop-i-test.false) c.loop-i.invariant.played
+    subst (λ (events : List Event). HasPlayed events (world_view g.K.Actor.state c.args.self.now) (world_view g.K.Actor.state c.loop-i.self) c.args.told.now.items c.loop-i.told.items) (take_all c.loop-i.i c.args.events.now c.loop-i-test.false) c.loop-i.invariant.played
 
-pub returns-in_default-step-clause-last : goal.returns-in_default-step-clause-last
-returns-in_default-step-clause-last g c = λ later.
-    unrefused_at c.args.events.now c.loop-i.i c.index-events-i.result (world_seen g.K.Actor.state c.loop-i.self) (world_seen g.K.Actor.state c.step.new.self) c.loop-i-test.true c.index-events-i.is
-    c.in_default-step.ensures.err c.in_default-step.ensures.last
+pub returns-in_default-step-clause-memory_last : goal.returns-in_default-step-clause-memory_last
+returns-in_default-step-clause-memory_last g c = λ later.
+    unrefused_at c.args.events.now c.loop-i.i c.index-events-i.result (world_view g.K.Actor.state c.loop-i.self) (world_view g.K.Actor.state c.step.new.self) c.loop-i-test.true c.index-events-i.is
+    c.in_default-step.ensures.err c.in_default-step.ensures.memory_last
 
 pub returns-in_default-step-clause-last_with_room : goal.returns-in_default-step-clause-last_with_room
 returns-in_default-step-clause-last_with_room g c = λ room.
-    unrefused_at c.args.events.now c.loop-i.i c.index-events-i.result (world_seen g.K.Actor.state c.loop-i.self) (world_seen g.K.Actor.state c.step.new.self) c.loop-i-test.true c.index-events-i.is
-    c.in_default-step.ensures.err c.in_default-step.ensures.last
+    unrefused_at c.args.events.now c.loop-i.i c.index-events-i.result (world_view g.K.Actor.state c.loop-i.self) (world_view g.K.Actor.state c.step.new.self) c.loop-i-test.true c.index-events-i.is
+    c.in_default-step.ensures.err c.in_default-step.ensures.memory_last
 
 pub returns-in_default-step-clause-memory : goal.returns-in_default-step-clause-memory
 returns-in_default-step-clause-memory g c = λ later.
-    memory_at c.args.events.now c.loop-i.i c.index-events-i.result (world_seen g.K.Actor.state c.loop-i.self) (world_seen g.K.Actor.state c.step.new.self) c.loop-i-test.true c.index-events-i.is
+    memory_at c.args.events.now c.loop-i.i c.index-events-i.result (world_view g.K.Actor.state c.loop-i.self) (world_view g.K.Actor.state c.step.new.self) c.loop-i-test.true c.index-events-i.is
     c.in_default-step.ensures.err c.in_default-step.ensures.memory
 
 pub returns-in_default-step-clause-memory_with_room : goal.returns-in_default-step-clause-memory_with_room
 returns-in_default-step-clause-memory_with_room g c = λ room.
-    memory_at c.args.events.now c.loop-i.i c.index-events-i.result (world_seen g.K.Actor.state c.loop-i.self) (world_seen g.K.Actor.state c.step.new.self) c.loop-i-test.true c.index-events-i.is
+    memory_at c.args.events.now c.loop-i.i c.index-events-i.result (world_view g.K.Actor.state c.loop-i.self) (world_view g.K.Actor.state c.step.new.self) c.loop-i-test.true c.index-events-i.is
     c.in_default-step.ensures.err c.in_default-step.ensures.memory

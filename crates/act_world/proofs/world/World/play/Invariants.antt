@@ -1,15 +1,15 @@
 use Rattle.std.proofs.Common.{◌≡◌, ◌+◌, ◌-◌, ◌≤◌, length, take, vec_len, vec_capacity}
-use Rattle.act_world.specs.View.{world_seen}
-use Rattle.act_world.specs.Stands.{HasRoom, IsGrownBy, Played}
+use Rattle.act_world.specs.View.{world_view}
+use Rattle.act_world.specs.IsReachedBy.{HasRoom, IsGrownBy, HasPlayed}
 use Rattle.act_world.proofs.world.World.play.Given as goal
 
 -- the world stands after the events so far, and there is room for the rest and for what is told of them
 abbrev pub invariant-loop-i : goal.invariant-loop-i
 invariant-loop-i g l = record {
-  played : Played (take l.i l.events) (world_seen g.K.Actor.state l.fn.self) (world_seen g.K.Actor.state l.self) l.fn.told.items l.told.items;
-  room : HasRoom (length l.events - l.i) l.self.exchange;
-  grown : IsGrownBy l.i l.fn.self.exchange l.self.exchange;
-  first : l.i ≡ 0 → (world_seen g.K.Actor.state l.self ≡ world_seen g.K.Actor.state l.fn.self) × (l.told.items ≡ l.fn.told.items);
+  played : HasPlayed (take l.i l.events) (world_view g.K.Actor.state l.fn.self) (world_view g.K.Actor.state l.self) l.fn.told.items l.told.items;
+  room : HasRoom (length l.events - l.i) l.self.network;
+  grown : IsGrownBy l.i l.fn.self.network l.self.network;
+  first : l.i ≡ 0 → (world_view g.K.Actor.state l.self ≡ world_view g.K.Actor.state l.fn.self) × (l.told.items ≡ l.fn.told.items);
   reserved : vec_len l.told + (length l.events - l.i) ≤ vec_capacity l.told;
   capacity : vec_capacity l.fn.told ≤ vec_capacity l.told;
 }

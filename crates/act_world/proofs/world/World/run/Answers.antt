@@ -4,104 +4,104 @@ use Rattle.std.proofs.lemmas.Grind.{common_steps}
 use Rattle.act_types.specs.declared.message.Notice.TheVariants.{Answered}
 use Rattle.act_rules.specs.declared.event.Event.TheVariants as event
 use Rattle.act_rules.specs.declared.outcome.Did.TheVariants as did
-use Rattle.act_world.specs.declared.exchange.Posted.{Posted}
-use Rattle.act_world.specs.Exchange.{is_owner, naming_refusal}
-use Rattle.act_world.specs.View.{slot_seen, world_seen}
+use Rattle.act_world.specs.declared.network.Posted.{Posted}
+use Rattle.act_world.specs.Network.{is_owner, naming_refusal}
+use Rattle.act_world.specs.View.{slot_view, world_view}
 use Rattle.act_world.specs.Slots.{IsRunAt}
-use Rattle.act_world.specs.Stands.{Follows}
+use Rattle.act_world.specs.IsReachedBy.{FollowsRules}
 use Rattle.act_world.proofs.Changes.{on_err}
 use Rattle.act_world.proofs.Running.{run_refused, run_ended, run_unrefused, run_not_refused, run_nothing, run_takes, run_replies, run_ran}
 use Rattle.act_world.proofs.world.World.run.Goals as goal
 
 pub returns-in-Some-clause-ok : goal.returns-in-Some-clause-ok
 returns-in-Some-clause-ok g c =
-    let old = world_seen g.K.Actor.state c.args.self.now in
-    let refuses : Some c.in-Some.refusal ≡ naming_refusal (find (is_owner c.args.c) old.exchange.owners) c.args.a = rw (← c.self.view_is) c.in-Some.ensures.refusal in
-    run_refused old.exchange old.slots c.args.a c.args.c c.in-Some.refusal (sym refuses)
+    let old = world_view g.K.Actor.state c.args.self.now in
+    let refuses : Some c.in-Some.refusal ≡ naming_refusal (find (is_owner c.args.c) old.network.owners) c.args.a = rw (← c.self.view_is) c.in-Some.ensures.refusal in
+    run_refused old.network old.slots c.args.a c.args.c c.in-Some.refusal (sym refuses)
 
 pub returns-then-not-is_live-clause-ok : goal.returns-then-not-is_live-clause-ok
 returns-then-not-is_live-clause-ok g c =
-    let old = world_seen g.K.Actor.state c.args.self.now in
-    let slot = slot_seen g.K.Actor.state c.slot_at-slot.result.now in
+    let old = world_view g.K.Actor.state c.args.self.now in
+    let slot = slot_view g.K.Actor.state c.slot_at-slot.result.now in
     let there : slice_get old.slots c.args.a ≡ Some slot = rw (← c.self.view_is) c.slot_at-slot.ensures in
-    let free : None ≡ naming_refusal (find (is_owner c.args.c) old.exchange.owners) c.args.a = rw (← c.self.view_is) c.in_default.ensures.refusal in
-    run_ended old.exchange old.slots c.args.a c.args.c slot there (sym free) (sym c.if-not-is_live.ensures)
+    let free : None ≡ naming_refusal (find (is_owner c.args.c) old.network.owners) c.args.a = rw (← c.self.view_is) c.in_default.ensures.refusal in
+    run_ended old.network old.slots c.args.a c.args.c slot there (sym free) (sym c.if-not-is_live.ensures)
 
-pub returns-in_err-reserve-clause-last : goal.returns-in_err-reserve-clause-last
-returns-in_err-reserve-clause-last g c =
-    let old = world_seen g.K.Actor.state c.args.self.now in
-    let slot = slot_seen g.K.Actor.state c.slot_at-slot.result.now in
+pub returns-in_err-reserve-clause-memory_last : goal.returns-in_err-reserve-clause-memory_last
+returns-in_err-reserve-clause-memory_last g c =
+    let old = world_view g.K.Actor.state c.args.self.now in
+    let slot = slot_view g.K.Actor.state c.slot_at-slot.result.now in
     let there : slice_get old.slots c.args.a ≡ Some slot = rw (← c.self.view_is) c.slot_at-slot.ensures in
-    let free : None ≡ naming_refusal (find (is_owner c.args.c) old.exchange.owners) c.args.a = rw (← c.self.view_is) c.in_default.ensures.refusal in
-    on_err c.from_residual.result (run_unrefused old.exchange old.slots c.args.a c.args.c slot there (sym free) (sym c.if-not-is_live.ensures))
+    let free : None ≡ naming_refusal (find (is_owner c.args.c) old.network.owners) c.args.a = rw (← c.self.view_is) c.in_default.ensures.refusal in
+    on_err c.from_residual.result (run_unrefused old.network old.slots c.args.a c.args.c slot there (sym free) (sym c.if-not-is_live.ensures))
 
-pub returns-in_err-reply-clause-last : goal.returns-in_err-reply-clause-last
-returns-in_err-reply-clause-last g c =
-    let old = world_seen g.K.Actor.state c.args.self.now in
-    let slot = slot_seen g.K.Actor.state c.slot_at-slot.result.now in
+pub returns-in_err-reply-clause-memory_last : goal.returns-in_err-reply-clause-memory_last
+returns-in_err-reply-clause-memory_last g c =
+    let old = world_view g.K.Actor.state c.args.self.now in
+    let slot = slot_view g.K.Actor.state c.slot_at-slot.result.now in
     let there : slice_get old.slots c.args.a ≡ Some slot = rw (← c.self.view_is) c.slot_at-slot.ensures in
-    let free : None ≡ naming_refusal (find (is_owner c.args.c) old.exchange.owners) c.args.a = rw (← c.self.view_is) c.in_default.ensures.refusal in
-    on_err c.from_residual-in_err-reply.result (run_unrefused old.exchange old.slots c.args.a c.args.c slot there (sym free) (sym c.if-not-is_live.ensures))
+    let free : None ≡ naming_refusal (find (is_owner c.args.c) old.network.owners) c.args.a = rw (← c.self.view_is) c.in_default.ensures.refusal in
+    on_err c.from_residual-in_err-reply.result (run_unrefused old.network old.slots c.args.a c.args.c slot there (sym free) (sym c.if-not-is_live.ensures))
 
 pub returns-in_default-2-clause-ok : goal.returns-in_default-2-clause-ok
 returns-in_default-2-clause-ok g c =
     let state = g.K.Actor.state in
-    let old = world_seen state c.args.self.now in
-    let slot = slot_seen state c.slot_at-slot.result.now in
-    let new = map (slot_seen state) c.run_at.new.slots in
+    let old = world_view state c.args.self.now in
+    let slot = slot_view state c.slot_at-slot.result.now in
+    let new = map (slot_view state) c.run_at.new.slots in
     let there : slice_get old.slots c.args.a ≡ Some slot = rw (← c.self.view_is) c.slot_at-slot.ensures in
-    let free : None ≡ naming_refusal (find (is_owner c.args.c) old.exchange.owners) c.args.a = rw (← c.self.view_is) c.in_default.ensures.refusal in
-    let ran = subst (λ (world : _). IsRunAt c.args.c c.args.a (map (slot_seen state) world.slots) new c.in_ok-reply.field-0) c.self.view_is c.in_ok-reply.ensures.ok in
-    absurd (run_not_refused old.exchange old.slots c.args.a c.args.c slot there (sym free) new c.in_default-2.field-0 (sym c.if-not-is_live.ensures) (subst (IsRunAt c.args.c c.args.a old.slots new) c.in_default-2.is ran))
+    let free : None ≡ naming_refusal (find (is_owner c.args.c) old.network.owners) c.args.a = rw (← c.self.view_is) c.in_default.ensures.refusal in
+    let ran = subst (λ (world : _). IsRunAt c.args.c c.args.a (map (slot_view state) world.slots) new c.in_ok-reply.field-0) c.self.view_is c.in_ok-reply.ensures.ok in
+    absurd (run_not_refused old.network old.slots c.args.a c.args.c slot there (sym free) new c.in_default-2.field-0 (sym c.if-not-is_live.ensures) (subst (IsRunAt c.args.c c.args.a old.slots new) c.in_default-2.is ran))
 
 pub returns-then-not-has_next-clause-ok : goal.returns-then-not-has_next-clause-ok
 returns-then-not-has_next-clause-ok g c =
-    let old = world_seen g.K.Actor.state c.args.self.now in
-    let slot = slot_seen g.K.Actor.state c.slot_at-slot.result.now in
+    let old = world_view g.K.Actor.state c.args.self.now in
+    let slot = slot_view g.K.Actor.state c.slot_at-slot.result.now in
     let there : slice_get old.slots c.args.a ≡ Some slot = rw (← c.self.view_is) c.slot_at-slot.ensures in
-    let free : None ≡ naming_refusal (find (is_owner c.args.c) old.exchange.owners) c.args.a = rw (← c.self.view_is) c.in_default.ensures.refusal in
-    run_nothing old.exchange old.slots c.args.a c.args.c slot there (sym free) (sym c.if-not-is_live.ensures) (sym c.if-not-has_next.ensures)
+    let free : None ≡ naming_refusal (find (is_owner c.args.c) old.network.owners) c.args.a = rw (← c.self.view_is) c.in_default.ensures.refusal in
+    run_nothing old.network old.slots c.args.a c.args.c slot there (sym free) (sym c.if-not-is_live.ensures) (sym c.if-not-has_next.ensures)
 
 pub returns-in_err-reserve-clause-memory : goal.returns-in_err-reserve-clause-memory
 returns-in_err-reserve-clause-memory g c =
-    let old = world_seen g.K.Actor.state c.args.self.now in
-    let slot = slot_seen g.K.Actor.state c.slot_at-slot.result.now in
+    let old = world_view g.K.Actor.state c.args.self.now in
+    let slot = slot_view g.K.Actor.state c.slot_at-slot.result.now in
     let there : slice_get old.slots c.args.a ≡ Some slot = rw (← c.self.view_is) c.slot_at-slot.ensures in
-    let free : None ≡ naming_refusal (find (is_owner c.args.c) old.exchange.owners) c.args.a = rw (← c.self.view_is) c.in_default.ensures.refusal in
-    on_err c.from_residual.result (run_takes old.exchange old.slots c.args.a c.args.c slot there (sym free) (sym c.if-not-is_live.ensures) (sym c.if-not-has_next.ensures))
+    let free : None ≡ naming_refusal (find (is_owner c.args.c) old.network.owners) c.args.a = rw (← c.self.view_is) c.in_default.ensures.refusal in
+    on_err c.from_residual.result (run_takes old.network old.slots c.args.a c.args.c slot there (sym free) (sym c.if-not-is_live.ensures) (sym c.if-not-has_next.ensures))
 
 pub returns-in_err-reply-clause-memory : goal.returns-in_err-reply-clause-memory
 returns-in_err-reply-clause-memory g c =
-    let old = world_seen g.K.Actor.state c.args.self.now in
-    let slot = slot_seen g.K.Actor.state c.slot_at-slot.result.now in
+    let old = world_view g.K.Actor.state c.args.self.now in
+    let slot = slot_view g.K.Actor.state c.slot_at-slot.result.now in
     let there : slice_get old.slots c.args.a ≡ Some slot = rw (← c.self.view_is) c.slot_at-slot.ensures in
-    let free : None ≡ naming_refusal (find (is_owner c.args.c) old.exchange.owners) c.args.a = rw (← c.self.view_is) c.in_default.ensures.refusal in
-    on_err c.from_residual-in_err-reply.result (run_takes old.exchange old.slots c.args.a c.args.c slot there (sym free) (sym c.if-not-is_live.ensures) (sym c.if-not-has_next.ensures))
+    let free : None ≡ naming_refusal (find (is_owner c.args.c) old.network.owners) c.args.a = rw (← c.self.view_is) c.in_default.ensures.refusal in
+    on_err c.from_residual-in_err-reply.result (run_takes old.network old.slots c.args.a c.args.c slot there (sym free) (sym c.if-not-is_live.ensures) (sym c.if-not-has_next.ensures))
 
 pub unwrap-reply-requires : goal.unwrap-reply-requires
 unwrap-reply-requires g c =
     let state = g.K.Actor.state in
-    let old = world_seen g.K.Actor.state c.args.self.now in
-    let slot = slot_seen g.K.Actor.state c.slot_at-slot.result.now in
+    let old = world_view g.K.Actor.state c.args.self.now in
+    let slot = slot_view g.K.Actor.state c.slot_at-slot.result.now in
     let there : slice_get old.slots c.args.a ≡ Some slot = rw (← c.self.view_is) c.slot_at-slot.ensures in
-    let free : None ≡ naming_refusal (find (is_owner c.args.c) old.exchange.owners) c.args.a = rw (← c.self.view_is) c.in_default.ensures.refusal in
-    let new = map (slot_seen state) c.run_at.new.slots in
-    let ran = subst (λ (world : _). IsRunAt c.args.c c.args.a (map (slot_seen state) world.slots) new c.in_ok-reply.field-0) c.self.view_is c.in_ok-reply.ensures.ok in
-    run_replies old.exchange old.slots c.args.a c.args.c slot there (sym free) new c.in-Ok.reply (sym c.if-not-is_live.ensures) (sym c.if-not-has_next.ensures) (subst (IsRunAt c.args.c c.args.a old.slots new) c.in-Ok.is ran)
+    let free : None ≡ naming_refusal (find (is_owner c.args.c) old.network.owners) c.args.a = rw (← c.self.view_is) c.in_default.ensures.refusal in
+    let new = map (slot_view state) c.run_at.new.slots in
+    let ran = subst (λ (world : _). IsRunAt c.args.c c.args.a (map (slot_view state) world.slots) new c.in_ok-reply.field-0) c.self.view_is c.in_ok-reply.ensures.ok in
+    run_replies old.network old.slots c.args.a c.args.c slot there (sym free) new c.in-Ok.reply (sym c.if-not-is_live.ensures) (sym c.if-not-has_next.ensures) (subst (IsRunAt c.args.c c.args.a old.slots new) c.in-Ok.is ran)
 
 pub returns-clause-ok : goal.returns-clause-ok
 returns-clause-ok g c =
     let state = g.K.Actor.state in
-    let old = world_seen state c.args.self.now in
-    let slot = slot_seen state c.slot_at-slot.result.now in
-    let new = map (slot_seen state) c.run_at.new.slots in
+    let old = world_view state c.args.self.now in
+    let slot = slot_view state c.slot_at-slot.result.now in
+    let new = map (slot_view state) c.run_at.new.slots in
     let there : slice_get old.slots c.args.a ≡ Some slot = rw (← c.self.view_is) c.slot_at-slot.ensures in
-    let free : None ≡ naming_refusal (find (is_owner c.args.c) old.exchange.owners) c.args.a = rw (← c.self.view_is) c.in_default.ensures.refusal in
-    let ran = subst (λ (world : _). IsRunAt c.args.c c.args.a (map (slot_seen state) world.slots) new c.in_ok-reply.field-0) c.self.view_is c.in_ok-reply.ensures.ok in
-    let items : c.reserve.new.self.items ≡ old.exchange.replies = c.in_ok-reserve.ensures.items ∙ ap (λ (world : _). world.exchange.replies) c.self.view_is in
+    let free : None ≡ naming_refusal (find (is_owner c.args.c) old.network.owners) c.args.a = rw (← c.self.view_is) c.in_default.ensures.refusal in
+    let ran = subst (λ (world : _). IsRunAt c.args.c c.args.a (map (slot_view state) world.slots) new c.in_ok-reply.field-0) c.self.view_is c.in_ok-reply.ensures.ok in
+    let items : c.reserve.new.self.items ≡ old.network.replies = c.in_ok-reserve.ensures.items ∙ ap (λ (world : _). world.network.replies) c.self.view_is in
     let notice : Posted = record { caller = c.args.c; notice = Answered c.unwrap-reply.result } in
-    let replies : c.push_reserved.new.self.items ≡ old.exchange.replies ++ notice ∷ [] = c.push_reserved.ensures.items ∙ ap (λ (all : List Posted). all ++ notice ∷ []) items in
+    let replies : c.push_reserved.new.self.items ≡ old.network.replies ++ notice ∷ [] = c.push_reserved.ensures.items ∙ ap (λ (all : List Posted). all ++ notice ∷ []) items in
     let count : c.len-j.result ≡ length c.reserve.new.self.items = grind (arith, common_steps) in
-    subst (λ (world : _). Follows (event.Run c.args.a c.args.c) old (record { exchange = record world.exchange { replies = c.push_reserved.new.self.items }; slots = new }) (Ok (did.Ran c.unwrap-reply.result.place c.len-j.result))) (sym c.self.view_is)
-    (run_ran old.exchange old.slots c.args.a c.args.c slot there (sym free) new c.push_reserved.new.self.items c.len-j.result c.unwrap-reply.result (sym c.if-not-is_live.ensures)
+    subst (λ (world : _). FollowsRules (event.Run c.args.a c.args.c) old (record { network = record world.network { replies = c.push_reserved.new.self.items }; slots = new }) (Ok (did.Ran c.unwrap-reply.result.place c.len-j.result))) (sym c.self.view_is)
+    (run_ran old.network old.slots c.args.a c.args.c slot there (sym free) new c.push_reserved.new.self.items c.len-j.result c.unwrap-reply.result (sym c.if-not-is_live.ensures)
     (subst (IsRunAt c.args.c c.args.a old.slots new) (c.in-Ok.is ∙ ap (λ reply. Ok reply) c.unwrap-reply.ensures) ran) (count ∙ ap (λ (all : List Posted). length all) items) replies)

@@ -1,14 +1,14 @@
 use Rattle.std.proofs.Common.{◌∙◌, subst, sym, ap}
 use Rattle.act_rules.specs.Laws.{history}
 use Rattle.act_world.specs.View.{stage_of_slot}
-use Rattle.act_world.specs.Ties.{IsStage}
+use Rattle.act_world.specs.Refines.{IsStage}
 use Rattle.act_world.proofs.Staging.{stage_shown}
 use Rattle.act_world.proofs.world.World.stage.Goals as goal
 
 pub returns-clause-shown : goal.returns-clause-shown
 returns-clause-shown g c = c.stage.ensures ∙ ap stage_of_slot (sym c.slot_at.ensures)
 
-pub returns-clause-stands : goal.returns-clause-stands
-returns-clause-stands g c casts events stands =
+pub returns-clause-reached : goal.returns-clause-reached
+returns-clause-reached g c casts events reached =
     let h = history casts events in
-    subst (IsStage h c.args.a) (ap stage_of_slot c.slot_at.ensures ∙ sym c.stage.ensures) (stage_shown h c.args.a _ (stands.actors c.args.a))
+    subst (IsStage h c.args.a) (ap stage_of_slot c.slot_at.ensures ∙ sym c.stage.ensures) (stage_shown h c.args.a _ (reached.actors c.args.a))

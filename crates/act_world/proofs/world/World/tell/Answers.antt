@@ -6,51 +6,51 @@ use Rattle.act_rules.specs.declared.event.Event.TheVariants as event
 use Rattle.act_rules.specs.declared.outcome.Did.TheVariants as did
 use Rattle.act_rules.specs.Laws.{history}
 use Rattle.act_rules.specs.Rules.{outcome_of, after}
-use Rattle.act_world.specs.declared.exchange.Posted.{Posted}
-use Rattle.act_world.specs.Exchange.{is_owner, naming_refusal}
-use Rattle.act_world.specs.View.{slot_seen, world_seen}
-use Rattle.act_world.specs.Ties.{Ties}
-use Rattle.act_world.specs.Stands.{IsUnrefused}
+use Rattle.act_world.specs.declared.network.Posted.{Posted}
+use Rattle.act_world.specs.Network.{is_owner, naming_refusal}
+use Rattle.act_world.specs.View.{slot_view, world_view}
+use Rattle.act_world.specs.Refines.{Refines}
+use Rattle.act_world.specs.IsReachedBy.{IsUnrefused}
 use Rattle.act_world.proofs.Changes.{on_err}
 use Rattle.act_world.proofs.Lawful.{world_lawful}
 use Rattle.act_world.proofs.Telling.{tell_refused, tell_living, tell_unrefused, tell_follows}
 use Rattle.act_world.proofs.world.World.tell.Goals as goal
 
 pub returns-in-Some-clause-ok : goal.returns-in-Some-clause-ok
-returns-in-Some-clause-ok g c casts before stands =
-    let old = world_seen g.K.Actor.state c.args.self.now in
-    let refuses : Some c.in-Some.refusal ≡ naming_refusal (find (is_owner c.args.c) old.exchange.owners) c.args.a = rw (← c.self.view_is) c.in-Some.ensures.refusal in
-    tell_refused (history casts before) old.exchange old.slots c.args.a c.args.c c.in-Some.refusal stands (sym refuses)
+returns-in-Some-clause-ok g c casts before reached =
+    let old = world_view g.K.Actor.state c.args.self.now in
+    let refuses : Some c.in-Some.refusal ≡ naming_refusal (find (is_owner c.args.c) old.network.owners) c.args.a = rw (← c.self.view_is) c.in-Some.ensures.refusal in
+    tell_refused (history casts before) old.network old.slots c.args.a c.args.c c.in-Some.refusal reached (sym refuses)
 
 pub returns-then-not-is_dead-clause-ok : goal.returns-then-not-is_dead-clause-ok
-returns-then-not-is_dead-clause-ok g c casts before stands =
-    let old = world_seen g.K.Actor.state c.args.self.now in
-    let slot = slot_seen g.K.Actor.state c.slot_at.result.now in
+returns-then-not-is_dead-clause-ok g c casts before reached =
+    let old = world_view g.K.Actor.state c.args.self.now in
+    let slot = slot_view g.K.Actor.state c.slot_at.result.now in
     let there : slice_get old.slots c.args.a ≡ Some slot = rw (← c.self.view_is) c.slot_at.ensures in
-    let free : None ≡ naming_refusal (find (is_owner c.args.c) old.exchange.owners) c.args.a = rw (← c.self.view_is) c.in_default.ensures.refusal in
-    tell_living (history casts before) old.exchange old.slots c.args.a c.args.c slot stands there (sym free) (sym c.if-not-is_dead.ensures)
+    let free : None ≡ naming_refusal (find (is_owner c.args.c) old.network.owners) c.args.a = rw (← c.self.view_is) c.in_default.ensures.refusal in
+    tell_living (history casts before) old.network old.slots c.args.a c.args.c slot reached there (sym free) (sym c.if-not-is_dead.ensures)
 
-pub returns-in_err-reserve-clause-last : goal.returns-in_err-reserve-clause-last
-returns-in_err-reserve-clause-last g c =
-    let old = world_seen g.K.Actor.state c.args.self.now in
-    let slot = slot_seen g.K.Actor.state c.slot_at.result.now in
+pub returns-in_err-reserve-clause-memory_last : goal.returns-in_err-reserve-clause-memory_last
+returns-in_err-reserve-clause-memory_last g c =
+    let old = world_view g.K.Actor.state c.args.self.now in
+    let slot = slot_view g.K.Actor.state c.slot_at.result.now in
     let there : slice_get old.slots c.args.a ≡ Some slot = rw (← c.self.view_is) c.slot_at.ensures in
-    let free : None ≡ naming_refusal (find (is_owner c.args.c) old.exchange.owners) c.args.a = rw (← c.self.view_is) c.in_default.ensures.refusal in
-    let last : IsUnrefused (event.Tell c.args.a c.args.c) old = λ casts before stands. tell_unrefused (history casts before) old.exchange old.slots c.args.a c.args.c slot stands there (sym free) (sym c.if-not-is_dead.ensures) in
+    let free : None ≡ naming_refusal (find (is_owner c.args.c) old.network.owners) c.args.a = rw (← c.self.view_is) c.in_default.ensures.refusal in
+    let last : IsUnrefused (event.Tell c.args.a c.args.c) old = λ casts before reached. tell_unrefused (history casts before) old.network old.slots c.args.a c.args.c slot reached there (sym free) (sym c.if-not-is_dead.ensures) in
     on_err c.from_residual.result last
 
 pub returns-clause-ok : goal.returns-clause-ok
-returns-clause-ok g c casts before stands =
+returns-clause-ok g c casts before reached =
     let state = g.K.Actor.state in
-    let old = world_seen state c.args.self.now in
-    let slot = slot_seen state c.slot_at.result.now in
+    let old = world_view state c.args.self.now in
+    let slot = slot_view state c.slot_at.result.now in
     let there : slice_get old.slots c.args.a ≡ Some slot = rw (← c.self.view_is) c.slot_at.ensures in
-    let free : None ≡ naming_refusal (find (is_owner c.args.c) old.exchange.owners) c.args.a = rw (← c.self.view_is) c.in_default.ensures.refusal in
-    let reserved : c.reserve.new.self.items ≡ old.exchange.replies = c.in_ok-reserve.ensures.items ∙ ap (λ (world : _). world.exchange.replies) c.self.view_is in
+    let free : None ≡ naming_refusal (find (is_owner c.args.c) old.network.owners) c.args.a = rw (← c.self.view_is) c.in_default.ensures.refusal in
+    let reserved : c.reserve.new.self.items ≡ old.network.replies = c.in_ok-reserve.ensures.items ∙ ap (λ (world : _). world.network.replies) c.self.view_is in
     let notice : Posted = record { caller = c.args.c; notice = Death c.args.a } in
-    let replies : c.push_reserved.new.self.items ≡ old.exchange.replies ++ notice ∷ [] = c.push_reserved.ensures.items ∙ ap (λ (items : List Posted). items ++ notice ∷ []) reserved in
+    let replies : c.push_reserved.new.self.items ≡ old.network.replies ++ notice ∷ [] = c.push_reserved.ensures.items ∙ ap (λ (items : List Posted). items ++ notice ∷ []) reserved in
     let count : c.len-j.result ≡ length c.reserve.new.self.items = grind (arith, common_steps) in
-    let counted : c.len-j.result ≡ length old.exchange.replies = count ∙ ap (λ (items : List Posted). length items) reserved in
+    let counted : c.len-j.result ≡ length old.network.replies = count ∙ ap (λ (items : List Posted). length items) reserved in
     let h = history casts before in
-    subst (λ (world : _). (Ok (did.Told c.len-j.result) ≡ outcome_of h (event.Tell c.args.a c.args.c)) × Ties (after h (event.Tell c.args.a c.args.c)) (record { exchange = record world.exchange { replies = c.push_reserved.new.self.items }; slots = map (slot_seen state) world.slots })) (sym c.self.view_is)
-    (tell_follows h old.exchange old.slots c.args.a c.args.c c.len-j.result slot c.push_reserved.new.self.items (world_lawful casts before) stands there (sym free) (sym c.if-not-is_dead.ensures) counted replies)
+    subst (λ (world : _). (Ok (did.Told c.len-j.result) ≡ outcome_of h (event.Tell c.args.a c.args.c)) × Refines (after h (event.Tell c.args.a c.args.c)) (record { network = record world.network { replies = c.push_reserved.new.self.items }; slots = map (slot_view state) world.slots })) (sym c.self.view_is)
+    (tell_follows h old.network old.slots c.args.a c.args.c c.len-j.result slot c.push_reserved.new.self.items (world_lawful casts before) reached there (sym free) (sym c.if-not-is_dead.ensures) counted replies)

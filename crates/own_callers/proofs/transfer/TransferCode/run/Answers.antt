@@ -6,7 +6,7 @@ use Rattle.act_types.specs.declared.call.Arg.TheVariants.{Plain}
 use Rattle.act_types.specs.declared.call.Method.TheVariants.{Balance, Deposit, Withdraw}
 use Rattle.act_rules.specs.RunList.{Answer}
 use Rattle.act_rules.specs.Submissions.{kept_at}
-use Rattle.own_callers.specs.Transfer.{asks, withdraws, is_enough, is_number}
+use Rattle.own_callers.specs.Transfer.{asks, withdraws, is_enough, is_amount}
 use Rattle.own_callers.proofs.Calls.{called, kept_on, kept_here}
 use Rattle.own_callers.proofs.transfer.TransferCode.run.Goals as goal
 
@@ -68,7 +68,7 @@ returns-in_default-answer g c = λ fresh.
       calls = called t.from Withdraw (Plain (Int t.amount) ∷ []) c.in_ok-number.field-0 (asks t ∷ []) one two sum first c.in_ok-taken.ensures.submits;
       enough = ap (is_enough t.amount) (kept_on one two 0 (Ok (Int b)) c.ask-2.ensures.on asked) ∙ enough;
       asked = ap (λ (k : ℕ). is_some (kept_at two.kept k)) (sym place) ∙ c.in_ok-taken.ensures.answered;
-      refused = ap (λ (k : ℕ). is_number (kept_at two.kept k)) (sym place) ∙ ap is_number (sym c.answer-2.ensures ∙ ap option_copied c.in_default-answer.is) ∙ search rules;
+      refused = ap (λ (k : ℕ). is_amount (kept_at two.kept k)) (sym place) ∙ ap is_amount (sym c.answer-2.ensures ∙ ap option_copied c.in_default-answer.is) ∙ search rules;
     }))
 
 pub returns-in_default-answer-2 : goal.returns-in_default-answer-2
@@ -89,7 +89,7 @@ returns-in_default-answer-2 g c = λ fresh.
       calls = called t.from Withdraw (Plain (Int t.amount) ∷ []) c.in_ok-number.field-0 (asks t ∷ []) one two sum first c.in_ok-taken.ensures.submits;
       enough = ap (is_enough t.amount) (kept_on one two 0 (Ok (Int b)) c.ask-2.ensures.on asked) ∙ enough;
       asked = ap (λ (k : ℕ). is_some (kept_at two.kept k)) (sym place) ∙ c.in_ok-taken.ensures.answered;
-      refused = ap (λ (k : ℕ). is_number (kept_at two.kept k)) (sym place) ∙ ap is_number (sym c.answer-2.ensures ∙ ap option_copied c.in_default-answer.is) ∙ search rules;
+      refused = ap (λ (k : ℕ). is_amount (kept_at two.kept k)) (sym place) ∙ ap is_amount (sym c.answer-2.ensures ∙ ap option_copied c.in_default-answer.is) ∙ search rules;
     }))
 
 pub returns : goal.returns
@@ -115,5 +115,5 @@ returns g c = λ fresh.
     inr (inr (record {
       calls = called t.to Deposit (Plain (Int t.amount) ∷ []) c.in_ok-number-2.field-0 (asks t ∷ withdraws t ∷ []) two three sum2 second c.in_ok-ask.ensures.submits;
       enough = ap (is_enough t.amount) (kept_on two three 0 (Ok (Int b)) c.ask-3.ensures.on (kept_on one two 0 (Ok (Int b)) c.ask-2.ensures.on asked)) ∙ enough;
-      granted = ap is_number (kept_on two three 1 (Ok (Int _)) c.ask-3.ensures.on granted);
+      granted = ap is_amount (kept_on two three 1 (Ok (Int _)) c.ask-3.ensures.on granted);
     }))

@@ -1,6 +1,6 @@
 use Rattle.std.proofs.Common.{map}
 use Rattle.std.specs.Fmt.{HasWritten, IsPlainFormatter}
-use Rattle.act_types.specs.Texts.{spaced, value_text}
+use Rattle.act_types.specs.Texts.{with_spaces, value_text}
 use Rattle.own_kinds.proofs.queue.WorkQueueDisplay.fmt.Given as goal
 
 -- the values so far are written
@@ -8,4 +8,4 @@ abbrev pub invariant-loop-item : goal.invariant-loop-item
 invariant-loop-item g l =
     IsPlainFormatter l.initial.f
     → HasWritten g.W.Write.write_str_gives l.initial.f
-    (spaced (map value_text (map (λ item. item.now) l.yielded))) l.f
+    (with_spaces (map value_text (map (λ item. item.now) l.yielded))) l.f

@@ -1,7 +1,7 @@
 use Rattle.std.proofs.Common.{◌≡◌, All}
-use Rattle.act_rules.specs.Consistent.{IsFront}
-use Rattle.act_actor.specs.StateViews.{live_seen}
-use Rattle.act_mailbox.specs.Notices.{IsReply}
+use Rattle.act_rules.specs.Consistent.{IsPrefix}
+use Rattle.act_actor.specs.StateViews.{live_view}
+use Rattle.act_mailbox.specs.Notices.{IsNoDeath}
 use Rattle.tests_of_threads.proofs.drive.starved.attend.Given as goal
 
 abbrev pub invariant-loop : goal.invariant-loop
@@ -11,7 +11,7 @@ invariant-loop g l = record {
   asked : l.passes.kills.actor ≡ l.initial.passes.kills.actor;
   gives : l.passes.gives.line ≡ l.initial.passes.gives.line;
   given : l.passes.gives.actor ≡ l.initial.passes.gives.actor;
-  id : (live_seen g.K.Actor.state l.live).id ≡ (live_seen g.K.Actor.state l.initial.live).id;
-  grown : IsFront l.passes.gives.seen (live_seen g.K.Actor.state l.live).log;
-  alive : All IsReply l.passes.gives.given;
+  id : (live_view g.K.Actor.state l.live).id ≡ (live_view g.K.Actor.state l.initial.live).id;
+  grown : IsPrefix l.passes.gives.seen (live_view g.K.Actor.state l.live).log;
+  alive : All IsNoDeath l.passes.gives.given;
 }

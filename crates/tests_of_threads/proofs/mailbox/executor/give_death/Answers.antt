@@ -1,7 +1,7 @@
 use Rattle.std.proofs.Common.{sym, subst, refl, ◌∙◌}
-use Rattle.act_rules.specs.Consistent.{IsFront}
-use Rattle.act_mailbox.specs.Notices.{ReplyExecValue}
+use Rattle.act_rules.specs.Consistent.{IsPrefix}
+use Rattle.act_mailbox.specs.Notices.{ReplyExecView}
 use Rattle.tests_of_threads.proofs.mailbox.executor.give_death.Goals as goal
 
 pub give-requires-clause-grown : goal.give-requires-clause-grown
-give-requires-clause-grown g c = subst (λ (e : ReplyExecValue). IsFront e.seen c.args.log.now) (sym (c.loop.invariant ∙ c.requires)) (c.args.log.now, refl)
+give-requires-clause-grown g c = subst (λ (e : ReplyExecView). IsPrefix e.seen c.args.log.now) (sym (c.loop.invariant ∙ c.requires)) (c.args.log.now, refl)

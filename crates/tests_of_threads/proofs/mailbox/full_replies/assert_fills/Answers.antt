@@ -1,7 +1,7 @@
 use Rattle.std.proofs.Common.{sym, subst, refl}
-use Rattle.act_rules.specs.Consistent.{IsFront}
-use Rattle.act_mailbox.specs.Notices.{ReplyExecValue}
+use Rattle.act_rules.specs.Consistent.{IsPrefix}
+use Rattle.act_mailbox.specs.Notices.{ReplyExecView}
 use Rattle.tests_of_threads.proofs.mailbox.full_replies.assert_fills.Goals as goal
 
 pub assert_filled-requires-clause-grown : goal.assert_filled-requires-clause-grown
-assert_filled-requires-clause-grown g c = subst (λ (e : ReplyExecValue). IsFront e.seen c.args.log.now) (sym c.requires.opened) (c.args.log.now, refl)
+assert_filled-requires-clause-grown g c = subst (λ (e : ReplyExecView). IsPrefix e.seen c.args.log.now) (sym c.requires.opened) (c.args.log.now, refl)

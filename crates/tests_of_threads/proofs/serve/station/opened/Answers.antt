@@ -1,5 +1,5 @@
 use Rattle.std.proofs.Common.{rules}
-use Rattle.act_serve.proofs.Alone.{seated_alone, alone_differs}
+use Rattle.act_serve.proofs.Alone.{alone_at_endpoint, alone_differs}
 use Rattle.tests_of_threads.proofs.serve.station.opened.Goals as goal
 
 pub returns-clause-fit : goal.returns-clause-fit
@@ -8,6 +8,6 @@ returns-clause-fit c = record {
   control_is = search rules;
   actor_is = search rules;
   looked = search rules;
-  seats = seated_alone c.in_ok-replies.replies c.in_ok-replies.pass _ (search rules) (search rules);
+  endpoints = alone_at_endpoint c.in_ok-replies.replies c.in_ok-replies.pass _ (search rules) (search rules);
   differ = alone_differs c.in_ok-replies.replies c.in_ok-replies.pass _ (search rules);
 }

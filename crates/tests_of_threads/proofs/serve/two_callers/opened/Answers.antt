@@ -1,5 +1,5 @@
 use Rattle.std.proofs.Common.{rules}
-use Rattle.act_serve.proofs.Pair.{seated_both, both_differ}
+use Rattle.act_serve.proofs.Pair.{both_at_endpoints, both_differ}
 use Rattle.tests_of_threads.proofs.serve.two_callers.opened.Goals as goal
 
 pub returns-clause-fit : goal.returns-clause-fit
@@ -8,6 +8,6 @@ returns-clause-fit c = record {
   control_is = search rules;
   actor_is = search rules;
   looked = search rules;
-  seats = seated_both c.in_ok-first.first c.in_ok-other.other c.in_ok-first.first_pass c.in_ok-other.other_pass _ (search rules) (search rules) (search rules);
+  endpoints = both_at_endpoints c.in_ok-first.first c.in_ok-other.other c.in_ok-first.first_pass c.in_ok-other.other_pass _ (search rules) (search rules) (search rules);
   differ = both_differ c.in_ok-first.first c.in_ok-other.other c.in_ok-first.first_pass c.in_ok-other.other_pass _ (search rules) (search rules) (search rules);
 }

@@ -1,0 +1,110 @@
+-- Where a letter stands that was posted.
+use Rattle.std.proofs.Common.{◌≡◌, ◌≢◌, ℕ, zero, suc, ◌<◌, List, [], ◌∷◌, ◌++◌, length, map, get_or, Some, sym, ◌∙◌, ap, subst, arith, All, AllPairs, Contains, inl, inr}
+use Rattle.std.proofs.lemmas.Bool.Decides.{eqb_tells, leb_tells}
+use Rattle.std.proofs.lemmas.List.{get_or-map, length-map}
+use Rattle.std.proofs.lemmas.List.Elements.{All-contains, All-nil, All-cons, All-head, All-tail, All-append, All-weaker, Contains-append_cases, filter_map-append}
+use Rattle.std.proofs.lemmas.List.Kept.{AllPairs-cons}
+use Rattle.act_types.specs.declared.message.Packet.{Packet}
+use Rattle.act_types.specs.declared.message.ReleaseNote.{ReleaseNote}
+use Rattle.act_owner.specs.Owner.{OwnerView, packet_at}
+use Rattle.act_mailbox.specs.Passes.{PutterView}
+use Rattle.act_mailbox.specs.declared.mail.Letter.{Letter}
+use Rattle.act_mailbox.specs.declared.mail.Letter.TheVariants.{Call, Note}
+use Rattle.act_mailbox.specs.declared.endpoint.Endpoint.{Endpoint}
+use Rattle.act_mailbox.specs.Mails.{MailView}
+use Rattle.act_drive.specs.Driven.{actor_of_letter, future_of_letter, futures_in, bare_post, IsSent, HasPosted, AreDistinct, IsPostedOnce, posted_in, LettersStandAtTheirEndpoints}
+
+-- the letter stands at an endpoint
+endpoint_of : (endpoints : List (Endpoint (PutterView Letter Unit))) (letter : Letter) → Contains (posted_in endpoints) letter → (k : ℕ) × (k < length endpoints) × ((s : Endpoint (PutterView Letter Unit)) → Contains (get_or endpoints k s).pass.put letter)
+endpoint_of [] letter here = absurd (let below = here.1 in omega (arith, below))
+endpoint_of (endpoint ∷ endpoints) letter here = elim (Contains-append_cases endpoint.pass.put (posted_in endpoints) letter here) [
+  | inl first ↦ (zero, omega arith, λ s. first)
+  | inr later ↦ let found = endpoint_of endpoints letter later in let below = found.1 in (suc found.0, omega (arith, below), λ s. found.2 s)
+]
+
+sent_to : (owner : OwnerView) (a : ℕ) (letter : Letter) → IsSent owner a letter → actor_of_letter letter ≡ a
+sent_to owner a (Call packet) is = is.2
+sent_to owner a (Note note) is = ap (λ (n : ReleaseNote). n.actor) is.0
+
+pub letters_stand_at_their_endpoints : LettersStandAtTheirEndpoints
+letters_stand_at_their_endpoints mails owner endpoints letter distinct posted here k s below d there =
+    let found = endpoint_of endpoints letter here in
+    let j = found.0 in
+    let inside = found.1 in
+    let same : (get_or mails (get_or endpoints j s).place d).actor ≡ (get_or mails (get_or endpoints k s).place d).actor =
+    sym (sent_to owner _ letter (All-contains (IsSent owner (get_or mails (get_or endpoints j s).place d).actor) (get_or endpoints j s).pass.put letter (posted j s inside d).0 (found.2 s))) ∙ sym there in
+    elim (eqb_tells j k) [
+      | inl t ↦ subst (λ (n : ℕ). Contains (get_or endpoints n s).pass.put letter) t.1 (found.2 s)
+      | inr f ↦ let apart = f.1 in absurd (elim (leb_tells (suc j) k) [
+        | inl t ↦ distinct j k s t.1 below d same
+        | inr g ↦ let over = g.1 in distinct k j s (omega (arith, over, apart)) inside d (sym same)
+      ])
+    ]
+
+-- ---- no call is posted twice
+
+abbrev LetterEndpoint : Type 0
+LetterEndpoint = Endpoint (PutterView Letter Unit)
+
+-- the endpoints are at the same lines
+pub distinct_stays : (mails : List MailView) (old new : List LetterEndpoint) → map bare_post new ≡ map bare_post old → AreDistinct mails old → AreDistinct mails new
+distinct_stays mails old new same distinct i j d lt below =
+    let long : length new ≡ length old = sym (length-map new bare_post) ∙ ap (λ (l : List LetterEndpoint). length l) same ∙ length-map old bare_post in
+    let place : (k : ℕ) → k < length new → (get_or new k d).place ≡ (get_or old k d).place = λ k inside.
+    ap (λ (s : LetterEndpoint). s.place) (sym (get_or-map bare_post new k d (bare_post d) inside) ∙ ap (λ (l : List LetterEndpoint). get_or l k (bare_post d)) same ∙ get_or-map bare_post old k d (bare_post d) (omega (arith, inside, long))) in
+    λ m same_actor. distinct i j d lt (omega (arith, below, long)) m
+    (ap (λ (n : ℕ). (get_or mails n m).actor) (sym (place i (omega (arith, lt, below)))) ∙ same_actor ∙ ap (λ (n : ℕ). (get_or mails n m).actor) (place j below))
+
+-- whose call a future is
+abbrev IsOf : OwnerView → ℕ → ℕ → Type 0
+IsOf owner a k = (packet : Packet) × (packet_at owner k ≡ Some packet) × (packet.actor ≡ a)
+
+futures_of : (owner : OwnerView) (a : ℕ) (letters : List Letter) → All (IsSent owner a) letters → All (IsOf owner a) (futures_in letters)
+futures_of owner a [] sent = All-nil (IsOf owner a)
+futures_of owner a (Call packet ∷ letters) sent =
+    let first = All-head (IsSent owner a) (Call packet) letters sent in
+    All-cons (IsOf owner a) packet.future (futures_in letters) (packet, first.0, first.2) (futures_of owner a letters (All-tail (IsSent owner a) (Call packet) letters sent))
+futures_of owner a (Note note ∷ letters) sent = futures_of owner a letters (All-tail (IsSent owner a) (Note note) letters sent)
+
+-- a future of one actor is none of another
+futures_apart : (owner : OwnerView) (a b j k : ℕ) → a ≢ b → IsOf owner a j → IsOf owner b k → j ≢ k
+futures_apart owner a b j k apart mine other same =
+    let one : Some mine.0 ≡ Some other.0 = sym mine.1 ∙ ap (packet_at owner) same ∙ other.1 in
+    let packet : mine.0 ≡ other.0 = cc one in
+    apart (sym mine.2 ∙ ap (λ (p : Packet). p.actor) packet ∙ other.2)
+
+pairs_append : (xs ys : List ℕ) → AllPairs (λ one other. one ≢ other) xs → AllPairs (λ one other. one ≢ other) ys → All (λ x. All (λ y. x ≢ y) ys) xs → AllPairs (λ one other. one ≢ other) (xs ++ ys)
+pairs_append [] ys first second apart = second
+pairs_append (x ∷ xs) ys first second apart =
+    let R : ℕ → ℕ → Type 0 = λ one other. one ≢ other in
+    let later : All (R x) xs = λ k d below. first 0 (suc k) d (omega arith) (omega (arith, below)) in
+    let rest : AllPairs R xs = λ i j d lt below. first (suc i) (suc j) d (omega (arith, lt)) (omega (arith, below)) in
+    AllPairs-cons R x (xs ++ ys) (All-append (R x) xs ys later (All-head (λ n. All (R n) ys) x xs apart)) (pairs_append xs ys rest second (All-tail (λ n. All (R n) ys) x xs apart))
+
+-- what was posted at the other endpoints is of other actors
+others_apart : (mails : List MailView) (owner : OwnerView) (a : ℕ) (d : MailView) (endpoints : List LetterEndpoint) (k : ℕ) → IsOf owner a k → All (λ (s : LetterEndpoint). a ≢ (get_or mails s.place d).actor) endpoints → All (HasPosted mails owner) endpoints → All (λ other. k ≢ other) (futures_in (posted_in endpoints))
+others_apart mails owner a d [] k mine apart posted = All-nil (λ other. k ≢ other)
+others_apart mails owner a d (endpoint ∷ endpoints) k mine apart posted =
+    let here = All-head (λ (s : LetterEndpoint). a ≢ (get_or mails s.place d).actor) endpoint endpoints apart in
+    let these = All-head (HasPosted mails owner) endpoint endpoints posted in
+    let b = (get_or mails endpoint.place d).actor in
+    let first : All (λ other. k ≢ other) (futures_in endpoint.pass.put) = All-weaker (IsOf owner b) (λ other. k ≢ other) (λ other of. futures_apart owner a b k other here mine of) (futures_in endpoint.pass.put) (futures_of owner b endpoint.pass.put (these d).0) in
+    let rest = others_apart mails owner a d endpoints k mine (All-tail (λ (s : LetterEndpoint). a ≢ (get_or mails s.place d).actor) endpoint endpoints apart) (All-tail (HasPosted mails owner) endpoint endpoints posted) in
+    subst (λ (l : List ℕ). All (λ other. k ≢ other) l) (sym (filter_map-append future_of_letter endpoint.pass.put (posted_in endpoints))) (All-append (λ other. k ≢ other) (futures_in endpoint.pass.put) (futures_in (posted_in endpoints)) first rest)
+
+once_at : (mails : List MailView) (owner : OwnerView) (d : MailView) (endpoints : List LetterEndpoint) → AreDistinct mails endpoints → All (HasPosted mails owner) endpoints → IsPostedOnce endpoints
+once_at mails owner d [] distinct posted = λ i j e lt below. absurd (omega (arith, below))
+once_at mails owner d (endpoint ∷ endpoints) distinct posted =
+    let a = (get_or mails endpoint.place d).actor in
+    let apart : All (λ (s : LetterEndpoint). a ≢ (get_or mails s.place d).actor) endpoints = λ k e below. distinct 0 (suc k) e (omega arith) (omega (arith, below)) d in
+    let rest : AreDistinct mails endpoints = λ i j e lt below. distinct (suc i) (suc j) e (omega (arith, lt)) (omega (arith, below)) in
+    let these = All-head (HasPosted mails owner) endpoint endpoints posted in
+    let others = All-tail (HasPosted mails owner) endpoint endpoints posted in
+    let crossing : All (λ k. All (λ other. k ≢ other) (futures_in (posted_in endpoints))) (futures_in endpoint.pass.put) =
+    All-weaker (IsOf owner a) (λ k. All (λ other. k ≢ other) (futures_in (posted_in endpoints))) (λ k of. others_apart mails owner a d endpoints k of apart others) (futures_in endpoint.pass.put) (futures_of owner a endpoint.pass.put (these d).0) in
+    subst (λ (l : List ℕ). AllPairs (λ one other. one ≢ other) l) (sym (filter_map-append future_of_letter endpoint.pass.put (posted_in endpoints)))
+    (pairs_append (futures_in endpoint.pass.put) (futures_in (posted_in endpoints)) (these d).1 (once_at mails owner d endpoints rest others) crossing)
+
+pub posted_once : (mails : List MailView) (owner : OwnerView) (endpoints : List LetterEndpoint) → AreDistinct mails endpoints → All (HasPosted mails owner) endpoints → IsPostedOnce endpoints
+posted_once mails owner [] distinct posted = λ i j e lt below. absurd (omega (arith, below))
+posted_once mails owner (endpoint ∷ endpoints) distinct posted = once_at mails owner (record { line = endpoint.pass.line; actor = 0 }) (endpoint ∷ endpoints) distinct posted

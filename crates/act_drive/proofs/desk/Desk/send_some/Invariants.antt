@@ -1,8 +1,0 @@
-use Rattle.act_drive.specs.Driven.{IsCalling, Waits}
-use Rattle.act_drive.proofs.desk.Desk.send_some.Given as goal
-
-abbrev pub invariant-loop-sent : goal.invariant-loop-sent
-invariant-loop-sent g l = record {
-  calling : IsCalling l.lines l.self;
-  waits : Waits l.fn.self l.self;
-}

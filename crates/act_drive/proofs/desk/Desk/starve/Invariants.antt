@@ -1,8 +1,0 @@
-use Rattle.act_drive.specs.Driven.{IsCalling, Stays}
-use Rattle.act_drive.proofs.desk.Desk.starve.Given as goal
-
-abbrev pub invariant-loop : goal.invariant-loop
-invariant-loop g l = record {
-  calling : IsCalling l.lines l.self;
-  stay : Stays l.initial.self l.self;
-}

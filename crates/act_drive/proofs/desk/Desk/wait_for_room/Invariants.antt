@@ -1,8 +1,0 @@
-use Rattle.act_drive.specs.Driven.{IsCalling, Waits}
-use Rattle.act_drive.proofs.desk.Desk.wait_for_room.Given as goal
-
-abbrev pub invariant-loop : goal.invariant-loop
-invariant-loop g l = record {
-  calling : IsCalling l.lines l.self;
-  waits : Waits l.initial.self l.self;
-}

@@ -1,7 +1,0 @@
-use Rattle.act_drive.proofs.PlanSteps.{follows_waits}
-use Rattle.act_drive.proofs.Done.{done_of}
-use Rattle.act_drive.proofs.desk.Desk.whole.Goals as goal
-
-pub returns-clause-done : goal.returns-clause-done
-returns-clause-done g c actors fits start =
-    done_of c.args.lines.now actors c.args.plan.items c.turn.new.self c.close.new.self c.finish.new.self c.in_ok-close.ensures.winds c.in_ok-close.ensures.none c.in_ok-finish.ensures.waits c.in_ok-finish.ensures.calling c.in_ok-finish.ensures.answered c.in_ok-finish.ensures.empty (follows_waits c.args.lines.now actors c.args.plan.items c.steps.new.self c.turn.new.self c.in_ok-turn.ensures.waits (c.in_ok-steps.ensures.follows actors fits (rw c.reserve.ensures start)))

@@ -1,0 +1,32 @@
+use Rattle.std.proofs.Common.{refl, rules, ◌≡◌, true}
+use Rattle.act_owner.specs.Owner.{is_known_dead}
+use Rattle.act_drive.proofs.Drivers.{stays_trans, waits_trans}
+use Rattle.act_drive.proofs.Kills.{kill_follows, kills_dead}
+use Rattle.act_drive.proofs.CodeSteps.{on_err}
+use Rattle.act_drive.proofs.driver.Driver.ask_until.Goals as goal
+
+pub returns-then-is_dead-clause-follows : goal.returns-then-is_dead-clause-follows
+returns-then-is_dead-clause-follows g c =
+    let driver = c.loop.self in
+    let dead : is_known_dead driver.owner c.args.a ≡ true = search rules in
+    kill_follows c.args.lines.now c.args.self.now driver _ c.args.a c.loop.invariant.waits refl refl
+    (λ steps. kills_dead c.args.lines.now.controls.now driver.passes.collects.taken driver.passes.kills.items c.args.a (c.loop.invariant.calling.hears.deaths c.args.a dead) steps)
+
+pub returns-then-ask-clause-follows : goal.returns-then-ask-clause-follows
+returns-then-ask-clause-follows g c =
+    let driver = c.loop.self in
+    let asked = c.ask.ensures.asked c.if-ask.true in
+    kill_follows c.args.lines.now c.args.self.now driver _ c.args.a c.loop.invariant.waits asked.owner asked.collects (asked.kills driver.passes.collects.taken)
+
+pub loop-preserved : goal.loop-preserved
+loop-preserved g c = record {
+  calling = c.in_ok-wait_turn.ensures.calling;
+  waits = waits_trans _ _ _ (waits_trans _ _ _ c.loop.invariant.waits (c.ask.ensures.refused c.if-ask.false)) c.in_ok-wait_turn.ensures.waits;
+}
+
+pub returns-then-ask-clause-stays : goal.returns-then-ask-clause-stays
+returns-then-ask-clause-stays g c = stays_trans _ _ _ c.loop.invariant.waits.stay c.ask.ensures.stays
+
+pub returns-in_err-wait_turn-clause-waits : goal.returns-in_err-wait_turn-clause-waits
+returns-in_err-wait_turn-clause-waits g c =
+    on_err c.from_residual.result _ (waits_trans _ _ _ (waits_trans _ _ _ c.loop.invariant.waits (c.ask.ensures.refused c.if-ask.false)) c.in_err-wait_turn.ensures.waits)

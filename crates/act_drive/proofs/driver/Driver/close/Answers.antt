@@ -1,0 +1,23 @@
+use Rattle.std.proofs.Common.{rules, ◌≡◌, ◌<◌, ◌≤◌, ◌∙◌, ap, sym, length, subst, All, List}
+use Rattle.std.proofs.lemmas.List.{take_all, get_or_default}
+use Rattle.act_rules.specs.Submissions.{copies_held}
+use Rattle.act_handles.specs.Handles.{copies_in}
+use Rattle.act_mailbox.specs.Mails.{MailView}
+use Rattle.act_drive.proofs.Closing.{winds_trans, none_more}
+use Rattle.act_drive.proofs.driver.Driver.close.Goals as goal
+
+pub loop-mail-preserved : goal.loop-mail-preserved
+loop-mail-preserved g c =
+    let mails = c.args.lines.now.mails.now in
+    let below : c.loop-mail.mail-index < length mails = search rules in
+    record {
+      calling = c.in_ok-let_go.ensures.calling;
+      only_releases = winds_trans _ _ _ c.loop-mail.invariant.only_releases c.in_ok-let_go.ensures.only_releases;
+      none = none_more mails c.loop-mail.mail-index c.actor.result c.loop-mail.self c.let_go.new.self below (λ d. ap (λ (m : MailView). m.actor) (get_or_default mails c.loop-mail.mail-index d c.mail-item.result below ∙ sym c.mail-item.is) ∙ sym c.actor.ensures) c.in_ok-let_go.ensures.only_releases c.in_ok-let_go.ensures.none c.loop-mail.invariant.none;
+    }
+
+pub returns-clause-none : goal.returns-clause-none
+returns-clause-none g c =
+    let mails = c.args.lines.now.mails.now in
+    let past : length mails ≤ c.loop-mail.mail-index = search rules in
+    subst (λ (l : List MailView). All (λ mail. copies_held (copies_in mail.actor c.loop-mail.self.owner.handles) ≡ 0) l) (take_all c.loop-mail.mail-index mails past) c.loop-mail.invariant.none

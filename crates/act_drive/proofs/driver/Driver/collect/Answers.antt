@@ -1,0 +1,17 @@
+use Rattle.std.proofs.Common.{refl, inl, inr, ap}
+use Rattle.act_drive.proofs.Drivers.{calling_heard}
+use Rattle.act_drive.proofs.driver.Driver.collect.Goals as goal
+
+pub returns-in-Some-clause-calling : goal.returns-in-Some-clause-calling
+returns-in-Some-clause-calling g c =
+    (calling_heard c.args.lines.now c.args.self.now _ c.in-Some.notice c.collect.ensures.after c.in-Some.ensures.taken refl refl refl refl c.requires.calling).0
+
+pub returns-in-Some-clause-waits : goal.returns-in-Some-clause-waits
+returns-in-Some-clause-waits g c =
+    (calling_heard c.args.lines.now c.args.self.now _ c.in-Some.notice c.collect.ensures.after c.in-Some.ensures.taken refl refl refl refl c.requires.calling).1
+
+pub returns-in-Some-clause-heard : goal.returns-in-Some-clause-heard
+returns-in-Some-clause-heard g c = inr (c.in-Some.notice, ap (λ (t : _). t.taken) c.in-Some.ensures.taken, c.collect.ensures.after)
+
+pub returns-in-None-clause-heard : goal.returns-in-None-clause-heard
+returns-in-None-clause-heard g c = inl (refl, c.in-None.ensures.none)

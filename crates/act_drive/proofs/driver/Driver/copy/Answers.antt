@@ -1,0 +1,14 @@
+use Rattle.std.proofs.Common.{refl}
+use Rattle.act_owner.specs.Life.{Copied}
+use Rattle.act_drive.proofs.OwnChanges.{calling_step, ended_copied}
+use Rattle.act_drive.proofs.PlanSteps.{copy_follows}
+use Rattle.act_drive.proofs.Notes.{ok_of}
+use Rattle.act_drive.proofs.Keeps.{copy_returns}
+use Rattle.act_drive.proofs.driver.Driver.copy.Goals as goal
+
+pub returns-in-Ok-clause-calling : goal.returns-in-Ok-clause-calling
+returns-in-Ok-clause-calling g c lines calling =
+    calling_step lines c.args.self.now _ (Copied c.args.a) c.in-Ok.ensures.ok refl refl refl refl calling.flags (ended_copied c.args.self.now.owner c.args.a (ok_of _ _ _ c.in-Ok.ensures.value)) (copy_returns c.args.self.now.owner c.args.a) calling
+
+pub returns-in-Ok-clause-follows : goal.returns-in-Ok-clause-follows
+returns-in-Ok-clause-follows g c lines = copy_follows lines c.args.self.now _ c.args.a c.in-Ok.ensures.ok refl

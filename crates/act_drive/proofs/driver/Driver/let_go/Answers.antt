@@ -1,0 +1,19 @@
+use Rattle.std.proofs.Common.{rules, arith, ◌≡◌, ◌<◌, ◌∙◌, ap, ◌-◌, List}
+use Rattle.act_rules.specs.Submissions.{copies_held}
+use Rattle.act_handles.specs.Handles.{copies_in}
+use Rattle.act_handles.specs.declared.handles.Handle.{Handle}
+use Rattle.act_drive.proofs.Closing.{winds_trans, one_gone}
+use Rattle.act_drive.proofs.driver.Driver.let_go.Goals as goal
+
+pub loop-gone-preserved : goal.loop-gone-preserved
+loop-gone-preserved g c =
+    let before = c.loop-gone.self in
+    let less : copies_held (copies_in c.args.a c.release.new.self.owner.handles) ≡ copies_held (copies_in c.args.a before.owner.handles) - 1 =
+    ap (λ (h : List Handle). copies_held (copies_in c.args.a h)) c.in_ok-release.ensures.handles ∙ one_gone before.owner.handles c.args.a in
+    let below : c.loop-gone._gone < copies_held (copies_in c.args.a c.args.self.now.owner.handles) = search rules in
+    let left = c.loop-gone.invariant.left in
+    record {
+      calling = c.in_ok-release.ensures.calling;
+      only_releases = winds_trans _ _ _ c.loop-gone.invariant.only_releases c.in_ok-release.ensures.only_releases;
+      left = omega (arith, less, below, left);
+    }

@@ -1,0 +1,57 @@
+use Rattle.std.proofs.Common.{refl, ◌≡◌, Some, None, Ok, ◌∙◌, ap}
+use Rattle.act_owner.specs.Owner.{OwnerView, with_handles, release_told}
+use Rattle.act_owner.specs.Life.{Released}
+use Rattle.act_handles.specs.Handles.{copies_in, without_copy}
+use Rattle.act_types.specs.declared.message.ReleaseNote.{ReleaseNote}
+use Rattle.act_mailbox.specs.declared.mail.Letter.TheVariants.{Note}
+use Rattle.act_drive.proofs.OwnChanges.{calling_step, ended_released}
+use Rattle.act_drive.proofs.PlanSteps.{release_follows}
+use Rattle.act_drive.proofs.Notes.{calling_noted, last_of, note_stays, not_last}
+use Rattle.act_drive.proofs.Closing.{released_winds}
+use Rattle.act_drive.proofs.Keeps.{release_returns}
+use Rattle.act_drive.proofs.driver.Driver.release.Goals as goal
+
+pub returns-in-Ok-Some-clause-calling : goal.returns-in-Ok-Some-clause-calling
+returns-in-Ok-Some-clause-calling g c =
+    let between = c.clear.new.self in
+    let told : Ok (Some c.in-Ok-Some.note) ≡ release_told between.owner c.args.a = rw c.in-Ok-Some.field-0-is at c.in-Ok-Some.ensures.value in
+    let last = last_of _ _ _ _ told in
+    let is : c.release.new.self ≡ with_handles between.owner (without_copy c.args.a between.owner.handles) = c.in-Ok-Some.ensures.ok in
+    calling_noted c.args.lines.now between _ c.args.a c.in-Ok-Some.note is refl c.clear.ensures.empty refl refl last.1 c.release.ensures.given last.0 c.clear.ensures.calling
+
+pub returns-in-Ok-Some-clause-follows : goal.returns-in-Ok-Some-clause-follows
+returns-in-Ok-Some-clause-follows g c = release_follows c.args.lines.now c.args.self.now c.clear.new.self _ c.args.a c.clear.ensures.waits c.in-Ok-Some.ensures.ok refl
+
+pub returns-in-Ok-None-clause-calling : goal.returns-in-Ok-None-clause-calling
+returns-in-Ok-None-clause-calling g c =
+    let between = c.clear.new.self in
+    let told : Ok None ≡ release_told between.owner c.args.a = rw c.in-Ok-None.field-0-is at c.in-Ok-None.ensures.value in
+    calling_step c.args.lines.now between _ (Released c.args.a) c.in-Ok-None.ensures.ok refl refl refl refl c.clear.ensures.calling.flags (ended_released between.owner c.args.a) (release_returns between.owner c.args.a (λ one. not_last _ _ told one)) c.clear.ensures.calling
+
+pub returns-in-Ok-None-clause-follows : goal.returns-in-Ok-None-clause-follows
+returns-in-Ok-None-clause-follows g c = release_follows c.args.lines.now c.args.self.now c.clear.new.self _ c.args.a c.clear.ensures.waits c.in-Ok-None.ensures.ok refl
+
+pub returns-in-Ok-Some-clause-only_releases : goal.returns-in-Ok-Some-clause-only_releases
+returns-in-Ok-Some-clause-only_releases g c = released_winds c.args.self.now c.clear.new.self _ c.args.a c.clear.ensures.waits c.in-Ok-Some.ensures.ok refl
+
+pub returns-in-Ok-None-clause-only_releases : goal.returns-in-Ok-None-clause-only_releases
+returns-in-Ok-None-clause-only_releases g c = released_winds c.args.self.now c.clear.new.self _ c.args.a c.clear.ensures.waits c.in-Ok-None.ensures.ok refl
+
+pub returns-in-Ok-Some-clause-noted : goal.returns-in-Ok-Some-clause-noted
+returns-in-Ok-Some-clause-noted g c one =
+    let between = c.clear.new.self in
+    let told : Ok (Some c.in-Ok-Some.note) ≡ release_told between.owner c.args.a = rw c.in-Ok-Some.field-0-is at c.in-Ok-Some.ensures.value in
+    let last = last_of _ _ _ _ told in
+    ap (λ (n : ReleaseNote). Some (Note n)) (last.1 ∙ note_stays c.args.self.now between c.args.a c.clear.ensures.waits)
+
+pub returns-in-Ok-None-clause-noted : goal.returns-in-Ok-None-clause-noted
+returns-in-Ok-None-clause-noted g c one =
+    let between = c.clear.new.self in
+    let told : Ok None ≡ release_told between.owner c.args.a = rw c.in-Ok-None.field-0-is at c.in-Ok-None.ensures.value in
+    absurd (not_last _ _ told (ap (copies_in c.args.a) c.clear.ensures.waits.handles ∙ one))
+
+pub returns-in-Ok-Some-clause-handles : goal.returns-in-Ok-Some-clause-handles
+returns-in-Ok-Some-clause-handles g c = ap (λ (o : OwnerView). o.handles) c.in-Ok-Some.ensures.ok ∙ ap (without_copy c.args.a) c.clear.ensures.waits.handles
+
+pub returns-in-Ok-None-clause-handles : goal.returns-in-Ok-None-clause-handles
+returns-in-Ok-None-clause-handles g c = ap (λ (o : OwnerView). o.handles) c.in-Ok-None.ensures.ok ∙ ap (without_copy c.args.a) c.clear.ensures.waits.handles

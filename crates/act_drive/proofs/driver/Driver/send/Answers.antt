@@ -1,0 +1,28 @@
+use Rattle.std.proofs.Common.{refl, rules, ◌≡◌, Some, All, true, inl, inr}
+use Rattle.act_drive.proofs.Drivers.{calling_dropped, calling_posted, posted_waits}
+use Rattle.act_owner.specs.Owner.{is_known_dead}
+use Rattle.act_drive.specs.Driven.{actor_of_letter, IsApart}
+use Rattle.act_drive.proofs.driver.Driver.send.Goals as goal
+
+pub returns-then-is_dead-clause-calling : goal.returns-then-is_dead-clause-calling
+returns-then-is_dead-clause-calling g c =
+    let outbox : c.args.self.now.outbox ≡ Some c.in-Some.letter = search rules in
+    let dead : is_known_dead c.args.self.now.owner (actor_of_letter c.in-Some.letter) ≡ true = search rules in
+    calling_dropped c.args.lines.now c.args.self.now _ c.in-Some.letter outbox (inl (c.requires.calling.hears.deaths (actor_of_letter c.in-Some.letter) dead)) refl refl (search rules) refl c.requires.calling
+
+pub returns-in_default-letter_endpoint-clause-calling : goal.returns-in_default-letter_endpoint-clause-calling
+returns-in_default-letter_endpoint-clause-calling g c =
+    let outbox : c.args.self.now.outbox ≡ Some c.in-Some.letter = search rules in
+    let apart : All (IsApart c.args.lines.now.mails.now (actor_of_letter c.in-Some.letter)) c.args.self.now.passes.letters.items = search rules in
+    calling_dropped c.args.lines.now c.args.self.now _ c.in-Some.letter outbox (inr apart) refl refl (search rules) refl c.requires.calling
+
+pub returns-clause-calling : goal.returns-clause-calling
+returns-clause-calling g c =
+    let endpoint = c.index_mut-endpoint.result.now in
+    let outbox : c.args.self.now.outbox ≡ Some c.in-Some.letter = search rules in
+    calling_posted c.args.lines.now c.args.self.now _ c.in-Some.letter c.in-Some-letter_endpoint.at endpoint c.post.new.pass outbox (search rules) (search rules) (λ d. search rules) (search rules) refl (search rules) refl refl (search rules) (search rules) c.requires.calling
+
+pub returns-clause-waits : goal.returns-clause-waits
+returns-clause-waits g c =
+    let endpoint = c.index_mut-endpoint.result.now in
+    posted_waits c.args.self.now _ c.in-Some-letter_endpoint.at endpoint c.post.new.pass (search rules) (search rules) refl refl refl refl

@@ -1,0 +1,8 @@
+use Rattle.act_drive.specs.Driven.{IsCalling, Stays}
+use Rattle.act_drive.proofs.driver.Driver.starve.Given as goal
+
+abbrev pub invariant-loop : goal.invariant-loop
+invariant-loop g l = record {
+  calling : IsCalling l.lines l.self;
+  stay : Stays l.initial.self l.self;
+}

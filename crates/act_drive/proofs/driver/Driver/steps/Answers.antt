@@ -1,0 +1,24 @@
+use Rattle.std.proofs.Common.{◌≡◌, ◌++◌, ◌∷◌, [], List, append_assoc, ap, sym, ◌∙◌}
+use Rattle.std.specs.Vec.Iter.{into_iter_items}
+use Rattle.act_rules.specs.declared.script.Step.{Step}
+use Rattle.act_drive.proofs.Drivers.{stays_trans}
+use Rattle.act_drive.proofs.PlanSteps.{not_bad, follows_waits}
+use Rattle.act_drive.proofs.driver.Driver.steps.Goals as goal
+
+pub loop-step-preserved : goal.loop-step-preserved
+loop-step-preserved g c =
+    let before = c.loop-step.invariant.follows in
+    let rest = into_iter_items c.next.new.self in
+    let step = c.in-Some.step in
+    let all : before.0 ++ step ∷ rest ≡ c.args.plan.items = ap (λ (l : List Step). before.0 ++ l) (sym c.in-Some.ensures.steps.0) ∙ before.1 in
+    record {
+      calling = c.in_ok-turn_after.ensures.calling;
+      stay = stays_trans _ _ _ (stays_trans _ _ _ c.loop-step.invariant.stay c.in_ok-step.ensures.stays) c.in_ok-turn_after.ensures.waits.stay;
+      follows = (
+        before.0 ++ step ∷ [],
+        append_assoc before.0 (step ∷ []) rest ∙ all,
+        λ actors fits start.
+            follows_waits c.args.lines.now actors (before.0 ++ step ∷ []) c.step.new.self c.turn_after.new.self c.in_ok-turn_after.ensures.waits
+            (c.in_ok-step.ensures.follows actors before.0 (not_bad actors c.args.plan.items before.0 step rest all fits) (before.2 actors fits start)),
+      );
+    }

@@ -1,0 +1,9 @@
+use Rattle.std.proofs.Common.{refl, rules, ◌≡◌, None}
+use Rattle.act_drive.proofs.Drivers.{calling_taken}
+use Rattle.act_drive.proofs.driver.Driver.take_up.Goals as goal
+
+pub returns-in-Some-clause-calling : goal.returns-in-Some-clause-calling
+returns-in-Some-clause-calling g c lines calling =
+    let packet = c.in-Some.packet in
+    let empty : c.args.self.now.outbox ≡ None = search rules in
+    calling_taken lines c.args.self.now _ packet.future packet (search rules) (search rules) empty (search rules) refl refl refl calling

@@ -1,0 +1,8 @@
+use Rattle.act_drive.proofs.Drivers.{waits_trans}
+use Rattle.act_drive.proofs.driver.Driver.wait_for.Goals as goal
+
+pub loop-preserved : goal.loop-preserved
+loop-preserved g c = record {
+  calling = c.in_ok-wait_turn.ensures.calling;
+  waits = waits_trans _ _ _ c.loop.invariant.waits c.in_ok-wait_turn.ensures.waits;
+}

@@ -1,0 +1,6 @@
+use Rattle.std.proofs.Common.{All, take}
+use Rattle.act_drive.specs.Driven.{IsElsewhere}
+use Rattle.act_drive.proofs.steps.kill_endpoint.Given as goal
+
+abbrev pub invariant-loop-at : goal.invariant-loop-at
+invariant-loop-at l = All (IsElsewhere l.controls l.actor) (take l.at l.endpoints)

@@ -1,7 +1,0 @@
-use Rattle.std.proofs.Common.{◌≡◌, ◌++◌, map}
-use Rattle.std.specs.Vec.Iter.{into_iter_items}
-use Rattle.act_executor.specs.Groups.{seat_at}
-use Rattle.act_executor.proofs.group.seat_all.Given as goal
-
-abbrev pub invariant-loop-pass : goal.invariant-loop-pass
-invariant-loop-pass g l = l.seats.items ++ map (seat_at l.place) (into_iter_items l.pass-iterator) ≡ l.fn.seats.items ++ map (seat_at l.place) l.fn.passes.items

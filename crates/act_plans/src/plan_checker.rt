@@ -1,0 +1,111 @@
+//! Which step of a plan would be refused.
+
+ghost use Rattle.std.specs.Prelude.{◌≡◌, ◌<◌, All, length, filter_map, slice_get, IfOk};
+ghost use Rattle.std.specs.List.{list_all};
+ghost use Rattle.act_types.specs.declared.call.Method.{Method};
+ghost use Rattle.act_rules.specs.declared.script.Step.TheVariants.{Submit};
+ghost use Rattle.act_rules.specs.Plans.{first_bad};
+ghost use Rattle.act_rules.specs.Submissions.{is_earlier};
+ghost use Rattle.act_handles.specs.Handles.{given_of_all};
+ghost use Rattle.act_actor.specs.Cast.{CallersDiffer};
+ghost use Rattle.act_plans.specs.Setups.{most_steps};
+ghost use Rattle.act_plans.specs.Prepared.{bad_of_setup};
+ghost use Rattle.act_plans.specs.PlanChecks.{ChecksStep};
+
+use crate::CallerSetup;
+use act_handles::Handles;
+use act_rules::Step;
+use act_types::{ActorId, Arg, CallerId, ListOf, MAX_ARGS, NoMemory};
+use std::alloc::Global;
+
+/// Whether the argument is a value or one of the first `count` futures.
+fn is_earlier(arg: &Arg, count: u32) -> bool
+    ensures { result ≡ is_earlier count arg.now }
+{
+    match arg {
+        Arg::Plain(_) => true,
+        Arg::Fut(future) => future.number() < count,
+    }
+}
+
+/// Whether each argument is a value or one of the first `count` futures.
+fn are_earlier(args: &ListOf<Arg>, count: u32) -> bool
+    ensures { result ≡ list_all (is_earlier count) args.now }
+{
+    args.as_slice().iter().all(|arg| is_earlier(arg, count))
+}
+
+/// What is known of a plan's steps so far: the handles, and the number of calls.
+#[derive(Drop)]
+struct PlanChecker {
+    handles: Handles,
+    count: u32,
+}
+
+impl PlanChecker {
+    /// Whether a call can be submitted. If so it is counted.
+    fn submits(&mut self, actor: ActorId, args: &ListOf<Arg>) -> bool
+        requires { self.old.count ≡ given_of_all self.old.handles }
+        ensures { (method : Method) → ChecksStep result (Submit actor method args.now) self.old self.new }
+    {
+        if args.len() > MAX_ARGS || !are_earlier(args, self.count) {
+            return false;
+        }
+        if self.handles.number(actor).is_err() {
+            return false;
+        }
+        self.count += 1;
+        true
+    }
+
+    /// Whether a step is accepted. If so it is done.
+    fn accepts(&mut self, step: &Step) -> bool
+        requires { self.old.count ≡ given_of_all self.old.handles }
+        ensures { ChecksStep result step.now self.old self.new }
+    {
+        match step {
+            Step::Submit(actor, _, args) => self.submits(*actor, args),
+            Step::Copy(actor) => self.handles.copy(*actor).is_ok(),
+            Step::Release(actor) => self.handles.release(*actor).is_ok(),
+            Step::Kill(actor) => self.handles.refusal(*actor).is_none(),
+            Step::Await(k) => k.number() < self.count,
+        }
+    }
+}
+
+/// The place of the first step of a plan that would be refused, where the caller has these actors.
+pub fn bad_step(alloc: Global, actors: &[ActorId], plan: &[Step]) -> Result<Option<u32>, NoMemory>
+    requires differ { CallersDiffer actors.now }
+    requires short { length plan.now < most_steps }
+    ensures { IfOk result (λ bad. bad ≡ first_bad actors.now plan.now) }
+{
+    let mut plan_checker = PlanChecker {
+        handles: Handles::open(alloc, actors)?,
+        count: 0,
+    };
+    for (place, step) in plan.iter().enumerate() {
+        if !plan_checker.accepts(step) {
+            return Ok(Some(place as u32));
+        }
+    }
+    Ok(None)
+}
+
+/// The first part with a step that would be refused: its caller, and the place of the first such
+/// step.
+pub fn first_bad_setup(
+    alloc: Global,
+    setups: &[CallerSetup],
+) -> Result<Option<(CallerId, u32)>, NoMemory>
+    requires differ { All (λ setup. CallersDiffer setup.actors.items) setups.now }
+    requires short { All (λ setup. length setup.plan.items < most_steps) setups.now }
+    ensures { IfOk result (λ bad. bad ≡ slice_get (filter_map bad_of_setup setups.now) 0) }
+{
+    for setup in setups {
+        let bad = bad_step(alloc, setup.actors.as_slice(), setup.plan.as_slice())?;
+        if let Some(place) = bad {
+            return Ok(Some((setup.caller, place)));
+        }
+    }
+    Ok(None)
+}

@@ -1,0 +1,16 @@
+//! A caller's part in a run.
+
+use act_rules::Step;
+use act_types::{ActorId, CallerId};
+
+/// What a caller's thread does, in order.
+pub type Plan = Vec<Step>;
+
+/// A caller, the actors whose casts name it, each of them with its limit, and its plan.
+#[derive(Drop)]
+pub struct CallerSetup {
+    pub caller: CallerId,
+    pub actors: Vec<ActorId>,
+    pub limits: Vec<(ActorId, Option<u32>)>,
+    pub plan: Plan,
+}

@@ -1,7 +1,0 @@
-use Rattle.act_serve.specs.Turns.{is_seat_of}
-use Rattle.act_serve.proofs.Nexts.{NoneOf}
-use Rattle.act_serve.proofs.letter.seat_of.Given as goal
-
--- no seat so far is the caller's
-abbrev pub invariant-loop-at : goal.invariant-loop-at
-invariant-loop-at l = NoneOf (is_seat_of l.replies l.caller) l.notices l.at

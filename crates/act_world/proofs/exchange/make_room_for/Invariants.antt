@@ -1,6 +1,0 @@
-use Rattle.std.proofs.Common.{◌≡◌}
-use Rattle.act_world.proofs.exchange.make_room_for.Given as goal
-
--- no caller has changed
-abbrev pub invariant-loop-owner : goal.invariant-loop-owner
-invariant-loop-owner l = l.owners ≡ l.fn.owners
