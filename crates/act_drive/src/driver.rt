@@ -77,7 +77,7 @@ fn mark_of(notice: &Notice) -> Mark {
 
 /// Marks the actor whose note was posted.
 fn mark(noted: &mut [bool; NUMBERS], actor: ActorId, is_note: bool)
-    ensures { noted.new ≡ (if is_note_letter then slice_set noted.old actor true else noted.old) }
+    ensures { noted.new ≡ (if is_note then slice_set noted.old actor true else noted.old) }
 {
     if is_note {
         noted[actor.number() as usize] = true;

@@ -120,4 +120,4 @@ pub record CanStop (starter : Starter) : Type 0 where
 
 -- it asked for a kill at each line
 abbrev pub HasAskedAll : Starter → Vec (Result (Endpoint (PutterView Asked ℕ)) KillNote) Global → Type 0
-HasAskedAll starter asked = Each (IsAsked starter.controls.now) starter.endpoints.items kill_by.items
+HasAskedAll starter asked = Each (IsAsked starter.controls.now) starter.endpoints.items asked.items

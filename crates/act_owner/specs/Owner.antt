@@ -89,7 +89,7 @@ is_known_dead owner a = unwrap_or (slice_get owner.dead a) false
 
 -- the answer of a new call, which it has where its actor is dead
 abbrev pub answer_of_new_call : Bool → Option Answer
-answer_of_new_call is_dead = if is_known_dead then Some (Err ActorDied) else None
+answer_of_new_call is_dead = if is_dead then Some (Err ActorDied) else None
 
 -- the caller after a call is submitted
 abbrev pub with_submission : OwnerView → ℕ → Method → List Arg → OwnerView
@@ -243,7 +243,7 @@ answers_of rows = map (λ row. row.answer) rows
 
 -- a new future, which is answered where its actor is dead
 abbrev pub answered_row : ℕ → Bool → Row
-answered_row a is_dead = record { actor = a; answer = answer_of_new_call is_known_dead }
+answered_row a is_dead = record { actor = a; answer = answer_of_new_call is_dead }
 
 -- a call without its number
 abbrev pub submission_of : Call → Submission
@@ -260,7 +260,7 @@ futures_of_args args = filter_map future_of_arg args
 
 -- a call as the resolver enters it: it is answered at once where its actor is dead
 abbrev pub entered_call : List Arg → Bool → Entered
-entered_call args is_dead = record { futures = futures_of_args args; answered = is_known_dead; sent = false }
+entered_call args is_dead = record { futures = futures_of_args args; answered = is_dead; sent = false }
 
 -- the resolver was told of exactly the futures that have an answer
 abbrev pub KnowsAnswers : List Entered → List Row → Type 0
