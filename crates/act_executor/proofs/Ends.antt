@@ -36,7 +36,7 @@ use Rattle.act_executor.specs.Joined.{is_killed, is_starved, owner_of, calls_of_
 use Rattle.act_executor.specs.Left.{ServedView, AreJoined}
 use Rattle.act_executor.proofs.Elements.{IsIn, in_from_contains, all_in, in_filter, in_front, all_by_places, is_contained, empty_by_places, whole_by_length, enumerated, in_none, in_first, some_long}
 use Rattle.act_executor.proofs.Found.{naming, same_cast, planned_known, planned_none, driven_named}
-use Rattle.act_executor.proofs.Fitting.{order_of, fits}
+use Rattle.act_executor.proofs.Consistency.{order_of, fits}
 use Rattle.act_executor.proofs.Joint.{driven_of, served_of, owner_is, end_is, Thread, thread, thread_in, driver, audit_of, letter_sent, listed_named, item_sent, all_fit}
 
 -- ---- notes and kills

@@ -34,7 +34,7 @@ use Rattle.act_executor.specs.Left.{ServedView, IsServed, IsDriven, AreAudited, 
 use Rattle.act_executor.proofs.Elements.{IsIn, in_from_contains, all_in, in_filter, in_front, found_is, contains_is, is_contained}
 use Rattle.act_executor.proofs.Found.{naming, IsCast, same_cast, planned_known, driven_named, served_cast, cast_served}
 use Rattle.act_executor.proofs.Given.{reply_given, death_given}
-use Rattle.act_executor.proofs.Fitting.{IsSentItem, IsRunAnswer, IsFit}
+use Rattle.act_executor.proofs.Consistency.{IsSentItem, IsRunAnswer, IsFit}
 
 -- ---- threads by number
 
