@@ -3,3 +3,5 @@ pub mod Each
 pub mod Faults
 pub mod Playing
 pub mod Twins
+pub mod Unplayed
+pub mod Circular

@@ -3,6 +3,7 @@
 #![tactic(auto)]
 
 mod causes;
+mod circle;
 mod compared;
 mod merged;
 mod progress;
@@ -11,6 +12,7 @@ mod recorded;
 mod run;
 mod same;
 
+pub use circle::a_circle_is_joined_and_no_play;
 pub use compared::is_play_of;
 pub use recorded::{Recorded, Source, run_recorded};
 pub use run::{RecordFault, play_of};

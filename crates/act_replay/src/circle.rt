@@ -1,0 +1,14 @@
+//! A run in threads whose answers stand in a circle.
+
+ghost use Rattle.act_executor.specs.Joined.{IsJoined};
+ghost use Rattle.act_replay.specs.Circle.{IsUnplayed, IsNoPlay, circle_casts, circle_plans, circle_owners, circle_ends};
+
+/// What the threads of a run leave fits together here, and yet no list of events leaves it: that all
+/// fits doesn't make a run a play. Each of two lists ran a call with an answer that the other gave
+/// later.
+#[tactic(none)]
+pub fn a_circle_is_joined_and_no_play()
+    ensures joined { IsJoined circle_casts circle_plans circle_owners circle_ends }
+    ensures unplayed { IsUnplayed circle_casts circle_owners circle_ends }
+    ensures no_play { IsNoPlay circle_casts circle_owners circle_ends }
+{}
