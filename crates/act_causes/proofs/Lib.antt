@@ -1,1 +1,17 @@
 pub mod Merging
+pub mod Unrefused
+pub mod Made
+pub mod Places
+pub mod Marks
+pub mod Keeping
+pub mod Changing
+pub mod Standing
+pub mod Ending
+pub mod Collecting
+pub mod Inboxes
+pub mod Taking
+pub mod Running
+pub mod Opening
+pub mod Replaying
+pub mod Example
+pub mod ByPlaces

@@ -276,7 +276,7 @@ module _ {A : Type 0} (threads : List (Thread A)) (merged : List (Deed A)) (each
   is_merge = record {
     each = each;
     rising = pairs merged order;
-    fronts = λ before later e t. (under t later, split before later t e);
+    prefixes = λ before later e t. (under t later, split before later t e);
     cuts = λ before later u m y e. record { causes = causes before later u m y e; places = places before later u m y e; own = own before later u m y e };
   }
 

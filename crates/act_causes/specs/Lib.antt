@@ -1,1 +1,3 @@
 pub mod Merge
+pub mod Deeds
+pub mod Plays

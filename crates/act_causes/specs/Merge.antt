@@ -26,11 +26,13 @@ abbrev pub NeverFall : {A : Type 0} → List (Thread A) → Type 0
 NeverFall threads = All (λ thread. AllPairs (λ one other. one.0 ≤ other.0) thread.deeds) threads
 
 -- where a merged list is cut before a deed y of thread u with stamp m: what stands before the cut
-pub record IsCutAt {A : Type 0} (threads : List (Thread A)) (before : List (ℕ × (ℕ × A))) (u m : ℕ) (y : A) : Type 0 where
+pub record IsCutAt {A : Type 0} (threads : List (Thread A)) (before : List (ℕ × (ℕ × A))) (u m : ℕ)
+    (y : A) : Type 0 where
   -- each deed, of any thread, that has a lower stamp
   pub causes : (t n : ℕ) (x : A) → Contains (deeds_of t threads) (n, x) → n < m → Contains before (t, (n, x))
   -- each at its place among those of its thread
-  pub places : (t k n : ℕ) (x : A) → slice_get (deeds_of t threads) k ≡ Some (n, x) → n < m → slice_get (under t before) k ≡ Some (n, x)
+  pub places : (t k n : ℕ) (x : A) → slice_get (deeds_of t threads) k ≡ Some (n, x) → n < m →
+      slice_get (under t before) k ≡ Some (n, x)
   -- and of thread u itself what it did up to this deed
   pub own : (rest : List (ℕ × A)) × (under u before ++ (m, y) ∷ rest ≡ deeds_of u threads)
 
@@ -41,10 +43,13 @@ pub record IsMergeOf {A : Type 0} (threads : List (Thread A)) (merged : List (�
   -- no stamp is below an earlier one
   pub rising : AllPairs (λ one other. one.1.0 ≤ other.1.0) merged
   -- what stands before any of its places has a prefix of each thread's deeds
-  pub fronts : (before later : List (ℕ × (ℕ × A))) → merged ≡ before ++ later → (t : ℕ) → IsPrefix (under t before) (deeds_of t threads)
+  pub prefixes : (before later : List (ℕ × (ℕ × A))) → merged ≡ before ++ later → (t : ℕ) →
+      IsPrefix (under t before) (deeds_of t threads)
   -- and before any of its deeds stand all that may have brought it about
-  pub cuts : (before later : List (ℕ × (ℕ × A))) (u m : ℕ) (y : A) → merged ≡ before ++ (u, (m, y)) ∷ later → IsCutAt threads before u m y
+  pub cuts : (before later : List (ℕ × (ℕ × A))) (u m : ℕ) (y : A) → merged ≡ before ++ (u, (m, y)) ∷ later →
+      IsCutAt threads before u m y
 
 -- the deeds of any threads can be merged so
 abbrev pub MergesKeepCauses : Type 0 → Type 0
-MergesKeepCauses A = (threads : List (Thread A)) → AreApart threads → NeverFall threads → (merged : List (ℕ × (ℕ × A))) × IsMergeOf threads merged
+MergesKeepCauses A = (threads : List (Thread A)) → AreApart threads → NeverFall threads →
+    (merged : List (ℕ × (ℕ × A))) × IsMergeOf threads merged

@@ -1,0 +1,191 @@
+-- A caller that copies, releases, submits, sends, or asks a kill.
+use Rattle.std.proofs.Common.{◌≡◌, ℕ, ◌+◌, ◌<◌, ◌≤◌, Bool, true, false, cond, List, [], ◌∷◌, ◌++◌, length, Option, Some, None, Ok, All, inl, inr, refl, ap, sym, ◌∙◌, subst, arith, get_or}
+use Rattle.std.specs.Prelude.{◌==◌, find, slice_get, slice_set, unwrap_or, is_some, nat_lt}
+use Rattle.std.specs.List.{list_all}
+use Rattle.std.proofs.lemmas.Bool.{eqb-true}
+use Rattle.std.proofs.lemmas.Bool.Decides.{eqb_tells}
+use Rattle.std.proofs.lemmas.List.{get_or-set_same, length-set}
+use Rattle.std.proofs.lemmas.Option.{slice_get_within, slice_get-get_or}
+use Rattle.act_types.specs.declared.call.Arg.{Arg}
+use Rattle.act_types.specs.declared.call.Method.{Method}
+use Rattle.act_types.specs.declared.message.KillNote.{KillNote}
+use Rattle.act_rules.specs.declared.event.Event.TheVariants.{Submit, Copy, Release, Send, AskKill}
+use Rattle.act_rules.specs.declared.history.Submission.{Submission}
+use Rattle.act_rules.specs.declared.outcome.Did.TheVariants.{Future, Copies, Mail, Asked}
+use Rattle.act_rules.specs.declared.outcome.HandleRefusal.{HandleRefusal}
+use Rattle.act_rules.specs.declared.outcome.HandleRefusal.TheVariants.{NoActor, NoHandle}
+use Rattle.act_rules.specs.declared.outcome.SendRefusal.TheVariants.{NotReady}
+use Rattle.act_rules.specs.Submissions.{needs, number_of, is_known, copies_held, copy_refusal, handle_refusal, send_refusal}
+use Rattle.act_rules.specs.History.{ActorSpec, History, names}
+use Rattle.act_rules.specs.Rules.{add_event}
+use Rattle.act_rules.proofs.Ended.{needs-none}
+use Rattle.act_rules.proofs.Finding.{find-tells}
+use Rattle.act_handles.specs.Handles.{copies_in, or_else, with_copy, without_copy}
+use Rattle.act_owner.specs.Owner.{OwnerView, is_sent, address_at, refusal_to_submit, sending_refusal, release_note, with_handles, with_submission, with_sent}
+use Rattle.act_owner.specs.Life.{Change, Copied, Released, Submitted, Sent, after_change, is_known_at}
+use Rattle.act_plans.specs.Runs.{cast_at}
+use Rattle.act_world.specs.declared.network.MailEntry.TheVariants.{Call as CallEntry, Note as NoteEntry}
+use Rattle.act_world.specs.Network.{NetworkView, is_owner}
+use Rattle.act_world.specs.Value.{SlotView}
+use Rattle.act_world.proofs.Asking.{ask_follows}
+use Rattle.act_world.proofs.Copying.{copy_follows}
+use Rattle.act_world.proofs.Killing.{contains-last}
+use Rattle.act_world.proofs.Lists.{get_set-same}
+use Rattle.act_world.proofs.Releasing.{release_follows, last_follows}
+use Rattle.act_world.proofs.Seeing.{is_named}
+use Rattle.act_world.proofs.Sending.{send_follows}
+use Rattle.act_world.proofs.Submitting.{submit_follows}
+use Rattle.act_causes.specs.Deeds.{Deed, Changed, AskedKill, IsNamed, owner_by}
+use Rattle.act_causes.proofs.Made.{owner_changed, owner_other, owner_same, owner_id, IsNoEnd, actors_stay}
+use Rattle.act_causes.proofs.Places.{IsFoundAt, found_at, written_here, written_other}
+use Rattle.act_causes.proofs.Keeping.{Keeps, GoesOn, go_on, cast_is, owner_of}
+
+-- ---- actors of a caller
+
+-- an actor whose cast names somebody has one of the actors' numbers
+pub actor_small : (casts : List ActorSpec) (c a : ℕ) → All (λ cast. cast.actor ≤ 8) casts → names c (cast_at a casts) ≡ true → a ≤ 8
+actor_small casts c a small named = go (cast_at a casts) refl named
+  where
+    go : (o : Option ActorSpec) → cast_at a casts ≡ o → names c o ≡ true → a ≤ 8
+    go None e is = cc
+    go (Some cast) e is =
+        let told = find-tells (λ (cast : ActorSpec). cast.actor ≤ 8) (λ (cast : ActorSpec). cast.actor == a) casts cast small e in
+        let same : cast.actor ≡ a = eqb-true cast.actor a told.1 in
+        subst (λ (n : ℕ). n ≤ 8) same told.0
+
+-- a caller that may let a handle go has one of the actor, whose cast names it
+pub holder_named : (casts : List ActorSpec) (deeds : List Deed) (h : History) (c a : ℕ) → Keeps casts deeds h → IsNamed casts c → is_some (copies_in a (owner_by casts c deeds).handles) ≡ true → names c (cast_at a casts) ≡ true
+holder_named casts deeds h c a keeps named some =
+    ap (names c) (sym (cast_is casts h a keeps.casts_are)) ∙ sym (is_named h c a (owner_by casts c deeds) (owner_of casts deeds h c keeps named)) ∙ some
+
+handle_there : (copies : Option ℕ) → handle_refusal copies ≡ None → is_some copies ≡ true
+handle_there copies e = (needs-none (is_some copies) NoActor (needs (nat_lt 0 (copies_held copies)) NoHandle None) e).0
+
+-- ---- a caller that changes
+
+pub changes_no_actor : (c : ℕ) (change : Change) → IsNoEnd (Changed c change)
+changes_no_actor c change = record { runs_none = λ a. refl; kills_none = λ a. refl; ends_none = λ a. refl }
+
+module _ (casts : List ActorSpec) (deeds : List Deed) (h : History) (c : ℕ) (keeps : Keeps casts deeds h) (named : IsNamed casts c) where
+  pub caller_at : IsFoundAt (is_owner c) keeps.world.network.owners (owner_by casts c deeds)
+  caller_at = found_at (is_owner c) keeps.world.network.owners (owner_by casts c deeds) (keeps.reached.owners c named)
+
+  -- the callers after a change of this one
+  pub owners_after : (change : Change) (new : OwnerView) → new ≡ after_change (owner_by casts c deeds) change
+      → (d : ℕ) → IsNamed casts d → find (is_owner d) (slice_set keeps.world.network.owners caller_at.place new) ≡ Some (owner_by casts d (deeds ++ Changed c change ∷ []))
+  owners_after change new new_is d other = elim (eqb_tells c d) [
+    | inl t ↦ subst (λ (x : ℕ). find (is_owner x) (slice_set keeps.world.network.owners caller_at.place new) ≡ Some (owner_by casts x (deeds ++ Changed c change ∷ []))) t.1
+        (written_here keeps.world.network.owners c (owner_by casts c deeds) new caller_at id ∙ ap (λ (o : OwnerView). Some o) changed)
+    | inr f ↦ written_other keeps.world.network.owners c (owner_by casts c deeds) new caller_at id d f.1 ∙ keeps.reached.owners d other
+        ∙ ap (λ (o : OwnerView). Some o) (sym (owner_other casts c d deeds change f.1))
+  ]
+    where
+      changed : new ≡ owner_by casts c (deeds ++ Changed c change ∷ [])
+      changed = new_is ∙ sym (owner_changed casts c deeds change)
+
+      id : new.id ≡ c
+      id = ap (λ (o : OwnerView). o.id) changed ∙ owner_id casts c (deeds ++ Changed c change ∷ [])
+
+  abbrev owner : OwnerView
+  owner = owner_by casts c deeds
+
+  abbrev network : NetworkView
+  network = keeps.world.network
+
+  abbrev slots : List SlotView
+  slots = keeps.world.slots
+
+  pub copied : (a : ℕ) → copy_refusal (copies_in a (owner_by casts c deeds).handles) ≡ None → GoesOn casts deeds h (Changed c (Copied a))
+  copied a free =
+      let copies = copies_held (copies_in a owner.handles) + 1 in
+      let new = with_handles owner (with_copy a owner.handles) in
+      let told : Ok copies ≡ or_else (copy_refusal (copies_in a owner.handles)) copies = ap (λ (r : Option HandleRefusal). or_else r copies) (sym free) in
+      go_on casts deeds h (Changed c (Copied a)) (Copy c a) (Copies copies) (record { network = record network { owners = slice_set network.owners caller_at.place new }; slots = slots }) keeps refl (named, free)
+      (copy_follows h network slots c a caller_at.place copies owner new keeps.lawful keeps.reached.refines caller_at.at caller_at.is told refl)
+      (owners_after (Copied a) new refl) keeps.reached.inboxes keeps.reached.room
+      (actors_stay deeds (Changed c (Copied a)) h (add_event h (Copy c a)) (changes_no_actor c (Copied a)) refl refl refl keeps.actors) tt
+
+  pub submitted : (a : ℕ) (method : Method) (args : List Arg) → refusal_to_submit (owner_by casts c deeds) a args ≡ None → GoesOn casts deeds h (Changed c (Submitted a method args))
+  submitted a method args free =
+      let new = with_submission owner a method args in
+      go_on casts deeds h (Changed c (Submitted a method args)) (Submit c a method args) (Future c (length owner.calls)) (record { network = record network { owners = slice_set network.owners caller_at.place new }; slots = slots }) keeps refl (named, free)
+      (submit_follows h network slots c a caller_at.place (length owner.calls) method args owner new keeps.lawful keeps.reached.refines caller_at.at caller_at.is free refl refl)
+      (owners_after (Submitted a method args) new refl) keeps.reached.inboxes keeps.reached.room
+      (actors_stay deeds (Changed c (Submitted a method args)) h (add_event h (Submit c a method args)) (changes_no_actor c (Submitted a method args)) refl refl refl keeps.actors) tt
+
+  -- a release tells of the last copy, or of none
+  release_told : (a : ℕ) (last : Bool) → handle_refusal (copies_in a (owner_by casts c deeds).handles) ≡ None → (copies_held (copies_in a (owner_by casts c deeds).handles) == 1) ≡ last
+      → Ok (cond last (Some (release_note (owner_by casts c deeds) a)) None)
+      ≡ or_else (handle_refusal (copies_in a (owner_by casts c deeds).handles)) (cond (copies_held (copies_in a (owner_by casts c deeds).handles) == 1) (Some (release_note (owner_by casts c deeds) a)) None)
+  release_told a last free is =
+      ap (λ (r : Option HandleRefusal). or_else r (cond last (Some (release_note owner a)) None)) (sym free)
+      ∙ ap (λ (b : Bool). or_else (handle_refusal (copies_in a owner.handles)) (cond b (Some (release_note owner a)) None)) (sym is)
+
+  pub released : (a : ℕ) → handle_refusal (copies_in a (owner_by casts c deeds).handles) ≡ None → GoesOn casts deeds h (Changed c (Released a))
+  released a free = go (copies_held (copies_in a owner.handles) == 1) refl
+    where
+      new : OwnerView
+      new = with_handles owner (without_copy a owner.handles)
+
+      go : (last : Bool) → (copies_held (copies_in a (owner_by casts c deeds).handles) == 1) ≡ last → GoesOn casts deeds h (Changed c (Released a))
+      go true is =
+          go_on casts deeds h (Changed c (Released a)) (Release c a) (Mail (length network.mail))
+          (record { network = record network { owners = slice_set network.owners caller_at.place new; mail = network.mail ++ NoteEntry (release_note owner a) ∷ [] }; slots = slots }) keeps refl (named, free)
+          (last_follows h network (network.mail ++ NoteEntry (release_note owner a) ∷ []) slots c a caller_at.place (length network.mail) (release_note owner a) owner new
+          keeps.lawful keeps.reached.refines caller_at.at caller_at.is (release_told a true free is) refl refl refl)
+          (owners_after (Released a) new refl) keeps.reached.inboxes keeps.reached.room
+          (actors_stay deeds (Changed c (Released a)) h (add_event h (Release c a)) (changes_no_actor c (Released a)) refl refl refl keeps.actors) tt
+      go false is =
+          go_on casts deeds h (Changed c (Released a)) (Release c a) (Copies (copies_held (copies_in a new.handles)))
+          (record { network = record network { owners = slice_set network.owners caller_at.place new }; slots = slots }) keeps refl (named, free)
+          (release_follows h network slots c a caller_at.place (copies_held (copies_in a new.handles)) owner new new
+          keeps.lawful keeps.reached.refines caller_at.at caller_at.is (release_told a false free is) refl (sym (get_or-set_same network.owners caller_at.place new new caller_at.below)) refl)
+          (owners_after (Released a) new refl) keeps.reached.inboxes keeps.reached.room
+          (actors_stay deeds (Changed c (Released a)) h (add_event h (Release c a)) (changes_no_actor c (Released a)) refl refl refl keeps.actors) tt
+
+  pub sent : (k : ℕ) → sending_refusal (owner_by casts c deeds) k ≡ None → GoesOn casts deeds h (Changed c (Sent k))
+  sent k free = go (slice_get owner.calls k) refl free
+    where
+      new : OwnerView
+      new = with_sent owner k
+
+      go : (o : Option Submission) → slice_get (owner_by casts c deeds).calls k ≡ o → send_refusal (owner_by casts c deeds).kept k (is_sent (owner_by casts c deeds) k) o ≡ None → GoesOn casts deeds h (Changed c (Sent k))
+      go None at e = cc
+      go (Some call) at e =
+          let is = owner_of casts deeds h c keeps named in
+          let address : ℕ × ℕ = (call.actor, number_of call.actor k owner.calls) in
+          let address_is : address_at owner.calls k ≡ Some address = rw at refl in
+          let known : is_known_at owner k ≡ true = rw at (needs-none (list_all (is_known owner.kept) call.args) NotReady _ e).0 in
+          let below : k < length owner.calls = slice_get_within owner.calls k call at in
+          let marks : length owner.sent ≡ length owner.calls = is.marks ∙ ap (λ (calls : List Submission). length calls) (sym is.calls) in
+          let within : k < length owner.sent = omega arith in
+          let marked : is_sent new k ≡ true = ap (λ (o : Option Bool). unwrap_or o false) (get_set-same owner.sent k (get_or owner.sent k false) true (slice_get-get_or owner.sent k false within)) in
+          let after_is : owner_by casts c (deeds ++ Changed c (Sent k) ∷ []) ≡ new = owner_changed casts c deeds (Sent k) in
+          go_on casts deeds h (Changed c (Sent k)) (Send c k) (Mail (length network.mail))
+          (record { network = record network { owners = slice_set network.owners caller_at.place new; mail = network.mail ++ CallEntry (record { caller = c; actor = address.0; number = address.1; future = k }) ∷ [] }; slots = slots }) keeps refl (named, free)
+          (send_follows h network slots c k caller_at.place (length network.mail) owner new address (network.mail ++ CallEntry (record { caller = c; actor = address.0; number = address.1; future = k }) ∷ [])
+          keeps.lawful keeps.reached.refines (record { place_is = caller_at.at; owner_is = caller_at.is }) free address_is refl refl refl)
+          (owners_after (Sent k) new refl) keeps.reached.inboxes keeps.reached.room
+          (actors_stay deeds (Changed c (Sent k)) h (add_event h (Send c k)) (changes_no_actor c (Sent k)) refl refl refl keeps.actors)
+          (record {
+            named = named;
+            known = subst (λ (o : OwnerView). is_known_at o k ≡ true) (sym after_is) known;
+            sent = subst (λ (o : OwnerView). is_sent o k ≡ true) (sym after_is) marked;
+          })
+
+  -- ---- a kill
+
+  pub asked : (a : ℕ) → All (λ cast. cast.actor ≤ 8) casts → handle_refusal (copies_in a (owner_by casts c deeds).handles) ≡ None → GoesOn casts deeds h (AskedKill c a)
+  asked a small free =
+      let note : KillNote = record { caller = owner.id; actor = a } in
+      let told : Ok note ≡ or_else (handle_refusal (copies_in a owner.handles)) note = ap (λ (r : Option HandleRefusal). or_else r note) (sym free) in
+      let here = holder_named casts deeds h c a keeps named (handle_there (copies_in a owner.handles) free) in
+      let most : a ≤ 8 = actor_small casts c a small here in
+      let room : 9 ≤ length network.asked = keeps.reached.room in
+      let within : a < length network.asked = omega arith in
+      let long : length (slice_set network.asked a true) ≡ length network.asked = length-set network.asked a true in
+      go_on casts deeds h (AskedKill c a) (AskKill c a) Asked (record { network = record network { asked = slice_set network.asked a true }; slots = slots }) keeps refl tt
+      (ask_follows h network slots c a caller_at.place note owner keeps.lawful keeps.reached.refines caller_at.at caller_at.is told within)
+      (λ d other. keeps.reached.owners d other ∙ ap (λ (o : OwnerView). Some o) (sym (owner_same casts d deeds (AskedKill c a) refl))) keeps.reached.inboxes (omega arith)
+      (actors_stay deeds (AskedKill c a) h (add_event h (AskKill c a)) (record { runs_none = λ b. refl; kills_none = λ b. refl; ends_none = λ b. refl }) refl refl refl keeps.actors)
+      (here, contains-last a h.asked)

@@ -1,0 +1,89 @@
+-- An actor that takes a kill, tells its death, or retires.
+use Rattle.std.proofs.Common.{◌≡◌, ℕ, true, false, List, [], ◌∷◌, ◌++◌, length, Option, Some, None, Ok, refl, ap, sym, ◌∙◌, Contains}
+use Rattle.std.specs.Prelude.{slice_get, slice_set}
+use Rattle.std.proofs.lemmas.Bool.{eqb-true}
+use Rattle.act_types.specs.declared.message.Notice.TheVariants.{Death}
+use Rattle.act_types.specs.declared.message.ReleaseNote.{ReleaseNote}
+use Rattle.act_rules.specs.declared.event.Event.TheVariants.{TakeKill, Tell, Retire}
+use Rattle.act_rules.specs.declared.history.Letter.TheVariants.{Note as NoteLetter}
+use Rattle.act_rules.specs.declared.history.Post.TheVariants.{Death as DeathPost}
+use Rattle.act_rules.specs.declared.history.RunItem.{RunItem}
+use Rattle.act_rules.specs.declared.outcome.Did.TheVariants.{Dead, Told, Retired as DidRetire}
+use Rattle.act_rules.specs.RunList.{items_of}
+use Rattle.act_rules.specs.History.{ActorSpec, History, cast_of, names, has_letter}
+use Rattle.act_rules.specs.Rules.{add_event}
+use Rattle.act_inbox.specs.Inbox.{handed_of, note_of}
+use Rattle.act_owner.specs.Owner.{OwnerView}
+use Rattle.act_actor.specs.Value.{RetiredView}
+use Rattle.act_plans.specs.Runs.{cast_at}
+use Rattle.act_world.specs.Network.{NetworkView}
+use Rattle.act_world.specs.Value.{SlotView, Runs, Ended}
+use Rattle.act_world.specs.Slots.{is_dead_slot, dead_slot}
+use Rattle.act_world.specs.Refines.{is_note_of, IsStage}
+use Rattle.act_world.proofs.Frames.{still_lives}
+use Rattle.act_world.proofs.Killing.{kill_follows}
+use Rattle.act_world.proofs.Retiring.{retire_follows}
+use Rattle.act_world.proofs.Telling.{tell_follows, dead_is as dead_seen_is}
+use Rattle.act_causes.specs.Deeds.{Deed, AskedKill, TookNote, TookKill, ToldDeath, Retired, log_by, is_dead_by, is_ended_by, HasRunAllCalls}
+use Rattle.act_causes.proofs.Made.{owner_same, dead_is, actors_stay, actors_killed, actors_retired}
+use Rattle.act_causes.proofs.Marks.{last_post}
+use Rattle.act_causes.proofs.Keeping.{Keeps, GoesOn, go_on, cast_is}
+use Rattle.act_causes.proofs.Standing.{Lives, lives, some_cast, inboxes_set, naming_free}
+
+note_is : (n : ℕ) (o : Option ℕ) → is_note_of n o ≡ true → o ≡ Some n
+note_is n None e = cc
+note_is n (Some m) e = ap (λ (x : ℕ). Some x) (eqb-true m n e)
+
+module _ (casts : List ActorSpec) (deeds : List Deed) (h : History) (a : ℕ) (keeps : Keeps casts deeds h) where
+  abbrev network : NetworkView
+  network = keeps.world.network
+
+  abbrev slots : List SlotView
+  slots = keeps.world.slots
+
+  pub took_kill : is_ended_by a deeds ≡ false → (c : ℕ) → Contains deeds (AskedKill c a) → GoesOn casts deeds h (TookKill a)
+  took_kill on c asker =
+      let asked = keeps.left (AskedKill c a) asker in
+      let here = lives casts deeds h a keeps (some_cast c (cast_at a casts) asked.0) on in
+      go_on casts deeds h (TookKill a) (TakeKill a) Dead (record { network = network; slots = slice_set slots a (dead_slot here.live) }) keeps refl tt
+      (kill_follows h network slots a true (Runs here.live) (dead_slot here.live) (Ok Dead) keeps.lawful keeps.reached.refines (sym (keeps.reached.refines.asked a ∙ asked.1)) here.at refl)
+      (λ d other. keeps.reached.owners d other ∙ ap (λ (o : OwnerView). Some o) (sym (owner_same casts d deeds (TookKill a) refl)))
+      (inboxes_set slots a (Runs here.live) (dead_slot here.live) here.at tt keeps.reached.inboxes) keeps.reached.room
+      (actors_killed deeds a h keeps.actors) tt
+
+  pub told_death : (c : ℕ) → is_dead_by a deeds ≡ true → names c (cast_at a casts) ≡ true → GoesOn casts deeds h (ToldDeath a c)
+  told_death c dead named = go (slice_get slots a) refl (keeps.reached.refines.actors a)
+    where
+      named_here : names c (cast_of a h) ≡ true
+      named_here = ap (names c) (cast_is casts h a keeps.casts_are) ∙ named
+
+      go : (o : Option SlotView) → slice_get keeps.world.slots a ≡ o → IsStage h a o → GoesOn casts deeds h (ToldDeath a c)
+      go None at none = let bad : false ≡ true = sym (ap (names c) none) ∙ named_here in cc
+      go (Some slot) at stage =
+          let seen : is_dead_slot slot ≡ true = dead_seen_is h c a slot stage named_here ∙ dead_is deeds h a keeps.actors ∙ dead in
+          go_on casts deeds h (ToldDeath a c) (Tell a c) (Told (length network.replies)) (record { network = record network { replies = network.replies ++ record { caller = c; notice = Death a } ∷ [] }; slots = slots }) keeps refl tt
+          (tell_follows h network slots a c (length network.replies) slot (network.replies ++ record { caller = c; notice = Death a } ∷ []) keeps.lawful keeps.reached.refines at (naming_free casts deeds h a keeps c named) seen refl refl)
+          (λ d other. keeps.reached.owners d other ∙ ap (λ (o : OwnerView). Some o) (sym (owner_same casts d deeds (ToldDeath a c) refl)))
+          keeps.reached.inboxes keeps.reached.room
+          (actors_stay deeds (ToldDeath a c) h (add_event h (Tell a c)) (record { runs_none = λ b. refl; kills_none = λ b. refl; ends_none = λ b. refl }) refl refl refl keeps.actors)
+          (last_post h.posts (DeathPost c a))
+
+  pub retired : HasRunAllCalls casts deeds a → GoesOn casts deeds h (Retired a)
+  retired drained =
+      let here = lives casts deeds h a keeps drained.cast drained.lives in
+      let ended : RetiredView = record { id = here.live.id; log = here.live.log; state = here.live.state } in
+      go_on casts deeds h (Retired a) (Retire a) DidRetire (record { network = network; slots = slice_set slots a (Ended ended) }) keeps refl tt
+      (retire_follows h keeps.world a (Runs here.live) (Ended ended) (Ok DidRetire) keeps.lawful keeps.reached.refines here.at
+      (record { lives = still_lives h a here.live here.is; drained = λ c listed. all_ran here c (sym (here.is.listed c) ∙ listed) }, refl))
+      (λ d other. keeps.reached.owners d other ∙ ap (λ (o : OwnerView). Some o) (sym (owner_same casts d deeds (Retired a) refl)))
+      (inboxes_set slots a (Runs here.live) (Ended ended) here.at tt keeps.reached.inboxes) keeps.reached.room
+      (actors_retired deeds a h keeps.actors) tt
+    where
+      all_ran : (here : Lives h keeps.world.slots a) (c : ℕ) → names c (cast_of a h) ≡ true → note_of here.live.inbox c ≡ Some (handed_of here.live.inbox c)
+      all_ran here c named =
+          let count = length (items_of c (log_by a deeds)) in
+          let note : ReleaseNote = record { caller = c; actor = a; after = count } in
+          let came : has_letter (NoteLetter c a count) h.arrived ≡ true = keeps.left (TookNote a note) (drained.notes c (ap (names c) (sym (cast_is casts h a keeps.casts_are)) ∙ named)) in
+          let told : is_note_of count (note_of here.live.inbox c) ≡ true = here.is.notes c count named ∙ came in
+          let ran : handed_of here.live.inbox c ≡ count = here.is.handed c named ∙ ap (λ (items : List RunItem). length (items_of c items)) (keeps.actors.runs a) in
+          note_is count (note_of here.live.inbox c) told ∙ ap (λ (x : ℕ). Some x) (sym ran)

@@ -1,0 +1,296 @@
+-- What a history keeps of the deeds that its events stand for, and one deed more.
+use Rattle.std.proofs.Common.{◌≡◌, ℕ, ◌≤◌, true, List, [], ◌∷◌, ◌++◌, length, Option, Some, None, Ok, inl, inr, refl, ap, sym, ◌∙◌, subst, Contains, cond, Bool, false, map}
+use Rattle.std.specs.Prelude.{find, slice_get, ◌==◌}
+use Rattle.std.specs.List.{cons_option, list_any, enumerate_from}
+use Rattle.std.proofs.lemmas.Bool.{eqb-true}
+use Rattle.std.proofs.lemmas.List.{append-nil}
+use Rattle.std.proofs.lemmas.List.Elements.{Contains-push_cases, filter_map-append}
+use Rattle.act_types.specs.declared.message.Packet.{Packet}
+use Rattle.act_rules.specs.declared.event.Event.{Event}
+use Rattle.act_rules.specs.declared.event.Event.TheVariants.{Submit, Copy, Release, Send, Deliver, Run, Collect, AskKill, TakeKill, Tell, Retire}
+use Rattle.act_rules.specs.declared.outcome.Did.{Did}
+use Rattle.act_rules.specs.declared.outcome.WorldRefusal.{WorldRefusal}
+use Rattle.act_rules.specs.declared.history.Letter.{Letter}
+use Rattle.act_rules.specs.declared.history.Letter.TheVariants.{Call as CallLetter, Note as NoteLetter}
+use Rattle.act_rules.specs.declared.history.Post.TheVariants.{Death as DeathPost}
+use Rattle.act_rules.specs.declared.history.RunItem.{RunItem}
+use Rattle.act_rules.specs.declared.history.Submission.{Submission}
+use Rattle.act_rules.proofs.RanAll.{AllNamed}
+use Rattle.act_rules.specs.Consistent.{IsPrefix}
+use Rattle.act_rules.specs.History.{ActorSpec, History, contains, cast_of, names, is_caller, has_letter, next_item, calls_of, kept_of, first_answer}
+use Rattle.act_rules.specs.Rules.{refusal_of, outcome_by, outcome_of, add_event, after_run, after_by, after}
+use Rattle.act_rules.proofs.Lists.{whole_front, more_front}
+use Rattle.act_rules.proofs.Growth.{added_grows}
+use Rattle.act_rules.proofs.Ended.{contains_more}
+use Rattle.act_inbox.specs.Value.{IsInbox}
+use Rattle.act_owner.specs.Owner.{packet_at, is_sent}
+use Rattle.act_owner.specs.Life.{Change, Copied, Released, Submitted, Sent, Noticed, is_known_at}
+use Rattle.act_plans.specs.Runs.{cast_at}
+use Rattle.act_world.specs.Network.{is_owner}
+use Rattle.act_world.specs.Value.{SlotView, Runs, WorldView}
+use Rattle.act_world.specs.Refines.{IsOwnerOf, IsOwnerAt, Refines}
+use Rattle.act_world.proofs.Lawful.{IsLawful, lawful_step, has_letter-more, sent_call_named, named_caller}
+use Rattle.act_causes.specs.Deeds.{Deed, Changed, AskedKill, TookCall, TookNote, Ran, TookKill, ToldDeath, Retired, IsNamed, owner_by, change_of, changes_by, owner_after}
+use Rattle.act_causes.specs.Plays.{IsEventOf}
+use Rattle.act_causes.proofs.Unrefused.{IsUnrefused, AreUnrefused, unrefused_more}
+use Rattle.act_causes.proofs.Made.{known_on, sent_on, AreActorsOf}
+use Rattle.act_causes.proofs.Marks.{HasPost, AreReplied, AreNoted, post_stays, replied_step, noted_step}
+
+-- ---- what each deed has left
+
+-- the caller's call was sent, and it makes a packet of it for good
+pub record WasSent (casts : List ActorSpec) (deeds : List Deed) (c k : ℕ) : Type 0 where
+  pub named : IsNamed casts c
+  pub known : is_known_at (owner_by casts c deeds) k ≡ true
+  pub sent : is_sent (owner_by casts c deeds) k ≡ true
+
+-- the call's letter arrived, and its caller makes this packet of it for good
+pub record HasCome (casts : List ActorSpec) (deeds : List Deed) (h : History) (a : ℕ) (packet : Packet) : Type 0 where
+  pub to : packet.actor ≡ a
+  pub named : IsNamed casts packet.caller
+  pub known : is_known_at (owner_by casts packet.caller deeds) packet.future ≡ true
+  pub is : packet_at (owner_by casts packet.caller deeds) packet.future ≡ Some packet
+  pub came : has_letter (CallLetter packet.caller a packet.number) h.arrived ≡ true
+  pub listed : names packet.caller (cast_at a casts) ≡ true
+
+abbrev pub HasLeft : List ActorSpec → List Deed → History → Deed → Type 0
+HasLeft casts deeds h (Changed c (Copied a)) = Unit {0}
+HasLeft casts deeds h (Changed c (Released a)) = Unit {0}
+HasLeft casts deeds h (Changed c (Submitted a method args)) = Unit {0}
+HasLeft casts deeds h (Changed c (Sent k)) = WasSent casts deeds c k
+HasLeft casts deeds h (Changed c (Noticed notice)) = Unit {0}
+HasLeft casts deeds h (AskedKill c a) = (names c (cast_at a casts) ≡ true) × (contains a h.asked ≡ true)
+HasLeft casts deeds h (TookCall a packet) = HasCome casts deeds h a packet
+HasLeft casts deeds h (TookNote a note) = has_letter (NoteLetter note.caller a note.after) h.arrived ≡ true
+HasLeft casts deeds h (Ran a item) = Unit {0}
+HasLeft casts deeds h (TookKill a) = Unit {0}
+HasLeft casts deeds h (ToldDeath a c) = HasPost h (DeathPost c a)
+HasLeft casts deeds h (Retired a) = Unit {0}
+
+asked_grows : (h : History) (event : Event) → IsPrefix h.asked (add_event h event).asked
+asked_grows h (Submit c a method args) = whole_front h.asked
+asked_grows h (Copy c a) = whole_front h.asked
+asked_grows h (Release c a) = whole_front h.asked
+asked_grows h (Send c k) = whole_front h.asked
+asked_grows h (Deliver i) = whole_front h.asked
+asked_grows h (Run a c) = go (next_item a c h)
+  where
+    go : (o : Option RunItem) → IsPrefix h.asked (after_run a c h o).asked
+    go None = whole_front h.asked
+    go (Some item) = whole_front h.asked
+asked_grows h (Collect j) = whole_front h.asked
+asked_grows h (AskKill c a) = more_front h.asked (a ∷ [])
+asked_grows h (TakeKill a) = whole_front h.asked
+asked_grows h (Tell a c) = whole_front h.asked
+asked_grows h (Retire a) = whole_front h.asked
+
+arrived_stays : (h : History) (event : Event) (letter : Letter) → has_letter letter h.arrived ≡ true → has_letter letter (add_event h event).arrived ≡ true
+arrived_stays h event letter has =
+    let front = (added_grows h event).arrived in
+    subst (λ (l : List Letter). has_letter letter l ≡ true) front.1 (has_letter-more letter h.arrived front.0 has)
+
+-- what a deed has left stays
+left_stays : (casts : List ActorSpec) (deeds : List Deed) (deed : Deed) (h : History) (event : Event) (one : Deed) → HasLeft casts deeds h one → HasLeft casts (deeds ++ deed ∷ []) (add_event h event) one
+left_stays casts deeds deed h event (Changed c (Copied a)) has = tt
+left_stays casts deeds deed h event (Changed c (Released a)) has = tt
+left_stays casts deeds deed h event (Changed c (Submitted a method args)) has = tt
+left_stays casts deeds deed h event (Changed c (Sent k)) has = record {
+  named = has.named;
+  known = (known_on casts c k deeds (deed ∷ []) has.known).0;
+  sent = sent_on casts c k deeds (deed ∷ []) has.sent;
+}
+left_stays casts deeds deed h event (Changed c (Noticed notice)) has = tt
+left_stays casts deeds deed h event (AskedKill c a) has =
+    let front = asked_grows h event in
+    (has.0, subst (λ (l : List ℕ). contains a l ≡ true) front.1 (contains_more a h.asked front.0 has.1))
+left_stays casts deeds deed h event (TookCall a packet) has =
+    let stays = known_on casts packet.caller packet.future deeds (deed ∷ []) has.known in
+    record {
+      to = has.to;
+      named = has.named;
+      known = stays.0;
+      is = stays.1 ∙ has.is;
+      came = arrived_stays h event (CallLetter packet.caller a packet.number) has.came;
+      listed = has.listed;
+    }
+left_stays casts deeds deed h event (TookNote a note) has = arrived_stays h event (NoteLetter note.caller a note.after) has
+left_stays casts deeds deed h event (Ran a item) has = tt
+left_stays casts deeds deed h event (TookKill a) has = tt
+left_stays casts deeds deed h event (ToldDeath a c) has = post_stays h (add_event h event) (DeathPost c a) (added_grows h event).posts has
+left_stays casts deeds deed h event (Retired a) has = tt
+
+-- ---- nothing refuses a change
+
+-- a caller of the casts makes the change, and nothing refuses it
+abbrev pub IsFree : List ActorSpec → List Deed → Deed → Type 0
+IsFree casts deeds (Changed c change) = IsNamed casts c × IsUnrefused (owner_by casts c deeds) change
+IsFree casts deeds (AskedKill c a) = Unit {0}
+IsFree casts deeds (TookCall a packet) = Unit {0}
+IsFree casts deeds (TookNote a note) = Unit {0}
+IsFree casts deeds (Ran a item) = Unit {0}
+IsFree casts deeds (TookKill a) = Unit {0}
+IsFree casts deeds (ToldDeath a c) = Unit {0}
+IsFree casts deeds (Retired a) = Unit {0}
+
+unrefused_on : (casts : List ActorSpec) (deeds : List Deed) (deed : Deed) → IsFree casts deeds deed → ((c : ℕ) → AreUnrefused (owner_after casts c []) (changes_by c deeds))
+    → (c : ℕ) → AreUnrefused (owner_after casts c []) (changes_by c (deeds ++ deed ∷ []))
+unrefused_on casts deeds deed free all c = subst (AreUnrefused (owner_after casts c [])) (sym (filter_map-append (change_of c) deeds (deed ∷ []))) (by_deed deed free)
+  where
+    as_before : AreUnrefused (owner_after casts c []) (changes_by c deeds ++ [])
+    as_before = subst (AreUnrefused (owner_after casts c [])) (sym (append-nil (changes_by c deeds))) (all c)
+
+    by_change : (d : ℕ) (change : Change) → IsUnrefused (owner_by casts d deeds) change → (b : Bool) → (d == c) ≡ b → AreUnrefused (owner_after casts c []) (changes_by c deeds ++ cons_option (cond b (Some change) None) [])
+    by_change d change free true is = unrefused_more (owner_after casts c []) (changes_by c deeds) change (all c) (subst (λ (n : ℕ). IsUnrefused (owner_by casts n deeds) change) (eqb-true d c is) free)
+    by_change d change free false is = as_before
+
+    by_deed : (one : Deed) → IsFree casts deeds one → AreUnrefused (owner_after casts c []) (changes_by c deeds ++ changes_by c (one ∷ []))
+    by_deed (Changed d change) free = by_change d change free.1 (d == c) refl
+    by_deed (AskedKill d a) free = as_before
+    by_deed (TookCall a packet) free = as_before
+    by_deed (TookNote a note) free = as_before
+    by_deed (Ran a item) free = as_before
+    by_deed (TookKill a) free = as_before
+    by_deed (ToldDeath a d) free = as_before
+    by_deed (Retired a) free = as_before
+
+-- ---- who is no caller does nothing
+
+abbrev pub is_named : List ActorSpec → ℕ → Bool
+is_named casts c = list_any (λ (cast : ActorSpec). contains c cast.callers) casts
+
+strangers_on : (casts : List ActorSpec) (deeds : List Deed) (deed : Deed) → IsFree casts deeds deed → ((c : ℕ) → is_named casts c ≡ false → changes_by c deeds ≡ [])
+    → (c : ℕ) → is_named casts c ≡ false → changes_by c (deeds ++ deed ∷ []) ≡ []
+strangers_on casts deeds deed free none c stranger =
+    filter_map-append (change_of c) deeds (deed ∷ []) ∙ ap (λ (changes : List Change). changes ++ changes_by c (deed ∷ [])) (none c stranger) ∙ by_deed deed free
+  where
+    by_change : (d : ℕ) (change : Change) → IsNamed casts d → (b : Bool) → (d == c) ≡ b → cons_option (cond b (Some change) None) [] ≡ []
+    by_change d change named true is = let bad : true ≡ false = sym named ∙ ap (is_named casts) (eqb-true d c is) ∙ stranger in cc
+    by_change d change named false is = refl
+
+    by_deed : (one : Deed) → IsFree casts deeds one → changes_by c (one ∷ []) ≡ []
+    by_deed (Changed d change) free = by_change d change free.0 (d == c) refl
+    by_deed (AskedKill d a) free = refl
+    by_deed (TookCall a packet) free = refl
+    by_deed (TookNote a note) free = refl
+    by_deed (Ran a item) free = refl
+    by_deed (TookKill a) free = refl
+    by_deed (ToldDeath a d) free = refl
+    by_deed (Retired a) free = refl
+
+-- ---- the world of the deeds
+
+-- some inbox is as any inbox is
+abbrev pub HasInbox : Option SlotView → Type 0
+HasInbox (Some (Runs live)) = IsInbox live.inbox.lanes live.inbox.held
+HasInbox slot = Unit {0}
+
+-- a world stands for the history, in which each caller is as the deeds leave it
+pub record IsWorldOf (casts : List ActorSpec) (deeds : List Deed) (h : History) (world : WorldView) : Type 0 where
+  pub refines : Refines h world
+  pub owners : (c : ℕ) → IsNamed casts c → find (is_owner c) world.network.owners ≡ Some (owner_by casts c deeds)
+  pub inboxes : (a : ℕ) → HasInbox (slice_get world.slots a)
+  pub room : 9 ≤ length world.network.asked
+
+-- the history stands for the deeds
+pub record Keeps (casts : List ActorSpec) (deeds : List Deed) (h : History) : Type 0 where
+  pub lawful : IsLawful h
+  pub replied : AreReplied h
+  pub noted : AreNoted h
+  pub casts_are : h.casts ≡ casts
+  pub world : WorldView
+  pub reached : IsWorldOf casts deeds h world
+  pub actors : AreActorsOf deeds h
+  pub left : (deed : Deed) → Contains deeds deed → HasLeft casts deeds h deed
+  pub unrefused : (c : ℕ) → AreUnrefused (owner_after casts c []) (changes_by c deeds)
+  pub strangers : (c : ℕ) → is_named casts c ≡ false → changes_by c deeds ≡ []
+
+-- an event stands for one deed more
+pub record GoesOn (casts : List ActorSpec) (deeds : List Deed) (h : History) (deed : Deed) : Type 0 where
+  pub event : Event
+  pub accepted : refusal_of h event ≡ None
+  pub is : IsEventOf h deed event
+  pub keeps : Keeps casts (deeds ++ deed ∷ []) (add_event h event)
+
+-- what is told as done was not refused
+told_done : (h : History) (event : Event) (told : Did) → Ok told ≡ outcome_of h event → refusal_of h event ≡ None
+told_done h event told e = go (refusal_of h event) refl e
+  where
+    go : (r : Option WorldRefusal) → refusal_of h event ≡ r → Ok told ≡ outcome_by h event r → refusal_of h event ≡ None
+    go None is e = is
+    go (Some refusal) is e = cc
+
+pub go_on : (casts : List ActorSpec) (deeds : List Deed) (h : History) (deed : Deed) (event : Event) (told : Did) (world : WorldView) → Keeps casts deeds h → IsEventOf h deed event → IsFree casts deeds deed
+    → (Ok told ≡ outcome_of h event) × Refines (after h event) world
+    → ((c : ℕ) → IsNamed casts c → find (is_owner c) world.network.owners ≡ Some (owner_by casts c (deeds ++ deed ∷ [])))
+    → ((a : ℕ) → HasInbox (slice_get world.slots a)) → 9 ≤ length world.network.asked
+    → AreActorsOf (deeds ++ deed ∷ []) (add_event h event) → HasLeft casts (deeds ++ deed ∷ []) (add_event h event) deed
+    → GoesOn casts deeds h deed
+go_on casts deeds h deed event told world keeps is free follows owners inboxes room actors new =
+    let accepted = told_done h event told follows.0 in
+    record {
+      event = event;
+      accepted = accepted;
+      is = is;
+      keeps = record {
+        lawful = lawful_step h event keeps.lawful accepted;
+        replied = replied_step h event keeps.replied accepted;
+        noted = noted_step h event keeps.noted accepted;
+        casts_are = (added_grows h event).casts ∙ keeps.casts_are;
+        world = world;
+        reached = record {
+          refines = subst (λ (r : Option WorldRefusal). Refines (after_by h event r) world) accepted follows.1;
+          owners = owners;
+          inboxes = inboxes;
+          room = room;
+        };
+        actors = actors;
+        left = λ one has. elim (Contains-push_cases deeds deed one has) [
+          | inl was ↦ left_stays casts deeds deed h event one (keeps.left one was)
+          | inr last ↦ subst (HasLeft casts (deeds ++ deed ∷ []) (add_event h event)) last new
+        ];
+        unrefused = unrefused_on casts deeds deed free keeps.unrefused;
+        strangers = strangers_on casts deeds deed free keeps.strangers;
+      };
+    }
+
+-- ---- what such a history tells
+
+pub named_is : (casts : List ActorSpec) (h : History) (c : ℕ) → h.casts ≡ casts → IsNamed casts c → is_caller c h ≡ true
+named_is casts h c same named = subst (λ (l : List ActorSpec). IsNamed l c) (sym same) named
+
+pub cast_is : (casts : List ActorSpec) (h : History) (a : ℕ) → h.casts ≡ casts → cast_of a h ≡ cast_at a casts
+cast_is casts h a same = ap (cast_at a) same
+
+-- the caller, as the history tells
+pub owner_of : (casts : List ActorSpec) (deeds : List Deed) (h : History) (c : ℕ) → Keeps casts deeds h → IsNamed casts c → IsOwnerOf h c (owner_by casts c deeds)
+owner_of casts deeds h c keeps named =
+    let at : IsOwnerAt h c (Some (owner_by casts c deeds)) = subst (IsOwnerAt h c) (keeps.reached.owners c named) (keeps.reached.refines.owners c) in
+    at.1
+
+-- who is no caller has no calls and no answers
+stranger_calls : (h : History) (c : ℕ) → AllNamed h → is_caller c h ≡ false → calls_of c h ≡ []
+stranger_calls h c all stranger = go (calls_of c h) refl
+  where
+    go : (calls : List Submission) → calls_of c h ≡ calls → calls_of c h ≡ []
+    go [] e = e
+    go (call ∷ calls) e =
+        let named = sent_call_named h c 0 call all (ap (λ (l : List Submission). slice_get l 0) e) in
+        let bad : true ≡ false = sym (named_caller c call.actor h named) ∙ stranger in cc
+
+-- each caller's calls and answers, as the deeds leave them
+pub record IsToldOf (casts : List ActorSpec) (deeds : List Deed) (h : History) (c : ℕ) : Type 0 where
+  pub calls : calls_of c h ≡ (owner_by casts c deeds).calls
+  pub kept : kept_of c h ≡ (owner_by casts c deeds).kept
+
+pub told_of : (casts : List ActorSpec) (deeds : List Deed) (h : History) (c : ℕ) → Keeps casts deeds h → IsToldOf casts deeds h c
+told_of casts deeds h c keeps = go (is_named casts c) refl
+  where
+    go : (b : Bool) → is_named casts c ≡ b → IsToldOf casts deeds h c
+    go true named = let is = owner_of casts deeds h c keeps named in record { calls = sym is.calls; kept = sym is.kept }
+    go false stranger =
+        let none = stranger_calls h c keeps.lawful.retires.named (ap (λ (l : List ActorSpec). is_named l c) keeps.casts_are ∙ stranger) in
+        let same = keeps.strangers c stranger in
+        record {
+          calls = none ∙ sym (ap (λ (changes : List Change). (owner_after casts c changes).calls) same);
+          kept = ap (λ (calls : List Submission). map (first_answer h c) (enumerate_from 0 calls)) none ∙ sym (ap (λ (changes : List Change). (owner_after casts c changes).kept) same);
+        }

@@ -1,0 +1,54 @@
+-- Where something stands in a list, once it was found there.
+use Rattle.std.proofs.Common.{◌≡◌, ◌≢◌, ℕ, zero, suc, ◌<◌, Bool, true, false, List, [], ◌∷◌, length, Option, Some, None, refl, ap, sym, ◌∙◌, get_or}
+use Rattle.std.specs.Prelude.{◌||◌, find, position, slice_get, slice_set}
+use Rattle.std.proofs.lemmas.Bool.{eqb-true, eq-eqb, ne_eqb}
+use Rattle.std.proofs.lemmas.List.Folds.{find-set, find_past}
+use Rattle.std.proofs.lemmas.List.Quantifiers.{position-Some}
+use Rattle.act_rules.specs.declared.history.Letter.{Letter}
+use Rattle.act_rules.specs.History.{is_letter, has_letter}
+use Rattle.act_rules.proofs.Finding.{find-Some, find-None, position_or_len-Some}
+use Rattle.act_rules.proofs.Letters.{letter_is}
+use Rattle.act_owner.specs.Owner.{OwnerView}
+use Rattle.act_world.specs.Network.{is_owner}
+
+-- what is found stands at its place
+pub record IsFoundAt {X : Type 0} (p : X → Bool) (xs : List X) (x : X) : Type 0 where
+  pub place : ℕ
+  pub at : position p xs ≡ Some place
+  pub is : x ≡ get_or xs place x
+  pub below : place < length xs
+
+pub found_at : {X : Type 0} (p : X → Bool) (xs : List X) (x : X) → find p xs ≡ Some x → IsFoundAt p xs x
+found_at {X = X} p xs x e = go (position p xs) refl
+  where
+    go : (o : Option ℕ) → position p xs ≡ o → IsFoundAt p xs x
+    go None none = let bad : None ≡ Some x = sym (find-None p xs none) ∙ e in cc
+    go (Some i) at = record {
+      place = i;
+      at = at;
+      is = let same : Some x ≡ Some (get_or xs i x) = sym e ∙ find-Some p xs i x at in cc;
+      below = (position-Some p xs i x at).0;
+    }
+
+-- a letter that is there has a place
+pub letter_place : (letter : Letter) (letters : List Letter) → has_letter letter letters ≡ true → (i : ℕ) × (slice_get letters i ≡ Some letter)
+letter_place letter [] e = cc
+letter_place letter (x ∷ letters) e = go (is_letter letter x) refl (letter_place letter letters) e
+  where
+    go : (b : Bool) → is_letter letter x ≡ b → (has_letter letter letters ≡ true → (i : ℕ) × (slice_get letters i ≡ Some letter)) → (b || has_letter letter letters) ≡ true → (i : ℕ) × (slice_get (x ∷ letters) i ≡ Some letter)
+    go true is rest e = (zero, ap (λ (l : Letter). Some l) (sym (letter_is letter x is)))
+    go false is rest e = let there = rest e in (suc there.0, there.1)
+
+-- ---- a caller is written at its place
+
+not_owner : (c d : ℕ) (owner : OwnerView) → c ≢ d → owner.id ≡ c → is_owner d owner ≡ false
+not_owner c d owner apart id = ne_eqb owner.id d (λ same. apart (sym id ∙ same))
+
+module _ (owners : List OwnerView) (c : ℕ) (old new : OwnerView) (there : IsFoundAt (is_owner c) owners old) (id : new.id ≡ c) where
+  pub written_here : find (is_owner c) (slice_set owners there.place new) ≡ Some new
+  written_here = find-set (is_owner c) owners there.place new (sym (position_or_len-Some (is_owner c) owners there.place there.at)) there.below (eq-eqb new.id c id)
+
+  pub written_other : (d : ℕ) → c ≢ d → find (is_owner d) (slice_set owners there.place new) ≡ find (is_owner d) owners
+  written_other d apart =
+      find_past (is_owner d) owners there.place new new (not_owner c d (get_or owners there.place new) apart (eqb-true (get_or owners there.place new).id c (position-Some (is_owner c) owners there.place new there.at).1))
+      (not_owner c d new apart id)

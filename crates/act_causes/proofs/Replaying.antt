@@ -1,0 +1,121 @@
+-- Each deed is an event that a play takes, and so are all of them.
+use Rattle.std.proofs.Common.{◌≡◌, List, [], ◌∷◌, ◌++◌, None, refl, ap, sym, ◌∙◌, subst}
+use Rattle.std.specs.Prelude.{Option, IsOk}
+use Rattle.std.specs.List.{AllByRecursion, AllZip}
+use Rattle.std.proofs.lemmas.List.{append-nil, append_assoc}
+use Rattle.std.proofs.lemmas.List.Elements.{All-from_recursion}
+use Rattle.act_types.specs.declared.message.Notice.TheVariants.{Answered, Death}
+use Rattle.act_rules.specs.declared.event.Event.{Event}
+use Rattle.act_rules.specs.declared.history.Letter.TheVariants.{Call as CallLetter, Note as NoteLetter}
+use Rattle.act_rules.specs.declared.history.Post.TheVariants.{Reply as ReplyPost, Death as DeathPost}
+use Rattle.act_rules.specs.declared.outcome.WorldRefusal.{WorldRefusal}
+use Rattle.act_rules.specs.History.{ActorSpec, History, opening}
+use Rattle.act_rules.specs.Laws.{history}
+use Rattle.act_rules.specs.Rules.{Outcome, outcome_by, outcome_of, outcomes, add_event, after_by}
+use Rattle.act_rules.proofs.Growth.{Grows, added_grows}
+use Rattle.act_rules.proofs.Lists.{All_more, slice_get_front}
+use Rattle.act_rules.proofs.Steps.{after_all-append, outcomes-append}
+use Rattle.act_owner.specs.Life.{Copied, Released, Submitted, Sent, Noticed}
+use Rattle.act_causes.specs.Deeds.{Deed, Changed, AskedKill, TookCall, TookNote, Ran, TookKill, ToldDeath, Retired, IsCaused, AreCaused}
+use Rattle.act_causes.specs.Plays.{SpecsFit, IsEventOf, IsPlayOfDeeds}
+use Rattle.act_causes.proofs.Changing.{copied, released, submitted, sent, asked}
+use Rattle.act_causes.proofs.Collecting.{heard_death, heard_reply}
+use Rattle.act_causes.proofs.Ending.{took_kill, told_death, retired}
+use Rattle.act_causes.proofs.Keeping.{Keeps, GoesOn, told_of}
+use Rattle.act_causes.proofs.Made.{dead_is}
+use Rattle.act_causes.proofs.Opening.{keeps_opening}
+use Rattle.act_causes.proofs.Running.{ran}
+use Rattle.act_causes.proofs.Taking.{took_call, took_note}
+
+-- a deed that is caused is an event that a play takes
+goes_on : (casts : List ActorSpec) (deeds : List Deed) (h : History) (deed : Deed) → SpecsFit casts → Keeps casts deeds h → IsCaused casts deeds deed → GoesOn casts deeds h deed
+goes_on casts deeds h (Changed c (Copied a)) fitting keeps caused = copied casts deeds h c keeps caused.0 a caused.1
+goes_on casts deeds h (Changed c (Released a)) fitting keeps caused = released casts deeds h c keeps caused.0 a caused.1
+goes_on casts deeds h (Changed c (Submitted a method args)) fitting keeps caused = submitted casts deeds h c keeps caused.0 a method args caused.1
+goes_on casts deeds h (Changed c (Sent k)) fitting keeps caused = sent casts deeds h c keeps caused.0 k caused.1
+goes_on casts deeds h (Changed c (Noticed (Answered reply))) fitting keeps caused = heard_reply casts deeds h c keeps caused.0 reply caused.1
+goes_on casts deeds h (Changed c (Noticed (Death a))) fitting keeps caused = heard_death casts deeds h c keeps caused.0 a fitting.actors caused.1
+goes_on casts deeds h (AskedKill c a) fitting keeps caused = asked casts deeds h c keeps caused.0 a fitting.actors caused.1
+goes_on casts deeds h (TookCall a packet) fitting keeps caused = took_call casts deeds h keeps a packet caused
+goes_on casts deeds h (TookNote a note) fitting keeps caused = took_note casts deeds h keeps a note caused
+goes_on casts deeds h (Ran a item) fitting keeps caused = ran casts deeds h a item keeps caused
+goes_on casts deeds h (TookKill a) fitting keeps caused = took_kill casts deeds h a keeps caused.0 caused.1 caused.2
+goes_on casts deeds h (ToldDeath a c) fitting keeps caused = told_death casts deeds h a keeps c caused.0 caused.1
+goes_on casts deeds h (Retired a) fitting keeps caused = retired casts deeds h a keeps caused
+
+-- what is found by its place stays there
+event_stays : (h g : History) (deed : Deed) (event : Event) → Grows h g → IsEventOf h deed event → IsEventOf g deed event
+event_stays h g (Changed c (Copied a)) event grows is = is
+event_stays h g (Changed c (Released a)) event grows is = is
+event_stays h g (Changed c (Submitted a method args)) event grows is = is
+event_stays h g (Changed c (Sent k)) event grows is = is
+event_stays h g (Changed c (Noticed (Answered reply))) event grows is = (is.0, is.1, slice_get_front h.posts g.posts is.0 (ReplyPost c reply.actor reply.place) grows.posts is.2)
+event_stays h g (Changed c (Noticed (Death a))) event grows is = (is.0, is.1, slice_get_front h.posts g.posts is.0 (DeathPost c a) grows.posts is.2)
+event_stays h g (AskedKill c a) event grows is = is
+event_stays h g (TookCall a packet) event grows is = (is.0, is.1, slice_get_front h.mail g.mail is.0 (CallLetter packet.caller a packet.number) grows.mail is.2)
+event_stays h g (TookNote a note) event grows is = (is.0, is.1, slice_get_front h.mail g.mail is.0 (NoteLetter note.caller a note.after) grows.mail is.2)
+event_stays h g (Ran a item) event grows is = is
+event_stays h g (TookKill a) event grows is = is
+event_stays h g (ToldDeath a c) event grows is = is
+event_stays h g (Retired a) event grows is = is
+
+steps_stay : (h g : History) (deeds : List Deed) (events : List Event) → Grows h g → AllZip (IsEventOf h) deeds events → AllZip (IsEventOf g) deeds events
+steps_stay h g [] [] grows steps = tt
+steps_stay h g [] (event ∷ events) grows steps = steps
+steps_stay h g (deed ∷ deeds) [] grows steps = steps
+steps_stay h g (deed ∷ deeds) (event ∷ events) grows steps = (event_stays h g deed event grows steps.0, steps_stay h g deeds events grows steps.1)
+
+-- one deed more, which is an event more
+one_step : (h : History) (deeds : List Deed) (events : List Event) (deed : Deed) (event : Event) → AllZip (IsEventOf h) deeds events → IsEventOf h deed event → AllZip (IsEventOf h) (deeds ++ deed ∷ []) (events ++ event ∷ [])
+one_step h [] [] deed event steps is = (is, tt)
+one_step h [] (other ∷ events) deed event steps is = absurd steps
+one_step h (one ∷ deeds) [] deed event steps is = absurd steps
+one_step h (one ∷ deeds) (other ∷ events) deed event steps is = (steps.0, one_step h deeds events deed event steps.1 is)
+
+-- events that stand for the deeds, and that a play takes
+pub record IsReplayed (casts : List ActorSpec) (deeds : List Deed) : Type 0 where
+  pub events : List Event
+  pub steps : AllZip (IsEventOf (history casts events)) deeds events
+  pub accepted : AllByRecursion IsOk (outcomes (opening casts) events)
+  pub keeps : Keeps casts deeds (history casts events)
+
+-- one event more, which nothing refuses
+one_event : (casts : List ActorSpec) (deeds : List Deed) (deed : Deed) (before : IsReplayed casts deeds) → GoesOn casts deeds (history casts before.events) deed → IsReplayed casts (deeds ++ deed ∷ [])
+one_event casts deeds deed before on =
+    let h = history casts before.events in
+    let told : outcome_of h on.event ≡ outcome_by h on.event None = ap (λ (r : Option WorldRefusal). outcome_by h on.event r) on.accepted in
+    let ok : IsOk (outcome_of h on.event) = subst (λ (o : Outcome). IsOk o) (sym told) refl in
+    let reached : history casts (before.events ++ on.event ∷ []) ≡ add_event h on.event =
+    after_all-append (opening casts) before.events (on.event ∷ []) ∙ ap (λ (r : Option WorldRefusal). after_by h on.event r) on.accepted in
+    record {
+      events = before.events ++ on.event ∷ [];
+      steps = subst (λ (g : History). AllZip (IsEventOf g) (deeds ++ deed ∷ []) (before.events ++ on.event ∷ [])) (sym reached)
+          (one_step (add_event h on.event) deeds before.events deed on.event
+          (steps_stay h (add_event h on.event) deeds before.events (added_grows h on.event) before.steps)
+          (event_stays h (add_event h on.event) deed on.event (added_grows h on.event) on.is));
+      accepted = subst (λ (l : List Outcome). AllByRecursion IsOk l) (sym (outcomes-append (opening casts) before.events (on.event ∷ [])))
+          (All_more IsOk (outcomes (opening casts) before.events) (outcome_of h on.event) before.accepted ok);
+      keeps = subst (λ (g : History). Keeps casts (deeds ++ deed ∷ []) g) (sym reached) on.keeps;
+    }
+
+-- all deeds after those that were replayed
+replays : (casts : List ActorSpec) (deeds later : List Deed) → SpecsFit casts → IsReplayed casts deeds → AreCaused casts deeds later → IsReplayed casts (deeds ++ later)
+replays casts deeds [] fitting before caused = subst (IsReplayed casts) (sym (append-nil deeds)) before
+replays casts deeds (deed ∷ later) fitting before caused =
+    let next = one_event casts deeds deed before (goes_on casts deeds (history casts before.events) deed fitting before.keeps caused.0) in
+    subst (IsReplayed casts) (append_assoc deeds (deed ∷ []) later) (replays casts (deeds ++ deed ∷ []) later fitting next caused.1)
+
+pub play_of : (casts : List ActorSpec) (deeds : List Deed) → SpecsFit casts → AreCaused casts [] deeds → (events : List Event) × IsPlayOfDeeds casts deeds events
+play_of casts deeds fitting caused =
+    let all = replays casts [] deeds fitting (record { events = []; steps = tt; accepted = tt; keeps = keeps_opening casts fitting }) caused in (
+      all.events,
+      record {
+        steps = all.steps;
+        accepted = All-from_recursion IsOk (outcomes (opening casts) all.events) all.accepted;
+        calls = λ c. (told_of casts deeds (history casts all.events) c all.keeps).calls;
+        kept = λ c. (told_of casts deeds (history casts all.events) c all.keeps).kept;
+        runs = all.keeps.actors.runs;
+        dead = λ a. dead_is deeds (history casts all.events) a all.keeps.actors;
+        retired = all.keeps.actors.retired;
+      },
+    )
