@@ -22,7 +22,7 @@ use Rattle.act_actor.specs.declared.cast.Cast.{Cast}
 use Rattle.act_actor.specs.Casts.{actor_spec}
 use Rattle.act_owner.specs.Owner.{OwnerView}
 use Rattle.act_serve.specs.Served.{EndView}
-use Rattle.act_plans.specs.Parts.{PlansFit}
+use Rattle.act_plans.specs.Setups.{PlansFit}
 use Rattle.act_plans.proofs.Keys.{pairs_of_map}
 use Rattle.act_plans.specs.Runs.{first_bad_plan}
 use Rattle.act_executor.specs.Joined.{IsJoined}

@@ -13,7 +13,7 @@ use Rattle.act_rules.specs.Submissions.{IsLimit}
 use Rattle.act_actor.specs.declared.cast.Cast.{Cast}
 use Rattle.act_actor.specs.Cast.{CallersDiffer, IsFitting}
 use Rattle.act_actor.specs.Casts.{actor_spec}
-use Rattle.act_plans.specs.Parts.{PlansFit, most_steps}
+use Rattle.act_plans.specs.Setups.{PlansFit, most_steps}
 use Rattle.act_executor.specs.Runs.{plan_view, IsFault}
 use Rattle.act_uses.specs.declared.peaceful.Kinds.{Kinds}
 use Rattle.act_uses.specs.declared.peaceful.PeaceFault.{PeaceFault}

@@ -15,7 +15,7 @@ use Rattle.act_owner.specs.Owner.{OwnerView}
 use Rattle.act_actor.specs.declared.cast.Cast.{Cast}
 use Rattle.act_actor.specs.Cast.{IsFitting}
 use Rattle.act_actor.specs.Casts.{actor_spec}
-use Rattle.act_plans.specs.Parts.{PlansFit, most_steps}
+use Rattle.act_plans.specs.Setups.{PlansFit, most_steps}
 use Rattle.act_serve.specs.Served.{EndView}
 use Rattle.act_executor.specs.Joined.{calls_in, kept_in, log_in}
 use Rattle.act_executor.specs.Runs.{plan_view, IsFault}

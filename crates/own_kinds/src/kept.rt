@@ -9,7 +9,7 @@ ghost use Rattle.act_actor.specs.Casts.{actor_spec};
 ghost use Rattle.act_world.specs.IsReachedBy.{IsReachedBy};
 ghost use Rattle.act_world.specs.View.{stage_in, stage_view, world_view};
 ghost use Rattle.act_serve.specs.Served.{end_view};
-ghost use Rattle.act_plans.specs.Parts.{PlansFit};
+ghost use Rattle.act_plans.specs.Setups.{PlansFit};
 ghost use Rattle.act_executor.specs.Joined.{IsJoined, end_of, log_in};
 ghost use Rattle.act_executor.specs.Runs.{plan_view, IsFault};
 ghost use Rattle.act_own.specs.Kept.{SlotKeeps, EndKeeps, OpensAt};

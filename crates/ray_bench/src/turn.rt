@@ -4,7 +4,7 @@ ghost use Rattle.std.specs.Prelude.{IfOk, map};
 ghost use Rattle.act_actor.specs.Cast.{IsFitting};
 ghost use Rattle.act_actor.specs.Casts.{actor_spec};
 ghost use Rattle.act_serve.specs.Served.{end_view};
-ghost use Rattle.act_plans.specs.Parts.{PlansFit};
+ghost use Rattle.act_plans.specs.Setups.{PlansFit};
 ghost use Rattle.act_executor.specs.Joined.{IsJoined};
 ghost use Rattle.act_executor.specs.Runs.{plan_view};
 

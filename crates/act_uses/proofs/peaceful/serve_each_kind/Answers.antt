@@ -2,7 +2,7 @@ use Rattle.std.proofs.Common.{◌≡◌, ◌<◌, true, length, map, ap, sym, �
 use Rattle.std.specs.List.{list_all}
 use Rattle.act_executor.specs.Runs.{plan_view}
 use Rattle.act_executor.proofs.Faults.{err_only}
-use Rattle.act_plans.specs.Parts.{most_steps}
+use Rattle.act_plans.specs.Setups.{most_steps}
 use Rattle.act_uses.specs.declared.peaceful.PeaceFault.{PeaceFault}
 use Rattle.act_uses.specs.Peaceful.{is_peaceful, casts_for, IsServeFault}
 use Rattle.act_uses.proofs.Peace.{joined_with, ran_with}
