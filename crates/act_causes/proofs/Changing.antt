@@ -26,7 +26,7 @@ use Rattle.act_owner.specs.Life.{Change, Copied, Released, Submitted, Sent, afte
 use Rattle.act_plans.specs.Runs.{cast_at}
 use Rattle.act_world.specs.declared.network.MailEntry.TheVariants.{Call as CallEntry, Note as NoteEntry}
 use Rattle.act_world.specs.Network.{NetworkView, is_owner}
-use Rattle.act_world.specs.Value.{SlotView}
+use Rattle.act_world.specs.View.{SlotView}
 use Rattle.act_world.proofs.Asking.{ask_follows}
 use Rattle.act_world.proofs.Copying.{copy_follows}
 use Rattle.act_world.proofs.Killing.{contains-last}

@@ -14,10 +14,10 @@ use Rattle.act_rules.specs.History.{ActorSpec, History, cast_of, names, has_lett
 use Rattle.act_rules.specs.Rules.{add_event}
 use Rattle.act_inbox.specs.Inbox.{handed_of, note_of}
 use Rattle.act_owner.specs.Owner.{OwnerView}
-use Rattle.act_actor.specs.Value.{RetiredView}
+use Rattle.act_actor.specs.View.{RetiredView}
 use Rattle.act_plans.specs.Runs.{cast_at}
 use Rattle.act_world.specs.Network.{NetworkView}
-use Rattle.act_world.specs.Value.{SlotView, Runs, Ended}
+use Rattle.act_world.specs.View.{SlotView, Runs, Ended}
 use Rattle.act_world.specs.Slots.{is_dead_slot, dead_slot}
 use Rattle.act_world.specs.Refines.{is_note_of, IsStage}
 use Rattle.act_world.proofs.Frames.{still_lives}

@@ -7,11 +7,11 @@ use Rattle.act_types.specs.declared.message.Packet.{Packet}
 use Rattle.act_types.specs.declared.message.ReleaseNote.{ReleaseNote}
 use Rattle.act_rules.specs.declared.outcome.Arrival.{Arrival}
 use Rattle.act_rules.specs.declared.outcome.Arrival.TheVariants.{New, Repeat, Stranger}
-use Rattle.act_inbox.specs.Value.{IsInbox}
+use Rattle.act_inbox.specs.View.{IsInbox}
 use Rattle.act_inbox.specs.Inbox.{InboxView, arrival_of, holding}
 use Rattle.act_inbox.proofs.Packets.{new_tells, waits_holding}
 use Rattle.act_owner.specs.Owner.{OwnerView}
-use Rattle.act_actor.specs.Value.{ActorView}
+use Rattle.act_actor.specs.View.{ActorView}
 use Rattle.act_actor.specs.Actor.{arrival_at, note_arrival_at}
 use Rattle.act_world.specs.declared.network.CallKey.{CallKey}
 use Rattle.act_world.specs.Network.{head_of, packet_in, fill_head}

@@ -22,12 +22,12 @@ use Rattle.act_rules.specs.Rules.{refusal_of, outcome_by, outcome_of, add_event,
 use Rattle.act_rules.proofs.Lists.{whole_front, more_front}
 use Rattle.act_rules.proofs.Growth.{added_grows}
 use Rattle.act_rules.proofs.Ended.{contains_more}
-use Rattle.act_inbox.specs.Value.{IsInbox}
+use Rattle.act_inbox.specs.View.{IsInbox}
 use Rattle.act_owner.specs.Owner.{packet_at, is_sent}
 use Rattle.act_owner.specs.Life.{Change, Copied, Released, Submitted, Sent, Noticed, is_known_at}
 use Rattle.act_plans.specs.Runs.{cast_at}
 use Rattle.act_world.specs.Network.{is_owner}
-use Rattle.act_world.specs.Value.{SlotView, Runs, WorldView}
+use Rattle.act_world.specs.View.{SlotView, Runs, WorldView}
 use Rattle.act_world.specs.Refines.{IsOwnerOf, IsOwnerAt, Refines}
 use Rattle.act_world.proofs.Lawful.{IsLawful, lawful_step, has_letter-more, sent_call_named, named_caller}
 use Rattle.act_causes.specs.Deeds.{Deed, Changed, AskedKill, TookCall, TookNote, Ran, TookKill, ToldDeath, Retired, IsNamed, owner_by, change_of, changes_by, owner_after}

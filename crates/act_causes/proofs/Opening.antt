@@ -19,10 +19,10 @@ use Rattle.act_inbox.proofs.Opening.{no_notes, opened, opened_is_inbox}
 use Rattle.act_owner.specs.Owner.{OwnerView, opened_under, opened_with}
 use Rattle.act_actor.specs.declared.cast.Cast.{Cast}
 use Rattle.act_actor.specs.Casts.{actor_spec, actor_limit, callers_named, limits_that_name as limits_of_casts}
-use Rattle.act_actor.specs.Value.{ActorView}
+use Rattle.act_actor.specs.View.{ActorView}
 use Rattle.act_plans.specs.Runs.{cast_at, limits_naming}
 use Rattle.act_world.specs.Network.{is_owner}
-use Rattle.act_world.specs.Value.{SlotView, Runs, Vacant, WorldView}
+use Rattle.act_world.specs.View.{SlotView, Runs, Vacant, WorldView}
 use Rattle.act_world.specs.Refines.{IsLive, IsStage, IsOwnerAt, Refines}
 use Rattle.act_world.proofs.Lawful.{world_lawful}
 use Rattle.act_world.proofs.OpenedOwners.{owners_opened, nothing_asked}

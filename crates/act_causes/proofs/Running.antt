@@ -16,16 +16,16 @@ use Rattle.act_rules.specs.History.{ActorSpec, History, cast_of, names, calls_of
 use Rattle.act_rules.specs.Rules.{after_run}
 use Rattle.act_rules.proofs.Letters.{calls_to-number}
 use Rattle.act_inbox.specs.declared.inbox.Lane.{Lane}
-use Rattle.act_inbox.specs.Value.{IsInbox}
+use Rattle.act_inbox.specs.View.{IsInbox}
 use Rattle.act_inbox.specs.Inbox.{InboxView, is_lane_of, lane_of, next_of, IsNextTaken}
 use Rattle.act_inbox.proofs.Lanes.{one_more}
 use Rattle.act_inbox.proofs.Packets.{unlisted_next, listed_next}
 use Rattle.act_inbox.proofs.Taking.{sound_then, next_taken}
 use Rattle.act_owner.specs.Owner.{OwnerView, packet_for as packet_made, packet_at}
-use Rattle.act_actor.specs.Value.{ActorView}
+use Rattle.act_actor.specs.View.{ActorView}
 use Rattle.act_actor.specs.Actor.{item_of as item_made, reply_of_run, next_call, HasRunCall}
 use Rattle.act_plans.specs.Runs.{cast_at}
-use Rattle.act_world.specs.Value.{Runs}
+use Rattle.act_world.specs.View.{Runs}
 use Rattle.act_world.specs.Slots.{dead_slot, bury_ended, HasRunNext}
 use Rattle.act_world.specs.Refines.{IsOwnerOf}
 use Rattle.act_world.proofs.Frames.{still_lives}

@@ -7,10 +7,10 @@ use Rattle.act_rules.specs.declared.outcome.WorldRefusal.TheVariants.{Handle}
 use Rattle.act_rules.specs.History.{ActorSpec, History, cast_of, names, is_caller, is_dead, is_retired, is_ended}
 use Rattle.act_handles.specs.Handles.{copies_in}
 use Rattle.act_owner.specs.Owner.{OwnerView}
-use Rattle.act_actor.specs.Value.{ActorView}
+use Rattle.act_actor.specs.View.{ActorView}
 use Rattle.act_plans.specs.Runs.{cast_at}
 use Rattle.act_world.specs.Network.{is_owner, naming_refusal}
-use Rattle.act_world.specs.Value.{SlotView, Runs, Died, Ended, Vacant}
+use Rattle.act_world.specs.View.{SlotView, Runs, Died, Ended, Vacant}
 use Rattle.act_world.specs.Refines.{IsLive, IsStage}
 use Rattle.act_world.proofs.Lawful.{named_caller}
 use Rattle.act_world.proofs.Lists.{get_set-same, get_set-other}

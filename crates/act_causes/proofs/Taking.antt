@@ -17,15 +17,15 @@ use Rattle.act_rules.specs.Consistent.{IsPrefix}
 use Rattle.act_rules.proofs.Lists.{All_at}
 use Rattle.act_rules.proofs.Letters.{IsSoundLetter}
 use Rattle.act_handles.specs.Handles.{copies_in}
-use Rattle.act_inbox.specs.Value.{IsInbox}
+use Rattle.act_inbox.specs.View.{IsInbox}
 use Rattle.act_owner.specs.Owner.{OwnerView, packet_for, packet_at, is_sent}
 use Rattle.act_owner.specs.Life.{Change, Sent, after_changes, is_known_at}
 use Rattle.act_owner.proofs.Life.{places_all, packet_stays_all, after_all-append}
-use Rattle.act_actor.specs.Value.{ActorView}
+use Rattle.act_actor.specs.View.{ActorView}
 use Rattle.act_world.specs.declared.network.MailEntry.{MailEntry}
 use Rattle.act_world.specs.declared.network.MailEntry.TheVariants.{Call as CallEntry, Note as NoteEntry}
 use Rattle.act_world.specs.Network.{entry_actor}
-use Rattle.act_world.specs.Value.{SlotView, Runs}
+use Rattle.act_world.specs.View.{SlotView, Runs}
 use Rattle.act_world.specs.Slots.{HasArrived}
 use Rattle.act_world.specs.Refines.{IsOwnerOf, call_key, mail_entry}
 use Rattle.act_world.proofs.Delivering.{deliver_follows}

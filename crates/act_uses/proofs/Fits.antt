@@ -6,15 +6,14 @@ use Rattle.std.specs.List.{list_all, list_any}
 use Rattle.std.proofs.lemmas.Bool.{eq-eqb}
 use Rattle.std.proofs.lemmas.List.Elements.{All-cons, All-nil}
 use Rattle.std.proofs.lemmas.List.Kept.{AllPairs-cons}
-use Rattle.act_types.specs.KindState.{KindState}
-use Rattle.act_rules.specs.declared.script.Step.{Step}
-use Rattle.act_rules.specs.History.{ActorSpec, contains}
-use Rattle.act_rules.specs.Submissions.{IsLimit}
-use Rattle.act_actor.specs.declared.cast.Cast.{Cast}
-use Rattle.act_actor.specs.Cast.{CallersDiffer, IsFitting}
-use Rattle.act_actor.specs.Casts.{actor_spec}
-use Rattle.act_plans.specs.Setups.{PlansFit, most_steps}
-use Rattle.act_executor.specs.Runs.{plan_view, IsFault}
+use Rattle.actors.specs.Kinds.{KindState}
+use Rattle.actors.specs.Step.{Step}
+use Rattle.actors.specs.Rules.{ActorSpec, contains}
+use Rattle.actors.specs.Callers.{IsLimit}
+use Rattle.actors.specs.Cast.{Cast}
+use Rattle.actors.specs.Actors.{CallersDiffer, IsFitting, actor_spec}
+use Rattle.actors.specs.Threads.{PlansFit, plan_view, IsFault}
+use Rattle.actors.specs.Limits.{most_steps}
 use Rattle.act_uses.specs.declared.peaceful.Kinds.{Kinds}
 use Rattle.act_uses.specs.declared.peaceful.PeaceFault.{PeaceFault}
 use Rattle.act_uses.specs.declared.peaceful.PeaceFault.TheVariants.{EndsAnActor, Unfit, Run}

@@ -1,19 +1,16 @@
 -- The answer of a call that was sent is kept.
 use Rattle.std.proofs.Common.{◌≡◌, ◌∷◌, [], Some, false, refl, ap, ◌∙◌}
-use Rattle.act_types.specs.KindState.{KindState}
-use Rattle.act_types.specs.declared.value.Value.{Value}
-use Rattle.act_types.specs.declared.call.Method.{Method}
-use Rattle.act_types.specs.declared.call.Settled.TheVariants.{Good}
-use Rattle.act_types.specs.declared.message.Packet.{Packet}
-use Rattle.act_types.specs.declared.message.Reply.{Reply}
-use Rattle.act_types.specs.declared.message.Notice.TheVariants.{Answered}
-use Rattle.act_rules.specs.declared.history.RunItem.{RunItem}
-use Rattle.act_rules.specs.RunList.{Answer, after_item}
-use Rattle.act_rules.specs.Submissions.{kept_at}
-use Rattle.act_rules.proofs.KindFaults.{answer_alive}
-use Rattle.act_owner.specs.Owner.{OwnerView, after_collect, is_death}
-use Rattle.act_world.proofs.Answering.{alive_is}
-use Rattle.act_actor.specs.Actor.{item_of}
+use Rattle.actors.specs.Kinds.{KindState, Answer}
+use Rattle.actors.specs.Value.{Value}
+use Rattle.actors.specs.Method.{Method}
+use Rattle.actors.specs.Settled.TheVariants.{Good}
+use Rattle.actors.specs.Packet.{Packet}
+use Rattle.actors.specs.Reply.{Reply}
+use Rattle.actors.specs.Notice.TheVariants.{Answered}
+use Rattle.actors.specs.RunItem.{RunItem}
+use Rattle.actors.specs.Actors.{after_item, item_of}
+use Rattle.actors.specs.Callers.{kept_at, OwnerView, after_collect, is_death}
+use Rattle.actors.proofs.Lemmas.{answer_alive, alive_is}
 use Rattle.act_uses.specs.OneCall.{asking, question, step_of_question}
 
 -- no kind answers that the actor died

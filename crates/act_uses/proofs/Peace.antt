@@ -3,24 +3,20 @@ use Rattle.std.proofs.Common.{◌≡◌, ◌≢◌, ℕ, ◌-◌, Bool, true, fa
 use Rattle.std.specs.Prelude.{◌==◌, Err, slice_get, is_some}
 use Rattle.std.specs.List.{list_all, AllByRecursion}
 use Rattle.std.proofs.lemmas.Bool.{and_parts}
-use Rattle.act_types.specs.declared.fault.Fault.TheVariants.{ActorDied}
-use Rattle.act_types.specs.declared.call.Method.{Method}
-use Rattle.act_types.specs.declared.call.Method.TheVariants as method
-use Rattle.act_types.specs.declared.call.Settled.{Settled}
-use Rattle.act_rules.specs.declared.script.Step.{Step}
-use Rattle.act_rules.specs.declared.script.Step.TheVariants.{Submit, Copy, Release, Kill, Await}
-use Rattle.act_rules.specs.declared.history.RunItem.{RunItem}
-use Rattle.act_rules.specs.declared.history.Submission.{Submission}
-use Rattle.act_rules.specs.RunList.{Answer, is_end, ends_actor, has_terminated}
-use Rattle.act_rules.specs.Submissions.{kept_at}
-use Rattle.act_rules.specs.Consistent.{IsAsSubmitted}
-use Rattle.act_rules.specs.History.{ActorSpec, actors_naming}
-use Rattle.act_rules.specs.Plans.{Progress, nothing_done, is_refused, do_step, done_by, kills_to}
-use Rattle.act_rules.proofs.Lists.{All_at, All_more}
-use Rattle.act_plans.specs.Runs.{plan_of, steps_of_plan}
-use Rattle.act_owner.specs.Owner.{OwnerView}
-use Rattle.act_serve.specs.Served.{EndView}
-use Rattle.act_executor.specs.Joined.{IsJoined, calls_in, kept_in, log_in, killed_in}
+use Rattle.actors.specs.Fault.TheVariants.{ActorDied}
+use Rattle.actors.specs.Method.{Method}
+use Rattle.actors.specs.Method.TheVariants as method
+use Rattle.actors.specs.Settled.{Settled}
+use Rattle.actors.specs.Step.{Step}
+use Rattle.actors.specs.Step.TheVariants.{Submit, Copy, Release, Kill, Await}
+use Rattle.actors.specs.RunItem.{RunItem}
+use Rattle.actors.specs.Submission.{Submission}
+use Rattle.actors.specs.Kinds.{Answer}
+use Rattle.actors.specs.Actors.{is_end, ends_actor, has_terminated}
+use Rattle.actors.specs.Callers.{kept_at, OwnerView}
+use Rattle.actors.specs.Rules.{IsAsSubmitted, ActorSpec, actors_naming, Progress, nothing_done, is_refused, do_step, done_by, kills_to}
+use Rattle.actors.proofs.Lemmas.{All_at, All_more}
+use Rattle.actors.specs.Threads.{plan_of, steps_of_plan, EndView, IsJoined, calls_in, kept_in, log_in, killed_in}
 use Rattle.act_uses.specs.Peaceful.{is_mild, is_peaceful, AllRan}
 
 -- ---- what a peaceful plan asks for

@@ -2,13 +2,10 @@
 use Rattle.std.proofs.Common.{◌≡◌, ℕ, ◌+◌, ◌-◌, List, ◌++◌, length, take, drop, ap, sym, ◌∙◌, subst, append_assoc, length-drop, arith}
 use Rattle.std.proofs.lemmas.List.{take-append-drop, take_all}
 use Rattle.std.proofs.Math.Seq.{take-add}
-use Rattle.act_rules.specs.declared.event.Event.{Event}
-use Rattle.act_rules.specs.History.{History, opening}
-use Rattle.act_rules.specs.Laws.{history}
-use Rattle.act_rules.specs.Rules.{Outcome, after_all, outcomes}
-use Rattle.act_rules.proofs.Steps.{after_all-append, outcomes-append}
-use Rattle.act_world.specs.View.{WorldView}
-use Rattle.act_world.specs.IsReachedBy.{IsReachedBy, HasPlayed}
+use Rattle.actors.specs.Event.{Event}
+use Rattle.actors.specs.Rules.{History, opening, history, Outcome, after_all, outcomes}
+use Rattle.actors.proofs.Lemmas.{after_all-append, outcomes-append}
+use Rattle.actors.specs.Worlds.{WorldView, IsReachedBy, HasPlayed}
 
 -- some events, and then others
 played_both : (xs ys : List Event) (old mid new : WorldView) (told told_mid told_new : List Outcome) → HasPlayed xs old mid told told_mid → HasPlayed ys mid new told_mid told_new → HasPlayed (xs ++ ys) old new told told_new

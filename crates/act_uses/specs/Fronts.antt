@@ -1,10 +1,9 @@
 -- What is read off a world.
 use Rattle.std.specs.Prelude.{ℕ, List, map}
 use Rattle.std.specs.List.{enumerate_from}
-use Rattle.act_rules.specs.RunList.{items_of}
-use Rattle.act_rules.specs.Submissions.{calls_to}
-use Rattle.act_world.specs.Headline.{world_calls, world_log}
-use Rattle.act_world.specs.View.{WorldView}
+use Rattle.actors.specs.Actors.{items_of}
+use Rattle.actors.specs.Callers.{calls_to}
+use Rattle.actors.specs.Worlds.{world_calls, world_log, WorldView}
 
 -- what an actor ran of a caller's calls, each by its number and its future
 abbrev pub ran_in : WorldView → ℕ → ℕ → List (ℕ × ℕ)

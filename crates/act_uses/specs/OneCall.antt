@@ -1,13 +1,12 @@
 -- One call of one caller to one actor.
 use Rattle.std.specs.Prelude.{[], ◌∷◌}
-use Rattle.act_types.specs.KindState.{KindState}
-use Rattle.act_types.specs.declared.value.Value.{Value}
-use Rattle.act_types.specs.declared.call.Method.{Method}
-use Rattle.act_types.specs.declared.call.Arg.TheVariants.{Plain}
-use Rattle.act_types.specs.declared.call.Settled.TheVariants.{Good}
-use Rattle.act_types.specs.declared.message.Packet.{Packet}
-use Rattle.act_rules.specs.RunList.{Answer, call_reply, step_of_reply}
-use Rattle.act_owner.specs.Owner.{OwnerView, open_owner, with_submission, with_sent}
+use Rattle.actors.specs.Kinds.{KindState, Answer, call_reply, step_of_reply}
+use Rattle.actors.specs.Value.{Value}
+use Rattle.actors.specs.Method.{Method}
+use Rattle.actors.specs.Arg.TheVariants.{Plain}
+use Rattle.actors.specs.Settled.TheVariants.{Good}
+use Rattle.actors.specs.Packet.{Packet}
+use Rattle.actors.specs.Callers.{OwnerView, open_owner, with_submission, with_sent}
 
 -- a caller that submitted one call, and sent it
 abbrev pub asking : Method → Value → OwnerView

@@ -2,23 +2,17 @@
 use Rattle.std.specs.Prelude.{◌≡◌, ℕ, ◌<◌, ◌≤◌, Bool, true, false, List, [], ◌∷◌, length, map, Some, None}
 use Rattle.std.specs.Global.{Vec}
 use Rattle.std.specs.List.{list_all}
-use Rattle.act_types.specs.KindState.{KindState}
-use Rattle.act_types.specs.declared.call.Method.{Method}
-use Rattle.act_types.specs.declared.call.Method.TheVariants.{Terminate}
-use Rattle.act_rules.specs.declared.script.Step.{Step}
-use Rattle.act_rules.specs.declared.script.Step.TheVariants.{Submit, Kill}
-use Rattle.act_rules.specs.RunList.{Answer}
-use Rattle.act_rules.specs.Submissions.{kept_at}
-use Rattle.act_rules.specs.Consistent.{IsAnswerOfRun}
-use Rattle.act_rules.specs.History.{ActorSpec, opening, opening_of}
-use Rattle.act_owner.specs.Owner.{OwnerView}
-use Rattle.act_actor.specs.declared.cast.Cast.{Cast}
-use Rattle.act_actor.specs.Cast.{IsFitting}
-use Rattle.act_actor.specs.Casts.{actor_spec}
-use Rattle.act_plans.specs.Setups.{PlansFit, most_steps}
-use Rattle.act_serve.specs.Served.{EndView}
-use Rattle.act_executor.specs.Joined.{calls_in, kept_in, log_in}
-use Rattle.act_executor.specs.Runs.{plan_view, IsFault}
+use Rattle.actors.specs.Kinds.{KindState, Answer}
+use Rattle.actors.specs.Method.{Method}
+use Rattle.actors.specs.Method.TheVariants.{Terminate}
+use Rattle.actors.specs.Step.{Step}
+use Rattle.actors.specs.Step.TheVariants.{Submit, Kill}
+use Rattle.actors.specs.Callers.{kept_at, OwnerView}
+use Rattle.actors.specs.Rules.{IsAnswerOfRun, ActorSpec, opening, opening_of}
+use Rattle.actors.specs.Cast.{Cast}
+use Rattle.actors.specs.Actors.{IsFitting, actor_spec}
+use Rattle.actors.specs.Threads.{PlansFit, EndView, calls_in, kept_in, log_in, plan_view, IsFault}
+use Rattle.actors.specs.Limits.{most_steps}
 use Rattle.act_uses.specs.declared.peaceful.Kinds.{Kinds}
 use Rattle.act_uses.specs.declared.peaceful.PeaceFault.{PeaceFault}
 use Rattle.act_uses.specs.declared.peaceful.PeaceFault.TheVariants.{EndsAnActor, Unfit, Run}

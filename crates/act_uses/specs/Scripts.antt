@@ -1,11 +1,9 @@
 -- Why a script was not played.
 use Rattle.std.specs.Prelude.{◌≡◌, ℕ, List, take, Result, Ok}
-use Rattle.act_rules.specs.declared.script.Wrong.{Wrong}
-use Rattle.act_rules.specs.Grammar.{Script as Spelled}
-use Rattle.act_rules.specs.Rules.{Outcome}
-use Rattle.act_scripts.specs.Spelled.{FailsAt}
-use Rattle.act_world.specs.IsReachedBy.{HasPlayed}
-use Rattle.act_world.specs.View.{WorldView}
+use Rattle.actors.specs.Wrong.{Wrong}
+use Rattle.actors.specs.Scripts.{Spelled, FailsAt}
+use Rattle.actors.specs.Rules.{Outcome}
+use Rattle.actors.specs.Worlds.{HasPlayed, WorldView}
 use Rattle.act_uses.specs.declared.played.PartFault.{PartFault}
 use Rattle.act_uses.specs.declared.played.PartFault.TheVariants.{Script, NoRoom, Stopped}
 

@@ -1,20 +1,15 @@
 //! What an actor has run of a caller's calls, read off a world after any events.
 
 ghost use Rattle.std.specs.Prelude.{◌≡◌, ℕ, List, map, OnOk, IfOk, ◌++◌, ◌∷◌, []};
-ghost use Rattle.act_rules.specs.History.{ActorSpec};
-ghost use Rattle.act_rules.specs.Consistent.{IsPrefix};
-ghost use Rattle.act_rules.specs.declared.event.Event.{Event as Happening};
-ghost use Rattle.act_actor.specs.Cast.{IsFitting};
-ghost use Rattle.act_actor.specs.Casts.{actor_spec};
-ghost use Rattle.act_world.specs.Headline.{slot_log};
-ghost use Rattle.act_world.specs.IsReachedBy.{IsReachedBy};
-ghost use Rattle.act_world.specs.View.{stage_view, world_view};
+ghost use Rattle.actors.specs.Rules.{ActorSpec, IsPrefix};
+ghost use Rattle.actors.specs.Event.{Event as Happening};
+ghost use Rattle.actors.specs.Actors.{IsFitting, actor_spec};
+ghost use Rattle.actors.specs.Worlds.{slot_log, IsReachedBy, stage_view, world_view};
 ghost use Rattle.act_uses.specs.Fronts.{ran_in, submitted_in};
 
-use act_kinds::Actor;
-use act_rules::RunItem;
-use act_types::{ActorId, CallerId, FutureId, NoMemory};
-use act_world::{Cast, Event, Stage, World, is_memory};
+use actors::{
+    Actor, ActorId, CallerId, Cast, Event, FutureId, NoMemory, RunItem, Stage, World, is_memory,
+};
 use std::alloc::Global;
 
 /// Does one event where there is room for it. A refused event is one that happened, too.

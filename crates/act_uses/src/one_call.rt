@@ -1,17 +1,14 @@
 //! One call without a world: whoever holds the caller and the actor carries what goes between them.
 
 ghost use Rattle.std.specs.Prelude.{◌≡◌, [], ◌∷◌, Some, IfOk, OnOk};
-ghost use Rattle.act_rules.specs.RunList.{after_item};
-ghost use Rattle.act_rules.specs.Submissions.{kept_at};
-ghost use Rattle.act_owner.specs.Owner.{open_owner};
-ghost use Rattle.act_actor.specs.Actor.{item_of};
-ghost use Rattle.act_actor.specs.StateViews.{live_view};
+ghost use Rattle.actors.specs.Actors.{after_item, item_of, live_view};
+ghost use Rattle.actors.specs.Callers.{kept_at, open_owner};
 ghost use Rattle.act_uses.specs.OneCall.{asking, question, step_of_question};
 
-use act_actor::Live;
-use act_kinds::Actor;
-use act_owner::Owner;
-use act_types::{ActorId, Arg, CallerId, ListOf, Method, NoMemory, Notice, Packet, Reply, Value};
+use actors::{
+    Actor, ActorId, Arg, CallerId, ListOf, Live, Method, NoMemory, Notice, Owner, Packet, Reply,
+    Value,
+};
 use std::alloc::Global;
 
 /// A caller that heard the answer of its one call, and the actor that ran it.

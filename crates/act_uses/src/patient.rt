@@ -1,11 +1,9 @@
 //! A play that goes on where memory was refused, and ends where it would have ended.
 
 ghost use Rattle.std.specs.Prelude.{take, OnOk, IfErr};
-ghost use Rattle.act_world.specs.IsReachedBy.{HasPlayed};
-ghost use Rattle.act_world.specs.View.{world_view};
+ghost use Rattle.actors.specs.Worlds.{HasPlayed, world_view};
 
-use act_kinds::Actor;
-use act_world::{Event, Outcome, World};
+use actors::{Actor, Event, Outcome, World};
 
 /// Plays the events. Where memory is refused it plays on from there, as often as there are tries.
 /// An `Err` tells how many events were played: a later call can go on with the others.

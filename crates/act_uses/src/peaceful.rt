@@ -2,18 +2,14 @@
 
 ghost use Rattle.std.specs.Prelude.{◌≡◌, ◌≤◌, ◌∷◌, [], map, IfOk, IfErr};
 ghost use Rattle.std.specs.List.{list_all};
-ghost use Rattle.act_actor.specs.Casts.{actor_spec};
-ghost use Rattle.act_serve.specs.Served.{end_view};
-ghost use Rattle.act_executor.specs.Joined.{IsJoined};
-ghost use Rattle.act_executor.specs.Runs.{plan_view};
+ghost use Rattle.actors.specs.Actors.{actor_spec};
+ghost use Rattle.actors.specs.Threads.{end_view, IsJoined, plan_view};
 ghost use Rattle.act_uses.specs.Peaceful.{AllRan, IsPeaceFault, IsServeFault, are_peaceful, is_peaceful, cast_for, casts_for};
 
-use act_actor::{Cast, cast_fits};
-use act_executor::{Joined, NoGate, Plan, RunFault, plans_fit, run_plans};
-use act_kinds::{Actor, Boxed};
-use act_plans::MAX_STEPS;
-use act_rules::Step;
-use act_types::{ActorId, CallerId, ListOf, Method, NoMemory};
+use actors::{
+    Actor, ActorId, Boxed, CallerId, Cast, Joined, ListOf, MAX_STEPS, Method, NoGate, NoMemory,
+    Plan, RunFault, Step, cast_fits, plans_fit, run_plans,
+};
 use std::alloc::{AllocError, AllocFailed, Global};
 use std::sync::Wait;
 use std::thread::Threads;
@@ -62,7 +58,7 @@ impl From<RunFault> for PeaceFault {
 
 impl From<NoMemory> for PeaceFault {
     ghost use Rattle.std.specs.Prelude.{◌≡◌};
-    ghost use Rattle.act_executor.specs.declared.run.RunFault.TheVariants as run;
+    ghost use Rattle.actors.specs.RunFault.TheVariants as run;
     ghost use Rattle.act_uses.specs.declared.peaceful.PeaceFault.TheVariants as fault;
 
     ghost from_gives = { λ _ result. result ≡ fault.Run run.NoMemory };
@@ -74,7 +70,7 @@ impl From<NoMemory> for PeaceFault {
 
 impl From<AllocError> for PeaceFault {
     ghost use Rattle.std.specs.Prelude.{◌≡◌};
-    ghost use Rattle.act_executor.specs.declared.run.RunFault.TheVariants as run;
+    ghost use Rattle.actors.specs.RunFault.TheVariants as run;
     ghost use Rattle.act_uses.specs.declared.peaceful.PeaceFault.TheVariants as fault;
 
     ghost from_gives = { λ _ result. result ≡ fault.Run run.NoMemory };
@@ -86,7 +82,7 @@ impl From<AllocError> for PeaceFault {
 
 impl<T: Drop> From<AllocFailed<T>> for PeaceFault {
     ghost use Rattle.std.specs.Prelude.{◌≡◌};
-    ghost use Rattle.act_executor.specs.declared.run.RunFault.TheVariants as run;
+    ghost use Rattle.actors.specs.RunFault.TheVariants as run;
     ghost use Rattle.act_uses.specs.declared.peaceful.PeaceFault.TheVariants as fault;
 
     ghost from_gives = { λ _ result. result ≡ fault.Run run.NoMemory };

@@ -1,18 +1,12 @@
 //! A script that is read, and of which a part is played.
 
 ghost use Rattle.std.specs.Prelude.{◌≡◌, take, IfOk, OnOk, IfErr, Ok};
-ghost use Rattle.act_rules.specs.Grammar.{spelled, Script as Spelled};
-ghost use Rattle.act_rules.specs.declared.script.Mode.TheVariants.{Play};
-ghost use Rattle.act_scripts.specs.Spelled.{FailsAt};
-ghost use Rattle.act_world.specs.IsReachedBy.{HasPlayed};
-ghost use Rattle.act_world.specs.View.{world_view};
+ghost use Rattle.actors.specs.Scripts.{spelled, Spelled, FailsAt};
+ghost use Rattle.actors.specs.Mode.TheVariants.{Play};
+ghost use Rattle.actors.specs.Worlds.{HasPlayed, world_view};
 ghost use Rattle.act_uses.specs.Scripts.{IsFaultOf, PlayedBefore};
 
-use act_kinds::Actor;
-use act_rules::Mode;
-use act_scripts::{Items, Script, ScriptFault, read_script};
-use act_types::ListOf;
-use act_world::{Event, Outcome, World};
+use actors::{Actor, Event, Items, ListOf, Mode, Outcome, Script, ScriptFault, World, read_script};
 use std::alloc::Global;
 
 /// Why a script was not played as far as was asked.

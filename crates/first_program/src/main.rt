@@ -1,9 +1,10 @@
 //! A counter, a caller with a limit, and the five events of one call.
 #![tactic(auto)]
 
-use act_kinds::{Boxed, Counter};
-use act_types::{ActorId, Arg, CallerId, FutureId, ListOf, Method, Value};
-use act_world::{Cast, Event, Stage, World, cast_fits};
+use actors::{
+    ActorId, Arg, Boxed, CallerId, Cast, Counter, Event, FutureId, ListOf, Method, Stage, Value,
+    World, cast_fits,
+};
 use anyhow::{Result, ensure};
 
 fn main(rt: HostRuntime) -> Result<()> {

@@ -4,18 +4,17 @@ use Rattle.std.specs.Prelude.{Some, Result, Ok, Err, int_lt, nat_le}
 use Rattle.std.specs.List.{sum_by}
 use Rattle.std.proofs.lemmas.Bool.{leb-true}
 use Rattle.std.proofs.lemmas.List.Sums.{sum_by-cons}
-use Rattle.act_types.specs.declared.value.Value.{Value}
-use Rattle.act_types.specs.declared.value.Value.TheVariants.{Unit as Nothing, Int, Text}
-use Rattle.act_types.specs.declared.call.Method.{Method}
-use Rattle.act_types.specs.declared.call.Method.TheVariants as m
-use Rattle.act_types.specs.declared.call.Settled.{Settled}
-use Rattle.act_types.specs.declared.call.Settled.TheVariants.{Good, Bad}
-use Rattle.act_types.specs.declared.fault.Fault.{Fault}
-use Rattle.act_types.specs.declared.fault.Fault.TheVariants.{NoMethod, BadArgs, BadAmount, Overflow, Insufficient, Dependency}
-use Rattle.act_types.specs.KindState.{KindState, AccountAt}
-use Rattle.act_rules.specs.declared.history.RunItem.{RunItem}
-use Rattle.act_rules.specs.Kinds.{is_in_range, need}
-use Rattle.act_rules.specs.RunList.{Answer, values_of, with_value, step_of_reply, step_of_call, after_item, answers_from, state_after}
+use Rattle.actors.specs.Value.{Value}
+use Rattle.actors.specs.Value.TheVariants.{Unit as Nothing, Int, Text}
+use Rattle.actors.specs.Method.{Method}
+use Rattle.actors.specs.Method.TheVariants as m
+use Rattle.actors.specs.Settled.{Settled}
+use Rattle.actors.specs.Settled.TheVariants.{Good, Bad}
+use Rattle.actors.specs.Fault.{Fault}
+use Rattle.actors.specs.Fault.TheVariants.{NoMethod, BadArgs, BadAmount, Overflow, Insufficient, Dependency}
+use Rattle.actors.specs.Kinds.{KindState, AccountAt, is_in_range, need, Answer, step_of_reply}
+use Rattle.actors.specs.RunItem.{RunItem}
+use Rattle.actors.specs.Actors.{values_of, with_value, step_of_call, after_item, answers_from, state_after}
 use Rattle.own_callers.specs.Accounts.{paid_in_by, paid_out_by, put_in, taken_in, HoldsWhatWasPutIn}
 
 -- what one call leaves of an account

@@ -5,18 +5,15 @@ use Rattle.std.specs.List.{sum_by, enumerate_from}
 use Rattle.std.proofs.lemmas.Option.{slice_get-get_or, slice_get_within, slice_get-map}
 use Rattle.std.proofs.lemmas.List.Elements.{All-filter, filter_passes}
 use Rattle.std.proofs.lemmas.List.Sums.{sum_by-cons}
-use Rattle.act_types.specs.declared.call.Method.{Method}
-use Rattle.act_types.specs.declared.call.Settled.{Settled}
-use Rattle.act_types.specs.KindState.{KindState}
-use Rattle.act_rules.specs.declared.history.RunItem.{RunItem}
-use Rattle.act_rules.specs.declared.history.Submission.{Submission}
-use Rattle.act_rules.specs.RunList.{Answer, answer_at, answers_from, after_item, items_of}
-use Rattle.act_rules.specs.Submissions.{calls_to, kept_at, settle}
-use Rattle.act_rules.specs.History.{contains}
-use Rattle.act_rules.specs.Consistent.{Consistent, IsAsSubmitted, IsAnswerOfRun, IsCallToDead}
-use Rattle.act_rules.proofs.Lists.{All_at, slice_get-enumerate_from, slice_get-filter}
-use Rattle.act_rules.proofs.AsSubmitted.{filter-slice_get}
-use Rattle.act_rules.proofs.Unique.{map-slice_get}
+use Rattle.actors.specs.Method.{Method}
+use Rattle.actors.specs.Settled.{Settled}
+use Rattle.actors.specs.Kinds.{KindState, Answer}
+use Rattle.actors.specs.RunItem.{RunItem}
+use Rattle.actors.specs.Submission.{Submission}
+use Rattle.actors.specs.Actors.{answer_at, answers_from, after_item, items_of}
+use Rattle.actors.specs.Callers.{calls_to, kept_at, settle}
+use Rattle.actors.specs.Rules.{contains, Consistent, IsAsSubmitted, IsAnswerOfRun, IsCallToDead}
+use Rattle.actors.proofs.Lemmas.{All_at, slice_get-enumerate_from, slice_get-filter, filter-slice_get, map-slice_get}
 use Rattle.own_callers.proofs.Sums.{sum_by_same, sum_by_map, by_keys, of_key}
 
 pub all_by_places : {A : Type 0} (P : A → Type 0) (xs : List A) → ((k : ℕ) (x : A) → slice_get xs k ≡ Some x → P x) → All P xs

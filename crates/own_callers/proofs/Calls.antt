@@ -1,11 +1,11 @@
 -- The calls of a session, one after another.
 use Rattle.std.proofs.Common.{◌≡◌, ℕ, List, [], ◌∷◌, ◌++◌, Option, Some, None, is_some, true, refl, ap, sym, ◌∙◌, subst}
-use Rattle.act_types.specs.declared.call.Method.{Method}
-use Rattle.act_types.specs.declared.call.Arg.{Arg}
-use Rattle.act_rules.specs.declared.history.Submission.{Submission}
-use Rattle.act_rules.specs.RunList.{Answer}
-use Rattle.act_rules.specs.Submissions.{kept_at}
-use Rattle.act_drive.specs.Sessions.{SessionView, IsLater, Submits}
+use Rattle.actors.specs.Method.{Method}
+use Rattle.actors.specs.Arg.{Arg}
+use Rattle.actors.specs.Submission.{Submission}
+use Rattle.actors.specs.Kinds.{Answer}
+use Rattle.actors.specs.Callers.{kept_at}
+use Rattle.actors.specs.Codes.{SessionView, IsLater, Submits}
 
 -- one call more, whose arguments are known
 pub called : (a : ℕ) (method : Method) (args given : List Arg) (calls : List Submission) (old new : SessionView) → given ≡ args → old.calls ≡ calls

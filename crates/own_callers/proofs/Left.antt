@@ -4,26 +4,18 @@ use Rattle.std.specs.Prelude.{option_map}
 use Rattle.std.specs.List.{sum_by, list_any}
 use Rattle.std.proofs.lemmas.Option.{slice_get-map, slice_get-get_or}
 use Rattle.std.proofs.lemmas.List.Kept.{AllPairs-filter}
-use Rattle.act_types.specs.KindState.{KindState, AccountAt}
-use Rattle.act_types.specs.declared.call.Method.{Method}
-use Rattle.act_types.specs.declared.call.Settled.{Settled}
-use Rattle.act_rules.specs.declared.script.Step.{Step}
-use Rattle.act_rules.specs.declared.history.RunItem.{RunItem}
-use Rattle.act_rules.specs.declared.history.Submission.{Submission}
-use Rattle.act_rules.specs.RunList.{Answer, items_of, state_after}
-use Rattle.act_rules.specs.Submissions.{calls_to, kept_at}
-use Rattle.act_rules.specs.Report.{one_to}
-use Rattle.act_rules.specs.History.{ActorSpec, contains, opening, opening_of}
-use Rattle.act_owner.specs.Owner.{OwnerView}
-use Rattle.act_actor.specs.View.{RetiredView}
-use Rattle.act_serve.specs.Served.{EndView, Retired, IfRetired, end_id}
-use Rattle.act_drive.specs.Sessions.{SessionView, session_view, IsLater}
-use Rattle.act_plans.proofs.Keys.{pairs_of_map}
-use Rattle.act_plans.proofs.Matching.{numbers_differ}
-use Rattle.act_executor.specs.ByCode.{HasTold}
-use Rattle.act_executor.specs.Joined.{IsJoined, RanAll, owner_of, end_of, calls_in, kept_in, calls_of_owner, kept_of_owner, log_in, log_of_end, killed_in, is_killed_end}
-use Rattle.act_executor.proofs.Elements.{all_in, found_is, finds, is_contained}
-use Rattle.act_executor.proofs.Found.{one_of}
+use Rattle.actors.specs.Kinds.{KindState, AccountAt, Answer}
+use Rattle.actors.specs.Method.{Method}
+use Rattle.actors.specs.Settled.{Settled}
+use Rattle.actors.specs.Step.{Step}
+use Rattle.actors.specs.RunItem.{RunItem}
+use Rattle.actors.specs.Submission.{Submission}
+use Rattle.actors.specs.Actors.{items_of, state_after, RetiredView}
+use Rattle.actors.specs.Callers.{calls_to, kept_at, one_to, OwnerView}
+use Rattle.actors.specs.Rules.{ActorSpec, contains, opening, opening_of}
+use Rattle.actors.specs.Threads.{EndView, Retired, IfRetired, end_id, IsJoined, RanAll, owner_of, end_of, calls_in, kept_in, calls_of_owner, kept_of_owner, log_in, log_of_end, killed_in, is_killed_end}
+use Rattle.actors.specs.Codes.{SessionView, session_view, IsLater, HasTold}
+use Rattle.actors.proofs.Lemmas.{pairs_of_map, numbers_differ, all_in, found_is, finds, is_contained, one_of}
 use Rattle.own_callers.specs.declared.transfer.Transfer.{Transfer}
 use Rattle.own_callers.specs.Transfer.{is_amount, is_enough, HasTransferEnded, transfer_tells}
 use Rattle.own_callers.specs.Accounts.{paid_in_by, paid_out_by, put_in, taken_in, HoldsWhatWasPutIn}

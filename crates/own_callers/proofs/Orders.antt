@@ -1,13 +1,12 @@
 -- What a buyer tells still holds of what its caller leaves.
 use Rattle.std.proofs.Common.{◌≡◌, ℕ, List, Contains, refl, subst}
 use Rattle.std.specs.Prelude.{Ok}
-use Rattle.act_types.specs.declared.value.Value.TheVariants.{Int}
-use Rattle.act_rules.specs.declared.script.Step.{Step}
-use Rattle.act_rules.specs.declared.history.Submission.{Submission}
-use Rattle.act_rules.specs.History.{ActorSpec}
-use Rattle.act_owner.specs.Owner.{OwnerView}
-use Rattle.act_drive.specs.Sessions.{SessionView, session_view, IsLater}
-use Rattle.act_executor.specs.ByCode.{HasTold}
+use Rattle.actors.specs.Value.TheVariants.{Int}
+use Rattle.actors.specs.Step.{Step}
+use Rattle.actors.specs.Submission.{Submission}
+use Rattle.actors.specs.Rules.{ActorSpec}
+use Rattle.actors.specs.Callers.{OwnerView}
+use Rattle.actors.specs.Codes.{SessionView, session_view, IsLater, HasTold}
 use Rattle.own_callers.specs.declared.buyer.Buyer.{Buyer}
 use Rattle.own_callers.specs.Buyer.{HasPaid, buyer_tells, order}
 use Rattle.own_callers.specs.Buyers.{HasLeft}

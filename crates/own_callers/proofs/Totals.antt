@@ -4,23 +4,15 @@ use Rattle.std.specs.Prelude.{option_map, IsTrue}
 use Rattle.std.specs.List.{sum_by, list_any, enumerate_from}
 use Rattle.std.proofs.lemmas.Option.{slice_get-map, slice_get-get_or, slice_get_within}
 use Rattle.std.proofs.lemmas.List.Kept.{AllPairs-filter}
-use Rattle.act_types.specs.declared.call.Method.{Method}
-use Rattle.act_types.specs.declared.call.Settled.{Settled}
-use Rattle.act_types.specs.KindState.{KindState, AccountAt}
-use Rattle.act_rules.specs.declared.script.Step.{Step}
-use Rattle.act_rules.specs.declared.history.Submission.{Submission}
-use Rattle.act_rules.specs.RunList.{Answer}
-use Rattle.act_rules.specs.Submissions.{kept_at}
-use Rattle.act_rules.specs.Consistent.{IsAnswerOfRun, IsCallToDead}
-use Rattle.act_rules.specs.Report.{one_to}
-use Rattle.act_rules.specs.History.{ActorSpec, contains, opening, opening_of}
-use Rattle.act_owner.specs.Owner.{OwnerView}
-use Rattle.act_serve.specs.Served.{EndView, Retired, end_id}
-use Rattle.act_plans.proofs.Keys.{pairs_of_map}
-use Rattle.act_plans.proofs.Matching.{numbers_differ}
-use Rattle.act_executor.specs.Joined.{IsJoined, end_of, calls_in, kept_in, calls_of_owner, log_in, log_of_end, killed_in, is_killed_end}
-use Rattle.act_executor.proofs.Elements.{all_in, found_is, finds, is_contained}
-use Rattle.act_executor.proofs.Found.{one_of}
+use Rattle.actors.specs.Method.{Method}
+use Rattle.actors.specs.Settled.{Settled}
+use Rattle.actors.specs.Kinds.{KindState, AccountAt, Answer}
+use Rattle.actors.specs.Step.{Step}
+use Rattle.actors.specs.Submission.{Submission}
+use Rattle.actors.specs.Callers.{kept_at, one_to, OwnerView}
+use Rattle.actors.specs.Rules.{IsAnswerOfRun, IsCallToDead, ActorSpec, contains, opening, opening_of}
+use Rattle.actors.specs.Threads.{EndView, Retired, end_id, IsJoined, end_of, calls_in, kept_in, calls_of_owner, log_in, log_of_end, killed_in, is_killed_end}
+use Rattle.actors.proofs.Lemmas.{pairs_of_map, numbers_differ, all_in, found_is, finds, is_contained, one_of}
 use Rattle.own_callers.specs.Accounts.{paid_in_by, paid_out_by, funds_of}
 use Rattle.own_callers.specs.Runs.{put_by_all, taken_by_all, IsBalanced, held_last, held_first, IsAccount, KeepsTheSum}
 use Rattle.own_callers.proofs.Books.{by_calls, call_moved, enumerated_at, all_by_places, to_actor}

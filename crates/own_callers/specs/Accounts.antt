@@ -1,16 +1,16 @@
 -- What an account holds after its calls, by what they put in and took out.
 use Rattle.std.specs.Prelude.{◌≡◌, ℕ, ◌+◌, List, [], ◌∷◌, map, zip, Option, Some, Ok, pos, unsigned_abs}
 use Rattle.std.specs.List.{sum_by, enumerate_from}
-use Rattle.act_types.specs.declared.value.Value.TheVariants.{Int}
-use Rattle.act_types.specs.declared.call.Method.{Method}
-use Rattle.act_types.specs.declared.call.Method.TheVariants.{Deposit, Withdraw}
-use Rattle.act_types.specs.declared.call.Settled.{Settled}
-use Rattle.act_types.specs.declared.call.Settled.TheVariants.{Good}
-use Rattle.act_types.specs.KindState.{KindState, AccountAt}
-use Rattle.act_rules.specs.declared.history.RunItem.{RunItem}
-use Rattle.act_rules.specs.declared.history.Submission.{Submission}
-use Rattle.act_rules.specs.RunList.{Answer, answers_from, state_after}
-use Rattle.act_rules.specs.Submissions.{calls_to, kept_at, settle}
+use Rattle.actors.specs.Value.TheVariants.{Int}
+use Rattle.actors.specs.Method.{Method}
+use Rattle.actors.specs.Method.TheVariants.{Deposit, Withdraw}
+use Rattle.actors.specs.Settled.{Settled}
+use Rattle.actors.specs.Settled.TheVariants.{Good}
+use Rattle.actors.specs.Kinds.{KindState, AccountAt, Answer}
+use Rattle.actors.specs.RunItem.{RunItem}
+use Rattle.actors.specs.Submission.{Submission}
+use Rattle.actors.specs.Actors.{answers_from, state_after}
+use Rattle.actors.specs.Callers.{calls_to, kept_at, settle}
 
 -- what a granted deposit puts in, and what a granted withdrawal takes out
 abbrev pub paid_in_by : Option Answer → Method → List Settled → ℕ

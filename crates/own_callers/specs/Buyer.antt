@@ -1,12 +1,12 @@
 -- What a buyer concludes.
 use Rattle.std.specs.Prelude.{◌≡◌, ℤ, List, [], Option, Some, Ok, Contains}
-use Rattle.act_types.specs.declared.value.Value.TheVariants.{Int}
-use Rattle.act_types.specs.declared.call.Arg.{Arg}
-use Rattle.act_types.specs.declared.call.Method.TheVariants.{Push}
-use Rattle.act_rules.specs.declared.history.Submission.{Submission}
-use Rattle.act_rules.specs.RunList.{Answer}
-use Rattle.act_rules.specs.Submissions.{kept_at}
-use Rattle.act_drive.specs.Sessions.{SessionView}
+use Rattle.actors.specs.Value.TheVariants.{Int}
+use Rattle.actors.specs.Arg.{Arg}
+use Rattle.actors.specs.Method.TheVariants.{Push}
+use Rattle.actors.specs.Submission.{Submission}
+use Rattle.actors.specs.Kinds.{Answer}
+use Rattle.actors.specs.Callers.{kept_at}
+use Rattle.actors.specs.Codes.{SessionView}
 use Rattle.own_callers.specs.declared.buyer.Buyer.{Buyer}
 
 -- a call that orders

@@ -1,8 +1,8 @@
 -- What a run of buyers leaves.
 use Rattle.std.specs.Prelude.{◌≡◌, ℕ, List, Some}
-use Rattle.act_owner.specs.Owner.{OwnerView}
-use Rattle.act_executor.specs.Joined.{owner_of}
-use Rattle.act_drive.specs.Sessions.{session_view}
+use Rattle.actors.specs.Callers.{OwnerView}
+use Rattle.actors.specs.Threads.{owner_of}
+use Rattle.actors.specs.Codes.{session_view}
 use Rattle.own_callers.specs.declared.buyer.Buyer.{Buyer}
 use Rattle.own_callers.specs.Buyer.{HasPaid}
 

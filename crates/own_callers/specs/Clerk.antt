@@ -1,5 +1,5 @@
 -- What a clerk tells.
-use Rattle.act_drive.specs.Sessions.{SessionView}
+use Rattle.actors.specs.Codes.{SessionView}
 use Rattle.own_callers.specs.declared.clerk.Clerk.{Clerk}
 use Rattle.own_callers.specs.declared.clerk.Clerk.TheVariants.{Transfer, Worker, Retry}
 use Rattle.own_callers.specs.Retry.{retry_tells}

@@ -1,13 +1,13 @@
 -- What a retry submits, and what it tells.
 use Rattle.std.specs.Prelude.{◌≡◌, ◌⊎◌, ℕ, ◌+◌, ◌<◌, Bool, true, false, [], ◌∷◌, replicate, Option, Some, Err, is_some}
-use Rattle.act_types.specs.declared.value.Value.TheVariants.{Int}
-use Rattle.act_types.specs.declared.fault.Fault.TheVariants.{Insufficient}
-use Rattle.act_types.specs.declared.call.Arg.TheVariants.{Plain}
-use Rattle.act_types.specs.declared.call.Method.TheVariants.{Withdraw}
-use Rattle.act_rules.specs.declared.history.Submission.{Submission}
-use Rattle.act_rules.specs.RunList.{Answer}
-use Rattle.act_rules.specs.Submissions.{kept_at}
-use Rattle.act_drive.specs.Sessions.{SessionView}
+use Rattle.actors.specs.Value.TheVariants.{Int}
+use Rattle.actors.specs.Fault.TheVariants.{Insufficient}
+use Rattle.actors.specs.Arg.TheVariants.{Plain}
+use Rattle.actors.specs.Method.TheVariants.{Withdraw}
+use Rattle.actors.specs.Submission.{Submission}
+use Rattle.actors.specs.Kinds.{Answer}
+use Rattle.actors.specs.Callers.{kept_at}
+use Rattle.actors.specs.Codes.{SessionView}
 use Rattle.own_callers.specs.declared.retry.Retry.{Retry}
 
 -- the call that it makes

@@ -1,13 +1,12 @@
 -- What a run leaves of its transfers, and of its accounts.
 use Rattle.std.specs.Prelude.{◌≡◌, ℕ, ◌+◌, List, Some, pos, All}
 use Rattle.std.specs.List.{sum_by}
-use Rattle.act_types.specs.KindState.{KindState, AccountAt}
-use Rattle.act_rules.specs.History.{ActorSpec, opening, opening_of}
-use Rattle.act_owner.specs.Owner.{OwnerView}
-use Rattle.act_actor.specs.View.{RetiredView}
-use Rattle.act_serve.specs.Served.{EndView, Retired, end_id}
-use Rattle.act_drive.specs.Sessions.{session_view}
-use Rattle.act_executor.specs.Joined.{owner_of, end_of}
+use Rattle.actors.specs.Kinds.{KindState, AccountAt}
+use Rattle.actors.specs.Rules.{ActorSpec, opening, opening_of}
+use Rattle.actors.specs.Callers.{OwnerView}
+use Rattle.actors.specs.Actors.{RetiredView}
+use Rattle.actors.specs.Threads.{EndView, Retired, end_id, owner_of, end_of}
+use Rattle.actors.specs.Codes.{session_view}
 use Rattle.own_callers.specs.declared.transfer.Transfer.{Transfer}
 use Rattle.own_callers.specs.Transfer.{HasTransferEnded}
 use Rattle.own_callers.specs.Accounts.{paid_in_of, paid_out_of, all_put, all_taken, funds_of}

@@ -1,12 +1,12 @@
 -- What a transfer submits, and how it ends.
 use Rattle.std.specs.Prelude.{◌≡◌, ◌⊎◌, ℤ, int_le, Bool, true, false, is_some, [], ◌∷◌, Option, Some, Ok}
-use Rattle.act_types.specs.declared.value.Value.TheVariants.{Int}
-use Rattle.act_types.specs.declared.call.Arg.TheVariants.{Plain}
-use Rattle.act_types.specs.declared.call.Method.TheVariants.{Balance, Deposit, Withdraw}
-use Rattle.act_rules.specs.declared.history.Submission.{Submission}
-use Rattle.act_rules.specs.RunList.{Answer}
-use Rattle.act_rules.specs.Submissions.{kept_at}
-use Rattle.act_drive.specs.Sessions.{SessionView}
+use Rattle.actors.specs.Value.TheVariants.{Int}
+use Rattle.actors.specs.Arg.TheVariants.{Plain}
+use Rattle.actors.specs.Method.TheVariants.{Balance, Deposit, Withdraw}
+use Rattle.actors.specs.Submission.{Submission}
+use Rattle.actors.specs.Kinds.{Answer}
+use Rattle.actors.specs.Callers.{kept_at}
+use Rattle.actors.specs.Codes.{SessionView}
 use Rattle.own_callers.specs.declared.transfer.Transfer.{Transfer}
 
 -- ---- its three calls

@@ -1,12 +1,12 @@
 -- What a worker submits, and what it tells.
 use Rattle.std.specs.Prelude.{◌≡◌, ℕ, ◌+◌, ◌<◌, [], ◌∷◌, ◌++◌, replicate, Option, Some, Ok, Bool, true, false, is_some, pos, codes}
-use Rattle.act_types.specs.declared.value.Value.TheVariants.{Int}
-use Rattle.act_types.specs.declared.call.Arg.TheVariants.{Plain}
-use Rattle.act_types.specs.declared.call.Method.TheVariants.{Add, Own}
-use Rattle.act_rules.specs.declared.history.Submission.{Submission}
-use Rattle.act_rules.specs.RunList.{Answer}
-use Rattle.act_rules.specs.Submissions.{kept_at}
-use Rattle.act_drive.specs.Sessions.{SessionView}
+use Rattle.actors.specs.Value.TheVariants.{Int}
+use Rattle.actors.specs.Arg.TheVariants.{Plain}
+use Rattle.actors.specs.Method.TheVariants.{Add, Own}
+use Rattle.actors.specs.Submission.{Submission}
+use Rattle.actors.specs.Kinds.{Answer}
+use Rattle.actors.specs.Callers.{kept_at}
+use Rattle.actors.specs.Codes.{SessionView}
 use Rattle.own_callers.specs.declared.worker.Worker.{Worker}
 
 -- it takes a job, and it adds their number

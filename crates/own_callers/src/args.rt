@@ -1,10 +1,10 @@
 //! Arguments of calls.
 
 ghost use Rattle.std.specs.Prelude.{◌≡◌, ◌∷◌, [], IfOk};
-ghost use Rattle.act_types.specs.declared.call.Arg.TheVariants.{Plain};
-ghost use Rattle.act_types.specs.declared.value.Value.TheVariants.{Int};
+ghost use Rattle.actors.specs.Arg.TheVariants.{Plain};
+ghost use Rattle.actors.specs.Value.TheVariants.{Int};
 
-use act_types::{Arg, ListOf, NoMemory, Value};
+use actors::{Arg, ListOf, NoMemory, Value};
 use std::alloc::Global;
 
 /// One number.

@@ -1,7 +1,6 @@
 //! A buyer: a caller that orders a thing only once it is paid for.
 
-use act_drive::{Code, GaveUp, Session};
-use act_types::{ActorId, Arg, ListOf, Method, NoMemory, Value};
+use actors::{ActorId, Arg, Code, GaveUp, ListOf, Method, NoMemory, Session, Value};
 use std::alloc::Global;
 
 /// Pays a price out of a purse, which is an account, and notes it in a shop's list.

@@ -1,21 +1,14 @@
 //! A run of buyers, beside callers with plans.
 
 ghost use Rattle.std.specs.Prelude.{map, All, IfErr, IfOk};
-ghost use Rattle.act_actor.specs.Cast.{IsFitting};
-ghost use Rattle.act_actor.specs.Casts.{actor_spec};
-ghost use Rattle.act_serve.specs.Served.{end_view};
-ghost use Rattle.act_plans.specs.Setups.{PlansFit};
-ghost use Rattle.act_executor.specs.ByCode.{IsJoinedBy};
-ghost use Rattle.act_executor.specs.Conducts.{CodesFit};
-ghost use Rattle.act_executor.specs.Runs.{plan_view, IsFault};
+ghost use Rattle.actors.specs.Actors.{IsFitting, actor_spec};
+ghost use Rattle.actors.specs.Threads.{end_view, PlansFit, plan_view, IsFault};
+ghost use Rattle.actors.specs.Codes.{IsJoinedBy, CodesFit};
 ghost use Rattle.own_callers.specs.Buyer.{buyer_tells};
 ghost use Rattle.own_callers.specs.Buyers.{HasLeft};
 
 use crate::buyer::Buyer;
-use act_actor::Cast;
-use act_executor::{Joined, NoGate, Plan, RunFault, run_callers};
-use act_kinds::Actor;
-use act_types::CallerId;
+use actors::{Actor, CallerId, Cast, Joined, NoGate, Plan, RunFault, run_callers};
 use std::alloc::Global;
 use std::sync::Wait;
 use std::thread::Threads;

@@ -3,7 +3,7 @@
 use crate::retry::Retry;
 use crate::transfer::Transfer;
 use crate::worker::Worker;
-use act_executor::{Code, GaveUp, Session};
+use actors::{Code, GaveUp, Session};
 
 /// What a caller does: a run takes codes of one type, so those of several kinds are an enum.
 #[derive(Clone, Copy, Debug)]

@@ -1,7 +1,7 @@
 //! What an account holds after any calls.
 
 ghost use Rattle.std.specs.Prelude.{ℕ, List};
-ghost use Rattle.act_rules.specs.declared.history.RunItem.{RunItem};
+ghost use Rattle.actors.specs.RunItem.{RunItem};
 ghost use Rattle.own_callers.specs.Accounts.{HoldsWhatWasPutIn};
 
 /// After every run list of an account: what it holds, and what granted withdrawals took, is what it opened with, and

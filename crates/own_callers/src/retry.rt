@@ -1,8 +1,7 @@
 //! A retry: a caller that makes a call again after a fault that may pass.
 
 use crate::args::number;
-use act_executor::{Code, GaveUp, Session};
-use act_types::{ActorId, Fault, Method};
+use actors::{ActorId, Code, Fault, GaveUp, Method, Session};
 
 /// Withdraws an amount, and tries again where the account holds too little, so many times at most.
 #[derive(Clone, Copy, Debug)]

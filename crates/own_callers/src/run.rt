@@ -1,15 +1,10 @@
 //! Runs of such callers: what each of them tells of its owner, and what the accounts and queues hold.
 
 ghost use Rattle.std.specs.Prelude.{◌≡◌, [], ℕ, map, All, IfErr, IfOk};
-ghost use Rattle.act_actor.specs.Cast.{IsFitting};
-ghost use Rattle.act_actor.specs.Casts.{actor_spec};
-ghost use Rattle.act_serve.specs.Served.{end_view};
-ghost use Rattle.act_plans.specs.Setups.{PlansFit};
-ghost use Rattle.act_executor.specs.ByCode.{IsJoinedBy};
-ghost use Rattle.act_executor.specs.Joined.{end_of};
-ghost use Rattle.act_executor.specs.Conducts.{CodesFit};
-ghost use Rattle.act_executor.specs.Runs.{plan_view, IsFault};
-ghost use Rattle.act_own.specs.Kept.{EndKeeps, OpensAt};
+ghost use Rattle.actors.specs.Actors.{IsFitting, actor_spec};
+ghost use Rattle.actors.specs.Threads.{end_view, PlansFit, end_of, plan_view, IsFault};
+ghost use Rattle.actors.specs.Codes.{IsJoinedBy, CodesFit};
+ghost use Rattle.actors.specs.Kinds.{EndKeeps, OpensAt};
 ghost use Rattle.own_kinds.specs.Queue.{IsInOrder, queue_at, queue_step, queue_text};
 ghost use Rattle.own_callers.specs.Clerk.{clerk_tells};
 ghost use Rattle.own_callers.specs.Runs.{HasTransferred, AreBalanced, KeepsTheSum};
@@ -17,10 +12,7 @@ ghost use Rattle.own_callers.specs.Transfer.{transfer_tells};
 
 use crate::clerk::Clerk;
 use crate::transfer::Transfer;
-use act_actor::Cast;
-use act_executor::{Joined, NoGate, Plan, RunFault, run_callers};
-use act_kinds::Actor;
-use act_types::CallerId;
+use actors::{Actor, CallerId, Cast, Joined, NoGate, Plan, RunFault, run_callers};
 use std::alloc::Global;
 use std::sync::Wait;
 use std::thread::Threads;

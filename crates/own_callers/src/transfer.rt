@@ -1,8 +1,7 @@
 //! A transfer: a caller that moves an amount from one account to another.
 
 use crate::args::number;
-use act_executor::{Code, GaveUp, Session};
-use act_types::{ActorId, ListOf, Method, Value};
+use actors::{ActorId, Code, GaveUp, ListOf, Method, Session, Value};
 
 /// Moves an amount from one account to another, if the first one holds as much.
 #[derive(Clone, Copy, Debug)]

@@ -1,11 +1,10 @@
 //! A worker: a caller that takes jobs from a queue until it gives none.
 
 ghost use Rattle.std.specs.Prelude.{◌≡◌, codes};
-ghost use Rattle.act_types.specs.declared.call.Method.TheVariants.{Own};
+ghost use Rattle.actors.specs.Method.TheVariants.{Own};
 
 use crate::args::number;
-use act_executor::{Code, GaveUp, Session};
-use act_types::{ActorId, ListOf, MAX_CALLS, Method, Name};
+use actors::{ActorId, Code, GaveUp, ListOf, MAX_CALLS, Method, Name, Session};
 
 /// Takes jobs from a queue until it gives none, and adds their number to a counter.
 #[derive(Clone, Copy, Debug)]

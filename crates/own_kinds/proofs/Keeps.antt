@@ -7,21 +7,17 @@ use Rattle.std.proofs.Math.Nat.{add-zero, mul-zero}
 use Rattle.std.proofs.lemmas.List.{length-set}
 use Rattle.std.proofs.lemmas.List.Sums.{sum_by-append}
 use Rattle.std.proofs.lemmas.List.Folds.{sum_by-replicate}
-use Rattle.act_types.specs.declared.value.Value.{Value}
-use Rattle.act_types.specs.declared.fault.Fault.{Fault}
-use Rattle.act_types.specs.declared.fault.Fault.TheVariants.{BadAmount, Own}
-use Rattle.act_types.specs.declared.call.Method.{Method}
-use Rattle.act_types.specs.Own.{Ask, next_state, step_answer, on_call}
-use Rattle.act_types.specs.declared.value.Value.TheVariants.{Int}
-use Rattle.act_types.specs.KindState.{KindState}
-use Rattle.act_rules.specs.Kinds.{told_reply, reply_of}
-use Rattle.act_rules.specs.RunList.{Answer, step_of_reply}
-use Rattle.act_rules.specs.OwnRuns.{kind_answer, IsKept}
+use Rattle.actors.specs.Value.{Value}
+use Rattle.actors.specs.Fault.{Fault}
+use Rattle.actors.specs.Fault.TheVariants.{BadAmount, Own}
+use Rattle.actors.specs.Method.{Method}
+use Rattle.actors.specs.Kinds.{Ask, next_state, step_answer, on_call, KindState, told_reply, reply_of, Answer, step_of_reply, kind_answer, IsKept}
+use Rattle.actors.specs.Value.TheVariants.{Int}
 use Rattle.own_kinds.specs.declared.bank.Bank.{Bank}
 use Rattle.own_kinds.specs.declared.bank.BankCall.{BankCall}
 use Rattle.own_kinds.specs.declared.bank.BankCall.TheVariants.{PayIn, PayOut, Transfer, Funds, Total}
 use Rattle.own_kinds.specs.Bank.{and_funds, asked_next, bank_at, bank_text, bank_need, has_account, funds_held, with_deposit, with_withdrawal, bank_call, bank_does, bank_step, amount_in, amount_out, paid_in, paid_out, HoldsItsMoney}
-use Rattle.act_rules.proofs.OwnRuns.{told_any}
+use Rattle.actors.proofs.Lemmas.{told_any}
 use Rattle.own_kinds.proofs.Money.{sum_given, sum_taken}
 
 -- what holds of each fault, and of what comes after three conditions

@@ -4,13 +4,10 @@ use Rattle.std.proofs.Common.{refl, ap, sym, ◌∙◌}
 use Rattle.std.specs.Prelude.{Result, Ok, Err, nat_lt, codes, if◌then◌else◌}
 use Rattle.std.proofs.lemmas.List.{append_assoc, append-nil}
 use Rattle.std.proofs.lemmas.Grind.{flat_map-append}
-use Rattle.act_types.specs.declared.value.Value.{Value}
-use Rattle.act_types.specs.declared.fault.Fault.{Fault}
-use Rattle.act_types.specs.declared.fault.Fault.TheVariants.{Own}
-use Rattle.act_types.specs.Own.{Ask, next_state, step_answer, on_call}
-use Rattle.act_rules.specs.Kinds.{count_value}
-use Rattle.act_rules.specs.RunList.{Answer}
-use Rattle.act_rules.specs.OwnRuns.{kind_answer, IsKept}
+use Rattle.actors.specs.Value.{Value}
+use Rattle.actors.specs.Fault.{Fault}
+use Rattle.actors.specs.Fault.TheVariants.{Own}
+use Rattle.actors.specs.Kinds.{Ask, next_state, step_answer, on_call, count_value, Answer, kind_answer, IsKept}
 use Rattle.own_kinds.specs.declared.queue.TheConstants.{MAX_QUEUED}
 use Rattle.own_kinds.specs.Queue.{QueueCall, Enqueue, Dequeue, Waiting, queue_call, queue_does, queue_step, put_by, taken_by, taken_of, IsInOrder}
 

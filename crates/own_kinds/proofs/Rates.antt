@@ -3,16 +3,14 @@ use Rattle.std.proofs.Common.{◌≡◌, ◌≤◌, ◌<◌, ◌+◌, ℕ, suc, 
 use Rattle.std.specs.Prelude.{Result, Ok, Err, ◌&&◌, ◌||◌, nat_lt, bytes_eq, codes, is_ok, if◌then◌else◌, pos, ◌-◌}
 use Rattle.std.specs.List.{list_any}
 use Rattle.std.proofs.lemmas.Bool.{ltb-true}
-use Rattle.act_types.specs.declared.value.Value.{Value}
-use Rattle.act_types.specs.declared.value.Value.TheVariants.{Int}
-use Rattle.act_types.specs.declared.fault.Fault.{Fault}
-use Rattle.act_types.specs.declared.fault.Fault.TheVariants.{NoMethod, Own}
-use Rattle.act_types.specs.Own.{Ask, next_state, step_answer, on_call, alone}
-use Rattle.act_types.specs.Texts.{method_text}
-use Rattle.act_rules.specs.RunList.{Answer}
-use Rattle.act_rules.specs.OwnRuns.{kind_answer, told_in, IsKept, Left}
-use Rattle.act_rules.specs.declared.history.RunItem.{RunItem}
-use Rattle.act_rules.proofs.OwnRuns.{holds_in_each_run}
+use Rattle.actors.specs.Value.{Value}
+use Rattle.actors.specs.Value.TheVariants.{Int}
+use Rattle.actors.specs.Fault.{Fault}
+use Rattle.actors.specs.Fault.TheVariants.{NoMethod, Own}
+use Rattle.actors.specs.Kinds.{Ask, next_state, step_answer, on_call, alone, Answer, kind_answer, told_in, IsKept, Left}
+use Rattle.actors.specs.Texts.{method_text}
+use Rattle.actors.specs.RunItem.{RunItem}
+use Rattle.actors.proofs.Lemmas.{holds_in_each_run}
 use Rattle.own_kinds.specs.declared.limiter.Limiter.{Limiter}
 use Rattle.own_kinds.specs.declared.limiter.LimiterCall.TheVariants.{Acquire, Reset, Left as HowMany}
 use Rattle.own_kinds.specs.Limiter.{limiter_does, limiter_step, limiter_text, limiter_of, limiter_at, is_grant, is_reset, grants, NeverAbove}

@@ -1,19 +1,16 @@
 -- What a bank can be asked, what its calls do, how it is written, and that its money is neither made nor lost.
 use Rattle.std.specs.Prelude.{◌≡◌, ℕ, ◌+◌, ◌-◌, ◌^◌, List, [], ◌∷◌, ◌++◌, length, map, slice_index, slice_set, replicate, Bool, Result, Ok, Err, ℤ, pos, ◌-ℤ◌, unsigned_abs, int_lt, int_le, nat_lt, nat_le, ◌&&◌, if◌then◌else◌, bytes_eq, codes, decimal}
 use Rattle.std.specs.List.{sum, sum_by}
-use Rattle.act_types.specs.declared.value.Value.{Value}
-use Rattle.act_types.specs.declared.value.Value.TheVariants.{Int}
-use Rattle.act_types.specs.declared.call.Method.{Method}
-use Rattle.act_types.specs.declared.call.Method.TheVariants as method
-use Rattle.act_types.specs.declared.fault.Fault.{Fault}
-use Rattle.act_types.specs.declared.fault.Fault.TheVariants.{NoMethod, BadArgs, BadAmount, Own}
-use Rattle.act_types.specs.KindState.{KindState, OwnAt}
-use Rattle.act_types.specs.Own.{Ask, StepOf, behaves, by_calls}
-use Rattle.act_types.specs.Texts.{method_text, with_spaces}
-use Rattle.act_rules.specs.declared.history.RunItem.{RunItem}
-use Rattle.act_rules.specs.Kinds.{reply_of}
-use Rattle.act_rules.specs.RunList.{Answer, state_after, step_of_reply}
-use Rattle.act_rules.specs.OwnRuns.{told_in}
+use Rattle.actors.specs.Value.{Value}
+use Rattle.actors.specs.Value.TheVariants.{Int}
+use Rattle.actors.specs.Method.{Method}
+use Rattle.actors.specs.Method.TheVariants as method
+use Rattle.actors.specs.Fault.{Fault}
+use Rattle.actors.specs.Fault.TheVariants.{NoMethod, BadArgs, BadAmount, Own}
+use Rattle.actors.specs.Kinds.{KindState, OwnAt, Ask, StepOf, behaves, by_calls, reply_of, Answer, step_of_reply, told_in}
+use Rattle.actors.specs.Texts.{method_text, with_spaces}
+use Rattle.actors.specs.RunItem.{RunItem}
+use Rattle.actors.specs.Actors.{state_after}
 use Rattle.own_kinds.specs.declared.bank.Bank.{Bank}
 use Rattle.own_kinds.specs.declared.bank.BankCall.{BankCall}
 use Rattle.own_kinds.specs.declared.bank.BankCall.TheVariants.{PayIn, PayOut, Transfer, Funds, Total}

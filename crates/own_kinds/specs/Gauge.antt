@@ -2,14 +2,13 @@
 use Rattle.std.specs.Prelude.{ℕ, List, [], ◌∷◌, ◌++◌, Result, Ok, Err, pos, ◌+ℤ◌, int_le, ◌&&◌}
 use Rattle.std.specs.Prelude.{if◌then◌else◌, bytes_eq, codes}
 use Rattle.std.specs.Fmt.{signed_decimal}
-use Rattle.act_types.specs.declared.value.Value.{Value}
-use Rattle.act_types.specs.declared.value.Value.TheVariants.{Int}
-use Rattle.act_types.specs.declared.call.Method.{Method}
-use Rattle.act_types.specs.declared.fault.Fault.{Fault}
-use Rattle.act_types.specs.declared.fault.Fault.TheVariants.{NoMethod, BadArgs, Own}
-use Rattle.act_types.specs.Own.{StepOf, by_calls, alone}
-use Rattle.act_types.specs.Texts.{method_text}
-use Rattle.act_rules.specs.Kinds.{is_in_range}
+use Rattle.actors.specs.Value.{Value}
+use Rattle.actors.specs.Value.TheVariants.{Int}
+use Rattle.actors.specs.Method.{Method}
+use Rattle.actors.specs.Fault.{Fault}
+use Rattle.actors.specs.Fault.TheVariants.{NoMethod, BadArgs, Own}
+use Rattle.actors.specs.Kinds.{StepOf, by_calls, alone, is_in_range}
+use Rattle.actors.specs.Texts.{method_text}
 use Rattle.own_kinds.specs.declared.gauge.Gauge.{Gauge}
 use Rattle.own_kinds.specs.declared.gauge.GaugeCall.{GaugeCall}
 use Rattle.own_kinds.specs.declared.gauge.GaugeCall.TheVariants.{Raise, Drain, Read}

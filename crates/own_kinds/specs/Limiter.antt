@@ -1,15 +1,13 @@
 -- What a rate limiter can be asked, what its calls do, and what it never grants.
 use Rattle.std.specs.Prelude.{◌≡◌, ℕ, ◌+◌, ◌-◌, ◌≤◌, Bool, false, ◌&&◌, nat_lt, List, ◌++◌, length, filter, Result, Ok, Err, pos, if◌then◌else◌, bytes_eq, codes, decimal, is_ok}
 use Rattle.std.specs.List.{list_any}
-use Rattle.act_types.specs.declared.value.Value.{Value}
-use Rattle.act_types.specs.declared.value.Value.TheVariants.{Unit as Nothing, Int}
-use Rattle.act_types.specs.declared.call.Method.{Method}
-use Rattle.act_types.specs.declared.fault.Fault.{Fault}
-use Rattle.act_types.specs.declared.fault.Fault.TheVariants.{NoMethod, Own}
-use Rattle.act_types.specs.KindState.{KindState, OwnAt}
-use Rattle.act_types.specs.Own.{Ask, StepOf, behaves, by_calls, alone}
-use Rattle.act_types.specs.Texts.{method_text}
-use Rattle.act_rules.specs.RunList.{Answer}
+use Rattle.actors.specs.Value.{Value}
+use Rattle.actors.specs.Value.TheVariants.{Unit as Nothing, Int}
+use Rattle.actors.specs.Method.{Method}
+use Rattle.actors.specs.Fault.{Fault}
+use Rattle.actors.specs.Fault.TheVariants.{NoMethod, Own}
+use Rattle.actors.specs.Kinds.{KindState, OwnAt, Ask, StepOf, behaves, by_calls, alone, Answer}
+use Rattle.actors.specs.Texts.{method_text}
 use Rattle.own_kinds.specs.declared.limiter.Limiter.{Limiter}
 use Rattle.own_kinds.specs.declared.limiter.LimiterCall.{LimiterCall}
 use Rattle.own_kinds.specs.declared.limiter.LimiterCall.TheVariants.{Acquire, Reset, Left}

@@ -1,14 +1,11 @@
 -- What a work queue can be asked, what its calls do, how it is written, and the order that it keeps.
 use Rattle.std.specs.Prelude.{◌≡◌, ℕ, List, [], ◌∷◌, ◌++◌, length, map, flat_map, nat_lt, Result, Ok, Err, if◌then◌else◌, bytes_eq, codes}
-use Rattle.act_types.specs.declared.value.Value.{Value}
-use Rattle.act_types.specs.declared.call.Method.{Method}
-use Rattle.act_types.specs.declared.fault.Fault.{Fault}
-use Rattle.act_types.specs.declared.fault.Fault.TheVariants.{NoMethod, BadArgs, Own}
-use Rattle.act_types.specs.KindState.{KindState, OwnAt}
-use Rattle.act_types.specs.Own.{Ask, StepOf, behaves, by_calls, alone}
-use Rattle.act_types.specs.Texts.{method_text, value_text, with_spaces}
-use Rattle.act_rules.specs.Kinds.{count_value}
-use Rattle.act_rules.specs.RunList.{Answer}
+use Rattle.actors.specs.Value.{Value}
+use Rattle.actors.specs.Method.{Method}
+use Rattle.actors.specs.Fault.{Fault}
+use Rattle.actors.specs.Fault.TheVariants.{NoMethod, BadArgs, Own}
+use Rattle.actors.specs.Kinds.{KindState, OwnAt, Ask, StepOf, behaves, by_calls, alone, count_value, Answer}
+use Rattle.actors.specs.Texts.{method_text, value_text, with_spaces}
 use Rattle.own_kinds.specs.declared.queue.TheConstants.{MAX_QUEUED}
 use Rattle.own_kinds.specs.declared.queue.QueueCall.{QueueCall as Borrowed}
 use Rattle.own_kinds.specs.declared.queue.QueueCall.TheVariants as borrowed

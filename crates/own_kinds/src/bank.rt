@@ -3,17 +3,15 @@
 ghost use Rattle.std.specs.Prelude.{◌≡◌, ◌+◌, ◌-◌, ◌^◌, ◌<◌, ◌≤◌, ℕ, List, IfOk, Ok, codes, length, pos, replicate, slice_index, slice_set};
 ghost use Rattle.std.specs.List.{sum};
 ghost use Rattle.std.specs.String.{string_bytes};
-ghost use Rattle.act_types.specs.declared.fault.Fault.TheVariants.{Own};
-ghost use Rattle.act_types.specs.declared.value.Value.TheVariants.{Int};
-ghost use Rattle.act_types.specs.KindState.{OwnAt};
-ghost use Rattle.act_types.specs.Own.{behaves, next_state, step_answer};
-ghost use Rattle.act_rules.specs.declared.history.RunItem.{RunItem as Item};
+ghost use Rattle.actors.specs.Fault.TheVariants.{Own};
+ghost use Rattle.actors.specs.Value.TheVariants.{Int};
+ghost use Rattle.actors.specs.Kinds.{OwnAt, behaves, next_state, step_answer};
+ghost use Rattle.actors.specs.RunItem.{RunItem as Item};
 ghost use Rattle.own_kinds.specs.Bank.{bank_call, bank_does, bank_step, bank_text, funds_at, has_account, pay_in_at, pay_out_at, total_at, transfer_at, HoldsItsMoney, MoneyIsKept};
 ghost use Rattle.own_kinds.specs.declared.bank.TheConstants.{MAX_ACCOUNTS};
 ghost use Rattle.own_kinds.specs.declared.bank.BankCall.TheVariants.{PayIn, PayOut, Transfer, Funds};
 
-use act_kinds::{Actor, Meaning, append_line};
-use act_types::{Answer, Fault, Method, Name, NoMemory, Value};
+use actors::{Actor, Answer, Fault, Meaning, Method, Name, NoMemory, Value, append_line};
 use std::alloc::Global;
 use std::marker::Model;
 

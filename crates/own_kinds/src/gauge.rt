@@ -1,15 +1,13 @@
 //! A gauge: a level that never rises above a top.
 
 ghost use Rattle.std.specs.Prelude.{◌≡◌, IfOk, Ok, codes, map};
-ghost use Rattle.act_types.specs.declared.call.Arg.TheVariants.{Plain};
-ghost use Rattle.act_types.specs.declared.fault.Fault.TheVariants.{Own};
-ghost use Rattle.act_types.specs.KindState.{OwnAt};
-ghost use Rattle.act_types.specs.Own.{behaves, next_state, step_answer};
+ghost use Rattle.actors.specs.Arg.TheVariants.{Plain};
+ghost use Rattle.actors.specs.Fault.TheVariants.{Own};
+ghost use Rattle.actors.specs.Kinds.{OwnAt, behaves, next_state, step_answer};
 ghost use Rattle.own_kinds.specs.Gauge.{gauge_call, gauge_does, gauge_step, gauge_text, gauge_values};
 ghost use Rattle.own_kinds.specs.declared.gauge.GaugeCall.TheVariants.{Raise};
 
-use act_kinds::{Actor, append_line};
-use act_types::{Answer, Arg, Fault, ListOf, Method, Name, NoMemory, Value};
+use actors::{Actor, Answer, Arg, Fault, ListOf, Method, Name, NoMemory, Value, append_line};
 use std::alloc::Global;
 use std::mem::replace;
 

@@ -1,26 +1,18 @@
 //! What holds of banks and limiters in a world, and in a run in threads, whatever else happens there.
 
 ghost use Rattle.std.specs.Prelude.{◌≡◌, ℕ, List, map, option_map, replicate, IfErr, IfOk};
-ghost use Rattle.act_rules.specs.declared.event.Event.{Event as Happening};
-ghost use Rattle.act_rules.specs.History.{ActorSpec};
-ghost use Rattle.act_rules.specs.OwnRuns.{told_in};
-ghost use Rattle.act_actor.specs.Cast.{IsFitting};
-ghost use Rattle.act_actor.specs.Casts.{actor_spec};
-ghost use Rattle.act_world.specs.IsReachedBy.{IsReachedBy};
-ghost use Rattle.act_world.specs.View.{stage_in, stage_view, world_view};
-ghost use Rattle.act_serve.specs.Served.{end_view};
-ghost use Rattle.act_plans.specs.Setups.{PlansFit};
-ghost use Rattle.act_executor.specs.Joined.{IsJoined, end_of, log_in};
-ghost use Rattle.act_executor.specs.Runs.{plan_view, IsFault};
-ghost use Rattle.act_own.specs.Kept.{SlotKeeps, EndKeeps, OpensAt};
+ghost use Rattle.actors.specs.Event.{Event as Happening};
+ghost use Rattle.actors.specs.Rules.{ActorSpec};
+ghost use Rattle.actors.specs.Kinds.{told_in, SlotKeeps, EndKeeps, OpensAt};
+ghost use Rattle.actors.specs.Actors.{IsFitting, actor_spec};
+ghost use Rattle.actors.specs.Worlds.{IsReachedBy, stage_in, stage_view, world_view};
+ghost use Rattle.actors.specs.Threads.{end_view, PlansFit, IsJoined, end_of, log_in, plan_view, IsFault};
 ghost use Rattle.own_kinds.specs.Bank.{bank_step, bank_text, empty_bank, HoldsItsMoney};
 ghost use Rattle.own_kinds.specs.Limiter.{limiter_step, limiter_text, limiter_of, limiter_at, NeverAbove};
 
-use act_actor::Cast;
-use act_executor::{Joined, NoGate, Plan, RunFault, run_plans};
-use act_kinds::Actor;
-use act_types::{ActorId, CallerId};
-use act_world::{Stage, World};
+use actors::{
+    Actor, ActorId, CallerId, Cast, Joined, NoGate, Plan, RunFault, Stage, World, run_plans,
+};
 use std::alloc::Global;
 use std::sync::Wait;
 use std::thread::Threads;

@@ -1,16 +1,13 @@
 //! A rate limiter: never more than so many grants between two resets.
 
 ghost use Rattle.std.specs.Prelude.{◌≡◌, ℕ, List, codes};
-ghost use Rattle.act_types.specs.declared.fault.Fault.TheVariants.{Own};
-ghost use Rattle.act_types.specs.KindState.{OwnAt};
-ghost use Rattle.act_types.specs.Own.{behaves, next_state, step_answer};
-ghost use Rattle.act_rules.specs.OwnRuns.{told_in};
-ghost use Rattle.act_rules.specs.declared.history.RunItem.{RunItem as Item};
+ghost use Rattle.actors.specs.Fault.TheVariants.{Own};
+ghost use Rattle.actors.specs.Kinds.{OwnAt, behaves, next_state, step_answer, told_in};
+ghost use Rattle.actors.specs.RunItem.{RunItem as Item};
 ghost use Rattle.own_kinds.specs.Limiter.{limiter_call, limiter_does, limiter_step, limiter_text, limiter_of, limiter_at, NeverAbove};
 ghost use Rattle.own_kinds.specs.declared.limiter.LimiterCall.TheVariants.{Acquire};
 
-use act_kinds::{Actor, append_line};
-use act_types::{Answer, Fault, Method, Name, NoMemory, Value};
+use actors::{Actor, Answer, Fault, Method, Name, NoMemory, Value, append_line};
 use std::alloc::Global;
 
 /// What a rate limiter can be asked.

@@ -1,18 +1,18 @@
 //! A work queue: what is put first is taken first.
 
 ghost use Rattle.std.specs.Prelude.{◌≡◌, [], List, IfErr, IfOk, OnErr, OnOk, IsOk, Err, Ok, Some, codes, map};
-ghost use Rattle.act_types.specs.declared.call.Arg.TheVariants.{Plain};
-ghost use Rattle.act_types.specs.declared.fault.Fault.TheVariants.{Own};
-ghost use Rattle.act_types.specs.declared.value.Value.{Value as Item};
-ghost use Rattle.act_types.specs.Own.{next_state, step_answer};
-ghost use Rattle.act_rules.specs.declared.history.RunItem.{RunItem};
-ghost use Rattle.act_rules.specs.Kinds.{count_value};
-ghost use Rattle.act_rules.specs.OwnRuns.{Left};
+ghost use Rattle.actors.specs.Arg.TheVariants.{Plain};
+ghost use Rattle.actors.specs.Fault.TheVariants.{Own};
+ghost use Rattle.actors.specs.Value.{Value as Item};
+ghost use Rattle.actors.specs.Kinds.{next_state, step_answer, count_value, Left};
+ghost use Rattle.actors.specs.RunItem.{RunItem};
 ghost use Rattle.own_kinds.specs.Queue.{Enqueue, Dequeue, IsInOrder, call_meant, queue_at, queue_call, queue_does};
 ghost use Rattle.own_kinds.specs.Queue.{queue_step, queue_text, queue_values};
 
-use act_kinds::{Actor, Meaning, append_line, runs_by_its_steps};
-use act_types::{Answer, Arg, CopyOf, Fault, ListOf, Method, Name, NoMemory, Value};
+use actors::{
+    Actor, Answer, Arg, CopyOf, Fault, ListOf, Meaning, Method, Name, NoMemory, Value, append_line,
+    runs_by_its_steps,
+};
 use std::alloc::Global;
 use std::collections::VecDeque;
 use std::fmt;
@@ -75,7 +75,7 @@ pub struct WorkQueue {
 impl Model for WorkQueue {
     ghost use Rattle.std.specs.Prelude.{List, length, ◌≤◌};
     ghost use Rattle.own_kinds.specs.declared.queue.TheConstants.{MAX_QUEUED};
-    ghost use Rattle.act_types.specs.declared.value.Value.{Value as Item};
+    ghost use Rattle.actors.specs.Value.{Value as Item};
 
     ghost Value = { List Item };
 

@@ -1,11 +1,10 @@
 //! Two callers add to one counter, each in a thread of its own, and a gate prints each run.
 #![tactic(auto)]
 
-use act_actor::{Cast, cast_fits};
-use act_executor::{Ended, Gate, Plan, plans_fit, run_plans};
-use act_kinds::Counter;
-use act_rules::Step;
-use act_types::{ActorId, Arg, CallerId, ListOf, Method, Value};
+use actors::{
+    ActorId, Arg, CallerId, Cast, Counter, Ended, Gate, ListOf, Method, Plan, Step, Value,
+    cast_fits, plans_fit, run_plans,
+};
 use anyhow::{Result, ensure};
 use std::alloc::Global;
 

@@ -1,6 +1,6 @@
 use Rattle.std.proofs.Common.{ℕ, List, subst, sym}
-use Rattle.act_rules.specs.Consistent.{IsPrefix}
-use Rattle.act_world.specs.View.{world_view}
+use Rattle.actors.specs.Rules.{IsPrefix}
+use Rattle.actors.specs.Worlds.{world_view}
 use Rattle.act_uses.specs.Fronts.{submitted_in}
 use Rattle.act_uses.proofs.front.ran_of.Goals as goal
 

@@ -1,9 +1,8 @@
 use Rattle.std.proofs.Common.{◌∷◌, ◌++◌, [], List, map, take, subst, sym}
 use Rattle.std.proofs.lemmas.List.{take_more}
-use Rattle.act_rules.specs.declared.event.Event.{Event}
-use Rattle.act_actor.specs.Casts.{actor_spec}
-use Rattle.act_world.specs.View.{world_view}
-use Rattle.act_world.specs.IsReachedBy.{IsReachedBy}
+use Rattle.actors.specs.Event.{Event}
+use Rattle.actors.specs.Actors.{actor_spec}
+use Rattle.actors.specs.Worlds.{world_view, IsReachedBy}
 use Rattle.act_uses.proofs.front.world_after.Goals as goal
 
 pub loop-event-preserved : goal.loop-event-preserved

@@ -1,7 +1,6 @@
 use Rattle.std.proofs.Common.{map, take}
-use Rattle.act_actor.specs.Casts.{actor_spec}
-use Rattle.act_world.specs.View.{world_view}
-use Rattle.act_world.specs.IsReachedBy.{IsReachedBy}
+use Rattle.actors.specs.Actors.{actor_spec}
+use Rattle.actors.specs.Worlds.{world_view, IsReachedBy}
 use Rattle.act_uses.proofs.front.world_after.Given as goal
 
 -- the world stands after the events so far

@@ -1,5 +1,5 @@
 use Rattle.std.proofs.Common.{◌+◌, ◌≤◌, length, length-drop, arith}
-use Rattle.act_world.specs.View.{world_view}
+use Rattle.actors.specs.Worlds.{world_view}
 use Rattle.act_uses.proofs.Playing.{played_on, played_out}
 use Rattle.act_uses.proofs.patient.play_patiently.Goals as goal
 

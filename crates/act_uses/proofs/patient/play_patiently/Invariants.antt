@@ -1,6 +1,5 @@
 use Rattle.std.proofs.Common.{◌≤◌, length, take}
-use Rattle.act_world.specs.View.{world_view}
-use Rattle.act_world.specs.IsReachedBy.{HasPlayed}
+use Rattle.actors.specs.Worlds.{world_view, HasPlayed}
 use Rattle.act_uses.proofs.patient.play_patiently.Given as goal
 
 -- the events before the place were played

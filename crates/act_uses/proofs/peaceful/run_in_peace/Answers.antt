@@ -1,9 +1,8 @@
 use Rattle.std.proofs.Common.{◌≡◌, true, map, ap, sym, ◌∙◌}
 use Rattle.std.specs.List.{list_all}
 use Rattle.std.proofs.lemmas.List.Folds.{list_all-map}
-use Rattle.act_actor.specs.Casts.{actor_spec}
-use Rattle.act_serve.specs.Served.{end_view}
-use Rattle.act_executor.specs.Runs.{plan_view}
+use Rattle.actors.specs.Actors.{actor_spec}
+use Rattle.actors.specs.Threads.{end_view, plan_view}
 use Rattle.act_uses.specs.Peaceful.{is_peaceful, are_peaceful}
 use Rattle.act_uses.proofs.Peace.{all_ran}
 use Rattle.act_uses.proofs.peaceful.run_in_peace.Goals as goal

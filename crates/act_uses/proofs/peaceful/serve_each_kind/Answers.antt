@@ -1,8 +1,8 @@
 use Rattle.std.proofs.Common.{◌≡◌, ◌<◌, true, length, map, ap, sym, ◌∙◌, arith, subst}
 use Rattle.std.specs.List.{list_all}
-use Rattle.act_executor.specs.Runs.{plan_view}
-use Rattle.act_executor.proofs.Faults.{err_only}
-use Rattle.act_plans.specs.Setups.{most_steps}
+use Rattle.actors.specs.Threads.{plan_view}
+use Rattle.actors.proofs.Lemmas.{err_only}
+use Rattle.actors.specs.Limits.{most_steps}
 use Rattle.act_uses.specs.declared.peaceful.PeaceFault.{PeaceFault}
 use Rattle.act_uses.specs.Peaceful.{is_peaceful, casts_for, IsServeFault}
 use Rattle.act_uses.proofs.Peace.{joined_with, ran_with}

@@ -1,7 +1,6 @@
 use Rattle.std.proofs.Common.{List, take, ap, ◌∙◌, subst}
-use Rattle.act_rules.specs.declared.event.Event.{Event}
-use Rattle.act_world.specs.IsReachedBy.{HasPlayed}
-use Rattle.act_world.specs.View.{world_view}
+use Rattle.actors.specs.Event.{Event}
+use Rattle.actors.specs.Worlds.{HasPlayed, world_view}
 use Rattle.act_uses.proofs.played.play_part.Goals as goal
 
 pub returns-clause-err : goal.returns-clause-err

@@ -1,5 +1,5 @@
 use Rattle.std.proofs.Common.{map}
-use Rattle.act_actor.specs.Casts.{actor_spec}
+use Rattle.actors.specs.Actors.{actor_spec}
 use Rattle.own_callers.specs.declared.buyer.Buyer.{Buyer}
 use Rattle.own_callers.proofs.Orders.{has_left}
 use Rattle.own_callers.proofs.buyers.run_buyers.Goals as goal

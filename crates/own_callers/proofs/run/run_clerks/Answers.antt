@@ -1,7 +1,7 @@
 use Rattle.std.proofs.Common.{map, [], refl}
-use Rattle.act_actor.specs.Casts.{actor_spec}
-use Rattle.act_serve.specs.Served.{end_view}
-use Rattle.act_own.proofs.Kept.{run_keeps}
+use Rattle.actors.specs.Actors.{actor_spec}
+use Rattle.actors.specs.Threads.{end_view}
+use Rattle.actors.proofs.Lemmas.{run_keeps}
 use Rattle.own_kinds.specs.Queue.{queue_step, queue_text, IsInOrder}
 use Rattle.own_kinds.proofs.Orders.{order_is_kept}
 use Rattle.own_callers.proofs.Left.{are_balanced}

@@ -1,6 +1,6 @@
 use Rattle.std.proofs.Common.{map}
-use Rattle.act_actor.specs.Casts.{actor_spec}
-use Rattle.act_serve.specs.Served.{end_view}
+use Rattle.actors.specs.Actors.{actor_spec}
+use Rattle.actors.specs.Threads.{end_view}
 use Rattle.own_callers.proofs.Left.{transferred, are_balanced}
 use Rattle.own_callers.proofs.Totals.{keeps_the_sum}
 use Rattle.own_callers.proofs.run.run_transfers.Goals as goal

@@ -1,8 +1,8 @@
 use Rattle.std.proofs.Common.{replicate}
-use Rattle.act_rules.specs.OwnRuns.{Left, told_in}
-use Rattle.act_rules.proofs.OwnRuns.{holds_in_each_run}
+use Rattle.actors.specs.Kinds.{Left, told_in}
+use Rattle.actors.proofs.Lemmas.{holds_in_each_run}
 use Rattle.own_kinds.specs.Bank.{bank_step, bank_text, empty_bank, HoldsItsMoney, paid_in, paid_out}
-use Rattle.act_rules.specs.RunList.{state_after}
+use Rattle.actors.specs.Actors.{state_after}
 use Rattle.own_kinds.proofs.Keeps.{keeps, empty, asked_total}
 use Rattle.own_kinds.proofs.bank.money_is_kept.Goals as goal
 

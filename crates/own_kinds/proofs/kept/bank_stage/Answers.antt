@@ -1,6 +1,6 @@
 use Rattle.std.specs.Prelude.{option_map, replicate}
-use Rattle.act_world.specs.View.{stage_view}
-use Rattle.act_own.proofs.Kept.{slot_keeps}
+use Rattle.actors.specs.Worlds.{stage_view}
+use Rattle.actors.proofs.Lemmas.{slot_keeps}
 use Rattle.own_kinds.specs.Bank.{bank_step, bank_text, HoldsItsMoney}
 use Rattle.own_kinds.proofs.Keeps.{keeps, empty}
 use Rattle.own_kinds.proofs.kept.bank_stage.Goals as goal

@@ -1,8 +1,7 @@
 use Rattle.std.proofs.Common.{map, replicate}
-use Rattle.act_actor.specs.Casts.{actor_spec}
-use Rattle.act_serve.specs.Served.{end_view}
-use Rattle.act_executor.specs.Runs.{plan_view}
-use Rattle.act_own.proofs.Kept.{run_keeps}
+use Rattle.actors.specs.Actors.{actor_spec}
+use Rattle.actors.specs.Threads.{end_view, plan_view}
+use Rattle.actors.proofs.Lemmas.{run_keeps}
 use Rattle.own_kinds.specs.Bank.{bank_step, bank_text, HoldsItsMoney}
 use Rattle.own_kinds.proofs.Keeps.{keeps, empty}
 use Rattle.own_kinds.proofs.kept.run_banks.Goals as goal

@@ -1,6 +1,5 @@
 use Rattle.std.proofs.Common.{map}
-use Rattle.act_serve.specs.Served.{end_view}
-use Rattle.act_executor.specs.Joined.{log_in}
+use Rattle.actors.specs.Threads.{end_view, log_in}
 use Rattle.own_kinds.proofs.Rates.{never_above_its_rate}
 use Rattle.own_kinds.proofs.kept.run_limiters.Goals as goal
 

@@ -1,7 +1,7 @@
 use Rattle.std.proofs.Common.{rules, ◌≡◌, ◌<◌, ◌∷◌, [], ℕ, ap, sym, ◌∙◌, false, true, inl, inr, subst}
 use Rattle.std.specs.Prelude.{option_copied}
-use Rattle.act_types.specs.declared.value.Value.TheVariants.{Int}
-use Rattle.act_types.specs.declared.call.Arg.TheVariants.{Plain}
+use Rattle.actors.specs.Value.TheVariants.{Int}
+use Rattle.actors.specs.Arg.TheVariants.{Plain}
 use Rattle.own_callers.specs.Retry.{is_lacking, HasFailed}
 use Rattle.own_callers.proofs.Tries.{fails_more, tried}
 use Rattle.own_callers.proofs.retry.RetryCode.run.Goals as goal

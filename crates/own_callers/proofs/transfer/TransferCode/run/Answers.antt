@@ -1,11 +1,11 @@
 use Rattle.std.proofs.Common.{rules, ◌≡◌, true, false, is_some, [], ◌∷◌, ℕ, length, ap, sym, ◌∙◌, inl, inr, Some, Ok, arith}
 use Rattle.std.specs.Prelude.{option_copied}
-use Rattle.act_types.specs.declared.value.Value.{Value}
-use Rattle.act_types.specs.declared.value.Value.TheVariants.{Int}
-use Rattle.act_types.specs.declared.call.Arg.TheVariants.{Plain}
-use Rattle.act_types.specs.declared.call.Method.TheVariants.{Balance, Deposit, Withdraw}
-use Rattle.act_rules.specs.RunList.{Answer}
-use Rattle.act_rules.specs.Submissions.{kept_at}
+use Rattle.actors.specs.Value.{Value}
+use Rattle.actors.specs.Value.TheVariants.{Int}
+use Rattle.actors.specs.Arg.TheVariants.{Plain}
+use Rattle.actors.specs.Method.TheVariants.{Balance, Deposit, Withdraw}
+use Rattle.actors.specs.Kinds.{Answer}
+use Rattle.actors.specs.Callers.{kept_at}
 use Rattle.own_callers.specs.Transfer.{asks, withdraws, is_enough, is_amount}
 use Rattle.own_callers.proofs.Calls.{called, kept_on, kept_here}
 use Rattle.own_callers.proofs.transfer.TransferCode.run.Goals as goal

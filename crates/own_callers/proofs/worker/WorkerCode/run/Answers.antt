@@ -1,8 +1,8 @@
 use Rattle.std.proofs.Common.{rules, ◌≡◌, ◌∷◌, [], ap, sym, ◌∙◌, Some, false, pos}
 use Rattle.std.specs.Prelude.{option_copied}
-use Rattle.act_types.specs.declared.value.Value.TheVariants.{Int}
-use Rattle.act_types.specs.declared.call.Arg.TheVariants.{Plain}
-use Rattle.act_rules.specs.RunList.{Answer}
+use Rattle.actors.specs.Value.TheVariants.{Int}
+use Rattle.actors.specs.Arg.TheVariants.{Plain}
+use Rattle.actors.specs.Kinds.{Answer}
 use Rattle.own_callers.specs.Worker.{is_job}
 use Rattle.own_callers.proofs.Works.{works_more, worked}
 use Rattle.own_callers.proofs.worker.WorkerCode.run.Goals as goal

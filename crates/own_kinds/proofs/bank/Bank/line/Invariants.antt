@@ -1,5 +1,5 @@
 use Rattle.std.proofs.Common.{◌≡◌, ◌++◌, codes, decimal, map, string_bytes, take}
-use Rattle.act_types.specs.Texts.{with_spaces}
+use Rattle.actors.specs.Texts.{with_spaces}
 use Rattle.own_kinds.proofs.bank.Bank.line.Given as goal
 
 -- the balances so far are written

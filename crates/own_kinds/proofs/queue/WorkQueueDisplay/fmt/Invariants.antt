@@ -1,6 +1,6 @@
 use Rattle.std.proofs.Common.{map}
 use Rattle.std.specs.Fmt.{HasWritten, IsPlainFormatter}
-use Rattle.act_types.specs.Texts.{with_spaces, value_text}
+use Rattle.actors.specs.Texts.{with_spaces, value_text}
 use Rattle.own_kinds.proofs.queue.WorkQueueDisplay.fmt.Given as goal
 
 -- the values so far are written

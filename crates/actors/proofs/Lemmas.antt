@@ -1,0 +1,20 @@
+-- Lemmas that proofs of clients cite, with words of lists that a client's own proof would else prove again.
+
+-- what each step of a kind of one's own keeps, after each run list, in a world and in threads
+pub use Rattle.act_rules.proofs.OwnRuns.{holds_in_each_run, told_any}
+pub use Rattle.act_own.proofs.Kept.{run_keeps, slot_keeps}
+-- no kind answers that its actor died
+pub use Rattle.act_rules.proofs.KindFaults.{answer_alive}
+pub use Rattle.act_world.proofs.Answering.{alive_is}
+-- events in two parts, one after the other
+pub use Rattle.act_rules.proofs.Steps.{after_all-append, outcomes-append}
+-- what a plan's faults and its numbers are
+pub use Rattle.act_executor.proofs.Faults.{err_only}
+pub use Rattle.act_plans.proofs.Keys.{pairs_of_map}
+pub use Rattle.act_plans.proofs.Matching.{numbers_differ}
+-- lists
+pub use Rattle.act_rules.proofs.Lists.{All_at, All_more, slice_get-enumerate_from, slice_get-filter}
+pub use Rattle.act_rules.proofs.AsSubmitted.{filter-slice_get}
+pub use Rattle.act_rules.proofs.Unique.{map-slice_get}
+pub use Rattle.act_executor.proofs.Elements.{all_in, found_is, finds, is_contained}
+pub use Rattle.act_executor.proofs.Found.{one_of}
