@@ -8,7 +8,7 @@ use Rattle.crossbeam_queue.proofs.Lists.{at_set, at_snoc}
 use Rattle.act_rules.specs.Consistent.{IsPrefix}
 use Rattle.act_mailbox.specs.declared.line.view.View.{View}
 use Rattle.act_mailbox.specs.declared.line.view.View.TheVariants.{Puts, Takes, Saw, Spent}
-use Rattle.act_mailbox.specs.Lines.{items_from, putting, taking, role, after_deal, after_put, copied, shown, put_of, note_of, Took, Fits, Lined, Audited}
+use Rattle.act_mailbox.specs.Lines.{items_from, putting, taking, role, after_deal, after_put, copied, shown, after_take, put_of, note_of, putters_of, Fits, Lined, Audited}
 
 -- which of its kinds a pass is
 module _ {T N : Type 0} where
@@ -156,6 +156,10 @@ module _ {T N : Type 0} (putter_of : T → ℕ) where
     puts n port (Saw xs) mine items views room h at = absurd mine
     puts n port Spent mine items views room h at = absurd mine
 
+  -- the taker took x, whose putter has a pass
+  abbrev pub TookItem : List N → View T N → T → View T N → Type 0
+  TookItem note v x w = (w ≡ after_take x note v) × Contains (putters_of v) (putter_of x)
+
   -- the taker takes x, and its note becomes `note`
   module _ (note : List N) where
     takes_other : (endpoint : ℕ → ℕ) (putters : List ℕ) (got items : List T) (x : T) (j : ℕ) (u : View T N) → (role u ≡ Some 0 → ⊥) → Keeps endpoint putters got (x ∷ items) j u → Keeps endpoint putters (got ++ x ∷ []) items j u
@@ -164,7 +168,7 @@ module _ {T N : Type 0} (putter_of : T → ℕ) where
     takes_other endpoint putters got items x j (Saw xs) not_mine k = (longer putter_of xs got x k.0, k.1)
     takes_other endpoint putters got items x j Spent not_mine k = (k.0, k.1)
 
-    pub takes : (port : ℕ) (v : View T N) → IsTaking v → Pops (Lined putter_of) port v (λ x w. Took putter_of note v x w)
+    pub takes : (port : ℕ) (v : View T N) → IsTaking v → Pops (Lined putter_of) port v (TookItem note v)
     takes port (Puts v) mine x items views h at = absurd mine
     takes port (Takes v) mine x items views h at =
         let me = h.4 port (Takes v) at in
@@ -297,3 +301,8 @@ module _ {T N : Type 0} where
       → v' ≡ shown v w → v' ≡ putting c (put_of v') (note_of v') taken
   shown_is v v' w u c put note seen putters taken note' e f g h =
       let is : v' ≡ putting c put note taken = h ∙ (λ i. shown (e i) ((g ∙ ap copied f) i)) in is ∙ (λ i. putting c (put_of (sym is i)) (note_of (sym is i)) taken)
+
+  -- what an audit tells, of the parts of the two passes
+  pub audited_is : (putter_of : T → ℕ) (v v' w u : View T N) (c : ℕ) (put : List T) (note : List N) (seen : List T) (putters : List ℕ) (taken : List T) (note' : List N) → v ≡ putting c put note seen → u ≡ taking putters taken note' → w ≡ copied u → v' ≡ shown v w
+      → Audited putter_of v' → IsPrefix (items_from putter_of c taken) put
+  audited_is putter_of v v' w u c put note seen putters taken note' e f g h audited = subst (Audited putter_of) (h ∙ (λ i. shown (e i) ((g ∙ ap copied f) i))) audited

@@ -9,13 +9,14 @@ pub record ControlView : Type 0 where
   pub line : TableId
   pub actor : ℕ
 
--- the executor's pass: its line and actor, the askers that have passes, the kills taken, the log's length at each of
--- them, and how many lengths were looked at
+-- the executor's pass: its line and actor, the askers that have passes, the kills taken, the stamp that each was put
+-- with, the log's length at each of them, and how many lengths were looked at
 pub record ControlExecView : Type 0 where
   pub line : TableId
   pub actor : ℕ
   pub askers : List ℕ
   pub taken : List Asked
+  pub stamps : List ℕ
   pub lengths : List ℕ
   pub looked : ℕ
 
@@ -41,6 +42,7 @@ pub record HasTakenKill (note : KillNote) (long : ℕ) (old new : ControlExecVie
   pub known : Contains old.askers asker
   pub taken : new ≡ record old {
     taken = old.taken ++ kill_by asker note ∷ [];
+    stamps = new.stamps;
     lengths = old.lengths ++ long ∷ [];
     looked = new.looked;
   }

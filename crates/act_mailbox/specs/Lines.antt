@@ -1,5 +1,6 @@
--- The rule of a line: a queue with many putters and one taker.
-use Rattle.std.specs.Prelude.{◌≡◌, ℕ, suc, ◌==◌, List, [], ◌∷◌, ◌++◌, Option, Some, None, filter, All, Contains}
+-- The rule of a line: a queue with many putters and one taker. Each item has a stamp, a number that only proofs speak
+-- of: its putter picks it, and the taker learns with which stamp the item was put.
+use Rattle.std.specs.Prelude.{◌≡◌, ℕ, suc, ◌==◌, List, [], ◌∷◌, ◌++◌, Option, Some, None, filter, map, All, Contains}
 use mathlib.Core.Option.{some}
 use lib.ListN.{get_elem?}
 use Rattle.act_rules.specs.Consistent.{IsPrefix}
@@ -9,6 +10,17 @@ use Rattle.act_mailbox.specs.declared.line.view.View.TheVariants.{Puts, Takes, S
 -- the items of putter c, in order
 abbrev pub items_from : {T : Type 0} → (T → ℕ) → ℕ → List T → List T
 items_from putter_of c xs = filter (λ x. putter_of x == c) xs
+
+-- the items, and their stamps, of items with stamps
+abbrev pub items_alone : {T : Type 0} → List (T × ℕ) → List T
+items_alone xs = map (λ x. x.0) xs
+
+abbrev pub stamps_alone : {T : Type 0} → List (T × ℕ) → List ℕ
+stamps_alone xs = map (λ x. x.1) xs
+
+-- who put an item with a stamp
+abbrev pub putter_of_stamped : {T : Type 0} → (T → ℕ) → T × ℕ → ℕ
+putter_of_stamped putter_of x = putter_of x.0
 
 module _ {T N : Type 0} where
   -- what a putter's pass knows
@@ -102,13 +114,19 @@ module _ {T N : Type 0} (putter_of : T → ℕ) where
       × ((port : ℕ) (v : View T N) → get_elem? views port ≡ some v →
       Fits putters got items v × ((r : ℕ) → role v ≡ Some r → port ≡ endpoint r))
 
-  -- what a take tells
-  abbrev pub Took : List N → View T N → T → View T N → Type 0
-  Took note v x w = (w ≡ after_take x note v) × Contains (putters_of v) (putter_of x)
-
   -- what an audit tells of a putter
   abbrev pub Audited : View T N → Type 0
   Audited (Puts v) = IsPrefix (items_from putter_of v.number v.seen) v.put
   Audited (Takes v) = Unit {0}
   Audited (Saw xs) = Unit {0}
   Audited Spent = Unit {0}
+
+module _ {T N : Type 0} (putter_of : T → ℕ) where
+  -- each item of the queue has a stamp, and the line is in order by items with their stamps
+  abbrev pub LinedByStamps : List T → List (View (T × ℕ) N) → Type 0
+  LinedByStamps items views = (stamped : List (T × ℕ)) × (items_alone stamped ≡ items)
+      × Lined (putter_of_stamped putter_of) stamped views
+
+  -- what a take tells: with which stamp the item was put, and that its putter has a pass
+  abbrev pub Took : List N → View (T × ℕ) N → T → View (T × ℕ) N → Type 0
+  Took note v x w = ((stamp : ℕ) × (w ≡ after_take (x, stamp) note v)) × Contains (putters_of v) (putter_of x)

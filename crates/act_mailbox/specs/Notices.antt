@@ -10,16 +10,17 @@ pub record RepliesView : Type 0 where
   pub line : TableId
   pub caller : ℕ
 
--- an executor's pass: its line and actor, the notices given, and the log last shown
+-- an executor's pass: its line and actor, the notices given, the stamp of each, and the log last shown
 pub record ReplyExecView : Type 0 where
   pub line : TableId
   pub actor : ℕ
   pub given : List Notice
+  pub stamps : List ℕ
   pub seen : List RunItem
 
 -- an executor's pass that has given nothing
 abbrev pub new_exec : TableId → ℕ → ReplyExecView
-new_exec line actor = record { line = line; actor = actor; given = []; seen = [] }
+new_exec line actor = record { line = line; actor = actor; given = []; stamps = []; seen = [] }
 
 -- the actor that a notice names
 abbrev pub notice_actor : Notice → ℕ

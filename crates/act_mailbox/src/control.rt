@@ -1,13 +1,13 @@
 //! The control line of an actor: kills, each with its asker.
 
-ghost use Rattle.std.specs.Prelude.{◌≡◌, ◌≢◌, ℕ, [], ◌∷◌, ◌++◌, length, map, AllPairs, Contains, IfOk, OnOk, IfErr, OnErr, IfSome, IfNone};
+ghost use Rattle.std.specs.Prelude.{◌≡◌, ◌≢◌, ℕ, [], ◌∷◌, ◌++◌, length, map, zip, AllPairs, Contains, IfOk, OnOk, IfErr, OnErr, IfSome, IfNone};
 ghost use Rattle.act_actor.specs.StateViews.{live_view};
 ghost use Rattle.act_rules.specs.Consistent.{IsPrefix};
 ghost use Rattle.act_mailbox.specs.Lines.{items_from};
 ghost use Rattle.act_mailbox.specs.Passes.{new_putter};
 ghost use Rattle.act_mailbox.specs.Controls.{asker_of, kill_by, looked_after, starter, HasTakenKill};
 
-use crate::line::{Item, Line, Noted, Putter};
+use crate::line::{Item, Line, Noted, Putter, Stamped};
 use act_actor::Live;
 use act_kinds::Actor;
 use act_types::{ActorId, CallerId, KillNote, NoMemory};
@@ -74,6 +74,7 @@ impl Control {
               actor = actor;
               askers = starter ∷ callers.now;
               taken = [];
+              stamps = [];
               lengths = [];
               looked = 0;
             }) }
@@ -100,14 +101,34 @@ impl Control {
         note: KillNote,
     ) -> Result<(), KillNote>
         requires pass { pass.old.line ≡ self.now.line }
-        ensures ok { OnOk result
-            (pass.new ≡ record pass.old { put = pass.old.put ++ kill_by pass.old.number note ∷ [] }) }
+        ensures ok { OnOk result (pass.new ≡ record pass.old {
+          put = pass.old.put ++ kill_by pass.old.number note ∷ [];
+          stamps = pass.old.stamps ++ 0 ∷ [];
+        }) }
+        ensures err { OnErr result (pass.new ≡ pass.old) }
+        ensures back { IfErr result (λ back. back ≡ note) }
+    {
+        self.ask_at::<Brand, R>(rt, pass, note)
+    }
+
+    /// The same, where `K` is the kill's stamp.
+    pub fn ask_at<K: Stamped, R: Wait>(
+        &self,
+        rt: &R,
+        pass: &mut ControlCaller,
+        note: KillNote,
+    ) -> Result<(), KillNote>
+        requires pass { pass.old.line ≡ self.now.line }
+        ensures ok { OnOk result (pass.new ≡ record pass.old {
+          put = pass.old.put ++ kill_by pass.old.number note ∷ [];
+          stamps = pass.old.stamps ++ K.stamp ∷ [];
+        }) }
         ensures err { OnErr result (pass.new ≡ pass.old) }
         ensures back { IfErr result (λ back. back ≡ note) }
     {
         let asker = pass.number();
         self.line
-            .put::<Brand, R>(rt, pass, Asked { asker, note })
+            .put::<Brand, K, R>(rt, pass, Asked { asker, note })
             .map_err(|kill| kill.note)
     }
 
@@ -123,6 +144,7 @@ impl Control {
         ensures looked { pass.new.looked ≡ looked_after pass.old.looked (length (live_view K.state live.now).log) }
         ensures taken { IfSome result (λ note.
             HasTakenKill note (length (live_view K.state live.now).log) pass.old pass.new) }
+        ensures stamped { IfSome result (λ note. (n : ℕ) × (pass.new.stamps ≡ pass.old.stamps ++ n ∷ [])) }
         ensures none { IfNone result (pass.new ≡ record pass.old { looked = pass.new.looked }) }
     {
         let long = live.log().len();
@@ -143,15 +165,18 @@ impl Control {
         ensures taken { IfSome result (λ kill.
             pass.new ≡ record pass.old {
               taken = pass.old.taken ++ kill ∷ [];
+              stamps = pass.new.stamps;
               lengths = pass.old.lengths ++ long ∷ [];
             }) }
+        ensures stamped { IfSome result (λ kill. (n : ℕ) × (pass.new.stamps ≡ pass.old.stamps ++ n ∷ [])) }
         ensures none { IfNone result (pass.new ≡ pass.old) }
         ensures known { IfSome result (λ kill. Contains pass.old.askers kill.asker) }
     {
         self.line.take::<K, R>(rt, &mut pass.pass)
     }
 
-    /// The line's length. The kills of the asker that were taken begin those that it asked.
+    /// The line's length. The kills of the asker that were taken, with their stamps, begin those that it
+    /// asked.
     pub fn audit<R: Wait>(
         &self,
         rt: &R,
@@ -161,6 +186,9 @@ impl Control {
         requires passes { (asker.old.line ≡ self.now.line) × (executor.old.line ≡ self.now.line) }
         ensures same { (asker.new ≡ asker.old) × (executor.new ≡ executor.old) }
         ensures prefix { IsPrefix (items_from asker_of asker.old.number executor.old.taken) asker.old.put }
+        ensures stamps { IsPrefix
+            (items_from (λ x. asker_of x.0) asker.old.number (zip executor.old.taken executor.old.stamps))
+            (zip asker.old.put asker.old.stamps) }
     {
         self.line.audit(rt, asker, &mut executor.pass)
     }

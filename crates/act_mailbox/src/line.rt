@@ -2,7 +2,7 @@
 //!
 //! What was taken of a putter, and then what the queue holds of it, is what it put, in order.
 
-ghost use Rattle.std.specs.Prelude.{◌≡◌, ◌≢◌, ℕ, ◌≤◌, ◌<◌, [], ◌∷◌, ◌++◌, map, AllPairs, Contains, IfOk, OnOk, IfErr, OnErr, IfSome, IfNone};
+ghost use Rattle.std.specs.Prelude.{◌≡◌, ◌≢◌, ℕ, ◌≤◌, ◌<◌, [], ◌∷◌, ◌++◌, map, zip, AllPairs, Contains, IfOk, OnOk, IfErr, OnErr, IfSome, IfNone};
 ghost use Rattle.act_rules.specs.Consistent.{IsPrefix};
 ghost use Rattle.act_mailbox.specs.Lines.{items_from};
 ghost use Rattle.act_mailbox.specs.Passes.{new_putter, new_taker};
@@ -17,6 +17,7 @@ mod moves;
 mod passes;
 mod view;
 
+pub use moves::Stamped;
 use moves::{Audits, Copies, Deals, InOrder, Named, Puts, Sees, Takes};
 pub(crate) use moves::{Item, Noted};
 pub use passes::{Putter, Taker};
@@ -25,7 +26,7 @@ use view::View;
 /// A queue under the rule of its putters and its taker.
 #[derive(Drop)]
 pub(crate) struct Line<T: Item, N> {
-    queue: RuledArrayQueue<T, View<T, N>, InOrder>,
+    queue: RuledArrayQueue<T, View<(T, u64), N>, InOrder>,
 }
 
 impl<T: Item, N> Model for Line<T, N> {
@@ -96,9 +97,9 @@ impl<T: Item, N> Line<T, N> {
         Ok(putters)
     }
 
-    /// Puts an item, and `K` is the putter's note from then on. Hands the item back where the line
-    /// is full.
-    pub(crate) fn put<K: Noted<N>, R: Wait>(
+    /// Puts an item with the stamp `S`, and `K` is the putter's note from then on. Hands the item
+    /// back where the line is full.
+    pub(crate) fn put<K: Noted<N>, S: Stamped, R: Wait>(
         &self,
         rt: &R,
         putter: &mut Putter<T, N>,
@@ -106,18 +107,29 @@ impl<T: Item, N> Line<T, N> {
     ) -> Result<(), T>
         requires line { putter.old.line ≡ self.now }
         requires number { T.putter item ≡ putter.old.number }
-        ensures ok { OnOk result (putter.new ≡ record putter.old { put = putter.old.put ++ item ∷ []; note = K.note }) }
+        ensures ok { OnOk result
+            (putter.new ≡ record putter.old {
+              put = putter.old.put ++ item ∷ [];
+              stamps = putter.old.stamps ++ S.stamp ∷ [];
+              note = K.note;
+            }) }
         ensures err { OnErr result (putter.new ≡ putter.old) }
         ensures back { IfErr result (λ back. back ≡ item) }
     {
-        self.queue.push_as::<Puts<K>, R>(rt, &mut putter.pass, item)
+        self.queue
+            .push_as::<Puts<K, S>, R>(rt, &mut putter.pass, item)
     }
 
     /// Takes an item, and `K` is the taker's note from then on. `None` where the line is empty.
     pub(crate) fn take<K: Noted<N>, R: Wait>(&self, rt: &R, taker: &mut Taker<T, N>) -> Option<T>
         requires line { taker.old.line ≡ self.now }
         ensures taken { IfSome result (λ item.
-            taker.new ≡ record taker.old { taken = taker.old.taken ++ item ∷ []; note = K.note }) }
+            taker.new ≡ record taker.old {
+              taken = taker.old.taken ++ item ∷ [];
+              stamps = taker.new.stamps;
+              note = K.note;
+            }) }
+        ensures stamped { IfSome result (λ item. (n : ℕ) × (taker.new.stamps ≡ taker.old.stamps ++ n ∷ [])) }
         ensures none { IfNone result (taker.new ≡ taker.old) }
         ensures known { IfSome result (λ item. Contains taker.old.putters (T.putter item)) }
     {
@@ -129,7 +141,12 @@ impl<T: Item, N> Line<T, N> {
     pub(crate) fn try_take<K: Noted<N>>(&self, taker: &mut Taker<T, N>) -> Option<T>
         requires line { taker.old.line ≡ self.now }
         ensures taken { IfSome result (λ item.
-            taker.new ≡ record taker.old { taken = taker.old.taken ++ item ∷ []; note = K.note }) }
+            taker.new ≡ record taker.old {
+              taken = taker.old.taken ++ item ∷ [];
+              stamps = taker.new.stamps;
+              note = K.note;
+            }) }
+        ensures stamped { IfSome result (λ item. (n : ℕ) × (taker.new.stamps ≡ taker.old.stamps ++ n ∷ [])) }
         ensures none { IfNone result (taker.new ≡ taker.old) }
         ensures known { IfSome result (λ item. Contains taker.old.putters (T.putter item)) }
     {
@@ -147,6 +164,9 @@ impl<T: Item, N> Line<T, N> {
         requires lines { (putter.old.line ≡ self.now) × (taker.old.line ≡ self.now) }
         ensures same { (putter.new ≡ putter.old) × (taker.new ≡ taker.old) }
         ensures prefix { IsPrefix (items_from T.putter putter.old.number taker.old.taken) putter.old.put }
+        ensures stamps { IsPrefix
+            (items_from (λ x. T.putter x.0) putter.old.number (zip taker.old.taken taker.old.stamps))
+            (zip putter.old.put putter.old.stamps) }
     {
         let copy = self.queue.another::<Copies>(&mut taker.pass);
         self.queue.absorb::<Sees>(&mut putter.pass, copy);

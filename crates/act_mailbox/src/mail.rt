@@ -1,12 +1,12 @@
 //! The mail line of an actor: the letters of its callers.
 
-ghost use Rattle.std.specs.Prelude.{◌≡◌, ◌≢◌, [], ◌∷◌, ◌++◌, map, AllPairs, Contains, IfOk, OnOk, IfErr, OnErr, IfSome, IfNone};
+ghost use Rattle.std.specs.Prelude.{◌≡◌, ◌≢◌, ℕ, [], ◌∷◌, ◌++◌, map, zip, AllPairs, Contains, IfOk, OnOk, IfErr, OnErr, IfSome, IfNone};
 ghost use Rattle.act_rules.specs.Consistent.{IsPrefix};
 ghost use Rattle.act_mailbox.specs.Lines.{items_from};
 ghost use Rattle.act_mailbox.specs.Passes.{new_putter, new_taker};
 ghost use Rattle.act_mailbox.specs.Mails.{caller_of};
 
-use crate::line::{Item, Line, Putter, Taker};
+use crate::line::{Item, Line, Putter, Stamped, Taker};
 use act_types::{ActorId, CallerId, NoMemory, Packet, ReleaseNote};
 use std::alloc::Global;
 use std::marker::{Brand, Model};
@@ -77,17 +77,39 @@ impl Mail {
     pub fn post<R: Wait>(&self, rt: &R, pass: &mut MailCaller, letter: Letter) -> Result<(), Letter>
         requires pass { pass.old.line ≡ self.now.line }
         requires caller { caller_of letter ≡ pass.old.number }
-        ensures ok { OnOk result (pass.new ≡ record pass.old { put = pass.old.put ++ letter ∷ [] }) }
+        ensures ok { OnOk result
+            (pass.new ≡ record pass.old { put = pass.old.put ++ letter ∷ []; stamps = pass.old.stamps ++ 0 ∷ [] }) }
         ensures err { OnErr result (pass.new ≡ pass.old) }
         ensures back { IfErr result (λ back. back ≡ letter) }
     {
-        self.line.put::<Brand, R>(rt, pass, letter)
+        self.post_at::<Brand, R>(rt, pass, letter)
+    }
+
+    /// The same, where `K` is the letter's stamp.
+    pub fn post_at<K: Stamped, R: Wait>(
+        &self,
+        rt: &R,
+        pass: &mut MailCaller,
+        letter: Letter,
+    ) -> Result<(), Letter>
+        requires pass { pass.old.line ≡ self.now.line }
+        requires caller { caller_of letter ≡ pass.old.number }
+        ensures ok { OnOk result (pass.new ≡ record pass.old {
+          put = pass.old.put ++ letter ∷ [];
+          stamps = pass.old.stamps ++ K.stamp ∷ [];
+        }) }
+        ensures err { OnErr result (pass.new ≡ pass.old) }
+        ensures back { IfErr result (λ back. back ≡ letter) }
+    {
+        self.line.put::<Brand, K, R>(rt, pass, letter)
     }
 
     /// `None` where the line is empty.
     pub fn take<R: Wait>(&self, rt: &R, pass: &mut MailExec) -> Option<Letter>
         requires pass { pass.old.line ≡ self.now.line }
-        ensures taken { IfSome result (λ letter. pass.new ≡ record pass.old { taken = pass.old.taken ++ letter ∷ [] }) }
+        ensures taken { IfSome result (λ letter.
+            pass.new ≡ record pass.old { taken = pass.old.taken ++ letter ∷ []; stamps = pass.new.stamps }) }
+        ensures stamped { IfSome result (λ letter. (n : ℕ) × (pass.new.stamps ≡ pass.old.stamps ++ n ∷ [])) }
         ensures none { IfNone result (pass.new ≡ pass.old) }
         ensures known { IfSome result (λ letter. Contains pass.old.putters (caller_of letter)) }
     {
@@ -98,18 +120,24 @@ impl Mail {
     /// first letter isn't there yet: the line is empty, or the post of that letter isn't finished.
     pub fn try_take(&self, pass: &mut MailExec) -> Option<Letter>
         requires pass { pass.old.line ≡ self.now.line }
-        ensures taken { IfSome result (λ letter. pass.new ≡ record pass.old { taken = pass.old.taken ++ letter ∷ [] }) }
+        ensures taken { IfSome result (λ letter.
+            pass.new ≡ record pass.old { taken = pass.old.taken ++ letter ∷ []; stamps = pass.new.stamps }) }
+        ensures stamped { IfSome result (λ letter. (n : ℕ) × (pass.new.stamps ≡ pass.old.stamps ++ n ∷ [])) }
         ensures none { IfNone result (pass.new ≡ pass.old) }
         ensures known { IfSome result (λ letter. Contains pass.old.putters (caller_of letter)) }
     {
         self.line.try_take::<Brand>(pass)
     }
 
-    /// The line's length. The letters of the caller that were taken begin those that it posted.
+    /// The line's length. The letters of the caller that were taken, with their stamps, begin those that
+    /// it posted.
     pub fn audit<R: Wait>(&self, rt: &R, caller: &mut MailCaller, executor: &mut MailExec) -> usize
         requires passes { (caller.old.line ≡ self.now.line) × (executor.old.line ≡ self.now.line) }
         ensures same { (caller.new ≡ caller.old) × (executor.new ≡ executor.old) }
         ensures prefix { IsPrefix (items_from caller_of caller.old.number executor.old.taken) caller.old.put }
+        ensures stamps { IsPrefix
+            (items_from (λ x. caller_of x.0) caller.old.number (zip executor.old.taken executor.old.stamps))
+            (zip caller.old.put caller.old.stamps) }
     {
         self.line.audit(rt, caller, executor)
     }

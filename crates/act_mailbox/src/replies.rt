@@ -1,12 +1,12 @@
 //! The reply line of a caller: the notices of its actors.
 
-ghost use Rattle.std.specs.Prelude.{◌≡◌, ◌≢◌, [], ◌∷◌, ◌++◌, map, All, AllPairs, Contains, IfOk, OnOk, IfErr, OnErr, IfSome, IfNone};
+ghost use Rattle.std.specs.Prelude.{◌≡◌, ◌≢◌, ℕ, [], ◌∷◌, ◌++◌, map, zip, All, AllPairs, Contains, IfOk, OnOk, IfErr, OnErr, IfSome, IfNone};
 ghost use Rattle.act_rules.specs.Consistent.{IsPrefix};
 ghost use Rattle.act_mailbox.specs.Lines.{items_from};
 ghost use Rattle.act_mailbox.specs.Passes.{new_taker};
 ghost use Rattle.act_mailbox.specs.Notices.{notice_actor, IsNoDeath, NamesPlace, new_exec};
 
-use crate::line::{Item, Line, Noted, Taker};
+use crate::line::{Item, Line, Noted, Stamped, Taker};
 use act_rules::RunItem;
 use act_types::{ActorId, CallerId, NoMemory, Notice};
 use std::alloc::Global;
@@ -102,40 +102,72 @@ impl Replies {
         requires grown { IsPrefix pass.old.seen log.now }
         requires place { NamesPlace log.now notice }
         requires alive { All IsNoDeath pass.old.given }
-        ensures ok { OnOk result
-            (pass.new ≡ record pass.old { given = pass.old.given ++ notice ∷ []; seen = log.now }) }
+        ensures ok { OnOk result (pass.new ≡ record pass.old {
+          given = pass.old.given ++ notice ∷ [];
+          stamps = pass.old.stamps ++ 0 ∷ [];
+          seen = log.now;
+        }) }
         ensures err { OnErr result (pass.new ≡ pass.old) }
         ensures back { IfErr result (λ back. back ≡ notice) }
     {
-        self.give_showing::<Brand, R>(rt, pass, log, notice)
+        self.give_at::<Brand, R>(rt, pass, log, notice)
     }
 
-    /// Gives a notice, and `K` is the log that the pass has seen from then on.
-    fn give_showing<K: Noted<RunItem>, R: Wait>(
+    /// The same, where `K` is the notice's stamp.
+    pub fn give_at<K: Stamped, R: Wait>(
         &self,
         rt: &R,
         pass: &mut ReplyExec,
         log: &[RunItem],
         notice: Notice,
     ) -> Result<(), Notice>
-        requires note { K.note ≡ log.now }
         requires pass { pass.old.line ≡ self.now.line }
         requires actor { notice_actor notice ≡ pass.old.actor }
         requires grown { IsPrefix pass.old.seen log.now }
         requires place { NamesPlace log.now notice }
         requires alive { All IsNoDeath pass.old.given }
-        ensures ok { OnOk result
-            (pass.new ≡ record pass.old { given = pass.old.given ++ notice ∷ []; seen = log.now }) }
+        ensures ok { OnOk result (pass.new ≡ record pass.old {
+          given = pass.old.given ++ notice ∷ [];
+          stamps = pass.old.stamps ++ K.stamp ∷ [];
+          seen = log.now;
+        }) }
         ensures err { OnErr result (pass.new ≡ pass.old) }
         ensures back { IfErr result (λ back. back ≡ notice) }
     {
-        self.line.put::<K, R>(rt, &mut pass.pass, notice)
+        self.give_showing::<Brand, K, R>(rt, pass, log, notice)
+    }
+
+    /// Gives a notice with the stamp `K`, and `L` is the log that the pass has seen from then on.
+    fn give_showing<L: Noted<RunItem>, K: Stamped, R: Wait>(
+        &self,
+        rt: &R,
+        pass: &mut ReplyExec,
+        log: &[RunItem],
+        notice: Notice,
+    ) -> Result<(), Notice>
+        requires note { L.note ≡ log.now }
+        requires pass { pass.old.line ≡ self.now.line }
+        requires actor { notice_actor notice ≡ pass.old.actor }
+        requires grown { IsPrefix pass.old.seen log.now }
+        requires place { NamesPlace log.now notice }
+        requires alive { All IsNoDeath pass.old.given }
+        ensures ok { OnOk result (pass.new ≡ record pass.old {
+          given = pass.old.given ++ notice ∷ [];
+          stamps = pass.old.stamps ++ K.stamp ∷ [];
+          seen = log.now;
+        }) }
+        ensures err { OnErr result (pass.new ≡ pass.old) }
+        ensures back { IfErr result (λ back. back ≡ notice) }
+    {
+        self.line.put::<L, K, R>(rt, &mut pass.pass, notice)
     }
 
     /// `None` where the line is empty.
     pub fn collect<R: Wait>(&self, rt: &R, pass: &mut ReplyCaller) -> Option<Notice>
         requires pass { pass.old.line ≡ self.now.line }
-        ensures taken { IfSome result (λ notice. pass.new ≡ record pass.old { taken = pass.old.taken ++ notice ∷ [] }) }
+        ensures taken { IfSome result (λ notice.
+            pass.new ≡ record pass.old { taken = pass.old.taken ++ notice ∷ []; stamps = pass.new.stamps }) }
+        ensures stamped { IfSome result (λ notice. (n : ℕ) × (pass.new.stamps ≡ pass.old.stamps ++ n ∷ [])) }
         ensures none { IfNone result (pass.new ≡ pass.old) }
         ensures known { IfSome result (λ notice. Contains pass.old.putters (notice_actor notice)) }
     {
@@ -146,14 +178,17 @@ impl Replies {
     /// the first notice isn't there yet: the line is empty, or that notice isn't given to its end.
     pub fn try_collect(&self, pass: &mut ReplyCaller) -> Option<Notice>
         requires pass { pass.old.line ≡ self.now.line }
-        ensures taken { IfSome result (λ notice. pass.new ≡ record pass.old { taken = pass.old.taken ++ notice ∷ [] }) }
+        ensures taken { IfSome result (λ notice.
+            pass.new ≡ record pass.old { taken = pass.old.taken ++ notice ∷ []; stamps = pass.new.stamps }) }
+        ensures stamped { IfSome result (λ notice. (n : ℕ) × (pass.new.stamps ≡ pass.old.stamps ++ n ∷ [])) }
         ensures none { IfNone result (pass.new ≡ pass.old) }
         ensures known { IfSome result (λ notice. Contains pass.old.putters (notice_actor notice)) }
     {
         self.line.try_take::<Brand>(pass)
     }
 
-    /// The line's length. The notices of the actor that were collected begin those that it gave.
+    /// The line's length. The notices of the actor that were collected, with their stamps, begin those
+    /// that it gave.
     pub fn audit<R: Wait>(
         &self,
         rt: &R,
@@ -163,6 +198,9 @@ impl Replies {
         requires passes { (executor.old.line ≡ self.now.line) × (caller.old.line ≡ self.now.line) }
         ensures same { (executor.new ≡ executor.old) × (caller.new ≡ caller.old) }
         ensures prefix { IsPrefix (items_from notice_actor executor.old.actor caller.old.taken) executor.old.given }
+        ensures stamps { IsPrefix
+            (items_from (λ x. notice_actor x.0) executor.old.actor (zip caller.old.taken caller.old.stamps))
+            (zip executor.old.given executor.old.stamps) }
     {
         self.line.audit(rt, &mut executor.pass, caller)
     }

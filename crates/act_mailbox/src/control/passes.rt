@@ -26,6 +26,7 @@ impl Model for ControlExec {
       actor = p.actor;
       askers = p.pass.putters;
       taken = p.pass.taken;
+      stamps = p.pass.stamps;
       lengths = p.pass.note;
       looked = p.looked;
     } };
@@ -39,6 +40,7 @@ impl ControlExec {
           actor = actor;
           askers = pass.putters;
           taken = pass.taken;
+          stamps = pass.stamps;
           lengths = pass.note;
           looked = 0;
         } }

@@ -21,6 +21,15 @@ impl<N> Noted<N> for Brand {
     ghost note = { [] };
 }
 
+/// The stamp of an item: a number that proofs alone speak of. Each call of a program picks it.
+pub trait Stamped {
+    ghost stamp: { ℕ };
+}
+
+impl Stamped for Brand {
+    ghost stamp = { 0 };
+}
+
 /// The number of a putter. Each call of a program picks it.
 pub(super) trait Named {
     ghost name: { ℕ };
@@ -32,11 +41,11 @@ impl Named for Brand {
 
 pub(super) struct InOrder;
 
-impl<T: Item, N> Protocol<T, View<T, N>> for InOrder {
+impl<T: Item, N> Protocol<T, View<(T, u64), N>> for InOrder {
     ghost use Rattle.std.specs.Prelude.{[]};
-    ghost use Rattle.act_mailbox.specs.Lines.{Lined, taking};
+    ghost use Rattle.act_mailbox.specs.Lines.{LinedByStamps, taking};
 
-    ghost holds = { Lined T.putter };
+    ghost holds = { LinedByStamps T.putter };
 
     ghost first = { taking [] [] [] };
 }
@@ -76,42 +85,42 @@ impl<T, N> Join<View<T, N>> for Sees {
     ghost spent = { Spent };
 }
 
-/// A putter puts an item, and K is its note from then on.
-pub(super) struct Puts<K>(PhantomData<K>);
+/// A putter puts an item with the stamp S, and K is its note from then on.
+pub(super) struct Puts<K, S>(PhantomData<(K, S)>);
 
-impl<T, N, K: Noted<N>> Outcome<T, View<T, N>> for Puts<K> {
+impl<T, N, K: Noted<N>, S: Stamped> Outcome<T, View<(T, u64), N>> for Puts<K, S> {
     ghost use Rattle.std.specs.Prelude.{◌≡◌};
     ghost use Rattle.act_mailbox.specs.Lines.{after_put};
 
-    ghost then = { λ v x w. w ≡ after_put x K.note v };
+    ghost then = { λ v x w. w ≡ after_put (x, S.stamp) K.note v };
 }
 
-impl<T, N, K: Noted<N>> Lesson<T, View<T, N>> for Puts<K> {
+impl<T, N, K: Noted<N>, S: Stamped> Lesson<T, View<(T, u64), N>> for Puts<K, S> {
     ghost use Rattle.std.specs.Prelude.{⊤};
 
     ghost fact = { λ v items. ⊤ };
 }
 
-/// The taker takes an item of a putter that has a pass, and K is its note from then on.
+/// The taker takes an item of a putter that has a pass, with its stamp, and K is its note from then on.
 pub(super) struct Takes<K>(PhantomData<K>);
 
-impl<T: Item, N, K: Noted<N>> Outcome<T, View<T, N>> for Takes<K> {
+impl<T: Item, N, K: Noted<N>> Outcome<T, View<(T, u64), N>> for Takes<K> {
     ghost use Rattle.act_mailbox.specs.Lines.{Took};
 
     ghost then = { Took T.putter K.note };
 }
 
-impl<T: Item, N, K: Noted<N>> Lesson<T, View<T, N>> for Takes<K> {
+impl<T: Item, N, K: Noted<N>> Lesson<T, View<(T, u64), N>> for Takes<K> {
     ghost use Rattle.std.specs.Prelude.{⊤};
 
     ghost fact = { λ v items. ⊤ };
 }
 
-/// What was taken of a putter begins what it put.
+/// What was taken of a putter, with its stamps, begins what it put.
 pub(super) struct Audits;
 
-impl<T: Item, N> Lesson<T, View<T, N>> for Audits {
+impl<T: Item, N> Lesson<T, View<(T, u64), N>> for Audits {
     ghost use Rattle.act_mailbox.specs.Lines.{Audited};
 
-    ghost fact = { λ v items. Audited T.putter v };
+    ghost fact = { λ v items. Audited (λ x. T.putter x.0) v };
 }

@@ -1,4 +1,5 @@
-//! What a pass of a line knows. No value of these types is made.
+//! What a pass of a line knows. No value of these types is made. In a line `T` is an item with its
+//! stamp.
 
 use std::collections::LinkedList;
 

@@ -21,7 +21,13 @@ impl Model for ReplyExec {
 
     ghost Value = { ReplyExecView };
 
-    ghost view = { λ p. record { line = p.pass.line; actor = p.actor; given = p.pass.put; seen = p.pass.note } };
+    ghost view = { λ p. record {
+      line = p.pass.line;
+      actor = p.actor;
+      given = p.pass.put;
+      stamps = p.pass.stamps;
+      seen = p.pass.note;
+    } };
 
     ghost invariant = { λ p. (p.pass.number ≡ p.actor) × IsGiven p.actor p.pass.note p.pass.put };
 }
@@ -30,7 +36,7 @@ impl ReplyExec {
     /// The pass of an executor that gave nothing.
     pub(super) fn new(actor: ActorId, pass: Putter<Notice, RunItem>) -> ReplyExec
         requires number { pass.number ≡ actor }
-        requires first { (pass.put ≡ []) × (pass.note ≡ []) }
+        requires first { (pass.put ≡ []) × (pass.stamps ≡ []) × (pass.note ≡ []) }
         ensures { result ≡ new_exec pass.line actor }
     {
         ReplyExec { actor, pass }
