@@ -116,20 +116,20 @@ endpoints_on lines caller reply before after endpoints ran all k d lt = endpoint
 
 -- ---- a reply that was given
 
-module _ (lines : List RepliesView) (endpoints : List (Endpoint ReplyExecView)) (at : ℕ) (endpoint : Endpoint ReplyExecView) (here : (d : Endpoint ReplyExecView) → get_or endpoints at d ≡ endpoint) (reply : Reply) where
-  pub endpoints_given : (id : ℕ) (log : List RunItem) → All (IsAtItsEndpoint lines id log) endpoints → at < length endpoints → All (IsAtItsEndpoint lines id log) (set endpoints at (replied_to log reply endpoint))
+module _ (lines : List RepliesView) (endpoints : List (Endpoint ReplyExecView)) (at : ℕ) (endpoint : Endpoint ReplyExecView) (here : (d : Endpoint ReplyExecView) → get_or endpoints at d ≡ endpoint) (reply : Reply) (stamp : ℕ) where
+  pub endpoints_given : (id : ℕ) (log : List RunItem) → All (IsAtItsEndpoint lines id log) endpoints → at < length endpoints → All (IsAtItsEndpoint lines id log) (set endpoints at (replied_to log reply stamp endpoint))
   endpoints_given id log all below =
-      All-set (IsAtItsEndpoint lines id log) endpoints at (replied_to log reply endpoint)
-      (endpoint_given lines id id log log endpoint.place endpoint.pass (replied_to log reply endpoint).pass (Answered reply) refl tt (subst (IsAtItsEndpoint lines id log) (here endpoint) (all at endpoint below)) refl) all
+      All-set (IsAtItsEndpoint lines id log) endpoints at (replied_to log reply stamp endpoint)
+      (endpoint_given lines id id log log endpoint.place endpoint.pass (replied_to log reply stamp endpoint).pass (Answered reply) (replied_to log reply stamp endpoint).pass.stamps refl tt (subst (IsAtItsEndpoint lines id log) (here endpoint) (all at endpoint below)) refl) all
 
-  pub bare_given : (log : List RunItem) → map without_given (set endpoints at (replied_to log reply endpoint)) ≡ map without_given endpoints
-  bare_given log = map-set_same without_given endpoints at (replied_to log reply endpoint) endpoint (ap without_given (sym (here endpoint)))
+  pub bare_given : (log : List RunItem) → map without_given (set endpoints at (replied_to log reply stamp endpoint)) ≡ map without_given endpoints
+  bare_given log = map-set_same without_given endpoints at (replied_to log reply stamp endpoint) endpoint (ap without_given (sym (here endpoint)))
 
   pub serving_given : (opening : KindState) (callers : List ℕ) (letters : List Letter) (caller : ℕ) (before after : ActorView)
       → HasReplied caller reply before after → at < length endpoints → caller ≡ caller_at lines endpoint.place → EndpointsDiffer lines endpoints
-      → IsServing opening callers lines letters before endpoints → IsServing opening callers lines letters after (set endpoints at (replied_to after.log reply endpoint))
+      → IsServing opening callers lines letters before endpoints → IsServing opening callers lines letters after (set endpoints at (replied_to after.log reply stamp endpoint))
   serving_given opening callers letters caller before after ran below mine differ h =
-      serving_run opening callers lines letters caller reply before after endpoints at endpoint (replied_to after.log reply endpoint).pass ran below here mine refl differ h
+      serving_run opening callers lines letters caller reply before after endpoints at endpoint (replied_to after.log reply stamp endpoint).pass ran below here mine refl differ h
 
 -- ---- the caller's endpoint
 

@@ -23,9 +23,9 @@ endpoint_on lines a b log more endpoint same front s = record {
 }
 
 -- an endpoint after a reply was given
-pub endpoint_given : (lines : List RepliesView) (a b : ℕ) (log more : List RunItem) (place : ℕ) (old new : ReplyExecView) (notice : Notice) → b ≡ a → IsNoDeath notice → IsAtItsEndpoint lines a log (record { place = place; pass = old })
-    → new ≡ record old { given = old.given ++ notice ∷ []; seen = more } → IsAtItsEndpoint lines b more (record { place = place; pass = new })
-endpoint_given lines a b log more place old new notice same reply s is = record {
+pub endpoint_given : (lines : List RepliesView) (a b : ℕ) (log more : List RunItem) (place : ℕ) (old new : ReplyExecView) (notice : Notice) (stamps : List ℕ) → b ≡ a → IsNoDeath notice → IsAtItsEndpoint lines a log (record { place = place; pass = old })
+    → new ≡ record old { given = old.given ++ notice ∷ []; stamps = stamps; seen = more } → IsAtItsEndpoint lines b more (record { place = place; pass = new })
+endpoint_given lines a b log more place old new notice stamps same reply s is = record {
   below = s.below;
   line = λ d. s.line d ∙ sym (ap (λ (p : ReplyExecView). p.line) is);
   actor_is = ap (λ (p : ReplyExecView). p.actor) is ∙ s.actor_is ∙ sym same;

@@ -1,5 +1,5 @@
 -- The first endpoint whose caller's next call came.
-use Rattle.std.proofs.Common.{◌≡◌, ℕ, ◌+◌, ◌<◌, ◌≤◌, List, [], ◌∷◌, ◌++◌, length, Option, Some, None, is_some, Bool, true, false, cond, nat_lt, refl, sym, ◌∙◌, ap, subst, get_or, find, position, arith, All}
+use Rattle.std.proofs.Common.{◌≡◌, ℕ, ◌+◌, ◌<◌, ◌≤◌, List, [], ◌∷◌, ◌++◌, length, Option, Some, None, Result, Ok, Err, IfOk, is_some, Bool, true, false, cond, nat_lt, refl, sym, ◌∙◌, ap, subst, get_or, find, position, arith, length-append, All}
 use Rattle.std.specs.List.{position_or_len}
 use Rattle.std.proofs.lemmas.Bool.{lt-ltb, le-ltb}
 use Rattle.std.proofs.lemmas.List.{get_or_default}
@@ -17,7 +17,8 @@ use Rattle.act_mailbox.specs.declared.mail.Letter.{Letter}
 use Rattle.act_mailbox.specs.Passes.{TakerView}
 use Rattle.act_mailbox.specs.Notices.{RepliesView, ReplyExecView, NamesPlace}
 use Rattle.act_mailbox.specs.declared.endpoint.Endpoint.{Endpoint}
-use Rattle.act_serve.specs.declared.letter.Received.TheVariants.{Nothing}
+use Rattle.act_serve.specs.declared.letter.Received.{Received}
+use Rattle.act_serve.specs.declared.letter.Received.TheVariants.{Nothing, Held, Ran}
 use Rattle.act_serve.specs.Turns.{HasReplied, HasCome, has_next, HasGone}
 use Rattle.act_serve.proofs.Logs.{Tells, same, other, tells}
 use Rattle.act_serve.proofs.Serving.{caller_here}
@@ -79,13 +80,21 @@ replied_place caller reply before after log ran shown =
 
 -- no letter came, and no call ran
 pub idle_turn : (lines : List RepliesView) (endpoints given : List (Endpoint ReplyExecView)) (old new : TakerView Letter (Unit {0})) (before between after : ActorView)
-    → new ≡ record old { taken = new.taken } → HasCome Nothing old.taken new.taken endpoints given before between → HasGone false lines given between after
+    → new ≡ old → HasCome Nothing old.taken new.taken endpoints given before between → HasGone false lines given between after
     → (new ≡ old) × HasGone false lines endpoints before after
 idle_turn lines endpoints given old new before between after letters none still = (
-  letters ∙ ap (λ (l : List Letter). record old { taken = l }) none.0,
+  letters,
   (
     still.0 ∙ none.2,
     subst (λ (l : List (Endpoint ReplyExecView)). All (λ endpoint. has_next lines before endpoint ≡ false) l) none.1
         (subst (λ (s : ActorView). All (λ endpoint. has_next lines s endpoint ≡ false) given) none.2 still.1),
   ),
 )
+
+-- where one more letter was taken, something came
+pub came_some : {E : Type 0} (result : Result Received E) (letters : List Letter) (letter : Letter) (endpoints given : List (Endpoint ReplyExecView)) (old new : ActorView) (P : Type 0)
+    → IfOk result (λ came. HasCome came letters (letters ++ letter ∷ []) endpoints given old new) → IfOk result (λ came. came ≡ Nothing → P)
+came_some (Ok Nothing) letters letter endpoints given old new P h = λ _. let long : length (letters ++ letter ∷ []) ≡ length letters = ap length h.0 in absurd (omega (arith, long, length-append letters (letter ∷ [])))
+came_some (Ok Held) letters letter endpoints given old new P h = λ e. absurd (cc)
+came_some (Ok Ran) letters letter endpoints given old new P h = λ e. absurd (cc)
+came_some (Err e) letters letter endpoints given old new P h = tt

@@ -140,22 +140,22 @@ caller_here lines place line below is = ap (λ (l : RepliesView). l.caller) is �
 
 -- ---- deaths
 
-pub told_next : (a id : ℕ) (log shown : List RunItem) (xs ys : List (Endpoint ReplyExecView)) (i : ℕ) (x : Endpoint ReplyExecView) (pass : ReplyExecView)
-    → i < length xs → ys ≡ map (with_death_given a log) (take i xs) ++ drop i xs → x ≡ get_or ys i x → id ≡ a → shown ≡ log
-    → pass ≡ record (get_or ys i x).pass { given = (get_or ys i x).pass.given ++ Death id ∷ []; seen = shown }
-    → set ys i (record { place = (get_or ys i x).place; pass = pass }) ≡ map (with_death_given a log) (take (i + 1) xs) ++ drop (i + 1) xs
-told_next a id log shown xs ys i x pass lt so is named seen gave =
-    let whole : record { place = (get_or ys i x).place; pass = pass } ≡ with_death_given a log x = ap (λ (p : ReplyExecView). record { place = (get_or ys i x).place; pass = p }) gave ∙ (λ j. with_death_given (named j) (seen j) (sym is j)) in
-    ap (set ys i) whole ∙ map_over_more (with_death_given a log) xs ys i x lt so is
+pub told_next : (a id stamp : ℕ) (log shown : List RunItem) (xs ys : List (Endpoint ReplyExecView)) (i : ℕ) (x : Endpoint ReplyExecView) (pass : ReplyExecView)
+    → i < length xs → ys ≡ map (with_death_given a log stamp) (take i xs) ++ drop i xs → x ≡ get_or ys i x → id ≡ a → shown ≡ log
+    → pass ≡ record (get_or ys i x).pass { given = (get_or ys i x).pass.given ++ Death id ∷ []; stamps = (get_or ys i x).pass.stamps ++ stamp ∷ []; seen = shown }
+    → set ys i (record { place = (get_or ys i x).place; pass = pass }) ≡ map (with_death_given a log stamp) (take (i + 1) xs) ++ drop (i + 1) xs
+told_next a id stamp log shown xs ys i x pass lt so is named seen gave =
+    let whole : record { place = (get_or ys i x).place; pass = pass } ≡ with_death_given a log stamp x = ap (λ (p : ReplyExecView). record { place = (get_or ys i x).place; pass = p }) gave ∙ (λ j. with_death_given (named j) (seen j) stamp (sym is j)) in
+    ap (set ys i) whole ∙ map_over_more (with_death_given a log stamp) xs ys i x lt so is
 
-told_at : (a : ℕ) (log : List RunItem) (endpoints : List (Endpoint ReplyExecView)) (P : Endpoint ReplyExecView → Type 0) → ((k : ℕ) (d : Endpoint ReplyExecView) → k < length endpoints → P (with_death_given a log (get_or endpoints k d))) → All P (map (with_death_given a log) endpoints)
-told_at a log endpoints P h k d lt =
-    let below : k < length endpoints = omega (arith, lt, length-map endpoints (with_death_given a log)) in
-    subst P (sym (get_or-map (with_death_given a log) endpoints k d d below)) (h k d below)
+told_at : (a stamp : ℕ) (log : List RunItem) (endpoints : List (Endpoint ReplyExecView)) (P : Endpoint ReplyExecView → Type 0) → ((k : ℕ) (d : Endpoint ReplyExecView) → k < length endpoints → P (with_death_given a log stamp (get_or endpoints k d))) → All P (map (with_death_given a log stamp) endpoints)
+told_at a stamp log endpoints P h k d lt =
+    let below : k < length endpoints = omega (arith, lt, length-map endpoints (with_death_given a log stamp)) in
+    subst P (sym (get_or-map (with_death_given a log stamp) endpoints k d d below)) (h k d below)
 
-told_bare : (a : ℕ) (log : List RunItem) (endpoints : List (Endpoint ReplyExecView)) → map without_given (map (with_death_given a log) endpoints) ≡ map without_given endpoints
-told_bare a log [] = refl
-told_bare a log (x ∷ endpoints) = ap (λ (l : List (Endpoint ReplyExecView)). without_given x ∷ l) (told_bare a log endpoints)
+told_bare : (a stamp : ℕ) (log : List RunItem) (endpoints : List (Endpoint ReplyExecView)) → map without_given (map (with_death_given a log stamp) endpoints) ≡ map without_given endpoints
+told_bare a stamp log [] = refl
+told_bare a stamp log (x ∷ endpoints) = ap (λ (l : List (Endpoint ReplyExecView)). without_given x ∷ l) (told_bare a stamp log endpoints)
 
 -- the callers are those of the endpoints as they were
 callers_bare : (lines : List RepliesView) (endpoints : List (Endpoint ReplyExecView)) → endpoint_callers lines (map without_given endpoints) ≡ endpoint_callers lines endpoints
@@ -196,49 +196,49 @@ looked_on looked now long more is below within = go (tells looked long)
 -- what an executor leaves whose actor ended so
 module _ (opening : KindState) (lines : List RepliesView) (before : ExecPasses) (actor : ActorView) (endpoints : List (Endpoint ReplyExecView)) (passes : ExecPasses)
     (h : IsServing opening (endpoint_callers lines before.notices.items) lines passes.letters.taken actor endpoints)
-    (letters : passes.letters ≡ record before.letters { taken = passes.letters.taken }) (kept : passes.kills ≡ record before.kills { taken = passes.kills.taken; lengths = passes.kills.lengths; looked = passes.kills.looked })
+    (letters : passes.letters ≡ record before.letters { taken = passes.letters.taken; stamps = passes.letters.stamps }) (kept : passes.kills ≡ record before.kills { taken = passes.kills.taken; stamps = passes.kills.stamps; lengths = passes.kills.lengths; looked = passes.kills.looked })
     (stay : map without_given endpoints ≡ map without_given before.notices.items) (looked : length actor.log ≤ passes.kills.looked) (last : NothingFollowsAnEnd actor.log) where
   abbrev pub dead_of : DeadView
   dead_of = record { id = actor.id; log = actor.log }
 
-  given_all : All (λ (endpoint : Endpoint ReplyExecView). endpoint.pass.given ≡ replies_to opening actor.id actor.log (caller_at lines endpoint.place) ++ Death actor.id ∷ []) (map (with_death_given actor.id actor.log) endpoints)
-  given_all = told_at actor.id actor.log endpoints (λ (endpoint : Endpoint ReplyExecView). endpoint.pass.given ≡ replies_to opening actor.id actor.log (caller_at lines endpoint.place) ++ Death actor.id ∷ []) (λ k d lt. ap (λ (l : List Notice). l ++ Death actor.id ∷ []) (h.given k d lt))
+  given_all : All (λ (endpoint : Endpoint ReplyExecView). endpoint.pass.given ≡ replies_to opening actor.id actor.log (caller_at lines endpoint.place) ++ Death actor.id ∷ []) (map (with_death_given actor.id actor.log 0) endpoints)
+  given_all = told_at actor.id 0 actor.log endpoints (λ (endpoint : Endpoint ReplyExecView). endpoint.pass.given ≡ replies_to opening actor.id actor.log (caller_at lines endpoint.place) ++ Death actor.id ∷ []) (λ k d lt. ap (λ (l : List Notice). l ++ Death actor.id ∷ []) (h.given k d lt))
 
-  pub killed_served : (a : ℕ) (dead : DeadView) → actor.id ≡ a → dead ≡ dead_of → passes.notices.items ≡ map (with_death_given dead.id dead.log) endpoints
+  pub killed_served : (a : ℕ) (dead : DeadView) → actor.id ≡ a → dead ≡ dead_of → passes.notices.items ≡ map (with_death_given dead.id dead.log 0) endpoints
       → KillsOfDead (has_terminated actor.log) actor.log passes.kills → HasServed opening a lines before (Killed dead) passes
   killed_served a dead named is told_is kills =
       subst (λ (x : ℕ). HasServed opening x lines before (Killed dead) passes) named (subst (λ (d : DeadView). HasServed opening actor.id lines before (Killed d) passes) (sym is) (record {
         id = refl;
         log = h.fed.log;
         last = last;
-        stay = record { letters = letters; kills = kept; endpoints = ap (map without_given) all_told ∙ told_bare actor.id actor.log endpoints ∙ stay };
+        stay = record { letters = letters; kills = kept; endpoints = ap (map without_given) all_told ∙ told_bare actor.id 0 actor.log endpoints ∙ stay };
         given = subst (λ (l : List (Endpoint ReplyExecView)). All (λ (endpoint : Endpoint ReplyExecView). endpoint.pass.given ≡ replies_to opening actor.id actor.log (caller_at lines endpoint.place) ++ Death actor.id ∷ []) l) (sym all_told) given_all;
-        shown = subst (λ (l : List (Endpoint ReplyExecView)). All (λ (endpoint : Endpoint ReplyExecView). endpoint.pass.seen ≡ actor.log) l) (sym all_told) (told_at actor.id actor.log endpoints (λ (endpoint : Endpoint ReplyExecView). endpoint.pass.seen ≡ actor.log) (λ k d lt. refl));
+        shown = subst (λ (l : List (Endpoint ReplyExecView)). All (λ (endpoint : Endpoint ReplyExecView). endpoint.pass.seen ≡ actor.log) l) (sym all_told) (told_at actor.id 0 actor.log endpoints (λ (endpoint : Endpoint ReplyExecView). endpoint.pass.seen ≡ actor.log) (λ k d lt. refl));
         kills = kills;
         looked = looked;
         drained = tt;
       }))
     where
-      all_told : passes.notices.items ≡ map (with_death_given actor.id actor.log) endpoints
-      all_told = told_is ∙ (λ i. map (with_death_given (is i).id (is i).log) endpoints)
+      all_told : passes.notices.items ≡ map (with_death_given actor.id actor.log 0) endpoints
+      all_told = told_is ∙ (λ i. map (with_death_given (is i).id (is i).log 0) endpoints)
 
-  pub starved_served : (a : ℕ) (dead : DeadView) → actor.id ≡ a → dead ≡ dead_of → passes.notices.items ≡ map (with_death_given dead.id dead.log) endpoints
+  pub starved_served : (a : ℕ) (dead : DeadView) → actor.id ≡ a → dead ≡ dead_of → passes.notices.items ≡ map (with_death_given dead.id dead.log 0) endpoints
       → IsUntaken passes.kills → has_terminated actor.log ≡ false → HasServed opening a lines before (Starved dead) passes
   starved_served a dead named is told_is none lived =
       subst (λ (x : ℕ). HasServed opening x lines before (Starved dead) passes) named (subst (λ (d : DeadView). HasServed opening actor.id lines before (Starved d) passes) (sym is) (record {
         id = refl;
         log = h.fed.log;
         last = last;
-        stay = record { letters = letters; kills = kept; endpoints = ap (map without_given) all_told ∙ told_bare actor.id actor.log endpoints ∙ stay };
+        stay = record { letters = letters; kills = kept; endpoints = ap (map without_given) all_told ∙ told_bare actor.id 0 actor.log endpoints ∙ stay };
         given = subst (λ (l : List (Endpoint ReplyExecView)). All (λ (endpoint : Endpoint ReplyExecView). endpoint.pass.given ≡ replies_to opening actor.id actor.log (caller_at lines endpoint.place) ++ Death actor.id ∷ []) l) (sym all_told) given_all;
-        shown = subst (λ (l : List (Endpoint ReplyExecView)). All (λ (endpoint : Endpoint ReplyExecView). endpoint.pass.seen ≡ actor.log) l) (sym all_told) (told_at actor.id actor.log endpoints (λ (endpoint : Endpoint ReplyExecView). endpoint.pass.seen ≡ actor.log) (λ k d lt. refl));
+        shown = subst (λ (l : List (Endpoint ReplyExecView)). All (λ (endpoint : Endpoint ReplyExecView). endpoint.pass.seen ≡ actor.log) l) (sym all_told) (told_at actor.id 0 actor.log endpoints (λ (endpoint : Endpoint ReplyExecView). endpoint.pass.seen ≡ actor.log) (λ k d lt. refl));
         kills = (none, lived);
         looked = looked;
         drained = tt;
       }))
     where
-      all_told : passes.notices.items ≡ map (with_death_given actor.id actor.log) endpoints
-      all_told = told_is ∙ (λ i. map (with_death_given (is i).id (is i).log) endpoints)
+      all_told : passes.notices.items ≡ map (with_death_given actor.id actor.log 0) endpoints
+      all_told = told_is ∙ (λ i. map (with_death_given (is i).id (is i).log 0) endpoints)
 
   pub retired_served : (a : ℕ) (retired : RetiredView) → actor.id ≡ a → retired ≡ record { id = actor.id; log = actor.log; state = actor.state } → MayRetire actor.log actor.inbox → passes.notices.items ≡ endpoints
       → IsUntaken passes.kills → HasServed opening a lines before (Retired retired) passes
@@ -260,7 +260,7 @@ module _ (opening : KindState) (lines : List RepliesView) (before : ExecPasses) 
 
 -- the passes after a turn
 pub step_fit : (mail control : TableId) (replies : List RepliesView) (a b : ℕ) (log more : List RunItem) (old new : ExecPasses) → PassesFit mail control replies a log old
-    → new.letters ≡ record old.letters { taken = new.letters.taken } → new.kills ≡ record old.kills { looked = new.kills.looked } → new.kills.looked ≡ looked_after old.kills.looked (length log)
+    → new.letters ≡ record old.letters { taken = new.letters.taken; stamps = new.letters.stamps } → new.kills ≡ record old.kills { looked = new.kills.looked } → new.kills.looked ≡ looked_after old.kills.looked (length log)
     → b ≡ a → length more ≤ length log + 1 → All (IsAtItsEndpoint replies b more) new.notices.items → map without_given new.notices.items ≡ map without_given old.notices.items → PassesFit mail control replies b more new
 step_fit mail control replies a b log more old new fit letters kills looked named within endpoints stay = record {
   mail_is = ap (λ p. p.line) letters ∙ fit.mail_is;
@@ -278,14 +278,14 @@ look_on old new looked e = let is : new.looked ≡ looked = ap (λ (p : ControlE
 pub still_untaken : (old new : ControlExecView) → new ≡ record old { looked = new.looked } → IsUntaken old → IsUntaken new
 still_untaken old new e none = (ap (λ (p : ControlExecView). p.taken) e ∙ none.0, ap (λ (p : ControlExecView). p.lengths) e ∙ none.1)
 
-pub kept_kills : (old new : ControlExecView) → new ≡ record old { looked = new.looked } → new ≡ record old { taken = new.taken; lengths = new.lengths; looked = new.looked }
-kept_kills old new e = ap (λ (p : ControlExecView). record p { taken = new.taken; lengths = new.lengths; looked = new.looked }) e
+pub kept_kills : (old new : ControlExecView) → new ≡ record old { looked = new.looked } → new ≡ record old { taken = new.taken; stamps = new.stamps; lengths = new.lengths; looked = new.looked }
+kept_kills old new e = ap (λ (p : ControlExecView). record p { taken = new.taken; stamps = new.stamps; lengths = new.lengths; looked = new.looked }) e
 
-pub stay_on : (first old new : ExecPasses) → ExecPassesStay first old → new.letters ≡ record old.letters { taken = new.letters.taken }
-    → new.kills ≡ record old.kills { taken = new.kills.taken; lengths = new.kills.lengths; looked = new.kills.looked } → map without_given new.notices.items ≡ map without_given old.notices.items → ExecPassesStay first new
+pub stay_on : (first old new : ExecPasses) → ExecPassesStay first old → new.letters ≡ record old.letters { taken = new.letters.taken; stamps = new.letters.stamps }
+    → new.kills ≡ record old.kills { taken = new.kills.taken; stamps = new.kills.stamps; lengths = new.kills.lengths; looked = new.kills.looked } → map without_given new.notices.items ≡ map without_given old.notices.items → ExecPassesStay first new
 stay_on first old new s letters kills endpoints = record {
-  letters = letters ∙ ap (λ (p : TakerView Letter (Unit {0})). record p { taken = new.letters.taken }) s.letters;
-  kills = kills ∙ ap (λ (p : ControlExecView). record p { taken = new.kills.taken; lengths = new.kills.lengths; looked = new.kills.looked }) s.kills;
+  letters = letters ∙ ap (λ (p : TakerView Letter (Unit {0})). record p { taken = new.letters.taken; stamps = new.letters.stamps }) s.letters;
+  kills = kills ∙ ap (λ (p : ControlExecView). record p { taken = new.kills.taken; stamps = new.kills.stamps; lengths = new.kills.lengths; looked = new.kills.looked }) s.kills;
   endpoints = endpoints ∙ s.endpoints;
 }
 

@@ -167,15 +167,16 @@ IfRetired (Killed dead) P = Unit {0}
 IfRetired (Retired retired) P = P retired
 IfRetired (Starved dead) P = Unit {0}
 
--- an endpoint without what was given there
+-- an endpoint without what was given there, and without its stamps
 abbrev pub without_given : Endpoint ReplyExecView → Endpoint ReplyExecView
-without_given endpoint = record endpoint { pass = record endpoint.pass { given = []; seen = [] } }
+without_given endpoint = record endpoint { pass = record endpoint.pass { given = []; stamps = []; seen = [] } }
 
 -- the passes are of the same lines, for the same actor, with those that put into them
 pub record ExecPassesStay (old new : ExecPasses) : Type 0 where
-  pub letters : new.letters ≡ record old.letters { taken = new.letters.taken }
+  pub letters : new.letters ≡ record old.letters { taken = new.letters.taken; stamps = new.letters.stamps }
   pub kills : new.kills ≡ record old.kills {
     taken = new.kills.taken;
+    stamps = new.kills.stamps;
     lengths = new.kills.lengths;
     looked = new.kills.looked;
   }

@@ -93,12 +93,13 @@ HasCome Ran before after endpoints given old new =
 abbrev pub is_endpoint_of : List RepliesView → ℕ → Endpoint ReplyExecView → Bool
 is_endpoint_of lines caller endpoint = caller_at lines endpoint.place == caller
 
--- the endpoint after a reply was given
-abbrev pub replied_to : List RunItem → Reply → Endpoint ReplyExecView → Endpoint ReplyExecView
-replied_to log reply endpoint = record endpoint {
+-- the endpoint after a reply was given with this stamp
+abbrev pub replied_to : List RunItem → Reply → ℕ → Endpoint ReplyExecView → Endpoint ReplyExecView
+replied_to log reply stamp endpoint = record endpoint {
   pass = record endpoint.pass {
     given = endpoint.pass.given
         ++ Answered reply ∷ [];
+    stamps = endpoint.pass.stamps ++ stamp ∷ [];
     seen = log;
   };
 }
@@ -160,12 +161,13 @@ HasLooked true log old new = KillsOfDead (has_terminated log) log new
 HasLooked false log old new = (has_terminated log ≡ false)
     × (new ≡ record old { looked = looked_after old.looked (length log) })
 
--- the endpoint after a death was given
-abbrev pub with_death_given : ℕ → List RunItem → Endpoint ReplyExecView → Endpoint ReplyExecView
-with_death_given a log endpoint = record endpoint {
+-- the endpoint after a death was given with this stamp
+abbrev pub with_death_given : ℕ → List RunItem → ℕ → Endpoint ReplyExecView → Endpoint ReplyExecView
+with_death_given a log stamp endpoint = record endpoint {
   pass = record endpoint.pass {
     given = endpoint.pass.given
         ++ Death a ∷ [];
+    stamps = endpoint.pass.stamps ++ stamp ∷ [];
     seen = log;
   };
 }

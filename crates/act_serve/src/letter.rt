@@ -8,6 +8,7 @@ ghost use Rattle.act_mailbox.specs.declared.mail.Letter.TheVariants.{Call};
 ghost use Rattle.act_actor.specs.Actor.{RunsAtOnce, with_packet};
 ghost use Rattle.act_actor.specs.StateViews.{live_view};
 ghost use Rattle.act_serve.specs.Turns.{IsAtItsEndpoint, EndpointsDiffer, HasReplied, ActorGoesOn, IsFed, IsIn, IsServing, HasCome, is_endpoint_of};
+ghost use Rattle.act_serve.specs.declared.letter.Received.TheVariants.{Nothing};
 ghost use Rattle.act_serve.specs.Served.{without_given};
 
 use crate::endpoint::ExecLines;
@@ -147,7 +148,8 @@ pub(crate) fn take_letter<R: Wait, K: Actor, F: Fn(ActorId, u32), N: Notes>(
     requires endpoints { All (IsAtItsEndpoint lines.now.replies.now (live_view K.state live.old).id
         (live_view K.state live.old).log) notices.old.items }
     requires differ { EndpointsDiffer lines.now.replies.now notices.old.items }
-    ensures letters { letters.new ≡ record letters.old { taken = letters.new.taken } }
+    ensures letters { letters.new ≡ record letters.old { taken = letters.new.taken; stamps = letters.new.stamps } }
+    ensures still { IfOk result (λ came. came ≡ Nothing → letters.new ≡ letters.old) }
     ensures endpoints { All (IsAtItsEndpoint lines.now.replies.now (live_view K.state live.new).id
         (live_view K.state live.new).log) notices.new.items }
     ensures stay { map without_given notices.new.items ≡ map without_given notices.old.items }

@@ -31,7 +31,11 @@ fn give<R: Wait>(rt: &R, line: &Replies, pass: &mut ReplyExec, log: &[RunItem], 
     requires grown { IsPrefix pass.old.seen log.now }
     requires place { NamesPlace log.now notice }
     requires alive { All IsNoDeath pass.old.given }
-    ensures { pass.new ≡ record pass.old { given = pass.old.given ++ notice ∷ []; seen = log.now } }
+    ensures { pass.new ≡ record pass.old {
+      given = pass.old.given ++ notice ∷ [];
+      stamps = pass.old.stamps ++ 0 ∷ [];
+      seen = log.now;
+    } }
 {
     let mut idle_backoff = IdleBackoff::new();
     for _ in rt.forever() {
@@ -60,7 +64,7 @@ pub(crate) fn give_reply<R: Wait, K: Actor>(
     requires place { NamesPlace (live_view K.state live.now).log (Answered reply) }
     ensures { (endpoint : Endpoint ReplyExecView) → endpoint ≡ get_or notices.old.items at endpoint →
         notices.new.items ≡ slice_set notices.old.items at
-        (replied_to (live_view K.state live.now).log reply endpoint) }
+        (replied_to (live_view K.state live.now).log reply 0 endpoint) }
 {
     let endpoint = &mut notices[at];
     give(
@@ -179,7 +183,7 @@ fn take_turn<R: Wait, K: Actor, F: Fn(ActorId, u32), N: Notes>(
     requires endpoints { All (IsAtItsEndpoint lines.now.replies.now (live_view K.state live.old).id
         (live_view K.state live.old).log) notices.old.items }
     requires differ { EndpointsDiffer lines.now.replies.now notices.old.items }
-    ensures letters { letters.new ≡ record letters.old { taken = letters.new.taken } }
+    ensures letters { letters.new ≡ record letters.old { taken = letters.new.taken; stamps = letters.new.stamps } }
     ensures endpoints { All (IsAtItsEndpoint lines.now.replies.now (live_view K.state live.new).id
         (live_view K.state live.new).log) notices.new.items }
     ensures stay { map without_given notices.new.items ≡ map without_given notices.old.items }
@@ -221,8 +225,12 @@ fn is_over<R: Wait, K: Actor>(
     requires actor { (live_view K.state live.now).id ≡ kills.old.actor }
     requires untaken { IsUntaken kills.old }
     requires looked { length (live_view K.state live.now).log ≤ kills.old.looked }
-    ensures pass { kills.new
-        ≡ record kills.old { taken = kills.new.taken; lengths = kills.new.lengths; looked = kills.new.looked } }
+    ensures pass { kills.new ≡ record kills.old {
+      taken = kills.new.taken;
+      stamps = kills.new.stamps;
+      lengths = kills.new.lengths;
+      looked = kills.new.looked;
+    } }
     ensures looked { length (live_view K.state live.now).log ≤ kills.new.looked }
     ensures told { HasLooked result (live_view K.state live.now).log kills.old kills.new }
 {
@@ -245,7 +253,7 @@ fn tell_deaths<R: Wait, N: Notes>(
     notes: &mut N,
 )
     requires endpoints { All (IsAtItsEndpoint replies.now dead.now.id dead.now.log) notices.old.items }
-    ensures { notices.new.items ≡ map (with_death_given dead.now.id dead.now.log) notices.old.items }
+    ensures { notices.new.items ≡ map (with_death_given dead.now.id dead.now.log 0) notices.old.items }
 {
     for endpoint in notices.iter_mut() {
         notes.note(Mark::Tell(replies[endpoint.place].caller()));

@@ -45,7 +45,7 @@ returns-clause-endpoints g c =
     let endpoints = c.args.notices.now.items in
     let at = found replies c.args.packet.caller c.in-Some.at endpoints c.as_slice.result.now c.as_slice.ensures.value c.in-Some.ensures.endpoint in
     subst (λ (l : List (Endpoint ReplyExecView)). All (IsAtItsEndpoint replies after.id after.log) l) (sym (c.give_reply.ensures at.endpoint (sym (at.here at.endpoint))))
-    (endpoints_given replies endpoints c.in-Some.at at.endpoint at.here c.in_ok-reply.reply after.id after.log
+    (endpoints_given replies endpoints c.in-Some.at at.endpoint at.here c.in_ok-reply.reply 0 after.id after.log
     (endpoints_on replies c.args.packet.caller c.in_ok-reply.reply before after endpoints c.in_ok-reply.ensures.ran c.requires.endpoints) at.below)
 
 pub returns-clause-stay : goal.returns-clause-stay
@@ -54,7 +54,7 @@ returns-clause-stay g c =
     let replies = c.args.replies.now in
     let endpoints = c.args.notices.now.items in
     let at = found replies c.args.packet.caller c.in-Some.at endpoints c.as_slice.result.now c.as_slice.ensures.value c.in-Some.ensures.endpoint in
-    ap (map without_given) (c.give_reply.ensures at.endpoint (sym (at.here at.endpoint))) ∙ bare_given replies endpoints c.in-Some.at at.endpoint at.here c.in_ok-reply.reply after.log
+    ap (map without_given) (c.give_reply.ensures at.endpoint (sym (at.here at.endpoint))) ∙ bare_given replies endpoints c.in-Some.at at.endpoint at.here c.in_ok-reply.reply 0 after.log
 
 pub returns-clause-on : goal.returns-clause-on
 returns-clause-on g c =
@@ -72,5 +72,5 @@ returns-clause-serving g c =
     let at = found replies packet.caller c.in-Some.at endpoints c.as_slice.result.now c.as_slice.ensures.value c.in-Some.ensures.endpoint in
     λ opening callers letters h.
     subst (λ (l : List (Endpoint ReplyExecView)). IsServing opening callers replies (letters ++ Call packet ∷ []) after l) (sym (c.give_reply.ensures at.endpoint (sym (at.here at.endpoint))))
-    (serving_given replies endpoints c.in-Some.at at.endpoint at.here c.in_ok-reply.reply opening callers (letters ++ Call packet ∷ []) packet.caller (with_packet packet before) after
+    (serving_given replies endpoints c.in-Some.at at.endpoint at.here c.in_ok-reply.reply 0 opening callers (letters ++ Call packet ∷ []) packet.caller (with_packet packet before) after
     c.in_ok-reply.ensures.ran at.below at.mine c.requires.differ (serving_held packet before c.in-Some.ensures.at_once opening callers replies letters endpoints h))

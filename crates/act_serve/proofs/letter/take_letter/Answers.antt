@@ -5,6 +5,7 @@ use Rattle.act_mailbox.specs.declared.mail.Letter.{Letter}
 use Rattle.act_mailbox.specs.declared.mail.Letter.TheVariants.{Call, Note}
 use Rattle.act_serve.specs.Turns.{IsFed, IsServing, HasCome}
 use Rattle.act_serve.proofs.Logs.{fed_note}
+use Rattle.act_serve.proofs.Nexts.{came_some}
 use Rattle.act_serve.proofs.Serving.{serving_in}
 use Rattle.act_serve.proofs.letter.take_letter.Goals as goal
 
@@ -15,6 +16,9 @@ returns-in-Some-Call-clause-came g c =
     let taken : c.try_take.new.pass.taken ≡ letters ++ Call packet ∷ [] = ap (λ p. p.taken) c.in-Some-Call.ensures.taken ∙ ap (λ (x : Letter). letters ++ x ∷ []) c.in-Some-Call.field-0-is in
     subst (λ (l : List Letter). IfOk c.take_call.result (λ came. HasCome came letters l c.args.notices.now.items c.take_call.new.notices.items (live_view g.K.Actor.state c.args.live.now) (live_view g.K.Actor.state c.take_call.new.live))) (sym taken)
     (c.take_call.ensures.came letters)
+
+pub returns-in-Some-Call-clause-still : goal.returns-in-Some-Call-clause-still
+returns-in-Some-Call-clause-still g c = came_some c.take_call.result c.args.letters.now.taken (Call c.in-Some-Call.packet) _ _ _ _ _ (c.take_call.ensures.came c.args.letters.now.taken)
 
 pub returns-in-Some-Call-clause-serving : goal.returns-in-Some-Call-clause-serving
 returns-in-Some-Call-clause-serving g c =

@@ -37,7 +37,7 @@ returns-in-Ok-Some-clause-endpoints g c =
     let below : c.in-Some.at < length endpoints = search rules in
     let here : (d : Endpoint ReplyExecView) → get_or endpoints c.in-Some.at d ≡ endpoint = (λ d. get_or_default endpoints c.in-Some.at d endpoint below ∙ sym c.index.ensures) in
     subst (λ (l : List (Endpoint ReplyExecView)). All (IsAtItsEndpoint replies after.id after.log) l) (sym (c.give_reply.ensures endpoint (sym (here endpoint))))
-    (endpoints_given replies endpoints c.in-Some.at endpoint here c.in-Ok-Some.reply after.id after.log (endpoints_on replies c.caller.result c.in-Ok-Some.reply before after endpoints ran c.requires.endpoints) below)
+    (endpoints_given replies endpoints c.in-Some.at endpoint here c.in-Ok-Some.reply 0 after.id after.log (endpoints_on replies c.caller.result c.in-Ok-Some.reply before after endpoints ran c.requires.endpoints) below)
 
 pub returns-in-Ok-Some-clause-stay : goal.returns-in-Ok-Some-clause-stay
 returns-in-Ok-Some-clause-stay g c =
@@ -47,7 +47,7 @@ returns-in-Ok-Some-clause-stay g c =
     let endpoint = c.index.result.now in
     let below : c.in-Some.at < length endpoints = search rules in
     let here : (d : Endpoint ReplyExecView) → get_or endpoints c.in-Some.at d ≡ endpoint = (λ d. get_or_default endpoints c.in-Some.at d endpoint below ∙ sym c.index.ensures) in
-    ap (map without_given) (c.give_reply.ensures endpoint (sym (here endpoint))) ∙ bare_given replies endpoints c.in-Some.at endpoint here c.in-Ok-Some.reply after.log
+    ap (map without_given) (c.give_reply.ensures endpoint (sym (here endpoint))) ∙ bare_given replies endpoints c.in-Some.at endpoint here c.in-Ok-Some.reply 0 after.log
 
 pub returns-in-Ok-Some-clause-on : goal.returns-in-Ok-Some-clause-on
 returns-in-Ok-Some-clause-on g c =
@@ -70,7 +70,7 @@ returns-in-Ok-Some-clause-serving g c =
     let mine : c.caller.result ≡ caller_at replies endpoint.place = c.caller.ensures ∙ caller_here replies endpoint.place c.index-replies-place.result was.below c.index-replies-place.is in
     λ opening callers letters h.
     subst (λ (l : List (Endpoint ReplyExecView)). IsServing opening callers replies letters after l) (sym (c.give_reply.ensures endpoint (sym (here endpoint))))
-    (serving_given replies endpoints c.in-Some.at endpoint here c.in-Ok-Some.reply opening callers letters c.caller.result before after ran below mine c.requires.differ h)
+    (serving_given replies endpoints c.in-Some.at endpoint here c.in-Ok-Some.reply 0 opening callers letters c.caller.result before after ran below mine c.requires.differ h)
 
 pub returns-in-Ok-Some-clause-first : goal.returns-in-Ok-Some-clause-first
 returns-in-Ok-Some-clause-first g c =

@@ -37,5 +37,5 @@ returns-else-ran-clause-idle g c = λ _.
     let between = live_view g.K.Actor.state c.take_letter.new.live in
     let after = live_view g.K.Actor.state c.run_one-in-Ok-Nothing.new.live in
     let none : HasCome Nothing c.args.letters.now.taken c.take_letter.new.letters.taken c.args.notices.now.items c.take_letter.new.notices.items before between = rw c.in-Ok-Nothing.field-0-is at c.in-Ok-Nothing.ensures.came in
-    idle_turn replies c.args.notices.now.items c.take_letter.new.notices.items c.args.letters.now c.take_letter.new.letters before between after c.take_letter.ensures.letters none
+    idle_turn replies c.args.notices.now.items c.take_letter.new.notices.items c.args.letters.now c.take_letter.new.letters before between after (c.in-Ok-Nothing.ensures.still c.in-Ok-Nothing.field-0-is) none
     (rw c.if-ran.false at c.in-Ok-run_one.ensures.gone)
