@@ -69,7 +69,7 @@ stays_submitted old new a method args is passes = record {
   passes = record {
     letters = ap (λ (p : CallerPasses). map bare_post p.letters.items) passes;
     kills = ap (λ (p : CallerPasses). map bare_ask p.kills.items) passes;
-    collects = ap (λ (p : CallerPasses). p.collects) passes ∙ sym (ap (λ (p : CallerPasses). record old.passes.collects { taken = p.collects.taken }) passes);
+    collects = ap (λ (p : CallerPasses). p.collects) passes ∙ sym (ap (λ (p : CallerPasses). record old.passes.collects { taken = p.collects.taken; stamps = p.collects.stamps }) passes);
   };
 }
 

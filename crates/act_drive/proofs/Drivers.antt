@@ -3,7 +3,7 @@ use Rattle.std.proofs.Common.{◌≡◌, ◌≢◌, ℕ, zero, suc, ◌+◌, ◌
 use Rattle.std.proofs.lemmas.Option.{slice_get_within}
 use Rattle.std.proofs.Math.Seq.{map-set_same}
 use Rattle.act_mailbox.specs.Passes.{TakerView}
-use Rattle.std.specs.Prelude.{map, slice_get, slice_set, find, unwrap_or, option_map}
+use Rattle.std.specs.Prelude.{map, slice_get, slice_set, unwrap_or, option_map}
 use Rattle.std.specs.List.{range_with_len}
 use Rattle.std.proofs.lemmas.List.Elements.{All-push, All-set, All-weaker, Contains-append_left, filter_map-append}
 use Rattle.std.proofs.lemmas.List.Quantifiers.{all_pairs_push}
@@ -105,7 +105,7 @@ notice_flags : (owner : OwnerView) (notice : Notice) → length owner.sent ≡ l
 notice_flags owner notice flags = ap (λ (l : List Bool). length l) (notice_sent owner notice) ∙ flags ∙ ap (λ (l : List Submission). length l) (sym (notice_keeps owner notice).1)
 
 -- a caller after a notice
-pub calling_heard : (lines : CallerLines) (old new : Driver) (notice : Notice) → new.owner ≡ after_collect old.owner notice → new.passes.collects ≡ record old.passes.collects { taken = old.passes.collects.taken ++ notice ∷ [] } → new.passes.letters ≡ old.passes.letters → new.passes.kills ≡ old.passes.kills → new.outbox ≡ old.outbox → new.noted ≡ old.noted
+pub calling_heard : (lines : CallerLines) (old new : Driver) (notice : Notice) → new.owner ≡ after_collect old.owner notice → new.passes.collects ≡ record old.passes.collects { taken = old.passes.collects.taken ++ notice ∷ []; stamps = new.passes.collects.stamps } → new.passes.letters ≡ old.passes.letters → new.passes.kills ≡ old.passes.kills → new.outbox ≡ old.outbox → new.noted ≡ old.noted
     → IsCalling lines old → IsCalling lines new × Waits old new
 calling_heard lines old new notice is collects letters kills outbox flags calling =
     let on = notice_on old.owner notice calling.places in
@@ -139,7 +139,7 @@ calling_heard lines old new notice is collects letters kills outbox flags callin
           passes = record {
             letters = ap (λ (v : _). map bare_post v.items) letters;
             kills = ap (λ (v : _). map bare_ask v.items) kills;
-            collects = collects ∙ sym (ap (λ (l : List Notice). record old.passes.collects { taken = l }) taken);
+            collects = collects ∙ sym (ap (λ (l : List Notice). record old.passes.collects { taken = l; stamps = new.passes.collects.stamps }) taken);
           };
         };
         calls = ap (λ (o : OwnerView). o.calls) is ∙ keeps.1;
@@ -161,7 +161,7 @@ stays_same old new id kept limits passes = record {
   passes = record {
     letters = ap (λ (p : CallerPasses). map bare_post p.letters.items) passes;
     kills = ap (λ (p : CallerPasses). map bare_ask p.kills.items) passes;
-    collects = ap (λ (p : CallerPasses). p.collects) passes ∙ sym (ap (λ (p : CallerPasses). record old.passes.collects { taken = p.collects.taken }) passes);
+    collects = ap (λ (p : CallerPasses). p.collects) passes ∙ sym (ap (λ (p : CallerPasses). record old.passes.collects { taken = p.collects.taken; stamps = p.collects.stamps }) passes);
   };
 }
 
@@ -173,7 +173,7 @@ stays_trans one two three a b = record {
   passes = record {
     letters = b.passes.letters ∙ a.passes.letters;
     kills = b.passes.kills ∙ a.passes.kills;
-    collects = b.passes.collects ∙ ap (λ (t : TakerView Notice RunItem). record t { taken = three.passes.collects.taken }) a.passes.collects;
+    collects = b.passes.collects ∙ ap (λ (t : TakerView Notice RunItem). record t { taken = three.passes.collects.taken; stamps = three.passes.collects.stamps }) a.passes.collects;
   };
 }
 
@@ -194,7 +194,7 @@ posted_waits old new at endpoint pass here same is letters kills collects = reco
     passes = record {
       letters = ap (λ (l : List (Endpoint (PutterView Letter Unit))). map bare_post l) letters ∙ map-set_same bare_post old.passes.letters.items at (record { place = endpoint.place; pass = pass }) endpoint (same ∙ ap bare_post here);
       kills = ap (λ (v : _). map bare_ask v.items) kills;
-      collects = collects ∙ sym (ap (λ (t : TakerView Notice RunItem). record old.passes.collects { taken = t.taken }) collects);
+      collects = collects ∙ sym (ap (λ (t : TakerView Notice RunItem). record old.passes.collects { taken = t.taken; stamps = t.stamps }) collects);
     };
   };
   calls = ap (λ (o : OwnerView). o.calls) is;
@@ -321,17 +321,17 @@ calling_dropped lines old new letter held idle is passes outbox flags calling =
     subst (IsCalling lines) (sym (driver_same new _ _ _ is passes outbox)) good
 
 -- the letter in the outbox stands in its line
-pub calling_posted : (lines : CallerLines) (old new : Driver) (letter : Letter) (at : ℕ) (endpoint : Endpoint (PutterView Letter Unit)) (pass : PutterView Letter Unit) → old.outbox ≡ Some letter → at < length old.passes.letters.items → endpoint ≡ get_or old.passes.letters.items at endpoint
-    → ((d : MailView) → (get_or lines.mails.now endpoint.place d).actor ≡ actor_of_letter letter) → pass ≡ record endpoint.pass { put = endpoint.pass.put ++ letter ∷ [] }
+pub calling_posted : (lines : CallerLines) (old new : Driver) (letter : Letter) (at : ℕ) (endpoint : Endpoint (PutterView Letter Unit)) (pass : PutterView Letter Unit) (stamps : List ℕ) → old.outbox ≡ Some letter → at < length old.passes.letters.items → endpoint ≡ get_or old.passes.letters.items at endpoint
+    → ((d : MailView) → (get_or lines.mails.now endpoint.place d).actor ≡ actor_of_letter letter) → pass ≡ record endpoint.pass { put = endpoint.pass.put ++ letter ∷ []; stamps = stamps }
     → new.owner ≡ old.owner → new.passes.letters.items ≡ set old.passes.letters.items at (record { place = endpoint.place; pass = pass }) → new.passes.kills ≡ old.passes.kills → new.passes.collects ≡ old.passes.collects → new.outbox ≡ None
     → new.noted ≡ (if is_note_letter letter then set old.noted (actor_of_letter letter) true else old.noted) → IsCalling lines old → IsCalling lines new
-calling_posted lines old new letter at endpoint pass outbox below here there put is letters kills collects empty marked calling =
+calling_posted lines old new letter at endpoint pass stamps outbox below here there put is letters kills collects empty marked calling =
     let owner = old.owner in
     let mails = lines.mails.now in
     let was : IsEndpoint mails owner (option_to_list old.outbox) endpoint = subst (IsEndpoint mails owner (option_to_list old.outbox)) (sym here) (calling.letters at endpoint below) in
     let was : IsEndpoint mails owner (letter ∷ []) endpoint = subst (λ (h : Option Letter). IsEndpoint mails owner (option_to_list h) endpoint) outbox was in
     let mine : IsSent owner (actor_of_letter letter) letter = subst (MayBeSent owner) outbox calling.held in
-    let next : Endpoint (PutterView Letter Unit) = record { place = endpoint.place; pass = record endpoint.pass { put = endpoint.pass.put ++ letter ∷ [] } } in
+    let next : Endpoint (PutterView Letter Unit) = record { place = endpoint.place; pass = record endpoint.pass { put = endpoint.pass.put ++ letter ∷ []; stamps = stamps } } in
     let one : IsEndpoint mails owner [] next = record {
       below = was.below;
       line = was.line;

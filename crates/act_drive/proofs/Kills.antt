@@ -156,7 +156,7 @@ asked_stays old new at endpoint pass here same is kills letters collects = recor
   passes = record {
     letters = ap (λ (v : _). map bare_post v.items) letters;
     kills = ap (λ (l : List (Endpoint (PutterView Asked ℕ))). map bare_ask l) kills ∙ map-set_same bare_ask old.passes.kills.items at (record { place = endpoint.place; pass = pass }) endpoint (same ∙ ap bare_ask here);
-    collects = collects ∙ sym (ap (λ (t : TakerView Notice RunItem). record old.passes.collects { taken = t.taken }) collects);
+    collects = collects ∙ sym (ap (λ (t : TakerView Notice RunItem). record old.passes.collects { taken = t.taken; stamps = t.stamps }) collects);
   };
 }
 

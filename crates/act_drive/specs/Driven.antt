@@ -152,18 +152,18 @@ pub record IsCalling (lines : CallerLines) (driver : Driver) : Type 0 where
   pub names : All (HasNamed lines.controls.now driver.owner.id) driver.passes.kills.items
   pub noted : AreNoted driver.owner driver.passes.letters.items driver.noted
 
--- an endpoint without what was put there
+-- an endpoint without what was put there, and without its stamps
 abbrev pub bare_post : Endpoint (PutterView Letter Unit) → Endpoint (PutterView Letter Unit)
-bare_post endpoint = record endpoint { pass = record endpoint.pass { put = [] } }
+bare_post endpoint = record endpoint { pass = record endpoint.pass { put = []; stamps = [] } }
 
 abbrev pub bare_ask : Endpoint (PutterView Asked ℕ) → Endpoint (PutterView Asked ℕ)
-bare_ask endpoint = record endpoint { pass = record endpoint.pass { put = [] } }
+bare_ask endpoint = record endpoint { pass = record endpoint.pass { put = []; stamps = [] } }
 
 -- the passes are of the same lines, for the same caller, at the same places
 pub record CallerPassesStay (old new : CallerPasses) : Type 0 where
   pub letters : map bare_post new.letters.items ≡ map bare_post old.letters.items
   pub kills : map bare_ask new.kills.items ≡ map bare_ask old.kills.items
-  pub collects : new.collects ≡ record old.collects { taken = new.collects.taken }
+  pub collects : new.collects ≡ record old.collects { taken = new.collects.taken; stamps = new.collects.stamps }
 
 -- an answer that was kept is kept on
 abbrev pub KeptOn : List (Option Answer) → List (Option Answer) → Type 0

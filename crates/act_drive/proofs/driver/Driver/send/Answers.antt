@@ -1,4 +1,4 @@
-use Rattle.std.proofs.Common.{refl, rules, ◌≡◌, Some, All, true, inl, inr}
+use Rattle.std.proofs.Common.{refl, rules, ◌≡◌, [], ◌∷◌, ◌++◌, Some, All, true, inl, inr}
 use Rattle.act_drive.proofs.Drivers.{calling_dropped, calling_posted, posted_waits}
 use Rattle.act_owner.specs.Owner.{is_known_dead}
 use Rattle.act_drive.specs.Driven.{actor_of_letter, IsApart}
@@ -20,7 +20,7 @@ pub returns-clause-calling : goal.returns-clause-calling
 returns-clause-calling g c =
     let endpoint = c.index_mut-endpoint.result.now in
     let outbox : c.args.self.now.outbox ≡ Some c.in-Some.letter = search rules in
-    calling_posted c.args.lines.now c.args.self.now _ c.in-Some.letter c.in-Some-letter_endpoint.at endpoint c.post.new.pass outbox (search rules) (search rules) (λ d. search rules) (search rules) refl (search rules) refl refl (search rules) (search rules) c.requires.calling
+    calling_posted c.args.lines.now c.args.self.now _ c.in-Some.letter c.in-Some-letter_endpoint.at endpoint c.post.new.pass (endpoint.pass.stamps ++ 0 ∷ []) outbox (search rules) (search rules) (λ d. search rules) (search rules) refl (search rules) refl refl (search rules) (search rules) c.requires.calling
 
 pub returns-clause-waits : goal.returns-clause-waits
 returns-clause-waits g c =
