@@ -82,13 +82,13 @@ replies line = record { line = line; caller = 1 } ∷ []
 
 -- the passes of the caller and of the actor
 abbrev pub letter_endpoint : TableId → List Letter → Endpoint (PutterView Letter Unit)
-letter_endpoint line letters = record { place = 0; pass = record { line = line; number = 1; put = letters; note = [] } }
+letter_endpoint line letters = record { place = 0; pass = record { line = line; number = 1; put = letters; stamps = []; note = [] } }
 
 abbrev pub kill_endpoint : TableId → List Asked → Endpoint (PutterView Asked ℕ)
-kill_endpoint line kills = record { place = 0; pass = record { line = line; number = 1; put = kills; note = [] } }
+kill_endpoint line kills = record { place = 0; pass = record { line = line; number = 1; put = kills; stamps = []; note = [] } }
 
 abbrev pub notice_endpoint : TableId → List RunItem → List Notice → Endpoint ReplyExecView
-notice_endpoint line log notices = record { place = 0; pass = record { line = line; actor = 1; given = notices; seen = log } }
+notice_endpoint line log notices = record { place = 0; pass = record { line = line; actor = 1; given = notices; stamps = []; seen = log } }
 
 abbrev pub call : Submission
 call = record { actor = 1; method = method.Get; args = [] }
@@ -127,7 +127,7 @@ module _ (mail control reply : TableId) (ptr : Ptr) (alloc : Global) where
     passes = record {
       letters = only ptr alloc (letter_endpoint mail letters);
       kills = only ptr alloc (kill_endpoint control []);
-      collects = record { line = reply; putters = 1 ∷ []; taken = notices; note = [] };
+      collects = record { line = reply; putters = 1 ∷ []; taken = notices; stamps = []; note = [] };
     };
   }
 
@@ -135,8 +135,8 @@ module _ (mail control reply : TableId) (ptr : Ptr) (alloc : Global) where
   s = record {
     end = Retired (record { id = 1; log = log; state = CounterAt (pos 0) });
     passes = record {
-      letters = record { line = mail; putters = 1 ∷ []; taken = letters; note = [] };
-      kills = record { line = control; actor = 1; askers = starter ∷ 1 ∷ []; taken = []; lengths = []; looked = 1 };
+      letters = record { line = mail; putters = 1 ∷ []; taken = letters; stamps = []; note = [] };
+      kills = record { line = control; actor = 1; askers = starter ∷ 1 ∷ []; taken = []; stamps = []; lengths = []; looked = 1 };
       notices = only ptr alloc (notice_endpoint reply log notices);
     };
   }

@@ -59,7 +59,7 @@ module _ (mail control reply : TableId) (ptr : Ptr) (alloc : Global) where
     passes = record {
       letters = only ptr alloc (letter_endpoint mail letters);
       kills = only ptr alloc (kill_endpoint control kills);
-      collects = record { line = reply; putters = 1 ∷ []; taken = notices; note = [] };
+      collects = record { line = reply; putters = 1 ∷ []; taken = notices; stamps = []; note = [] };
     };
   }
 
@@ -67,8 +67,8 @@ module _ (mail control reply : TableId) (ptr : Ptr) (alloc : Global) where
   s = record {
     end = Killed (record { id = 1; log = [] });
     passes = record {
-      letters = record { line = mail; putters = 1 ∷ []; taken = []; note = [] };
-      kills = record { line = control; actor = 1; askers = starter ∷ 1 ∷ []; taken = kills; lengths = 0 ∷ []; looked = 1 };
+      letters = record { line = mail; putters = 1 ∷ []; taken = []; stamps = []; note = [] };
+      kills = record { line = control; actor = 1; askers = starter ∷ 1 ∷ []; taken = kills; stamps = []; lengths = 0 ∷ []; looked = 1 };
       notices = only ptr alloc (notice_endpoint reply [] notices);
     };
   }
