@@ -2,7 +2,7 @@
 use Rattle.std.proofs.Common.{◌≡◌, ℕ, suc, ◌<◌, ◌≤◌, Bool, true, false, true≢false, cond, List, [], ◌∷◌, length, Some, None, inl, inr, refl, ap, sym, ◌∙◌, subst, arith}
 use Rattle.std.specs.Prelude.{Option, ◌==◌, ◌&&◌, map, slice_get, is_some, All, Contains}
 use Rattle.std.specs.Option.{option_or}
-use Rattle.std.proofs.lemmas.Bool.{eq-eqb, eqb-true, and_setups}
+use Rattle.std.proofs.lemmas.Bool.{eq-eqb, eqb-true, and_parts}
 use Rattle.std.proofs.lemmas.Simd.{map-map}
 use Rattle.std.proofs.lemmas.List.{length-map}
 use Rattle.std.proofs.lemmas.List.Elements.{All-map}
@@ -55,7 +55,7 @@ note_caller a c n (Call packet) e = cc
 note_caller a c n (Note note) e = go ((note.caller == c) && (note.actor == a)) refl e
   where
     go : (b : Bool) → ((note.caller == c) && (note.actor == a)) ≡ b → cond b (Some note.after) None ≡ Some n → note.caller ≡ c
-    go true is f = eqb-true note.caller c (and_setups (note.caller == c) (note.actor == a) is).0
+    go true is f = eqb-true note.caller c (and_parts (note.caller == c) (note.actor == a) is).0
     go false is f = cc
 
 -- the letter that the first note is
