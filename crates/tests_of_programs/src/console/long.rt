@@ -68,7 +68,7 @@ fn push_summary(report: &mut String) -> Result<(), NoMemory> {
     for key in 0..MAX_KEYS {
         writeln!(report, "c1.{key} a1 = unit")?;
     }
-    write!(report, "c1.{MOST_KEYS} a1 = KindFull\na1 live table")?;
+    write!(report, "c1.{MAX_KEYS} a1 = KindFull\na1 live table")?;
     for key in 0..MAX_KEYS {
         write!(report, " \"k{key}\" {key}")?;
     }
