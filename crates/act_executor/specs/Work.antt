@@ -107,6 +107,7 @@ IsAsked controls endpoint (Ok after) = (k : ControlView) →
         put = endpoint.pass.put
             ++ kill_by endpoint.pass.number (record { caller = 1; actor = (slice_index_or controls endpoint.place k).actor }) ∷
             [];
+        stamps = endpoint.pass.stamps ++ 0 ∷ [];
       };
     }
 IsAsked controls endpoint (Err back) = (k : ControlView) →
