@@ -1,9 +1,22 @@
-use Rattle.std.proofs.Common.{◌≡◌, ◌∙◌, List, subst, sym}
+use Rattle.std.proofs.Common.{◌≡◌, ◌∙◌, List, [], ◌∷◌, ◌++◌, All, Ok, Err, Result, ap, subst, sym, append-nil}
+use Rattle.std.specs.Prelude.{OnOk, OnErr}
+use Rattle.std.proofs.lemmas.List.Elements.{All-push}
+use Rattle.act_types.specs.declared.message.Reply.{Reply}
+use Rattle.act_types.specs.declared.message.Notice.{Notice}
+use Rattle.act_types.specs.declared.message.Notice.TheVariants.{Answered}
 use Rattle.act_rules.specs.declared.history.RunItem.{RunItem}
 use Rattle.act_rules.specs.Consistent.{IsPrefix}
 use Rattle.act_actor.specs.StateViews.{live_view}
-use Rattle.act_drive.proofs.Alone.{given_on}
+use Rattle.act_mailbox.specs.Notices.{ReplyExecView, IsNoDeath}
 use Rattle.tests_of_threads.proofs.drive.executor.give_times.Goals as goal
+
+-- a reply more was given, or none was and nothing changed
+given_on : (result : Result Unit Notice) (old new : ReplyExecView) (log : List RunItem) (reply : Reply) → OnOk result (new ≡ record old { given = old.given ++ Answered reply ∷ []; stamps = old.stamps ++ 0 ∷ []; seen = log }) → OnErr result (new ≡ old) → IsPrefix old.seen log → All IsNoDeath old.given
+    → (new.line ≡ old.line) × (new.actor ≡ old.actor) × IsPrefix new.seen log × All IsNoDeath new.given
+given_on (Ok x) old new log reply ok err front alive =
+    (ap (λ (p : ReplyExecView). p.line) ok, ap (λ (p : ReplyExecView). p.actor) ok, ([], append-nil new.seen ∙ ap (λ (p : ReplyExecView). p.seen) ok), subst (λ (p : ReplyExecView). All IsNoDeath p.given) (sym ok) (All-push IsNoDeath old.given (Answered reply) alive tt))
+given_on (Err e) old new log reply ok err front alive =
+    (ap (λ (p : ReplyExecView). p.line) err, ap (λ (p : ReplyExecView). p.actor) err, subst (λ (p : ReplyExecView). IsPrefix p.seen log) (sym err) front, subst (λ (p : ReplyExecView). All IsNoDeath p.given) (sym err) alive)
 
 pub loop-preserved : goal.loop-preserved
 loop-preserved g c =
