@@ -783,7 +783,7 @@ How to read the lists:
 
 - Read from the top. The first list has a part for each function, which ends with its clauses. What an earlier part has
   isn't repeated.
-- Each line is a definition. It tells its file, the line of the file on which it begins, how many lines it has with its
+- Each item is a definition. It tells its file, the line of the file on which it begins, how many lines it has with its
   comment, and which words of ours it needs.
 - What is in italics is declared in Rust: a type, a constant, a trait. A type stands there with its declaration; of its
   fields those count that some listed text names.
@@ -824,11 +824,17 @@ def shown_names(audit):
 
 
 def rows_of(audit, definitions, names):
-    yield "| Definition | Where | Lines | Needs |"
-    yield "| --- | --- | ---: | --- |"
+    """A line for each definition: where it stands, how many lines it has, and what it needs."""
     for definition in definitions:
         place = f"[{definition.path.relative_to(CRATES)}:{definition.first}](../{definition.path.relative_to(TOP)}#L{definition.first})"
-        yield f"| {names[definition]} | {place} | {len(definition.lines)} | {own_words(audit, definition, names)} |"
+        needs = own_words(audit, definition, names)
+        lines = len(definition.lines)
+        yield filled(f"- {names[definition]}, {place}, {lines} line{'s' * (lines > 1)}" + (f", needs {needs}" if needs else ""))
+
+
+def filled(listed):
+    """An item of a list, in lines of at most 120 columns."""
+    return textwrap.fill(listed, 120, subsequent_indent="  ", break_long_words=False, break_on_hyphens=False)
 
 
 def sections_of(audit):
@@ -874,8 +880,7 @@ def page_of(audit):
     yield from rows_of(audit, audit.by_views, names)
     yield "\n## Words of std and of the kit\n"
     for module, words in sorted(audit.kit_words().items()):
-        listed = f"- {module}: " + ", ".join(f"`{word}`" for word in sorted(words))
-        yield textwrap.fill(listed, 120, subsequent_indent="  ", break_long_words=False, break_on_hyphens=False)
+        yield filled(f"- {module}: " + ", ".join(f"`{word}`" for word in sorted(words)))
 
 
 def title_of(function):

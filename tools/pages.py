@@ -5,8 +5,9 @@ The version is the newest of CHANGELOG.md, and each place of VERSIONED must name
 have a line for each tool, and for nothing else. Each line of docs/glossary.md ends with a name and its file, which
 must have that name. Each crate of crates.txt has a README.md of at most 30 lines, which tells on which crates it stands.
 
-The pages of PLAIN, and those READMEs, have no line over 120 columns, but where a block quotes a file. No sentence of
-their prose is over 30 words. Of docs/audit.md the part before its second heading counts. It is counted so:
+The pages of docs and of PLAIN, and those READMEs, have no line over 120 columns, but where a block quotes a file. No
+sentence of the prose of PLAIN and of those READMEs is over 30 words. Of docs/audit.md the sentences before its second
+heading count, since its lists hold none. It is counted so:
 
   - Prose is what stands in no block: neither behind a fence nor four spaces in. Headings and pictures are none.
   - A paragraph, an item of a list and a cell of a table are each a text of their own.
@@ -102,21 +103,28 @@ def told_below(page):
 
 
 def lines_of(page):
-    """The lines of a page that count, each with its number and whether it stands in a block."""
-    fenced, headings = False, 0
+    """The lines of a page, each with its number and whether it stands in a block."""
+    fenced = False
     for number, line in enumerate((TOP / page).read_text().split("\n"), 1):
-        headings += not fenced and line.startswith("#")
-        if page in HEAD_ALONE and headings > 1:
-            return
         is_fence = line.startswith("```")
         yield number, line, fenced or is_fence or line.startswith("    ")
         fenced ^= is_fence
 
 
+def lines_of_prose(page):
+    """The lines of a page whose sentences count."""
+    headings = 0
+    for number, line, in_block in lines_of(page):
+        headings += not in_block and line.startswith("#")
+        if page in HEAD_ALONE and headings > 1:
+            return
+        yield number, line, in_block
+
+
 def texts_of(page):
     """The texts of a page, each with the number of its first line."""
     first, text = 0, []
-    for number, line, in_block in [*lines_of(page), (0, "", False)]:
+    for number, line, in_block in [*lines_of_prose(page), (0, "", False)]:
         item = re.match(r" *(?:[-*]|\d+\.) +", line)
         ends = in_block or not line.strip() or line.startswith(("#", "|", "!["))
         if text and (ends or item):
@@ -139,11 +147,15 @@ def words_of(sentence):
     return [word for word in sentence.split() if re.search(r"\w", word)]
 
 
-def faults_of_style(page):
-    """The lines of a page that are too long, and its sentences."""
+def faults_of_columns(page):
+    """The lines of a page that are too long."""
     for number, line, in_block in lines_of(page):
         if len(line) > MAX_COLUMNS and not in_block:
             yield f"{page}:{number} has {len(line)} columns, and may have {MAX_COLUMNS}"
+
+
+def faults_of_sentences(page):
+    """The sentences of a page that are too long."""
     for number, text in texts_of(page):
         for sentence in sentences_of(text):
             if (count := len(words_of(sentence))) > MAX_WORDS:
@@ -151,14 +163,20 @@ def faults_of_style(page):
                 yield f"{page}:{number}: a sentence of {count} words, and it may have {MAX_WORDS}: {start} .."
 
 
+def pages_of(pattern):
+    return {str(path.relative_to(TOP)) for path in TOP.glob(pattern)}
+
+
 def main():
-    plain = [*PLAIN, *sorted(str(path.relative_to(TOP)) for path in TOP.glob("crates/*/README.md"))]
+    plain = {*PLAIN, *pages_of("crates/*/README.md")}
+    narrow = plain | {"CHANGELOG.md", *pages_of("docs/*.md"), *pages_of("examples/*.md")}
     faults = [
         *faults_of_versions(version()),
         *faults_of_tools(),
         *faults_of_words(),
         *faults_of_crates(),
-        *(fault for page in plain for fault in faults_of_style(page)),
+        *(fault for page in sorted(narrow) for fault in faults_of_columns(page)),
+        *(fault for page in sorted(plain) for fault in faults_of_sentences(page)),
     ]
     for fault in faults:
         print(fault)
