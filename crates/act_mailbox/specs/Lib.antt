@@ -4,3 +4,4 @@ pub mod Passes
 pub mod Mails
 pub mod Controls
 pub mod Notices
+pub mod Traces
