@@ -1,3 +1,5 @@
+pub mod Clocks
+pub mod Traces
 pub mod Endpoints
 pub mod Logs
 pub mod Serving

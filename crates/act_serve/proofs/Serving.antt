@@ -15,6 +15,7 @@ use Rattle.act_types.specs.declared.message.Notice.TheVariants.{Answered, Death}
 use Rattle.act_rules.specs.declared.history.RunItem.{RunItem}
 use Rattle.act_rules.specs.RunList.{after_item, state_after, items_of, has_terminated, NothingFollowsAnEnd}
 use Rattle.act_rules.proofs.RunLists.{state_after-push}
+use Rattle.act_rules.specs.History.{contains}
 use Rattle.act_inbox.specs.Inbox.{next_of}
 use Rattle.act_actor.specs.View.{ActorView, DeadView, RetiredView}
 use Rattle.act_actor.specs.Actor.{item_of, reply_of_run, next_call, MayRetire, HasRunCall, HasRunFrom}
@@ -25,7 +26,9 @@ use Rattle.act_mailbox.specs.Notices.{RepliesView, ReplyExecView}
 use Rattle.act_serve.specs.declared.endpoint.ExecPasses.{ExecPasses}
 use Rattle.act_mailbox.specs.declared.endpoint.Endpoint.{Endpoint}
 use Rattle.act_serve.specs.Served.{Killed, Retired, Starved, IsLogOf, first_note, replies_to, caller_at, endpoint_callers, without_given, IsUntaken, KillsOfDead, ExecPassesStay, HasServed}
-use Rattle.act_serve.specs.Turns.{EndpointsDiffer, IsFreshExec, IsFed, IsServing, HasReplies, HasReplied, IsAtItsEndpoint, PassesFit, with_death_given}
+use Rattle.act_serve.specs.ActorTraces.{IsActorTraced}
+use Rattle.act_serve.specs.Turns.{IsTracedSoFar, EndpointsDiffer, IsFreshExec, IsFed, IsServing, HasReplies, HasReplied, IsAtItsEndpoint, PassesFit, with_death_given}
+use Rattle.act_serve.proofs.Traces.{traced_retired}
 use Rattle.act_serve.proofs.Logs.{Tells, same, other, tells, last_reply, replies_more, fed_run}
 
 -- ---- one call
@@ -201,48 +204,50 @@ module _ (opening : KindState) (lines : List RepliesView) (before : ExecPasses) 
   abbrev pub dead_of : DeadView
   dead_of = record { id = actor.id; log = actor.log }
 
-  given_all : All (λ (endpoint : Endpoint ReplyExecView). endpoint.pass.given ≡ replies_to opening actor.id actor.log (caller_at lines endpoint.place) ++ Death actor.id ∷ []) (map (with_death_given actor.id actor.log 0) endpoints)
-  given_all = told_at actor.id 0 actor.log endpoints (λ (endpoint : Endpoint ReplyExecView). endpoint.pass.given ≡ replies_to opening actor.id actor.log (caller_at lines endpoint.place) ++ Death actor.id ∷ []) (λ k d lt. ap (λ (l : List Notice). l ++ Death actor.id ∷ []) (h.given k d lt))
+  given_all : (stamp : ℕ) → All (λ (endpoint : Endpoint ReplyExecView). endpoint.pass.given ≡ replies_to opening actor.id actor.log (caller_at lines endpoint.place) ++ Death actor.id ∷ []) (map (with_death_given actor.id actor.log stamp) endpoints)
+  given_all stamp = told_at actor.id stamp actor.log endpoints (λ (endpoint : Endpoint ReplyExecView). endpoint.pass.given ≡ replies_to opening actor.id actor.log (caller_at lines endpoint.place) ++ Death actor.id ∷ []) (λ k d lt. ap (λ (l : List Notice). l ++ Death actor.id ∷ []) (h.given k d lt))
 
-  pub killed_served : (a : ℕ) (dead : DeadView) → actor.id ≡ a → dead ≡ dead_of → passes.notices.items ≡ map (with_death_given dead.id dead.log 0) endpoints
-      → KillsOfDead (has_terminated actor.log) actor.log passes.kills → HasServed opening a lines before (Killed dead) passes
-  killed_served a dead named is told_is kills =
+  pub killed_served : (a stamp : ℕ) (dead : DeadView) → actor.id ≡ a → dead ≡ dead_of → passes.notices.items ≡ map (with_death_given dead.id dead.log stamp) endpoints
+      → KillsOfDead (has_terminated actor.log) actor.log passes.kills → IsActorTraced actor.id lines (Killed dead_of) passes → HasServed opening a lines before (Killed dead) passes
+  killed_served a stamp dead named is told_is kills traced =
       subst (λ (x : ℕ). HasServed opening x lines before (Killed dead) passes) named (subst (λ (d : DeadView). HasServed opening actor.id lines before (Killed d) passes) (sym is) (record {
         id = refl;
         log = h.fed.log;
         last = last;
-        stay = record { letters = letters; kills = kept; endpoints = ap (map without_given) all_told ∙ told_bare actor.id 0 actor.log endpoints ∙ stay };
-        given = subst (λ (l : List (Endpoint ReplyExecView)). All (λ (endpoint : Endpoint ReplyExecView). endpoint.pass.given ≡ replies_to opening actor.id actor.log (caller_at lines endpoint.place) ++ Death actor.id ∷ []) l) (sym all_told) given_all;
-        shown = subst (λ (l : List (Endpoint ReplyExecView)). All (λ (endpoint : Endpoint ReplyExecView). endpoint.pass.seen ≡ actor.log) l) (sym all_told) (told_at actor.id 0 actor.log endpoints (λ (endpoint : Endpoint ReplyExecView). endpoint.pass.seen ≡ actor.log) (λ k d lt. refl));
+        stay = record { letters = letters; kills = kept; endpoints = ap (map without_given) all_told ∙ told_bare actor.id stamp actor.log endpoints ∙ stay };
+        given = subst (λ (l : List (Endpoint ReplyExecView)). All (λ (endpoint : Endpoint ReplyExecView). endpoint.pass.given ≡ replies_to opening actor.id actor.log (caller_at lines endpoint.place) ++ Death actor.id ∷ []) l) (sym all_told) (given_all stamp);
+        shown = subst (λ (l : List (Endpoint ReplyExecView)). All (λ (endpoint : Endpoint ReplyExecView). endpoint.pass.seen ≡ actor.log) l) (sym all_told) (told_at actor.id stamp actor.log endpoints (λ (endpoint : Endpoint ReplyExecView). endpoint.pass.seen ≡ actor.log) (λ k d lt. refl));
         kills = kills;
         looked = looked;
         drained = tt;
+        traced = traced;
       }))
     where
-      all_told : passes.notices.items ≡ map (with_death_given actor.id actor.log 0) endpoints
-      all_told = told_is ∙ (λ i. map (with_death_given (is i).id (is i).log 0) endpoints)
+      all_told : passes.notices.items ≡ map (with_death_given actor.id actor.log stamp) endpoints
+      all_told = told_is ∙ (λ i. map (with_death_given (is i).id (is i).log stamp) endpoints)
 
-  pub starved_served : (a : ℕ) (dead : DeadView) → actor.id ≡ a → dead ≡ dead_of → passes.notices.items ≡ map (with_death_given dead.id dead.log 0) endpoints
+  pub starved_served : (a stamp : ℕ) (dead : DeadView) → actor.id ≡ a → dead ≡ dead_of → passes.notices.items ≡ map (with_death_given dead.id dead.log stamp) endpoints
       → IsUntaken passes.kills → has_terminated actor.log ≡ false → HasServed opening a lines before (Starved dead) passes
-  starved_served a dead named is told_is none lived =
+  starved_served a stamp dead named is told_is none lived =
       subst (λ (x : ℕ). HasServed opening x lines before (Starved dead) passes) named (subst (λ (d : DeadView). HasServed opening actor.id lines before (Starved d) passes) (sym is) (record {
         id = refl;
         log = h.fed.log;
         last = last;
-        stay = record { letters = letters; kills = kept; endpoints = ap (map without_given) all_told ∙ told_bare actor.id 0 actor.log endpoints ∙ stay };
-        given = subst (λ (l : List (Endpoint ReplyExecView)). All (λ (endpoint : Endpoint ReplyExecView). endpoint.pass.given ≡ replies_to opening actor.id actor.log (caller_at lines endpoint.place) ++ Death actor.id ∷ []) l) (sym all_told) given_all;
-        shown = subst (λ (l : List (Endpoint ReplyExecView)). All (λ (endpoint : Endpoint ReplyExecView). endpoint.pass.seen ≡ actor.log) l) (sym all_told) (told_at actor.id 0 actor.log endpoints (λ (endpoint : Endpoint ReplyExecView). endpoint.pass.seen ≡ actor.log) (λ k d lt. refl));
+        stay = record { letters = letters; kills = kept; endpoints = ap (map without_given) all_told ∙ told_bare actor.id stamp actor.log endpoints ∙ stay };
+        given = subst (λ (l : List (Endpoint ReplyExecView)). All (λ (endpoint : Endpoint ReplyExecView). endpoint.pass.given ≡ replies_to opening actor.id actor.log (caller_at lines endpoint.place) ++ Death actor.id ∷ []) l) (sym all_told) (given_all stamp);
+        shown = subst (λ (l : List (Endpoint ReplyExecView)). All (λ (endpoint : Endpoint ReplyExecView). endpoint.pass.seen ≡ actor.log) l) (sym all_told) (told_at actor.id stamp actor.log endpoints (λ (endpoint : Endpoint ReplyExecView). endpoint.pass.seen ≡ actor.log) (λ k d lt. refl));
         kills = (none, lived);
         looked = looked;
         drained = tt;
+        traced = tt;
       }))
     where
-      all_told : passes.notices.items ≡ map (with_death_given actor.id actor.log 0) endpoints
-      all_told = told_is ∙ (λ i. map (with_death_given (is i).id (is i).log 0) endpoints)
+      all_told : passes.notices.items ≡ map (with_death_given actor.id actor.log stamp) endpoints
+      all_told = told_is ∙ (λ i. map (with_death_given (is i).id (is i).log stamp) endpoints)
 
   pub retired_served : (a : ℕ) (retired : RetiredView) → actor.id ≡ a → retired ≡ record { id = actor.id; log = actor.log; state = actor.state } → MayRetire actor.log actor.inbox → passes.notices.items ≡ endpoints
-      → IsUntaken passes.kills → HasServed opening a lines before (Retired retired) passes
-  retired_served a retired named is may same_endpoints none =
+      → IsUntaken passes.kills → IsTracedSoFar actor.id lines actor.log passes → HasServed opening a lines before (Retired retired) passes
+  retired_served a retired named is may same_endpoints none so_far =
       subst (λ (x : ℕ). HasServed opening x lines before (Retired retired) passes) named (subst (λ (r : RetiredView). HasServed opening actor.id lines before (Retired r) passes) (sym is) (record {
         id = refl;
         log = h.fed.log;
@@ -254,9 +259,16 @@ module _ (opening : KindState) (lines : List RepliesView) (before : ExecPasses) 
         looked = looked;
         drained = record {
           state = h.follows;
-          notes = λ c l. sym (h.fed.notes c l) ∙ may.drained c (h.fed.listed c ∙ l) ∙ ap (λ (n : ℕ). Some n) (h.fed.handed c);
+          notes = notes;
         };
+        traced = traced_retired actor.id lines actor.log passes so_far may.lives (λ c l. notes c (ap (contains c) (sym callers) ∙ l));
       }))
+    where
+      callers : endpoint_callers lines passes.notices.items ≡ endpoint_callers lines before.notices.items
+      callers = callers_stay lines before.notices.items passes.notices.items (ap (map without_given) same_endpoints ∙ stay)
+
+      notes : (c : ℕ) → contains c (endpoint_callers lines before.notices.items) ≡ true → first_note actor.id c passes.letters.taken ≡ Some (length (items_of c actor.log))
+      notes c l = sym (h.fed.notes c l) ∙ may.drained c (h.fed.listed c ∙ l) ∙ ap (λ (n : ℕ). Some n) (h.fed.handed c)
 
 -- the passes after a turn
 pub step_fit : (mail control : TableId) (replies : List RepliesView) (a b : ℕ) (log more : List RunItem) (old new : ExecPasses) → PassesFit mail control replies a log old

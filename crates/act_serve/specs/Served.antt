@@ -1,57 +1,24 @@
 -- What an executor's thread leaves.
-use Rattle.std.specs.Prelude.{◌≡◌, ℕ, ◌≤◌, ◌==◌, ◌&&◌, Bool, true, false, List, [], ◌∷◌, ◌++◌, length, map, zip, filter, filter_map, slice_get, slice_index_or, Option, Some, None, if◌then◌else◌, All, Contains}
+use Rattle.std.specs.Prelude.{◌≡◌, ℕ, ◌≤◌, ◌==◌, ◌&&◌, Bool, true, false, List, [], ◌∷◌, ◌++◌, length, map, zip, filter, filter_map, slice_get, Option, Some, None, if◌then◌else◌, All, Contains}
 use Rattle.std.specs.Option.{option_or}
 use Rattle.std.specs.List.{enumerate_from, range_with_len}
 use Rattle.act_types.specs.KindState.{KindState}
-use Rattle.act_types.specs.declared.message.Packet.{Packet}
 use Rattle.act_types.specs.declared.message.Notice.{Notice}
 use Rattle.act_types.specs.declared.message.Reply.{Reply}
 use Rattle.act_types.specs.declared.message.Notice.TheVariants.{Answered, Death}
 use Rattle.act_rules.specs.declared.history.RunItem.{RunItem}
 use Rattle.act_rules.specs.RunList.{Answer, state_after, answer_at, answers_from, items_of, has_terminated, NothingFollowsAnEnd}
 use Rattle.act_rules.specs.History.{contains}
-use Rattle.act_actor.specs.View.{DeadView, RetiredView}
-use Rattle.act_actor.specs.StateViews.{retired_view}
+use Rattle.act_actor.specs.View.{RetiredView}
 use Rattle.act_mailbox.specs.declared.control.Asked.{Asked}
 use Rattle.act_mailbox.specs.declared.mail.Letter.{Letter}
 use Rattle.act_mailbox.specs.declared.mail.Letter.TheVariants.{Call, Note}
 use Rattle.act_mailbox.specs.Controls.{ControlExecView}
 use Rattle.act_mailbox.specs.Notices.{RepliesView, ReplyExecView}
-use Rattle.act_serve.specs.declared.endpoint.Ended.{Ended}
-use Rattle.act_serve.specs.declared.endpoint.Ended.TheVariants as ended
 use Rattle.act_mailbox.specs.declared.endpoint.Endpoint.{Endpoint}
 use Rattle.act_serve.specs.declared.endpoint.ExecPasses.{ExecPasses}
-
-pub data EndView : Type 0 where
-  Killed : (dead : DeadView) → EndView
-  Retired : (retired : RetiredView) → EndView
-  Starved : (dead : DeadView) → EndView
-
-abbrev pub end_view : {K : Type 0} → (K → KindState) → Ended K → EndView
-end_view state (ended.Killed dead) = Killed dead
-end_view state (ended.Retired retired) = Retired (retired_view state retired)
-end_view state (ended.Starved dead) = Starved dead
-
-abbrev pub end_id : EndView → ℕ
-end_id (Killed dead) = dead.id
-end_id (Retired retired) = retired.id
-end_id (Starved dead) = dead.id
-
-abbrev pub end_log : EndView → List RunItem
-end_log (Killed dead) = dead.log
-end_log (Retired retired) = retired.log
-end_log (Starved dead) = dead.log
-
--- the packet that an item of an actor's log was
-abbrev pub packet_of_item : ℕ → RunItem → Packet
-packet_of_item a item = record {
-  caller = item.caller;
-  actor = a;
-  number = item.number;
-  future = item.future;
-  method = item.method;
-  args = item.args;
-}
+pub use Rattle.act_serve.specs.Ends.{EndView, Killed, Retired, Starved, end_view, end_id, end_log, packet_of_item, caller_at, endpoint_callers}
+use Rattle.act_serve.specs.ActorTraces.{IsActorTraced}
 
 -- the log's items are calls of letters, each of a listed caller, and each caller's are numbered from 0 on
 pub record IsLogOf (a : ℕ) (callers : List ℕ) (letters : List Letter) (log : List RunItem) : Type 0 where
@@ -121,14 +88,6 @@ deaths a (Killed dead) = Death a ∷ []
 deaths a (Retired retired) = []
 deaths a (Starved dead) = Death a ∷ []
 
--- the caller whose line stands at a place
-abbrev pub caller_at : List RepliesView → ℕ → ℕ
-caller_at lines place = slice_index_or (map (λ line. line.caller) lines) place 0
-
--- the callers of an executor's endpoints
-abbrev pub endpoint_callers : List RepliesView → List (Endpoint ReplyExecView) → List ℕ
-endpoint_callers lines endpoints = map (λ endpoint. caller_at lines endpoint.place) endpoints
-
 -- no kill was taken
 abbrev pub IsUntaken : ControlExecView → Type 0
 IsUntaken kills = (kills.taken ≡ []) × (kills.lengths ≡ [])
@@ -196,3 +155,4 @@ pub record HasServed (opening : KindState) (a : ℕ) (lines : List RepliesView) 
   pub kills : KillsTaken passes.kills end
   pub looked : length (end_log end) ≤ passes.kills.looked
   pub drained : IfRetired end (HasDrained opening (endpoint_callers lines before.notices.items) passes.letters.taken)
+  pub traced : IsActorTraced a lines end passes

@@ -1,5 +1,6 @@
 -- What the parts of an actor's turn stand on, and what they leave.
 use Rattle.std.specs.Prelude.{◌≡◌, ◌≢◌, ℕ, ◌+◌, ◌<◌, ◌≤◌, ◌==◌, Bool, true, false, List, [], ◌∷◌, ◌++◌, length, position, slice_index_or, Some, is_some, All, AllPairs, Contains}
+use Rattle.std.specs.List.{list_any}
 use Rattle.atomic_table.specs.Seated.{TableId}
 use Rattle.act_types.specs.KindState.{KindState}
 use Rattle.act_types.specs.declared.message.Packet.{Packet}
@@ -16,11 +17,14 @@ use Rattle.act_mailbox.specs.declared.mail.Letter.TheVariants.{Call, Note}
 use Rattle.act_rules.specs.Consistent.{IsPrefix}
 use Rattle.act_mailbox.specs.Controls.{ControlExecView, looked_after}
 use Rattle.act_mailbox.specs.Notices.{RepliesView, ReplyExecView, IsNoDeath}
+use Rattle.act_mailbox.specs.Traces.{steps_in}
 use Rattle.act_mailbox.specs.declared.endpoint.Endpoint.{Endpoint}
 use Rattle.act_serve.specs.declared.letter.Received.{Received}
 use Rattle.act_serve.specs.declared.letter.Received.TheVariants.{Nothing, Held, Ran}
 use Rattle.act_serve.specs.declared.endpoint.ExecLines.{ExecLines}
 use Rattle.act_serve.specs.declared.endpoint.ExecPasses.{ExecPasses}
+use Rattle.act_serve.specs.ActorSteps.{ActorStep, is_kill_step, is_retirement}
+use Rattle.act_serve.specs.ActorTraces.{IsActorTrace}
 use Rattle.act_serve.specs.Served.{IsLogOf, first_note, replies_to, caller_at, endpoint_callers, KillsOfDead}
 
 -- a pass is of the line at its place, and gave only what this actor's log shows
@@ -53,8 +57,11 @@ PassesOf lines actor log passes = PassesFit lines.mail.now.line lines.control.no
 pub record IsUnusedExec (lines : List RepliesView) (callers : List ℕ) (passes : ExecPasses) : Type 0 where
   pub callers_are : endpoint_callers lines passes.notices.items ≡ callers
   pub letters : passes.letters.taken ≡ []
+  pub letter_stamps : passes.letters.stamps ≡ []
   pub kills : (passes.kills.taken ≡ []) × (passes.kills.lengths ≡ [])
+  pub kill_stamps : passes.kills.stamps ≡ []
   pub given : All (λ endpoint. endpoint.pass.given ≡ []) passes.notices.items
+  pub given_stamps : All (λ endpoint. endpoint.pass.stamps ≡ []) passes.notices.items
 
 -- an actor that ran nothing, with such passes
 pub record IsFreshExec (lines : List RepliesView) (actor : ActorView) (passes : ExecPasses) : Type 0 where
@@ -171,3 +178,15 @@ with_death_given a log stamp endpoint = record endpoint {
     seen = log;
   };
 }
+
+-- an actor that goes on did some such steps, took no kill in them, and did not retire
+pub record IsTracedSoFar (a : ℕ) (lines : List RepliesView) (log : List RunItem) (passes : ExecPasses) : Type 0 where
+  pub trace : List (ℕ × ActorStep)
+  pub steps : IsActorTrace a lines log passes trace
+  pub no_kill : list_any is_kill_step (steps_in trace) ≡ false
+  pub no_retirement : list_any is_retirement (steps_in trace) ≡ false
+
+-- an actor that was traced so far is traced so far after it went on
+abbrev pub KeepsTrace : List RepliesView → ActorView → ActorView → ExecPasses → ExecPasses → Type 0
+KeepsTrace lines old new before after = IsTracedSoFar old.id lines old.log before
+    → IsTracedSoFar new.id lines new.log after

@@ -1,23 +1,25 @@
 //! What a letter comes to: a call runs at once where it would be the first to run, and all else is
 //! taken into the actor's inbox.
 
-ghost use Rattle.std.specs.Prelude.{◌≡◌, ℕ, ◌<◌, List, [], ◌∷◌, ◌++◌, length, map, position, Some, All, IfOk, OnErr, OnOk, IfSome};
+ghost use Rattle.std.specs.Prelude.{◌≡◌, ℕ, ◌<◌, List, [], ◌∷◌, ◌++◌, false, length, map, position, Some, All, IfOk, OnErr, OnOk, IfSome};
 ghost use Rattle.act_types.specs.KindState.{KindState};
+ghost use Rattle.act_rules.specs.RunList.{has_terminated};
 ghost use Rattle.act_mailbox.specs.declared.mail.Letter.{Letter};
 ghost use Rattle.act_mailbox.specs.declared.mail.Letter.TheVariants.{Call};
 ghost use Rattle.act_actor.specs.Actor.{RunsAtOnce, with_packet};
 ghost use Rattle.act_actor.specs.StateViews.{live_view};
-ghost use Rattle.act_serve.specs.Turns.{IsAtItsEndpoint, EndpointsDiffer, HasReplied, ActorGoesOn, IsFed, IsIn, IsServing, HasCome, is_endpoint_of};
+ghost use Rattle.act_serve.specs.Turns.{IsAtItsEndpoint, EndpointsDiffer, HasReplied, ActorGoesOn, IsFed, IsIn, IsServing, HasCome, KeepsTrace, is_endpoint_of};
 ghost use Rattle.act_serve.specs.declared.letter.Received.TheVariants.{Nothing};
 ghost use Rattle.act_serve.specs.Served.{without_given};
 
-use crate::endpoint::ExecLines;
+use crate::endpoint::{ExecLines, ExecPasses};
 use crate::gate::{Passed, pass_gate};
 use crate::turn::give_reply;
 use act_actor::Live;
 use act_kinds::Actor;
-use act_mailbox::{Endpoint, Letter, MailExec, Mark, Notes, Replies, ReplyExec};
+use act_mailbox::{Endpoint, Letter, Mark, Notes, Replies, ReplyExec};
 use act_types::{ActorId, CallerId, NoMemory, Packet, Reply};
+use std::marker::Brand;
 use std::sync::Wait;
 
 /// What a look for a letter came to.
@@ -98,7 +100,7 @@ fn take_call<R: Wait, K: Actor, F: Fn(ActorId, u32), N: Notes>(
     rt: &R,
     live: &mut Live<K>,
     replies: &[Replies],
-    notices: &mut Vec<Endpoint<ReplyExec>>,
+    passes: &mut ExecPasses,
     packet: Packet,
     pass: &F,
     notes: &mut N,
@@ -106,30 +108,35 @@ fn take_call<R: Wait, K: Actor, F: Fn(ActorId, u32), N: Notes>(
     requires callable { F.IsAlwaysCallable pass.now }
     requires endpoints { All
         (IsAtItsEndpoint replies.now (live_view K.state live.old).id
-        (live_view K.state live.old).log) notices.old.items }
-    requires differ { EndpointsDiffer replies.now notices.old.items }
+        (live_view K.state live.old).log) passes.old.notices.items }
+    requires differ { EndpointsDiffer replies.now passes.old.notices.items }
     ensures endpoints { All (IsAtItsEndpoint replies.now (live_view K.state live.new).id
-        (live_view K.state live.new).log) notices.new.items }
-    ensures stay { map without_given notices.new.items ≡ map without_given notices.old.items }
+        (live_view K.state live.new).log) passes.new.notices.items }
+    ensures stay { map without_given passes.new.notices.items ≡ map without_given passes.old.notices.items }
     ensures on { ActorGoesOn (live_view K.state live.old) (live_view K.state live.new) }
+    ensures taken { (passes.new.letters ≡ passes.old.letters) × (passes.new.kills ≡ passes.old.kills) }
     ensures came { (letters : List Letter) →
         IfOk result (λ came.
-        HasCome came letters (letters ++ Call packet ∷ []) notices.old.items notices.new.items
+        HasCome came letters (letters ++ Call packet ∷ []) passes.old.notices.items passes.new.notices.items
         (live_view K.state live.old) (live_view K.state live.new)) }
     ensures err { OnErr result ((live_view K.state live.new).log ≡ (live_view K.state live.old).log) }
     ensures serving { (opening : KindState) (callers : List ℕ) (letters : List Letter) →
-        IsServing opening callers replies.now letters (live_view K.state live.old) notices.old.items →
+        IsServing opening callers replies.now letters (live_view K.state live.old) passes.old.notices.items →
         IsServing opening callers replies.now (letters ++ Call packet ∷ [])
-        (live_view K.state live.new) notices.new.items }
+        (live_view K.state live.new) passes.new.notices.items }
+    ensures traced { (opening : KindState) (callers : List ℕ) (letters : List Letter) →
+        IsServing opening callers replies.now letters (live_view K.state live.old) passes.old.notices.items →
+        letters ++ Call packet ∷ [] ≡ passes.old.letters.taken →
+        KeepsTrace replies.now (live_view K.state live.old) (live_view K.state live.new) passes.old passes.new }
 {
-    let Some(at) = endpoint_at_once(live, replies, notices.as_slice(), &packet) else {
+    let Some(at) = endpoint_at_once(live, replies, passes.notices.as_slice(), &packet) else {
         hold(live, packet)?;
         return Ok(Received::Held);
     };
     let passed = pass_gate(live, pass);
     let reply = run_now(live, packet, passed)?;
     notes.note(Mark::Run(reply.caller));
-    give_reply(rt, live, replies, notices, at, reply);
+    give_reply::<Brand, R, K>(rt, live, replies, passes, at, reply);
     Ok(Received::Ran)
 }
 
@@ -138,37 +145,46 @@ pub(crate) fn take_letter<R: Wait, K: Actor, F: Fn(ActorId, u32), N: Notes>(
     rt: &R,
     live: &mut Live<K>,
     lines: &ExecLines,
-    letters: &mut MailExec,
-    notices: &mut Vec<Endpoint<ReplyExec>>,
+    passes: &mut ExecPasses,
     pass: &F,
     notes: &mut N,
 ) -> Result<Received, NoMemory>
     requires callable { F.IsAlwaysCallable pass.now }
-    requires mail { letters.old.line ≡ lines.now.mail.now.line }
+    requires mail { passes.old.letters.line ≡ lines.now.mail.now.line }
     requires endpoints { All (IsAtItsEndpoint lines.now.replies.now (live_view K.state live.old).id
-        (live_view K.state live.old).log) notices.old.items }
-    requires differ { EndpointsDiffer lines.now.replies.now notices.old.items }
-    ensures letters { letters.new ≡ record letters.old { taken = letters.new.taken; stamps = letters.new.stamps } }
-    ensures still { IfOk result (λ came. came ≡ Nothing → letters.new ≡ letters.old) }
+        (live_view K.state live.old).log) passes.old.notices.items }
+    requires differ { EndpointsDiffer lines.now.replies.now passes.old.notices.items }
+    ensures letters { passes.new.letters ≡ record passes.old.letters {
+      taken = passes.new.letters.taken;
+      stamps = passes.new.letters.stamps;
+    } }
+    ensures kills { passes.new.kills ≡ passes.old.kills }
+    ensures still { IfOk result (λ came. came ≡ Nothing → passes.new.letters ≡ passes.old.letters) }
     ensures endpoints { All (IsAtItsEndpoint lines.now.replies.now (live_view K.state live.new).id
-        (live_view K.state live.new).log) notices.new.items }
-    ensures stay { map without_given notices.new.items ≡ map without_given notices.old.items }
+        (live_view K.state live.new).log) passes.new.notices.items }
+    ensures stay { map without_given passes.new.notices.items ≡ map without_given passes.old.notices.items }
     ensures on { ActorGoesOn (live_view K.state live.old) (live_view K.state live.new) }
     ensures came { IfOk result (λ came.
-        HasCome came letters.old.taken letters.new.taken notices.old.items notices.new.items
+        HasCome came passes.old.letters.taken passes.new.letters.taken passes.old.notices.items passes.new.notices.items
         (live_view K.state live.old) (live_view K.state live.new)) }
     ensures err { OnErr result ((live_view K.state live.new).log ≡ (live_view K.state live.old).log) }
     ensures serving { (opening : KindState) (callers : List ℕ) →
-        IsServing opening callers lines.now.replies.now letters.old.taken
-        (live_view K.state live.old) notices.old.items →
-        IsServing opening callers lines.now.replies.now letters.new.taken
-        (live_view K.state live.new) notices.new.items }
+        IsServing opening callers lines.now.replies.now passes.old.letters.taken
+        (live_view K.state live.old) passes.old.notices.items →
+        IsServing opening callers lines.now.replies.now passes.new.letters.taken
+        (live_view K.state live.new) passes.new.notices.items }
+    ensures traced { (opening : KindState) (callers : List ℕ) →
+        IsServing opening callers lines.now.replies.now passes.old.letters.taken
+        (live_view K.state live.old) passes.old.notices.items →
+        has_terminated (live_view K.state live.old).log ≡ false →
+        KeepsTrace lines.now.replies.now (live_view K.state live.old) (live_view K.state live.new)
+        passes.old passes.new }
 {
-    match lines.mail.try_take(letters) {
+    match lines.mail.try_take(&mut passes.letters) {
         None => Ok(Received::Nothing),
         Some(Letter::Call(packet)) => {
             notes.note(Mark::DeliverCall(packet.caller, packet.future));
-            take_call(rt, live, lines.replies, notices, packet, pass, notes)
+            take_call(rt, live, lines.replies, passes, packet, pass, notes)
         }
         Some(Letter::Note(note)) => {
             notes.note(Mark::DeliverNote(note.caller));

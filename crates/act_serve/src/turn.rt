@@ -6,10 +6,11 @@ ghost use Rattle.act_mailbox.specs.declared.mail.Letter.{Letter};
 ghost use Rattle.act_actor.specs.Actor.{next_call};
 ghost use Rattle.act_actor.specs.StateViews.{live_view};
 ghost use Rattle.act_rules.specs.Consistent.{IsPrefix};
+ghost use Rattle.act_rules.specs.RunList.{has_terminated};
 ghost use Rattle.act_types.specs.declared.message.Notice.TheVariants.{Answered};
 ghost use Rattle.act_mailbox.specs.Notices.{ReplyExecView, notice_actor, IsNoDeath, NamesPlace};
 ghost use Rattle.act_mailbox.specs.declared.endpoint.Endpoint.{Endpoint};
-ghost use Rattle.act_serve.specs.Turns.{IsAtItsEndpoint, EndpointsDiffer, PassesOf, HasReplied, ActorGoesOn, IsServing, IsFreshExec, has_next, HasGone, RanFirst, HasLooked, replied_to, with_death_given};
+ghost use Rattle.act_serve.specs.Turns.{IsAtItsEndpoint, EndpointsDiffer, PassesOf, HasReplied, ActorGoesOn, IsServing, IsFreshExec, has_next, HasGone, RanFirst, HasLooked, KeepsTrace, replied_to, with_death_given};
 ghost use Rattle.act_serve.specs.declared.turn.Turn.TheVariants.{Moved, Idle, Starved};
 ghost use Rattle.act_serve.specs.Served.{without_given, end_view, IsUntaken, HasServed};
 
@@ -19,13 +20,20 @@ use crate::letter::{Received, take_letter};
 use act_actor::{Dead, Live, RunItem};
 use act_kinds::Actor;
 use act_mailbox::{
-    Control, ControlExec, Endpoint, IdleBackoff, MailExec, Mark, NoNotes, Notes, Replies, ReplyExec,
+    Control, ControlExec, Endpoint, IdleBackoff, Mark, NoNotes, Notes, Replies, ReplyExec, Stamped,
 };
 use act_types::{ActorId, CallerId, NoMemory, Notice, Reply};
+use std::marker::Brand;
 use std::sync::Wait;
 
-/// Gives a notice, and tries again while the line is full.
-fn give<R: Wait>(rt: &R, line: &Replies, pass: &mut ReplyExec, log: &[RunItem], mut notice: Notice)
+/// Gives a notice with the stamp `S`, and tries again while the line is full.
+fn give<S: Stamped, R: Wait>(
+    rt: &R,
+    line: &Replies,
+    pass: &mut ReplyExec,
+    log: &[RunItem],
+    mut notice: Notice,
+)
     requires pass { pass.old.line ≡ line.now.line }
     requires actor { notice_actor notice ≡ pass.old.actor }
     requires grown { IsPrefix pass.old.seen log.now }
@@ -33,13 +41,13 @@ fn give<R: Wait>(rt: &R, line: &Replies, pass: &mut ReplyExec, log: &[RunItem], 
     requires alive { All IsNoDeath pass.old.given }
     ensures { pass.new ≡ record pass.old {
       given = pass.old.given ++ notice ∷ [];
-      stamps = pass.old.stamps ++ 0 ∷ [];
+      stamps = pass.old.stamps ++ S.stamp ∷ [];
       seen = log.now;
     } }
 {
     let mut idle_backoff = IdleBackoff::new();
     for _ in rt.forever() {
-        match line.give(rt, pass, log, notice) {
+        match line.give_at::<S, R>(rt, pass, log, notice) {
             Ok(()) => return,
             Err(back) => notice = back,
         }
@@ -48,26 +56,27 @@ fn give<R: Wait>(rt: &R, line: &Replies, pass: &mut ReplyExec, log: &[RunItem], 
     unreachable!()
 }
 
-/// Gives the reply of a call that ran to the caller whose endpoint this is.
-pub(crate) fn give_reply<R: Wait, K: Actor>(
+/// Gives the reply of a call that ran to the caller whose endpoint this is, with the stamp `S`.
+pub(crate) fn give_reply<S: Stamped, R: Wait, K: Actor>(
     rt: &R,
     live: &Live<K>,
     replies: &[Replies],
-    notices: &mut Vec<Endpoint<ReplyExec>>,
+    passes: &mut ExecPasses,
     at: usize,
     reply: Reply,
 )
-    requires at { at < length notices.old.items }
+    requires at { at < length passes.old.notices.items }
     requires endpoints { let now = live_view K.state live.now in
-        All (IsAtItsEndpoint replies.now now.id now.log) notices.old.items }
+        All (IsAtItsEndpoint replies.now now.id now.log) passes.old.notices.items }
     requires actor { reply.actor ≡ (live_view K.state live.now).id }
     requires place { NamesPlace (live_view K.state live.now).log (Answered reply) }
-    ensures { (endpoint : Endpoint ReplyExecView) → endpoint ≡ get_or notices.old.items at endpoint →
-        notices.new.items ≡ slice_set notices.old.items at
-        (replied_to (live_view K.state live.now).log reply 0 endpoint) }
+    ensures taken { (passes.new.letters ≡ passes.old.letters) × (passes.new.kills ≡ passes.old.kills) }
+    ensures given { (endpoint : Endpoint ReplyExecView) → endpoint ≡ get_or passes.old.notices.items at endpoint →
+        passes.new.notices.items ≡ slice_set passes.old.notices.items at
+        (replied_to (live_view K.state live.now).log reply S.stamp endpoint) }
 {
-    let endpoint = &mut notices[at];
-    give(
+    let endpoint = &mut passes.notices[at];
+    give::<S, R>(
         rt,
         &replies[endpoint.place],
         &mut endpoint.pass,
@@ -122,37 +131,42 @@ fn run_one<R: Wait, K: Actor, F: Fn(ActorId, u32), N: Notes>(
     rt: &R,
     live: &mut Live<K>,
     replies: &[Replies],
-    notices: &mut Vec<Endpoint<ReplyExec>>,
+    passes: &mut ExecPasses,
     pass: &F,
     notes: &mut N,
 ) -> Result<bool, NoMemory>
     requires callable { F.IsAlwaysCallable pass.now }
     requires endpoints { All
         (IsAtItsEndpoint replies.now (live_view K.state live.old).id
-        (live_view K.state live.old).log) notices.old.items }
-    requires differ { EndpointsDiffer replies.now notices.old.items }
+        (live_view K.state live.old).log) passes.old.notices.items }
+    requires differ { EndpointsDiffer replies.now passes.old.notices.items }
     ensures endpoints { All (IsAtItsEndpoint replies.now (live_view K.state live.new).id
-        (live_view K.state live.new).log) notices.new.items }
-    ensures stay { map without_given notices.new.items ≡ map without_given notices.old.items }
+        (live_view K.state live.new).log) passes.new.notices.items }
+    ensures stay { map without_given passes.new.notices.items ≡ map without_given passes.old.notices.items }
     ensures on { ActorGoesOn (live_view K.state live.old) (live_view K.state live.new) }
-    ensures gone { IfOk result (λ ran. HasGone ran replies.now notices.old.items (live_view K.state live.old)
+    ensures taken { (passes.new.letters ≡ passes.old.letters) × (passes.new.kills ≡ passes.old.kills) }
+    ensures gone { IfOk result (λ ran. HasGone ran replies.now passes.old.notices.items (live_view K.state live.old)
         (live_view K.state live.new)) }
-    ensures first { IfOk result (λ ran. ran ≡ true → RanFirst replies.now notices.old.items (live_view K.state live.old)
-        (live_view K.state live.new)) }
+    ensures first { IfOk result (λ ran. ran ≡ true → RanFirst replies.now passes.old.notices.items
+        (live_view K.state live.old) (live_view K.state live.new)) }
     ensures err { OnErr result (live_view K.state live.new ≡ live_view K.state live.old) }
     ensures serving { (opening : KindState) (callers : List ℕ) (letters : List Letter) →
-        IsServing opening callers replies.now letters (live_view K.state live.old) notices.old.items →
-        IsServing opening callers replies.now letters (live_view K.state live.new) notices.new.items }
+        IsServing opening callers replies.now letters (live_view K.state live.old) passes.old.notices.items →
+        IsServing opening callers replies.now letters (live_view K.state live.new) passes.new.notices.items }
+    ensures traced { (opening : KindState) (callers : List ℕ) →
+        IsServing opening callers replies.now passes.old.letters.taken (live_view K.state live.old)
+        passes.old.notices.items → KeepsTrace replies.now (live_view K.state live.old) (live_view K.state live.new)
+        passes.old passes.new }
 {
-    let Some(at) = next_endpoint(live, replies, notices.as_slice()) else {
+    let Some(at) = next_endpoint(live, replies, passes.notices.as_slice()) else {
         return Ok(false);
     };
     let passed = pass_gate(live, pass);
-    let place = notices[at].place;
+    let place = passes.notices[at].place;
     match run_next(live, replies[place].caller(), passed) {
         Ok(Some(reply)) => {
             notes.note(Mark::Run(reply.caller));
-            give_reply(rt, live, replies, notices, at, reply);
+            give_reply::<Brand, R, K>(rt, live, replies, passes, at, reply);
             Ok(true)
         }
         Ok(None) => Ok(false),
@@ -173,41 +187,50 @@ fn take_turn<R: Wait, K: Actor, F: Fn(ActorId, u32), N: Notes>(
     rt: &R,
     live: &mut Live<K>,
     lines: &ExecLines,
-    letters: &mut MailExec,
-    notices: &mut Vec<Endpoint<ReplyExec>>,
+    passes: &mut ExecPasses,
     pass: &F,
     notes: &mut N,
 ) -> Turn
     requires callable { F.IsAlwaysCallable pass.now }
-    requires mail { letters.old.line ≡ lines.now.mail.now.line }
+    requires mail { passes.old.letters.line ≡ lines.now.mail.now.line }
     requires endpoints { All (IsAtItsEndpoint lines.now.replies.now (live_view K.state live.old).id
-        (live_view K.state live.old).log) notices.old.items }
-    requires differ { EndpointsDiffer lines.now.replies.now notices.old.items }
-    ensures letters { letters.new ≡ record letters.old { taken = letters.new.taken; stamps = letters.new.stamps } }
+        (live_view K.state live.old).log) passes.old.notices.items }
+    requires differ { EndpointsDiffer lines.now.replies.now passes.old.notices.items }
+    ensures letters { passes.new.letters ≡ record passes.old.letters {
+      taken = passes.new.letters.taken;
+      stamps = passes.new.letters.stamps;
+    } }
+    ensures kills { passes.new.kills ≡ passes.old.kills }
     ensures endpoints { All (IsAtItsEndpoint lines.now.replies.now (live_view K.state live.new).id
-        (live_view K.state live.new).log) notices.new.items }
-    ensures stay { map without_given notices.new.items ≡ map without_given notices.old.items }
+        (live_view K.state live.new).log) passes.new.notices.items }
+    ensures stay { map without_given passes.new.notices.items ≡ map without_given passes.old.notices.items }
     ensures on { ActorGoesOn (live_view K.state live.old) (live_view K.state live.new) }
-    ensures moved { result ≡ Moved → length letters.old.taken + length
-        (live_view K.state live.old).log < length letters.new.taken + length (live_view K.state live.new).log }
+    ensures moved { result ≡ Moved → length passes.old.letters.taken + length
+        (live_view K.state live.old).log < length passes.new.letters.taken + length (live_view K.state live.new).log }
     ensures starved { result ≡ Starved → (live_view K.state live.new).log ≡ (live_view K.state live.old).log }
-    ensures idle { result ≡ Idle → (letters.new ≡ letters.old) ×
-        HasGone false lines.now.replies.now notices.old.items (live_view K.state live.old)
+    ensures idle { result ≡ Idle → (passes.new.letters ≡ passes.old.letters) ×
+        HasGone false lines.now.replies.now passes.old.notices.items (live_view K.state live.old)
         (live_view K.state live.new) }
     ensures serving { (opening : KindState) (callers : List ℕ) →
-        IsServing opening callers lines.now.replies.now letters.old.taken
-        (live_view K.state live.old) notices.old.items →
-        IsServing opening callers lines.now.replies.now letters.new.taken
-        (live_view K.state live.new) notices.new.items }
+        IsServing opening callers lines.now.replies.now passes.old.letters.taken
+        (live_view K.state live.old) passes.old.notices.items →
+        IsServing opening callers lines.now.replies.now passes.new.letters.taken
+        (live_view K.state live.new) passes.new.notices.items }
+    ensures traced { (opening : KindState) (callers : List ℕ) →
+        IsServing opening callers lines.now.replies.now passes.old.letters.taken
+        (live_view K.state live.old) passes.old.notices.items →
+        has_terminated (live_view K.state live.old).log ≡ false →
+        KeepsTrace lines.now.replies.now (live_view K.state live.old) (live_view K.state live.new)
+        passes.old passes.new }
 {
-    match take_letter(rt, live, lines, letters, notices, pass, notes) {
+    match take_letter(rt, live, lines, passes, pass, notes) {
         Err(_) => Turn::Starved,
         Ok(Received::Ran) => Turn::Moved,
-        Ok(Received::Held) => match run_one(rt, live, lines.replies, notices, pass, notes) {
+        Ok(Received::Held) => match run_one(rt, live, lines.replies, passes, pass, notes) {
             Err(_) => Turn::Starved,
             Ok(_) => Turn::Moved,
         },
-        Ok(Received::Nothing) => match run_one(rt, live, lines.replies, notices, pass, notes) {
+        Ok(Received::Nothing) => match run_one(rt, live, lines.replies, passes, pass, notes) {
             Err(_) => Turn::Starved,
             Ok(ran) => { if ran { Turn::Moved } else { Turn::Idle } }
         },
@@ -233,6 +256,9 @@ fn is_over<R: Wait, K: Actor>(
     } }
     ensures looked { length (live_view K.state live.now).log ≤ kills.new.looked }
     ensures told { HasLooked result (live_view K.state live.now).log kills.old kills.new }
+    ensures ended { has_terminated (live_view K.state live.now).log ≡ true → kills.new ≡ kills.old }
+    ensures stamped { has_terminated (live_view K.state live.now).log ≡ false → result ≡ true →
+        (n : ℕ) × (kills.new.stamps ≡ kills.old.stamps ++ n ∷ []) }
 {
     live.terminated() || control.take(rt, kills, live).is_some()
 }
@@ -244,20 +270,22 @@ fn note_kill<K: Actor, N: Notes>(live: &Live<K>, notes: &mut N) {
     }
 }
 
-/// Gives the actor's death to each caller.
-fn tell_deaths<R: Wait, N: Notes>(
+/// Gives the actor's death to each caller, with the stamp `S`.
+fn tell_deaths<S: Stamped, R: Wait, N: Notes>(
     rt: &R,
     replies: &[Replies],
-    notices: &mut Vec<Endpoint<ReplyExec>>,
+    passes: &mut ExecPasses,
     dead: &Dead,
     notes: &mut N,
 )
-    requires endpoints { All (IsAtItsEndpoint replies.now dead.now.id dead.now.log) notices.old.items }
-    ensures { notices.new.items ≡ map (with_death_given dead.now.id dead.now.log 0) notices.old.items }
+    requires endpoints { All (IsAtItsEndpoint replies.now dead.now.id dead.now.log) passes.old.notices.items }
+    ensures taken { (passes.new.letters ≡ passes.old.letters) × (passes.new.kills ≡ passes.old.kills) }
+    ensures given { passes.new.notices.items ≡
+        map (with_death_given dead.now.id dead.now.log S.stamp) passes.old.notices.items }
 {
-    for endpoint in notices.iter_mut() {
+    for endpoint in passes.notices.iter_mut() {
         notes.note(Mark::Tell(replies[endpoint.place].caller()));
-        give(
+        give::<S, R>(
             rt,
             &replies[endpoint.place],
             &mut endpoint.pass,
@@ -288,25 +316,17 @@ pub fn serve_by<R: Wait, K: Actor, F: Fn(ActorId, u32), N: Notes>(
         if is_over(rt, &live, lines.control, &mut passes.kills) {
             note_kill(&live, notes);
             let dead = live.kill();
-            tell_deaths(rt, lines.replies, &mut passes.notices, &dead, notes);
+            tell_deaths::<Brand, R, N>(rt, lines.replies, &mut passes, &dead, notes);
             return Finished {
                 ended: Ended::Killed(dead),
                 passes,
             };
         }
-        match take_turn(
-            rt,
-            &mut live,
-            lines,
-            &mut passes.letters,
-            &mut passes.notices,
-            pass,
-            notes,
-        ) {
+        match take_turn(rt, &mut live, lines, &mut passes, pass, notes) {
             Turn::Moved => idle_backoff.reset(),
             Turn::Starved => {
                 let dead = live.kill();
-                tell_deaths(rt, lines.replies, &mut passes.notices, &dead, notes);
+                tell_deaths::<Brand, R, N>(rt, lines.replies, &mut passes, &dead, notes);
                 return Finished {
                     ended: Ended::Starved(dead),
                     passes,

@@ -4,32 +4,34 @@ use Rattle.act_actor.specs.StateViews.{live_view}
 use Rattle.act_mailbox.specs.declared.mail.Letter.TheVariants.{Call}
 use Rattle.act_mailbox.specs.Notices.{ReplyExecView}
 use Rattle.act_mailbox.specs.declared.endpoint.Endpoint.{Endpoint}
+use Rattle.act_serve.specs.ActorTraces.{exec_clock}
 use Rattle.act_serve.specs.Served.{without_given}
 use Rattle.act_serve.specs.Turns.{IsAtItsEndpoint, IsServing}
 use Rattle.act_serve.proofs.AtOnce.{serving_held, serving_refused, goes_on, endpoints_on, endpoints_given, bare_given, serving_given, found}
 use Rattle.act_serve.proofs.Nexts.{replied_place}
 use Rattle.act_serve.proofs.Serving.{serving_in}
+use Rattle.act_serve.proofs.Traces.{traced_run}
 use Rattle.act_serve.proofs.letter.take_call.Goals as goal
 
 pub returns-in_err-hold-clause-serving : goal.returns-in_err-hold-clause-serving
 returns-in_err-hold-clause-serving g c = λ opening callers letters h.
-    serving_in opening callers c.args.replies.now letters (letters ++ Call c.args.packet ∷ []) (live_view g.K.Actor.state c.args.live.now) (live_view g.K.Actor.state c.hold.new.live) c.args.notices.now.items
+    serving_in opening callers c.args.replies.now letters (letters ++ Call c.args.packet ∷ []) (live_view g.K.Actor.state c.args.live.now) (live_view g.K.Actor.state c.hold.new.live) c.args.passes.now.notices.items
     c.hold.ensures.same (λ who. c.hold.ensures.fed who letters) h
 
 pub returns-in_default-clause-serving : goal.returns-in_default-clause-serving
 returns-in_default-clause-serving g c = λ opening callers letters h.
-    serving_in opening callers c.args.replies.now letters (letters ++ Call c.args.packet ∷ []) (live_view g.K.Actor.state c.args.live.now) (live_view g.K.Actor.state c.hold.new.live) c.args.notices.now.items
+    serving_in opening callers c.args.replies.now letters (letters ++ Call c.args.packet ∷ []) (live_view g.K.Actor.state c.args.live.now) (live_view g.K.Actor.state c.hold.new.live) c.args.passes.now.notices.items
     c.hold.ensures.same (λ who. c.hold.ensures.fed who letters) h
 
 pub returns-in_err-reply-clause-serving : goal.returns-in_err-reply-clause-serving
 returns-in_err-reply-clause-serving g c = λ opening callers letters h.
-    serving_refused opening callers c.args.replies.now letters c.args.packet (live_view g.K.Actor.state c.args.live.now) (live_view g.K.Actor.state c.run_now.new.live) c.args.notices.now.items c.in_err-reply.ensures.err h
+    serving_refused opening callers c.args.replies.now letters c.args.packet (live_view g.K.Actor.state c.args.live.now) (live_view g.K.Actor.state c.run_now.new.live) c.args.passes.now.notices.items c.in_err-reply.ensures.err h
 
 pub give_reply-requires-clause-endpoints : goal.give_reply-requires-clause-endpoints
 give_reply-requires-clause-endpoints g c =
     let before = with_packet c.args.packet (live_view g.K.Actor.state c.args.live.now) in
     let after = live_view g.K.Actor.state c.run_now.new.live in
-    endpoints_on c.args.replies.now c.args.packet.caller c.in_ok-reply.reply before after c.args.notices.now.items c.in_ok-reply.ensures.ran c.requires.endpoints
+    endpoints_on c.args.replies.now c.args.packet.caller c.in_ok-reply.reply before after c.args.passes.now.notices.items c.in_ok-reply.ensures.ran c.requires.endpoints
 
 pub give_reply-requires-clause-place : goal.give_reply-requires-clause-place
 give_reply-requires-clause-place g c =
@@ -42,19 +44,19 @@ returns-clause-endpoints g c =
     let before = with_packet c.args.packet (live_view g.K.Actor.state c.args.live.now) in
     let after = live_view g.K.Actor.state c.run_now.new.live in
     let replies = c.args.replies.now in
-    let endpoints = c.args.notices.now.items in
+    let endpoints = c.args.passes.now.notices.items in
     let at = found replies c.args.packet.caller c.in-Some.at endpoints c.as_slice.result.now c.as_slice.ensures.value c.in-Some.ensures.endpoint in
-    subst (λ (l : List (Endpoint ReplyExecView)). All (IsAtItsEndpoint replies after.id after.log) l) (sym (c.give_reply.ensures at.endpoint (sym (at.here at.endpoint))))
-    (endpoints_given replies endpoints c.in-Some.at at.endpoint at.here c.in_ok-reply.reply 0 after.id after.log
+    subst (λ (l : List (Endpoint ReplyExecView)). All (IsAtItsEndpoint replies after.id after.log) l) (sym (c.give_reply.ensures.given at.endpoint (sym (at.here at.endpoint))))
+    (endpoints_given replies endpoints c.in-Some.at at.endpoint at.here c.in_ok-reply.reply (exec_clock c.args.passes.now) after.id after.log
     (endpoints_on replies c.args.packet.caller c.in_ok-reply.reply before after endpoints c.in_ok-reply.ensures.ran c.requires.endpoints) at.below)
 
 pub returns-clause-stay : goal.returns-clause-stay
 returns-clause-stay g c =
     let after = live_view g.K.Actor.state c.run_now.new.live in
     let replies = c.args.replies.now in
-    let endpoints = c.args.notices.now.items in
+    let endpoints = c.args.passes.now.notices.items in
     let at = found replies c.args.packet.caller c.in-Some.at endpoints c.as_slice.result.now c.as_slice.ensures.value c.in-Some.ensures.endpoint in
-    ap (map without_given) (c.give_reply.ensures at.endpoint (sym (at.here at.endpoint))) ∙ bare_given replies endpoints c.in-Some.at at.endpoint at.here c.in_ok-reply.reply 0 after.log
+    ap (map without_given) (c.give_reply.ensures.given at.endpoint (sym (at.here at.endpoint))) ∙ bare_given replies endpoints c.in-Some.at at.endpoint at.here c.in_ok-reply.reply (exec_clock c.args.passes.now) after.log
 
 pub returns-clause-on : goal.returns-clause-on
 returns-clause-on g c =
@@ -68,9 +70,23 @@ returns-clause-serving g c =
     let after = live_view g.K.Actor.state c.run_now.new.live in
     let packet = c.args.packet in
     let replies = c.args.replies.now in
-    let endpoints = c.args.notices.now.items in
+    let endpoints = c.args.passes.now.notices.items in
     let at = found replies packet.caller c.in-Some.at endpoints c.as_slice.result.now c.as_slice.ensures.value c.in-Some.ensures.endpoint in
     λ opening callers letters h.
-    subst (λ (l : List (Endpoint ReplyExecView)). IsServing opening callers replies (letters ++ Call packet ∷ []) after l) (sym (c.give_reply.ensures at.endpoint (sym (at.here at.endpoint))))
-    (serving_given replies endpoints c.in-Some.at at.endpoint at.here c.in_ok-reply.reply 0 opening callers (letters ++ Call packet ∷ []) packet.caller (with_packet packet before) after
+    subst (λ (l : List (Endpoint ReplyExecView)). IsServing opening callers replies (letters ++ Call packet ∷ []) after l) (sym (c.give_reply.ensures.given at.endpoint (sym (at.here at.endpoint))))
+    (serving_given replies endpoints c.in-Some.at at.endpoint at.here c.in_ok-reply.reply (exec_clock c.args.passes.now) opening callers (letters ++ Call packet ∷ []) packet.caller (with_packet packet before) after
     c.in_ok-reply.ensures.ran at.below at.mine c.requires.differ (serving_held packet before c.in-Some.ensures.at_once opening callers replies letters endpoints h))
+
+pub returns-clause-traced : goal.returns-clause-traced
+returns-clause-traced g c =
+    let before = live_view g.K.Actor.state c.args.live.now in
+    let after = live_view g.K.Actor.state c.run_now.new.live in
+    let packet = c.args.packet in
+    let replies = c.args.replies.now in
+    let endpoints = c.args.passes.now.notices.items in
+    let at = found replies packet.caller c.in-Some.at endpoints c.as_slice.result.now c.as_slice.ensures.value c.in-Some.ensures.endpoint in
+    let taken = c.give_reply.ensures.taken in
+    λ opening callers letters h shown.
+    let serving : IsServing opening callers replies (letters ++ Call packet ∷ []) after c.give_reply.new.passes.notices.items = returns-clause-serving g c opening callers letters h in
+    traced_run replies callers (letters ++ Call packet ∷ []) (with_packet packet before) after packet.caller c.in_ok-reply.reply c.in_ok-reply.ensures.ran c.args.passes.now c.give_reply.new.passes
+    c.in-Some.at at.endpoint at.here at.below serving.fed.log shown taken.0 taken.1 (c.give_reply.ensures.given at.endpoint (sym (at.here at.endpoint)))

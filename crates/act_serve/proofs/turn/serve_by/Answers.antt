@@ -1,24 +1,53 @@
-use Rattle.std.proofs.Common.{rules, ◌≡◌, ◌∙◌, false, ap, sym, subst, length, map}
+use Rattle.std.proofs.Common.{rules, ◌≡◌, ◌≤◌, ◌∙◌, Bool, false, ap, sym, subst, refl, length, map}
 use Rattle.act_rules.specs.RunList.{has_terminated, NothingFollowsAnEnd}
 use Rattle.act_actor.specs.Actor.{MayRetire}
-use Rattle.act_actor.specs.View.{ActorView}
+use Rattle.act_actor.specs.View.{ActorView, DeadView}
 use Rattle.act_actor.specs.StateViews.{live_view, retired_view}
+use Rattle.act_mailbox.specs.declared.mail.Letter.{Letter}
+use Rattle.act_mailbox.specs.Controls.{ControlExecView}
+use Rattle.act_mailbox.specs.Passes.{TakerView}
 use Rattle.act_serve.specs.declared.endpoint.ExecPasses.{ExecPasses}
-use Rattle.act_serve.specs.Served.{endpoint_callers, without_given}
-use Rattle.act_serve.specs.Turns.{PassesFit, IsServing, HasLooked}
-use Rattle.act_serve.proofs.Serving.{stay_on, look_on, still_untaken, kept_kills, looked_on, step_fit, killed_served, starved_served, retired_served}
+use Rattle.act_serve.specs.ActorTraces.{exec_clock}
+use Rattle.act_serve.specs.Served.{endpoint_callers, without_given, KillsOfDead}
+use Rattle.act_serve.specs.Turns.{PassesFit, IsServing, IsTracedSoFar, HasLooked, with_death_given}
+use Rattle.act_serve.proofs.Serving.{stay_on, look_on, still_untaken, kept_kills, looked_on, step_fit, killed_served, starved_served, retired_served, fresh_serving}
+use Rattle.act_serve.proofs.Traces.{traced_over, traced_told, traced_looked, traced_fresh}
 use Rattle.act_serve.proofs.turn.serve_by.Goals as goal
+
+pub loop-init : goal.loop-init
+loop-init g c =
+    let now = live_view g.K.Actor.state c.args.live in
+    let replies = c.args.lines.now.replies.now in
+    record {
+      passes = c.requires.passes;
+      id = refl;
+      stay = record { letters = refl; kills = refl; endpoints = refl };
+      serving = fresh_serving replies now c.args.passes c.requires.fresh;
+      untaken = c.requires.fresh.passes_fresh.kills;
+      last = search rules;
+      traced = traced_fresh replies now c.args.passes c.requires.fresh;
+    }
 
 pub returns-then-is_over : goal.returns-then-is_over
 returns-then-is_over g c =
     let now = live_view g.K.Actor.state c.loop.live in
     let replies = c.args.lines.now.replies.now in
-    let passes : ExecPasses = record { letters = c.loop.passes.letters; kills = c.is_over.new.kills; notices = c.tell_deaths.new.notices } in
-    let still = stay_on c.args.passes c.loop.passes (record { letters = c.loop.passes.letters; kills = c.is_over.new.kills; notices = c.loop.passes.notices }) c.loop.invariant.stay (λ i. c.loop.passes.letters) c.is_over.ensures.pass (λ i. map without_given c.loop.passes.notices.items) in
-    killed_served (g.K.Actor.state c.args.live.kind) replies c.args.passes now c.loop.passes.notices.items passes
-    c.loop.invariant.serving still.letters still.kills still.endpoints c.is_over.ensures.looked c.loop.invariant.last
-    c.args.live.id c.kill-dead.result c.loop.invariant.id c.kill-dead.ensures c.tell_deaths.ensures
-    (subst (λ b. HasLooked b now.log c.loop.passes.kills c.is_over.new.kills) c.if-is_over.true c.is_over.ensures.told)
+    let old = c.loop.invariant in
+    let between : ExecPasses = record c.loop.passes { kills = c.is_over.new.kills } in
+    let told : ExecPasses = c.tell_deaths.new.passes in
+    let taken = c.tell_deaths.ensures.taken in
+    let letters : told.letters ≡ record c.loop.passes.letters { taken = told.letters.taken; stamps = told.letters.stamps } = ap (λ (p : TakerView Letter (Unit {0})). record p { taken = told.letters.taken; stamps = told.letters.stamps }) taken.0 in
+    let kills : told.kills ≡ record c.loop.passes.kills { taken = told.kills.taken; stamps = told.kills.stamps; lengths = told.kills.lengths; looked = told.kills.looked } =
+    subst (λ (k : ControlExecView). k ≡ record c.loop.passes.kills { taken = k.taken; stamps = k.stamps; lengths = k.lengths; looked = k.looked }) (sym taken.1) c.is_over.ensures.pass in
+    let still = stay_on c.args.passes c.loop.passes (record told { notices = c.loop.passes.notices }) old.stay letters kills (λ i. map without_given c.loop.passes.notices.items) in
+    let why : KillsOfDead (has_terminated now.log) now.log c.is_over.new.kills = subst (λ (b : Bool). HasLooked b now.log c.loop.passes.kills c.is_over.new.kills) c.if-is_over.true c.is_over.ensures.told in
+    let died = traced_over now.id replies now.log c.loop.passes c.is_over.new.kills c.is_over.result c.if-is_over.true why old.untaken c.is_over.ensures.ended c.is_over.ensures.stamped old.traced in
+    killed_served (g.K.Actor.state c.args.live.kind) replies c.args.passes now c.loop.passes.notices.items told
+    (subst (λ (p : TakerView Letter (Unit {0})). IsServing (g.K.Actor.state c.args.live.kind) (endpoint_callers replies c.args.passes.notices.items) replies p.taken now c.loop.passes.notices.items) (sym taken.0) old.serving)
+    still.letters still.kills still.endpoints (subst (λ (k : ControlExecView). length now.log ≤ k.looked) (sym taken.1) c.is_over.ensures.looked) old.last
+    c.args.live.id (exec_clock between) c.kill-dead.result old.id c.kill-dead.ensures c.tell_deaths.ensures.given
+    (subst (λ (k : ControlExecView). KillsOfDead (has_terminated now.log) now.log k) (sym taken.1) why)
+    (traced_told now.id replies now.log between told died taken.0 taken.1 (c.tell_deaths.ensures.given ∙ ap (λ (d : DeadView). map (with_death_given d.id d.log (exec_clock between)) c.loop.passes.notices.items) c.kill-dead.ensures))
 
 pub loop-preserved-in-Moved : goal.loop-preserved-in-Moved
 loop-preserved-in-Moved g c =
@@ -27,17 +56,19 @@ loop-preserved-in-Moved g c =
     let replies = c.args.lines.now.replies.now in
     let old = c.loop.invariant in
     let turn = c.take_turn.ensures in
-    let between : ExecPasses = record { letters = c.take_turn.new.letters; kills = c.is_over.new.kills; notices = c.take_turn.new.notices } in
-    let on : HasLooked false before.log c.loop.passes.kills c.is_over.new.kills = subst (λ b. HasLooked b before.log c.loop.passes.kills c.is_over.new.kills) c.if-is_over.false c.is_over.ensures.told in
-    let look = look_on c.loop.passes.kills c.is_over.new.kills _ on.1 in
-    let still = stay_on c.args.passes c.loop.passes between old.stay turn.letters (kept_kills c.loop.passes.kills c.is_over.new.kills look.0) turn.stay in
+    let after : ExecPasses = c.take_turn.new.passes in
+    let on : HasLooked false before.log c.loop.passes.kills c.is_over.new.kills = subst (λ (b : Bool). HasLooked b before.log c.loop.passes.kills c.is_over.new.kills) c.if-is_over.false c.is_over.ensures.told in
+    let seen = look_on c.loop.passes.kills c.is_over.new.kills _ on.1 in
+    let look = look_on c.loop.passes.kills after.kills _ (turn.kills ∙ on.1) in
+    let still = stay_on c.args.passes c.loop.passes after old.stay turn.letters (kept_kills c.loop.passes.kills after.kills look.0) turn.stay in
     record {
-      passes = step_fit c.args.lines.now.mail.now.line c.args.lines.now.control.now.line replies before.id now.id before.log now.log c.loop.passes between old.passes turn.letters look.0 look.1 turn.on.id turn.on.long turn.endpoints turn.stay;
+      passes = step_fit c.args.lines.now.mail.now.line c.args.lines.now.control.now.line replies before.id now.id before.log now.log c.loop.passes after old.passes turn.letters look.0 look.1 turn.on.id turn.on.long turn.endpoints turn.stay;
       id = turn.on.id ∙ old.id;
       stay = still;
       serving = turn.serving (g.K.Actor.state c.args.live.kind) (endpoint_callers replies c.args.passes.notices.items) old.serving;
-      untaken = still_untaken c.loop.passes.kills c.is_over.new.kills look.0 old.untaken;
+      untaken = still_untaken c.loop.passes.kills after.kills look.0 old.untaken;
       last = turn.on.last old.last;
+      traced = turn.traced (g.K.Actor.state c.args.live.kind) (endpoint_callers replies c.args.passes.notices.items) old.serving on.0 (traced_looked before.id replies before.log c.loop.passes c.is_over.new.kills seen.0 old.traced);
     }
 
 pub returns-in-Starved : goal.returns-in-Starved
@@ -47,16 +78,21 @@ returns-in-Starved g c =
     let replies = c.args.lines.now.replies.now in
     let old = c.loop.invariant in
     let turn = c.take_turn.ensures in
-    let between : ExecPasses = record { letters = c.take_turn.new.letters; kills = c.is_over.new.kills; notices = c.take_turn.new.notices } in
-    let on : HasLooked false before.log c.loop.passes.kills c.is_over.new.kills = subst (λ b. HasLooked b before.log c.loop.passes.kills c.is_over.new.kills) c.if-is_over.false c.is_over.ensures.told in
-    let look = look_on c.loop.passes.kills c.is_over.new.kills _ on.1 in
-    let still = stay_on c.args.passes c.loop.passes between old.stay turn.letters (kept_kills c.loop.passes.kills c.is_over.new.kills look.0) turn.stay in
-    starved_served (g.K.Actor.state c.args.live.kind) replies c.args.passes now c.take_turn.new.notices.items
-    (record { letters = c.take_turn.new.letters; kills = c.is_over.new.kills; notices = c.tell_deaths-in-Starved.new.notices })
-    (turn.serving (g.K.Actor.state c.args.live.kind) (endpoint_callers replies c.args.passes.notices.items) old.serving) still.letters still.kills still.endpoints
-    (looked_on c.loop.passes.kills.looked c.is_over.new.kills.looked (length before.log) (length now.log) look.1 old.passes.looked turn.on.long) (turn.on.last old.last)
-    c.args.live.id c.kill-dead-in-Starved.result (turn.on.id ∙ old.id) c.kill-dead-in-Starved.ensures c.tell_deaths-in-Starved.ensures
-    (still_untaken c.loop.passes.kills c.is_over.new.kills look.0 old.untaken) (ap has_terminated (turn.starved (search rules)) ∙ on.0)
+    let after : ExecPasses = c.take_turn.new.passes in
+    let told : ExecPasses = c.tell_deaths-in-Starved.new.passes in
+    let taken = c.tell_deaths-in-Starved.ensures.taken in
+    let on : HasLooked false before.log c.loop.passes.kills c.is_over.new.kills = subst (λ (b : Bool). HasLooked b before.log c.loop.passes.kills c.is_over.new.kills) c.if-is_over.false c.is_over.ensures.told in
+    let look = look_on c.loop.passes.kills told.kills _ (taken.1 ∙ turn.kills ∙ on.1) in
+    let letters : told.letters ≡ record c.loop.passes.letters { taken = told.letters.taken; stamps = told.letters.stamps } =
+    subst (λ (p : TakerView Letter (Unit {0})). p ≡ record c.loop.passes.letters { taken = p.taken; stamps = p.stamps }) (sym taken.0) turn.letters in
+    let still = stay_on c.args.passes c.loop.passes (record told { notices = after.notices }) old.stay letters (kept_kills c.loop.passes.kills told.kills look.0) turn.stay in
+    starved_served (g.K.Actor.state c.args.live.kind) replies c.args.passes now after.notices.items told
+    (subst (λ (p : TakerView Letter (Unit {0})). IsServing (g.K.Actor.state c.args.live.kind) (endpoint_callers replies c.args.passes.notices.items) replies p.taken now after.notices.items) (sym taken.0)
+    (turn.serving (g.K.Actor.state c.args.live.kind) (endpoint_callers replies c.args.passes.notices.items) old.serving))
+    still.letters still.kills still.endpoints
+    (looked_on c.loop.passes.kills.looked told.kills.looked (length before.log) (length now.log) look.1 old.passes.looked turn.on.long) (turn.on.last old.last)
+    c.args.live.id (exec_clock after) c.kill-dead-in-Starved.result (turn.on.id ∙ old.id) c.kill-dead-in-Starved.ensures c.tell_deaths-in-Starved.ensures.given
+    (still_untaken c.loop.passes.kills told.kills look.0 old.untaken) (ap has_terminated (turn.starved (search rules)) ∙ on.0)
 
 pub returns-in-Ok : goal.returns-in-Ok
 returns-in-Ok g c =
@@ -65,16 +101,18 @@ returns-in-Ok g c =
     let replies = c.args.lines.now.replies.now in
     let old = c.loop.invariant in
     let turn = c.take_turn.ensures in
-    let between : ExecPasses = record { letters = c.take_turn.new.letters; kills = c.is_over.new.kills; notices = c.take_turn.new.notices } in
-    let on : HasLooked false before.log c.loop.passes.kills c.is_over.new.kills = subst (λ b. HasLooked b before.log c.loop.passes.kills c.is_over.new.kills) c.if-is_over.false c.is_over.ensures.told in
-    let look = look_on c.loop.passes.kills c.is_over.new.kills _ on.1 in
-    let still = stay_on c.args.passes c.loop.passes between old.stay turn.letters (kept_kills c.loop.passes.kills c.is_over.new.kills look.0) turn.stay in
+    let after : ExecPasses = c.take_turn.new.passes in
+    let on : HasLooked false before.log c.loop.passes.kills c.is_over.new.kills = subst (λ (b : Bool). HasLooked b before.log c.loop.passes.kills c.is_over.new.kills) c.if-is_over.false c.is_over.ensures.told in
+    let seen = look_on c.loop.passes.kills c.is_over.new.kills _ on.1 in
+    let look = look_on c.loop.passes.kills after.kills _ (turn.kills ∙ on.1) in
+    let still = stay_on c.args.passes c.loop.passes after old.stay turn.letters (kept_kills c.loop.passes.kills after.kills look.0) turn.stay in
     let may : MayRetire now.log now.inbox = search rules in
-    retired_served (g.K.Actor.state c.args.live.kind) replies c.args.passes now c.take_turn.new.notices.items between
+    retired_served (g.K.Actor.state c.args.live.kind) replies c.args.passes now after.notices.items after
     (turn.serving (g.K.Actor.state c.args.live.kind) (endpoint_callers replies c.args.passes.notices.items) old.serving) still.letters still.kills still.endpoints
-    (looked_on c.loop.passes.kills.looked c.is_over.new.kills.looked (length before.log) (length now.log) look.1 old.passes.looked turn.on.long) (turn.on.last old.last)
-    c.args.live.id (retired_view g.K.Actor.state c.in-Ok.retired) (turn.on.id ∙ old.id) c.in-Ok.ensures.ok may (λ i. c.take_turn.new.notices.items)
-    (still_untaken c.loop.passes.kills c.is_over.new.kills look.0 old.untaken)
+    (looked_on c.loop.passes.kills.looked after.kills.looked (length before.log) (length now.log) look.1 old.passes.looked turn.on.long) (turn.on.last old.last)
+    c.args.live.id (retired_view g.K.Actor.state c.in-Ok.retired) (turn.on.id ∙ old.id) c.in-Ok.ensures.ok may (λ i. after.notices.items)
+    (still_untaken c.loop.passes.kills after.kills look.0 old.untaken)
+    (turn.traced (g.K.Actor.state c.args.live.kind) (endpoint_callers replies c.args.passes.notices.items) old.serving on.0 (traced_looked before.id replies before.log c.loop.passes c.is_over.new.kills seen.0 old.traced))
 
 pub loop-preserved : goal.loop-preserved
 loop-preserved g c =
@@ -83,19 +121,22 @@ loop-preserved g c =
     let replies = c.args.lines.now.replies.now in
     let old = c.loop.invariant in
     let turn = c.take_turn.ensures in
-    let between : ExecPasses = record { letters = c.take_turn.new.letters; kills = c.is_over.new.kills; notices = c.take_turn.new.notices } in
-    let on : HasLooked false before.log c.loop.passes.kills c.is_over.new.kills = subst (λ b. HasLooked b before.log c.loop.passes.kills c.is_over.new.kills) c.if-is_over.false c.is_over.ensures.told in
-    let look = look_on c.loop.passes.kills c.is_over.new.kills _ on.1 in
-    let still = stay_on c.args.passes c.loop.passes between old.stay turn.letters (kept_kills c.loop.passes.kills c.is_over.new.kills look.0) turn.stay in
+    let after : ExecPasses = c.take_turn.new.passes in
+    let on : HasLooked false before.log c.loop.passes.kills c.is_over.new.kills = subst (λ (b : Bool). HasLooked b before.log c.loop.passes.kills c.is_over.new.kills) c.if-is_over.false c.is_over.ensures.told in
+    let seen = look_on c.loop.passes.kills c.is_over.new.kills _ on.1 in
+    let look = look_on c.loop.passes.kills after.kills _ (turn.kills ∙ on.1) in
+    let still = stay_on c.args.passes c.loop.passes after old.stay turn.letters (kept_kills c.loop.passes.kills after.kills look.0) turn.stay in
     let back = live_view g.K.Actor.state c.in-Err.back in
     let same : back ≡ now = c.in-Err.ensures.err in
     record {
-      passes = subst (λ (s : ActorView). PassesFit c.args.lines.now.mail.now.line c.args.lines.now.control.now.line replies s.id s.log between) (sym same)
-          (step_fit c.args.lines.now.mail.now.line c.args.lines.now.control.now.line replies before.id now.id before.log now.log c.loop.passes between old.passes turn.letters look.0 look.1 turn.on.id turn.on.long turn.endpoints turn.stay);
+      passes = subst (λ (s : ActorView). PassesFit c.args.lines.now.mail.now.line c.args.lines.now.control.now.line replies s.id s.log after) (sym same)
+          (step_fit c.args.lines.now.mail.now.line c.args.lines.now.control.now.line replies before.id now.id before.log now.log c.loop.passes after old.passes turn.letters look.0 look.1 turn.on.id turn.on.long turn.endpoints turn.stay);
       id = ap (λ (s : ActorView). s.id) same ∙ turn.on.id ∙ old.id;
       stay = still;
-      serving = subst (λ (s : ActorView). IsServing (g.K.Actor.state c.args.live.kind) (endpoint_callers replies c.args.passes.notices.items) replies c.take_turn.new.letters.taken s c.take_turn.new.notices.items) (sym same)
+      serving = subst (λ (s : ActorView). IsServing (g.K.Actor.state c.args.live.kind) (endpoint_callers replies c.args.passes.notices.items) replies after.letters.taken s after.notices.items) (sym same)
           (turn.serving (g.K.Actor.state c.args.live.kind) (endpoint_callers replies c.args.passes.notices.items) old.serving);
-      untaken = still_untaken c.loop.passes.kills c.is_over.new.kills look.0 old.untaken;
+      untaken = still_untaken c.loop.passes.kills after.kills look.0 old.untaken;
       last = subst (λ (s : ActorView). NothingFollowsAnEnd s.log) (sym same) (turn.on.last old.last);
+      traced = subst (λ (s : ActorView). IsTracedSoFar s.id replies s.log after) (sym same)
+          (turn.traced (g.K.Actor.state c.args.live.kind) (endpoint_callers replies c.args.passes.notices.items) old.serving on.0 (traced_looked before.id replies before.log c.loop.passes c.is_over.new.kills seen.0 old.traced));
     }

@@ -1,7 +1,8 @@
 use Rattle.std.proofs.Common.{◌≡◌}
 use Rattle.act_rules.specs.RunList.{NothingFollowsAnEnd}
 use Rattle.act_actor.specs.StateViews.{live_view}
-use Rattle.act_serve.specs.Turns.{PassesOf, IsServing}
+use Rattle.act_serve.specs.ActorTraces.{exec_clock}
+use Rattle.act_serve.specs.Turns.{PassesOf, IsServing, IsTracedSoFar}
 use Rattle.act_serve.specs.Served.{endpoint_callers, IsUntaken, ExecPassesStay}
 use Rattle.act_serve.proofs.turn.serve_by.Given as goal
 
@@ -16,4 +17,9 @@ invariant-loop g l =
       serving : IsServing before.state (endpoint_callers replies l.initial.passes.notices.items) replies l.passes.letters.taken now l.passes.notices.items;
       untaken : IsUntaken l.passes.kills;
       last : NothingFollowsAnEnd now.log;
+      traced : IsTracedSoFar now.id replies now.log l.passes;
     }
+
+-- the deaths' stamp: what the clock shows
+abbrev pub ghosts-tell_deaths : goal.ghosts-tell_deaths
+ghosts-tell_deaths g a = record { stamp = exec_clock a.passes.now }
