@@ -28,6 +28,7 @@ one_endpoint mail c post is = record {
   line = λ d. sym (ap (λ (p : PutterView Letter Unit). p.line) is);
   number = ap (λ (p : PutterView Letter Unit). p.number) is;
   put = ap (λ (p : PutterView Letter Unit). p.put) is;
+  stamps = ap (λ (p : PutterView Letter Unit). p.stamps) is;
 }
 
 one_kill : (control : ControlView) (c : ℕ) (pass : PutterView Asked ℕ) → pass ≡ new_putter control.line c → AreKillEndpoints (control ∷ []) (record { place = 0; pass = pass } ∷ [])
@@ -41,10 +42,12 @@ pub unused_alone : (passes : CallerPasses) (a c : ℕ) (mail : MailView) (contro
 unused_alone passes a c mail control replies post ask posted asked letters kills collects = record {
   collects = ap (λ (t : _). t.line) collects;
   taken = ap (λ (t : _). t.taken) collects;
+  stamps = ap (λ (t : _). t.stamps) collects;
   distinct = rw letters (λ i j d lt below. absurd (omega (arith, lt, below)));
   letters = rw letters (All-push (IsFreshEndpoint (mail ∷ []) c) [] (record { place = 0; pass = post }) (λ k d below. absurd (omega arith)) (one_endpoint mail c post posted));
   kills = rw kills (one_kill control c ask asked);
   asked = rw kills (All-push (λ (s : Endpoint (PutterView Asked ℕ)). s.pass.put ≡ []) [] (record { place = 0; pass = ask }) (λ k d below. absurd (omega arith)) (ap (λ (p : PutterView Asked ℕ). p.put) asked));
+  asked_stamps = rw kills (All-push (λ (s : Endpoint (PutterView Asked ℕ)). s.pass.stamps ≡ []) [] (record { place = 0; pass = ask }) (λ k d below. absurd (omega arith)) (ap (λ (p : PutterView Asked ℕ). p.stamps) asked));
 }
 
 -- ---- the same with two actors
@@ -71,15 +74,17 @@ unused_pair passes c mail mail2 control control2 replies post post2 ask ask2 act
     record {
       collects = ap (λ (t : _). t.line) collects;
       taken = ap (λ (t : _). t.taken) collects;
+      stamps = ap (λ (t : _). t.stamps) collects;
       distinct = rw letters distinct;
       letters = rw letters (All-two (IsFreshEndpoint (mail ∷ mail2 ∷ []) c) (record { place = 0; pass = post }) (record { place = 1; pass = post2 })
-          (record { below = omega arith; line = λ d. sym (ap (λ (p : PutterView Letter Unit). p.line) posted); number = ap (λ (p : PutterView Letter Unit). p.number) posted; put = ap (λ (p : PutterView Letter Unit). p.put) posted })
-          (record { below = omega arith; line = λ d. sym (ap (λ (p : PutterView Letter Unit). p.line) posted2); number = ap (λ (p : PutterView Letter Unit). p.number) posted2; put = ap (λ (p : PutterView Letter Unit). p.put) posted2 }));
+          (record { below = omega arith; line = λ d. sym (ap (λ (p : PutterView Letter Unit). p.line) posted); number = ap (λ (p : PutterView Letter Unit). p.number) posted; put = ap (λ (p : PutterView Letter Unit). p.put) posted; stamps = ap (λ (p : PutterView Letter Unit). p.stamps) posted })
+          (record { below = omega arith; line = λ d. sym (ap (λ (p : PutterView Letter Unit). p.line) posted2); number = ap (λ (p : PutterView Letter Unit). p.number) posted2; put = ap (λ (p : PutterView Letter Unit). p.put) posted2; stamps = ap (λ (p : PutterView Letter Unit). p.stamps) posted2 }));
       kills = rw kills (
         All-two (IsKillEndpoint controls) one two (record { below = omega arith; line = λ d. sym (ap (λ (p : PutterView Asked ℕ). p.line) asked) }) (record { below = omega arith; line = λ d. sym (ap (λ (p : PutterView Asked ℕ). p.line) asked2) }),
         differ,
       );
       asked = rw kills (All-two (λ (s : Endpoint (PutterView Asked ℕ)). s.pass.put ≡ []) one two (ap (λ (p : PutterView Asked ℕ). p.put) asked) (ap (λ (p : PutterView Asked ℕ). p.put) asked2));
+      asked_stamps = rw kills (All-two (λ (s : Endpoint (PutterView Asked ℕ)). s.pass.stamps ≡ []) one two (ap (λ (p : PutterView Asked ℕ). p.stamps) asked) (ap (λ (p : PutterView Asked ℕ). p.stamps) asked2));
     }
 
 -- ---- an actor's run, and what is given

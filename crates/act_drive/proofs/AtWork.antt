@@ -10,6 +10,7 @@ use Rattle.act_drive.specs.declared.driver.CallerLines.{CallerLines}
 use Rattle.act_drive.specs.declared.driver.Driver.{Driver}
 use Rattle.act_drive.specs.Driven.{IsCalling, Stays, Waits, FollowsSteps}
 use Rattle.act_drive.specs.Lent.{Does, IsAtWork}
+use Rattle.act_drive.specs.Tracing.{Traces, TracesStep}
 use Rattle.act_drive.proofs.Drivers.{stays_trans, waits_same}
 use Rattle.act_rules.specs.Plans.{kills_to}
 use Rattle.act_drive.proofs.PlanSteps.{follows_waits, kills_more}
@@ -28,25 +29,27 @@ work_begun actors began lines driver calling so follows = record {
   began_so = so;
   stays = (waits_same driver).stay;
   steps = [];
+  traced = λ start is. is;
   follows = follows;
   asked = all_same 0 9;
 }
 
 -- a step more
-pub work_step : (actors : List ℕ) (began : Driver → Type 0) (lines : CallerLines) (old new : Driver) (step : Step) (kills more : List ℕ) → IsAtWork actors began lines old kills → IsCalling lines new → Stays old new → Does lines step old new → ((a : ℕ) → get_or more a 0 ≡ get_or kills a 0 + kills_to a (step ∷ [])) → IsAtWork actors began lines new more
-work_step actors began lines old new step kills more was calling stays does grown = record {
+pub work_step : (actors : List ℕ) (began : Driver → Type 0) (lines : CallerLines) (old new : Driver) (step : Step) (kills more : List ℕ) → IsAtWork actors began lines old kills → IsCalling lines new → Stays old new → TracesStep lines step old new → Does lines step old new → ((a : ℕ) → get_or more a 0 ≡ get_or kills a 0 + kills_to a (step ∷ [])) → IsAtWork actors began lines new more
+work_step actors began lines old new step kills more was calling stays traced does grown = record {
   calling = calling;
   opened = was.opened;
   began_so = was.began_so;
   stays = stays_trans was.opened old new was.stays stays;
   steps = was.steps ++ step ∷ [];
+  traced = λ start is. traced start was.steps (was.traced start is);
   follows = does actors was.steps was.follows;
   asked = λ a. grown a ∙ ap (λ (n : ℕ). n + kills_to a (step ∷ [])) (was.asked a) ∙ sym (kills_more a was.steps step);
 }
 
 -- the same of a step that is no kill
-pub work_does : (actors : List ℕ) (began : Driver → Type 0) (lines : CallerLines) (old new : Driver) (step : Step) (kills : List ℕ) → ((a : ℕ) → kills_to a (step ∷ []) ≡ 0) → IsAtWork actors began lines old kills → IsCalling lines new → Stays old new → Does lines step old new → IsAtWork actors began lines new kills
-work_does actors began lines old new step kills none was calling stays does = work_step actors began lines old new step kills kills was calling stays does (λ a. let none_to = none a in omega (arith, none_to))
+pub work_does : (actors : List ℕ) (began : Driver → Type 0) (lines : CallerLines) (old new : Driver) (step : Step) (kills : List ℕ) → ((a : ℕ) → kills_to a (step ∷ []) ≡ 0) → IsAtWork actors began lines old kills → IsCalling lines new → Stays old new → TracesStep lines step old new → Does lines step old new → IsAtWork actors began lines new kills
+work_does actors began lines old new step kills none was calling stays traced does = work_step actors began lines old new step kills kills was calling stays traced does (λ a. let none_to = none a in omega (arith, none_to))
 
 kill_grown : (kills : List ℕ) (a : ℕ) → a < length kills → (b : ℕ) → get_or (set kills a (get_or kills a 0 + 1)) b 0 ≡ get_or kills b 0 + kills_to b (Kill a ∷ [])
 kill_grown kills a below b = elim (eqb_tells a b) [
@@ -57,19 +60,20 @@ kill_grown kills a below b = elim (eqb_tells a b) [
 ]
 
 -- a kill, at the place of the actor's number
-pub work_kill : (actors : List ℕ) (began : Driver → Type 0) (lines : CallerLines) (old new : Driver) (a n : ℕ) (kills : List ℕ) → n ≡ a → n < length kills → IsAtWork actors began lines old kills → IsCalling lines new → Stays old new → Does lines (Kill a) old new
+pub work_kill : (actors : List ℕ) (began : Driver → Type 0) (lines : CallerLines) (old new : Driver) (a n : ℕ) (kills : List ℕ) → n ≡ a → n < length kills → IsAtWork actors began lines old kills → IsCalling lines new → Stays old new → TracesStep lines (Kill a) old new → Does lines (Kill a) old new
     → IsAtWork actors began lines new (set kills n (get_or kills n 0 + 1))
-work_kill actors began lines old new a n kills is below was calling stays does =
-    work_step actors began lines old new (Kill a) kills _ was calling stays does (subst (λ (m : ℕ). (b : ℕ) → get_or (set kills n (get_or kills n 0 + 1)) b 0 ≡ get_or kills b 0 + kills_to b (Kill m ∷ [])) is (kill_grown kills n below))
+work_kill actors began lines old new a n kills is below was calling stays traced does =
+    work_step actors began lines old new (Kill a) kills _ was calling stays traced does (subst (λ (m : ℕ). (b : ℕ) → get_or (set kills n (get_or kills n 0 + 1)) b 0 ≡ get_or kills b 0 + kills_to b (Kill m ∷ [])) is (kill_grown kills n below))
 
 -- a wait
-pub work_waits : (actors : List ℕ) (began : Driver → Type 0) (lines : CallerLines) (old new : Driver) (kills : List ℕ) → IsAtWork actors began lines old kills → IsCalling lines new → Waits old new → IsAtWork actors began lines new kills
-work_waits actors began lines old new kills was calling waits = record {
+pub work_waits : (actors : List ℕ) (began : Driver → Type 0) (lines : CallerLines) (old new : Driver) (kills : List ℕ) → IsAtWork actors began lines old kills → IsCalling lines new → Waits old new → Traces lines old new → IsAtWork actors began lines new kills
+work_waits actors began lines old new kills was calling waits traced = record {
   calling = calling;
   opened = was.opened;
   began_so = was.began_so;
   stays = stays_trans was.opened old new was.stays waits.stay;
   steps = was.steps;
+  traced = λ start is. traced start was.steps (was.traced start is);
   follows = follows_waits lines actors was.steps old new waits was.follows;
   asked = was.asked;
 }

@@ -26,10 +26,12 @@ use Rattle.act_drive.specs.declared.driver.CallerLines.{CallerLines}
 use Rattle.act_drive.specs.declared.driver.Driver.{Driver}
 use Rattle.act_drive.specs.declared.driver.CallerPasses.{CallerPasses}
 use Rattle.act_drive.specs.Driven.{IsEndpoint, IsPosting, IsCalling, Stays, Waits, FollowsSteps, HasAsked, OnlyReleases, IsFreshCaller, IsFreshEndpoint, HasDone, HasDriven, HasEndedAt, HasPosted, AreDistinct, futures_in, last_note, IsKeeping, posted_in, IsIdle, IsDue, actor_of_letter}
+use Rattle.act_drive.specs.Tracing.{IsTracingClosed}
 use Rattle.act_drive.proofs.Keeps.{keeps_opened}
 use Rattle.act_drive.proofs.Drivers.{posting_less}
 use Rattle.act_drive.proofs.PlanSteps.{kills_on}
 use Rattle.act_drive.proofs.Endpoints.{posted_once, distinct_stays}
+use Rattle.act_drive.proofs.Tracing.{traced_of}
 
 -- ---- a plan
 
@@ -136,9 +138,9 @@ have_posted lines driver calling k s below d =
     )
 
 pub driven_of : (lines : CallerLines) (plan : List Step) (starved : Bool) (start new : Driver) → AreDistinct lines.mails.now start.passes.letters.items → IsCalling lines new → Stays start new → (starved ≡ false → HasDone lines (actors_in start.owner.handles) plan new.owner new.passes)
-    → (starved ≡ true → All (HasEndedAt lines.controls.now new.owner new.passes) new.passes.kills.items)
+    → (starved ≡ true → All (HasEndedAt lines.controls.now new.owner new.passes) new.passes.kills.items) → (starved ≡ false → IsTracingClosed start.owner lines plan new)
     → HasDriven lines start.owner start.passes plan (record { owner = new.owner; starved = starved; passes = new.passes })
-driven_of lines plan starved start new distinct calling stay done ended = record {
+driven_of lines plan starved start new distinct calling stay done ended traced = record {
   id = stay.id;
   limits = stay.limits;
   stay = stay.passes;
@@ -148,4 +150,5 @@ driven_of lines plan starved start new distinct calling stay done ended = record
   names = calling.names;
   done = done;
   ended = ended;
+  traced = λ well. traced_of lines start.owner plan new (traced well);
 }

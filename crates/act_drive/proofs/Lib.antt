@@ -13,3 +13,6 @@ pub mod Endpoints
 pub mod CodeSteps
 pub mod AtWork
 pub mod Worked
+pub mod Clocks
+pub mod PlanTraces
+pub mod Tracing

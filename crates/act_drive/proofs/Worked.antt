@@ -1,25 +1,27 @@
 -- What a caller by code of its own leaves.
-use Rattle.std.proofs.Common.{◌≡◌, ℕ, Bool, true, false, List, refl, sym, ◌∙◌, ap, subst, All}
+use Rattle.std.proofs.Common.{◌≡◌, ℕ, Bool, true, false, List, None, refl, sym, ◌∙◌, ap, subst, All}
 use Rattle.act_rules.specs.declared.script.Step.{Step}
 use Rattle.act_handles.specs.Handles.{actors_in}
 use Rattle.act_drive.specs.declared.driver.CallerLines.{CallerLines}
 use Rattle.act_drive.specs.declared.driver.Driver.{Driver}
 use Rattle.act_drive.specs.declared.caller.Driven.{Driven}
-use Rattle.act_drive.specs.Driven.{IsCalling, Stays, FollowsSteps, HasDone, HasEndedAt, HasDriven, AreDistinct}
+use Rattle.act_drive.specs.Driven.{IsCalling, Stays, FollowsSteps, HasDone, HasEndedAt, HasDriven, IsFreshCaller}
 use Rattle.act_drive.specs.Sessions.{SessionView, session_view, kills_of, IsLater}
 use Rattle.act_drive.specs.Coded.{HasConcluded, HasRunCode}
 use Rattle.act_drive.specs.Lent.{IsAtWork, HasDrivenCode}
+use Rattle.act_drive.specs.Tracing.{TracesClosing, TracesPlan}
 use Rattle.act_drive.proofs.Drivers.{stays_trans}
 use Rattle.act_drive.proofs.Done.{driven_of}
+use Rattle.act_drive.proofs.Tracing.{fresh_tracing}
 
 pub has_worked : (actors : List ℕ) (began : CallerLines → Driver → Type 0) (lines inner : CallerLines) (start mid new : Driver) (kills : List ℕ) (starved : Bool) (tells : SessionView → SessionView → Type 0) (last : SessionView)
     → IsAtWork actors (began inner) inner mid kills → ((l : CallerLines) (o : Driver) → began l o → (l ≡ lines) × (o ≡ start))
-    → IsCalling lines new → Stays mid new → (starved ≡ false → new.owner.calls ≡ mid.owner.calls)
+    → IsCalling lines new → Stays mid new → (starved ≡ false → TracesClosing lines mid new) → (starved ≡ false → new.owner.calls ≡ mid.owner.calls)
     → (starved ≡ false → (a : List ℕ) (steps : List Step) → FollowsSteps lines a steps mid → HasDone lines a steps new.owner new.passes)
     → (starved ≡ true → All (HasEndedAt lines.controls.now new.owner new.passes) new.passes.kills.items)
     → (starved ≡ false → tells (session_view start.owner) last) → record (session_view mid.owner) { kills = kills } ≡ last
     → HasDrivenCode lines actors start tells (record { owner = new.owner; starved = starved; passes = new.passes })
-has_worked actors began lines inner start mid new kills starved tells last work only calling stays calls done ended told is =
+has_worked actors began lines inner start mid new kills starved tells last work only calling stays traced calls done ended told is =
     let same = only inner work.opened work.began_so in
     record {
       new = new;
@@ -27,6 +29,7 @@ has_worked actors began lines inner start mid new kills starved tells last work 
       calling = calling;
       stays = stays_trans start mid new (subst (λ (d : Driver). Stays d mid) same.1 work.stays) stays;
       steps = work.steps;
+      traced = λ well begin is. traced well begin work.steps (subst (λ (l : CallerLines). TracesPlan l work.steps start mid) same.0 (subst (λ (d : Driver). TracesPlan inner work.steps d mid) same.1 work.traced) begin is);
       done = λ well. done well actors work.steps (subst (λ (l : CallerLines). FollowsSteps l actors work.steps mid) same.0 work.follows);
       ended = ended;
       told = λ well. record {
@@ -38,9 +41,9 @@ has_worked actors began lines inner start mid new kills starved tells last work 
       };
     }
 
-pub run_code : (lines : CallerLines) (start : Driver) (tells : SessionView → SessionView → Type 0) (driven : Driven) → AreDistinct lines.mails.now start.passes.letters.items → HasDrivenCode lines (actors_in start.owner.handles) start tells driven → HasRunCode lines start.owner start.passes tells driven
-run_code lines start tells driven distinct w = record {
+pub run_code : (lines : CallerLines) (start : Driver) (tells : SessionView → SessionView → Type 0) (driven : Driven) → IsFreshCaller lines start.owner start.passes → start.outbox ≡ None → HasDrivenCode lines (actors_in start.owner.handles) start tells driven → HasRunCode lines start.owner start.passes tells driven
+run_code lines start tells driven fresh empty w = record {
   steps = w.steps;
-  driven_is = subst (λ (d : Driven). HasDriven lines start.owner start.passes w.steps d) (sym w.is) (driven_of lines w.steps driven.starved start w.new distinct w.calling w.stays w.done w.ended);
+  driven_is = subst (λ (d : Driven). HasDriven lines start.owner start.passes w.steps d) (sym w.is) (driven_of lines w.steps driven.starved start w.new fresh.unused.distinct w.calling w.stays w.done w.ended (λ well. w.traced well start.owner (fresh_tracing lines start fresh empty)));
   told = subst (λ (d : Driven). driven.starved ≡ false → HasConcluded tells w.steps start.owner d.owner) (sym w.is) w.told;
 }

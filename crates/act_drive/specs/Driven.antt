@@ -23,6 +23,7 @@ use Rattle.act_drive.specs.declared.driver.CallerLines.{CallerLines}
 use Rattle.act_drive.specs.declared.driver.Driver.{Driver}
 use Rattle.act_drive.specs.declared.driver.CallerPasses.{CallerPasses}
 use Rattle.act_drive.specs.declared.caller.Driven.{Driven}
+use Rattle.act_drive.specs.PlanTraces.{HasDonePlan}
 
 -- to whom a letter goes
 abbrev pub actor_of_letter : Letter → ℕ
@@ -244,16 +245,19 @@ pub record IsFreshEndpoint (mails : List MailView) (id : ℕ)
   pub line : (d : MailView) → (slice_index_or mails endpoint.place d).line ≡ endpoint.pass.line
   pub number : endpoint.pass.number ≡ id
   pub put : endpoint.pass.put ≡ []
+  pub stamps : endpoint.pass.stamps ≡ []
 
 -- passes of a caller with which nothing was done, at lines of its actors and its own
 pub record IsUnusedCaller (mails : List MailView) (controls : List ControlView) (replies : RepliesView) (id : ℕ)
     (passes : CallerPasses) : Type 0 where
   pub collects : passes.collects.line ≡ replies.line
   pub taken : passes.collects.taken ≡ []
+  pub stamps : passes.collects.stamps ≡ []
   pub letters : All (IsFreshEndpoint mails id) passes.letters.items
   pub distinct : AreDistinct mails passes.letters.items
   pub kills : AreKillEndpoints controls passes.kills.items
   pub asked : All (λ endpoint. endpoint.pass.put ≡ []) passes.kills.items
+  pub asked_stamps : All (λ endpoint. endpoint.pass.stamps ≡ []) passes.kills.items
 
 -- the owner and the passes are as opened
 pub record IsFreshCaller (lines : CallerLines) (owner : OwnerView) (passes : CallerPasses) : Type 0 where
@@ -324,3 +328,4 @@ pub record HasDriven (lines : CallerLines) (owner : OwnerView) (before : CallerP
   pub done : driven.starved ≡ false → HasDone lines (actors_in owner.handles) plan driven.owner driven.passes
   pub ended : driven.starved ≡ true →
       All (HasEndedAt lines.controls.now driven.owner driven.passes) driven.passes.kills.items
+  pub traced : driven.starved ≡ false → HasDonePlan lines.controls.now owner driven.owner plan driven.passes

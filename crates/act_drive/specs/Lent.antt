@@ -8,6 +8,7 @@ use Rattle.act_drive.specs.declared.caller.Driven.{Driven}
 use Rattle.act_drive.specs.Driven.{IsCalling, Stays, FollowsSteps, HasDone, HasEndedAt}
 use Rattle.act_drive.specs.Sessions.{SessionView}
 use Rattle.act_drive.specs.Coded.{HasConcluded}
+use Rattle.act_drive.specs.Tracing.{TracesPlan, TracesWhole}
 
 -- this step more is done, and it was not refused
 abbrev pub Does : CallerLines → Step → Driver → Driver → Type 0
@@ -22,6 +23,7 @@ pub record IsAtWork (actors : List ℕ) (began : Driver → Type 0) (lines : Cal
   pub began_so : began opened
   pub stays : Stays opened driver
   pub steps : List Step
+  pub traced : TracesPlan lines steps opened driver
   pub follows : FollowsSteps lines actors steps driver
   pub asked : (a : ℕ) → slice_index_or kills a 0 ≡ kills_to a steps
 
@@ -33,6 +35,7 @@ pub record HasDrivenCode (lines : CallerLines) (actors : List ℕ) (start : Driv
   pub calling : IsCalling lines new
   pub stays : Stays start new
   pub steps : List Step
+  pub traced : driven.starved ≡ false → TracesWhole lines steps start new
   pub done : driven.starved ≡ false → HasDone lines actors steps new.owner new.passes
   pub ended : driven.starved ≡ true → All (HasEndedAt lines.controls.now new.owner new.passes) new.passes.kills.items
   pub told : driven.starved ≡ false → HasConcluded tells steps start.owner new.owner

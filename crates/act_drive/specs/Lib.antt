@@ -3,3 +3,7 @@ pub mod Parts
 pub mod Sessions
 pub mod Coded
 pub mod Lent
+pub mod CallerSteps
+pub mod CallerTraces
+pub mod PlanTraces
+pub mod Tracing

@@ -5,6 +5,7 @@ ghost use Rattle.act_rules.specs.Plans.{first_bad};
 ghost use Rattle.act_rules.specs.Submissions.{copies_held};
 ghost use Rattle.act_handles.specs.Handles.{actors_in, copies_in};
 ghost use Rattle.act_drive.specs.Driven.{IsCalling, FollowsSteps, Stays, Waits, OnlyReleases, IsFreshCaller, HasDone, HasEndedAt, HasDriven};
+ghost use Rattle.act_drive.specs.Tracing.{Traces, TracesClosing, TracesPlan, TracesWhole};
 
 use crate::driver::{CallerLines, CallerPasses, Driver, NUMBERS};
 use act_mailbox::{NoNotes, Notes};
@@ -55,6 +56,7 @@ impl Driver {
         requires calling { IsCalling lines.now self.old }
         ensures calling { IsCalling lines.now self.new }
         ensures waits { Waits self.old self.new }
+        ensures traced { Traces lines.now self.old self.new }
     {
         if *since < STEPS_BETWEEN_TURNS - 1 {
             *since += 1;
@@ -79,6 +81,7 @@ impl Driver {
         ensures stays { Stays self.old self.new }
         ensures follows { OnOk result ((actors : List ℕ) → first_bad actors plan.items ≡ None →
             FollowsSteps lines.now actors [] self.old → FollowsSteps lines.now actors plan.items self.new) }
+        ensures traced { OnOk result (TracesPlan lines.now plan.items self.old self.new) }
     {
         let mut since = 0;
         for step in plan {
@@ -100,6 +103,7 @@ impl Driver {
         ensures calling { IsCalling lines.now self.new }
         ensures only_releases { OnlyReleases self.old self.new }
         ensures none { OnOk result (copies_held (copies_in a self.new.owner.handles) ≡ 0) }
+        ensures traced { OnOk result (TracesClosing lines.now self.old self.new) }
     {
         for _gone in 0..self.owner.holds(a) {
             self.release(rt, lines, a, notes)?;
@@ -119,6 +123,7 @@ impl Driver {
         ensures only_releases { OnlyReleases self.old self.new }
         ensures none { OnOk result
             (All (λ mail. copies_held (copies_in mail.actor self.new.owner.handles) ≡ 0) lines.now.mails.now) }
+        ensures traced { OnOk result (TracesClosing lines.now self.old self.new) }
     {
         for mail in lines.mails {
             self.let_go(rt, lines, mail.actor(), notes)?;
@@ -141,6 +146,7 @@ impl Driver {
         ensures done { OnOk result ((actors : List ℕ) → first_bad actors plan.items ≡ None →
             FollowsSteps lines.now actors [] self.old →
             HasDone lines.now actors plan.items self.new.owner self.new.passes) }
+        ensures traced { OnOk result (TracesWhole lines.now plan.items self.old self.new) }
     {
         self.reserve(plan.as_slice())?;
         self.steps(rt, alloc, lines, plan, notes)?;
@@ -168,6 +174,7 @@ impl Driver {
             HasDone lines.now actors plan.items self.new.owner self.new.passes }
         ensures ended { result ≡ true →
             All (HasEndedAt lines.now.controls.now self.new.owner self.new.passes) self.new.passes.kills.items }
+        ensures traced { result ≡ false → TracesWhole lines.now plan.items self.old self.new }
     {
         match self.whole(rt, alloc, lines, plan, notes) {
             Ok(()) => false,

@@ -7,6 +7,7 @@ ghost use Rattle.act_drive.specs.declared.driver.Driver.{Driver as ADriver};
 ghost use Rattle.act_drive.specs.Driven.{IsCalling, FollowsSteps, Stays, IsFreshCaller, HasDone, HasEndedAt};
 ghost use Rattle.act_drive.specs.Coded.{HasRunCode};
 ghost use Rattle.act_drive.specs.Lent.{HasDrivenCode};
+ghost use Rattle.act_drive.specs.Tracing.{TracesClosing};
 
 use crate::caller::Driven;
 use crate::code::Code;
@@ -40,6 +41,7 @@ impl Driver {
         ensures done { OnOk result
             ((actors : List ℕ) (steps : List AStep) → FollowsSteps lines.now actors steps self.old →
             HasDone lines.now actors steps self.new.owner self.new.passes) }
+        ensures traced { OnOk result (TracesClosing lines.now self.old self.new) }
     {
         // What is ready is posted before the notes of the last handles.
         self.turn(rt, alloc, lines, &mut NoNotes)?;
@@ -67,6 +69,7 @@ impl Driver {
             HasDone lines.now actors steps self.new.owner self.new.passes }
         ensures ended { result ≡ true →
             All (HasEndedAt lines.now.controls.now self.new.owner self.new.passes) self.new.passes.kills.items }
+        ensures traced { result ≡ false → TracesClosing lines.now self.old self.new }
     {
         if !has_given_up && self.wind_up(rt, alloc, lines).is_ok() {
             return false;

@@ -5,14 +5,17 @@ ghost use Rattle.std.specs.List.{list_all};
 ghost use Rattle.act_rules.specs.Submissions.{kept_at};
 ghost use Rattle.act_drive.specs.Driven.{IsCalling, Waits, IsApart, IsAtEndpoint, actor_of_letter, is_note_letter};
 ghost use Rattle.act_drive.specs.Parts.{IsHeard};
+ghost use Rattle.act_drive.specs.CallerTraces.{caller_clock};
+ghost use Rattle.act_drive.specs.Tracing.{Traces};
 
 use act_mailbox::{
     Control, ControlCaller, Endpoint, IdleBackoff, Letter, Mail, MailCaller, Mark, Notes, Replies,
-    ReplyCaller,
+    ReplyCaller, Stamped,
 };
 use act_owner::Owner;
 use act_types::{ActorId, FutureId, MAX_ACTORS, NoMemory, Notice};
 use std::alloc::Global;
+use std::marker::Brand;
 use std::sync::Wait;
 
 /// The lines of one caller. Those of its actors are found by the places of its endpoints.
@@ -118,6 +121,7 @@ impl Driver {
         ensures calling { IsCalling lines.now self.new }
         ensures waits { Waits self.old self.new }
         ensures heard { IsHeard self.old self.new }
+        ensures traced { Traces lines.now self.old self.new }
     {
         match lines.replies.try_collect(&mut self.passes.collects) {
             None => false,
@@ -133,6 +137,7 @@ impl Driver {
     pub(crate) fn take_up<N: Notes>(&mut self, alloc: Global, notes: &mut N) -> Result<(), NoMemory>
         ensures waits { Waits self.old self.new }
         ensures calling { (lines : CallerLines) → IsCalling lines self.old → IsCalling lines self.new }
+        ensures traced { (lines : CallerLines) → Traces lines self.old self.new }
     {
         if self.outbox.is_some() {
             return Ok(());
@@ -149,6 +154,18 @@ impl Driver {
         requires calling { IsCalling lines.now self.old }
         ensures calling { IsCalling lines.now self.new }
         ensures waits { Waits self.old self.new }
+        ensures traced { Traces lines.now self.old self.new }
+    {
+        self.send_at::<Brand, R>(rt, lines)
+    }
+
+    /// The same, where `K` is the letter's stamp.
+    fn send_at<K: Stamped, R: Wait>(&mut self, rt: &R, lines: &CallerLines) -> bool
+        requires calling { IsCalling lines.now self.old }
+        requires stamp { K.stamp ≡ caller_clock self.old.passes }
+        ensures calling { IsCalling lines.now self.new }
+        ensures waits { Waits self.old self.new }
+        ensures traced { Traces lines.now self.old self.new }
     {
         let Some(letter) = self.outbox.take() else {
             return false;
@@ -162,7 +179,11 @@ impl Driver {
         };
         let is_note = is_note(&letter);
         let endpoint = &mut self.passes.letters[at];
-        if let Err(back) = lines.mails[endpoint.place].post(rt, &mut endpoint.pass, letter) {
+        if let Err(back) = lines.mails[endpoint.place].post_at::<K, R>(
+            rt,
+            &mut endpoint.pass,
+            letter,
+        ) {
             self.outbox = Some(back);
             return false;
         }
@@ -182,6 +203,7 @@ impl Driver {
         requires calling { IsCalling lines.now self.old }
         ensures calling { IsCalling lines.now self.new }
         ensures waits { Waits self.old self.new }
+        ensures traced { Traces lines.now self.old self.new }
     {
         self.take_up(alloc, notes)?;
         Ok(self.send(rt, lines))
@@ -198,6 +220,7 @@ impl Driver {
         requires calling { IsCalling lines.now self.old }
         ensures calling { IsCalling lines.now self.new }
         ensures waits { Waits self.old self.new }
+        ensures traced { Traces lines.now self.old self.new }
     {
         for sent in 0..MAX_IN_A_TURN {
             if !self.send_next(rt, alloc, lines, notes)? {
@@ -212,6 +235,7 @@ impl Driver {
         requires calling { IsCalling lines.now self.old }
         ensures calling { IsCalling lines.now self.new }
         ensures waits { Waits self.old self.new }
+        ensures traced { Traces lines.now self.old self.new }
     {
         for heard in 0..MAX_IN_A_TURN {
             if !self.collect(lines, notes) {
@@ -232,6 +256,7 @@ impl Driver {
         requires calling { IsCalling lines.now self.old }
         ensures calling { IsCalling lines.now self.new }
         ensures waits { Waits self.old self.new }
+        ensures traced { Traces lines.now self.old self.new }
     {
         let has_sent = self.send_some(rt, alloc, lines, notes)?;
         let has_heard = self.collect_some(lines, notes);
@@ -250,6 +275,7 @@ impl Driver {
         requires calling { IsCalling lines.now self.old }
         ensures calling { IsCalling lines.now self.new }
         ensures waits { Waits self.old self.new }
+        ensures traced { Traces lines.now self.old self.new }
     {
         let has_moved = self.turn(rt, alloc, lines, notes)?;
         rest(idle_backoff, has_moved);
@@ -262,6 +288,7 @@ impl Driver {
         ensures calling { IsCalling lines.now self.new }
         ensures waits { Waits self.old self.new }
         ensures empty { self.new.outbox ≡ None }
+        ensures traced { Traces lines.now self.old self.new }
     {
         let mut idle_backoff = IdleBackoff::new();
         for _ in rt.forever() {
@@ -289,6 +316,7 @@ impl Driver {
         ensures waits { Waits self.old self.new }
         ensures answered { OnOk result (is_some (kept_at self.new.owner.kept k) ≡ true) }
         ensures kept { is_some (kept_at self.old.owner.kept k) ≡ true → result ≡ Ok tt }
+        ensures traced { Traces lines.now self.old self.new }
     {
         let mut idle_backoff = IdleBackoff::new();
         for _ in rt.forever() {
@@ -313,6 +341,7 @@ impl Driver {
         ensures waits { Waits self.old self.new }
         ensures answered { OnOk result (list_all is_some self.new.owner.kept ≡ true) }
         ensures empty { OnOk result (self.new.outbox ≡ None) }
+        ensures traced { Traces lines.now self.old self.new }
     {
         let mut idle_backoff = IdleBackoff::new();
         for _ in rt.forever() {

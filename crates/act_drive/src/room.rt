@@ -4,6 +4,7 @@ ghost use Rattle.std.specs.Prelude.{◌≡◌, ◌≢◌, true, false, Some, OnO
 ghost use Rattle.act_rules.specs.declared.outcome.SubmitRefusal.TheVariants.{PendingLimit};
 ghost use Rattle.act_owner.specs.Owner.{refusal_to_submit};
 ghost use Rattle.act_drive.specs.Driven.{IsCalling, Waits};
+ghost use Rattle.act_drive.specs.Tracing.{Traces};
 
 use crate::driver::{CallerLines, Driver};
 use act_mailbox::{IdleBackoff, Notes};
@@ -42,6 +43,7 @@ impl Driver {
         ensures calling { IsCalling lines.now self.new }
         ensures waits { Waits self.old self.new }
         ensures room { OnOk result (refusal_to_submit self.new.owner a args.now ≢ Some PendingLimit) }
+        ensures traced { Traces lines.now self.old self.new }
     {
         let mut idle_backoff = IdleBackoff::new();
         for _ in rt.forever() {

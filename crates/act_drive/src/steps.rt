@@ -2,7 +2,7 @@
 
 ghost use Rattle.std.specs.Prelude.{◌≡◌, ◌≢◌, ◌<◌, length, true, false, is_some, All, Some, None, Ok, IfSome, IfNone, OnOk, OnErr};
 ghost use Rattle.act_rules.specs.declared.script.Step.TheVariants.{Submit, Copy, Release, Kill, Await};
-ghost use Rattle.act_rules.specs.Submissions.{kept_at};
+ghost use Rattle.act_rules.specs.Submissions.{kept_at, handle_refusal};
 ghost use Rattle.act_handles.specs.Handles.{copies_in, without_copy};
 ghost use Rattle.act_rules.specs.declared.outcome.SubmitRefusal.TheVariants.{PendingLimit};
 ghost use Rattle.act_owner.specs.Owner.{release_note, refusal_to_submit};
@@ -10,13 +10,16 @@ ghost use Rattle.act_mailbox.specs.declared.mail.Letter.TheVariants.{Note};
 ghost use Rattle.act_drive.specs.declared.driver.CallerLines.{CallerLines};
 ghost use Rattle.act_drive.specs.Driven.{IsCalling, FollowsBy, IsAtKillEndpoint, IsElsewhere, AsksMore, Stays, Waits, OnlyReleases};
 ghost use Rattle.act_drive.specs.Parts.{IsAwaited};
+ghost use Rattle.act_drive.specs.CallerTraces.{caller_clock};
+ghost use Rattle.act_drive.specs.Tracing.{Traces, TracesStep};
 ghost use Rattle.act_drive.specs.Sessions.{session_view, use_refusal, OnlyHears};
 
 use crate::driver::{CallerLines as Lines, Driver};
-use act_mailbox::{Control, ControlCaller, Endpoint, IdleBackoff, Letter, Mark, Notes};
+use act_mailbox::{Control, ControlCaller, Endpoint, IdleBackoff, Letter, Mark, Notes, Stamped};
 use act_rules::Step;
 use act_types::{ActorId, Arg, FutureId, KillNote, ListOf, Method, NoMemory};
 use std::alloc::Global;
+use std::marker::Brand;
 use std::sync::Wait;
 
 /// The place in the list of the endpoint at the actor's control line.
@@ -52,6 +55,9 @@ impl Driver {
         ensures stays { Stays self.old self.new }
         ensures follows { OnOk result
             ((lines : CallerLines) → FollowsBy lines (Submit a method args) self.old self.new) }
+        ensures traced { OnOk result
+            ((lines : CallerLines) → TracesStep lines (Submit a method args) self.old self.new) }
+        ensures on_refusal { OnErr result (self.new ≡ self.old) }
     {
         match self.owner.submit(a, method, args) {
             Ok(_) => {
@@ -77,6 +83,8 @@ impl Driver {
         ensures calling { IsCalling lines.now self.new }
         ensures stays { Stays self.old self.new }
         ensures follows { OnOk result (FollowsBy lines.now (Submit a method args) self.old self.new) }
+        ensures traced { OnOk result (TracesStep lines.now (Submit a method args) self.old self.new) }
+        ensures on_refusal { OnErr result (Traces lines.now self.old self.new) }
     {
         self.wait_for_room(rt, alloc, lines, a, &args, notes)?;
         self.submit_in_room(a, method, args, notes)
@@ -87,6 +95,8 @@ impl Driver {
         ensures calling { (lines : CallerLines) → IsCalling lines self.old → IsCalling lines self.new }
         ensures stays { Stays self.old self.new }
         ensures follows { OnOk result ((lines : CallerLines) → FollowsBy lines (Copy a) self.old self.new) }
+        ensures traced { OnOk result ((lines : CallerLines) → TracesStep lines (Copy a) self.old self.new) }
+        ensures on_refusal { OnErr result (self.new ≡ self.old) }
     {
         match self.owner.copy(a) {
             Ok(_) => {
@@ -113,6 +123,8 @@ impl Driver {
         ensures only_releases { OnlyReleases self.old self.new }
         ensures handles { OnOk result (self.new.owner.handles ≡ without_copy a self.old.owner.handles) }
         ensures accepted { use_refusal (session_view self.old.owner) a ≡ None → result ≡ Ok tt }
+        ensures traced { OnOk result (TracesStep lines.now (Release a) self.old self.new) }
+        ensures on_refusal { OnErr result (Traces lines.now self.old self.new) }
     {
         self.clear(rt, lines, notes);
         match self.owner.release(a) {
@@ -143,6 +155,8 @@ impl Driver {
         ensures stays { Stays self.old self.new }
         ensures answered { OnOk result (is_some (kept_at self.new.owner.kept k) ≡ true) }
         ensures follows { OnOk result (FollowsBy lines.now (Await k) self.old self.new) }
+        ensures traced { OnOk result (TracesStep lines.now (Await k) self.old self.new) }
+        ensures on_refusal { OnErr result (Traces lines.now self.old self.new) }
     {
         self.wait_for(rt, alloc, lines, k, notes)?;
         Ok(())
@@ -157,13 +171,33 @@ impl Driver {
         ensures stays { Stays self.old self.new }
         ensures asked { result ≡ true → AsksMore lines.now.controls.now a self.old self.new }
         ensures refused { result ≡ false → Waits self.old self.new }
+        ensures traced { handle_refusal (copies_in a self.old.owner.handles) ≡ None → result ≡ true →
+            TracesStep lines.now (Kill a) self.old self.new }
+        ensures on_refusal { result ≡ false → Traces lines.now self.old self.new }
+    {
+        self.ask_at::<Brand, R>(rt, lines, at, a)
+    }
+
+    /// The same, where `K` is the kill's stamp.
+    fn ask_at<K: Stamped, R: Wait>(&mut self, rt: &R, lines: &Lines, at: usize, a: ActorId) -> bool
+        requires calling { IsCalling lines.now self.old }
+        requires below { at < length self.old.passes.kills.items }
+        requires place { IsAtKillEndpoint lines.now.controls.now self.old.passes.kills.items at a }
+        requires stamp { K.stamp ≡ caller_clock self.old.passes }
+        ensures calling { IsCalling lines.now self.new }
+        ensures stays { Stays self.old self.new }
+        ensures asked { result ≡ true → AsksMore lines.now.controls.now a self.old self.new }
+        ensures refused { result ≡ false → Waits self.old self.new }
+        ensures traced { handle_refusal (copies_in a self.old.owner.handles) ≡ None → result ≡ true →
+            TracesStep lines.now (Kill a) self.old self.new }
+        ensures on_refusal { result ≡ false → Traces lines.now self.old self.new }
     {
         let note = KillNote {
             caller: self.owner.id(),
             actor: a,
         };
         let endpoint = &mut self.passes.kills[at];
-        match lines.controls[endpoint.place].ask(rt, &mut endpoint.pass, note) {
+        match lines.controls[endpoint.place].ask_at::<K, R>(rt, &mut endpoint.pass, note) {
             Ok(()) => true,
             Err(_) => false,
         }
@@ -187,6 +221,9 @@ impl Driver {
         ensures follows { OnOk result (FollowsBy lines.now (Kill a) self.old self.new) }
         ensures hears { OnlyHears (session_view self.old.owner) (session_view self.new.owner) }
         ensures waits { OnErr result (Waits self.old self.new) }
+        ensures traced { OnOk result (handle_refusal (copies_in a self.old.owner.handles) ≡ None →
+            TracesStep lines.now (Kill a) self.old self.new) }
+        ensures on_refusal { OnErr result (Traces lines.now self.old self.new) }
     {
         let mut idle_backoff = IdleBackoff::new();
         for _ in rt.forever() {
@@ -216,6 +253,8 @@ impl Driver {
         ensures follows { OnOk result (FollowsBy lines.now (Kill a) self.old self.new) }
         ensures hears { OnlyHears (session_view self.old.owner) (session_view self.new.owner) }
         ensures waits { OnErr result (Waits self.old self.new) }
+        ensures traced { OnOk result (TracesStep lines.now (Kill a) self.old self.new) }
+        ensures on_refusal { OnErr result (Traces lines.now self.old self.new) }
     {
         match self.owner.ask_kill(a) {
             Err(_) => Err(NoMemory),
@@ -243,6 +282,8 @@ impl Driver {
         ensures stays { Stays self.old self.new }
         ensures awaited { OnOk result (IsAwaited step self.new.owner) }
         ensures follows { OnOk result (FollowsBy lines.now step self.old self.new) }
+        ensures traced { OnOk result (TracesStep lines.now step self.old self.new) }
+        ensures on_refusal { OnErr result (Traces lines.now self.old self.new) }
     {
         match step {
             Step::Submit(a, method, args) => self.submit(rt, alloc, lines, a, method, args, notes),

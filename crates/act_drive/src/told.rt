@@ -7,6 +7,7 @@ ghost use Rattle.act_handles.specs.Handles.{copy_answer, with_copy};
 ghost use Rattle.act_owner.specs.Owner.{refusal_to_submit, with_submission, with_handles};
 ghost use Rattle.act_drive.specs.declared.driver.CallerLines.{CallerLines};
 ghost use Rattle.act_drive.specs.Driven.{IsCalling, Stays, Waits};
+ghost use Rattle.act_drive.specs.Tracing.{Traces, TracesStep};
 ghost use Rattle.act_drive.specs.Sessions.{session_view, call_refusal, use_refusal, Submits};
 ghost use Rattle.act_drive.specs.Lent.{Does};
 
@@ -35,6 +36,8 @@ impl Driver {
         ensures refusal { IfErr result (λ refusal.
             refusal ≡ unwrap_or (refusal_to_submit self.old.owner a args) NoRoom) }
         ensures err { OnErr result (self.new ≡ self.old) }
+        ensures traced { OnOk result
+            ((lines : CallerLines) → TracesStep lines (Submit a method args) self.old self.new) }
     {
         let k = self.owner.submit(a, method, args)?;
         Ok(k)
@@ -55,6 +58,7 @@ impl Driver {
         ensures room { OnOk result (refusal_to_submit self.new.owner a args.now ≢ Some PendingLimit) }
         ensures full { OnErr result (call_refusal (session_view self.old.owner) a args.now ≡ None) }
         ensures same { (self.new ≡ self.old) ⊎ (call_refusal (session_view self.old.owner) a args.now ≡ None) }
+        ensures traced { Traces lines.now self.old self.new }
     {
         if self.has_room(a, args) {
             return Ok(());
@@ -85,6 +89,8 @@ impl Driver {
         ensures refusal { IfErr result (λ refusal.
             refusal ≡ unwrap_or (call_refusal (session_view self.old.owner) a args) NoRoom) }
         ensures refused { IfErr result (λ refusal. refusal ≢ NoRoom → self.new ≡ self.old) }
+        ensures traced { OnOk result (TracesStep lines.now (Submit a method args) self.old self.new) }
+        ensures on_refusal { OnErr result (Traces lines.now self.old self.new) }
     {
         self.wait_if_full(rt, alloc, lines, a, &args)?;
         let k = self.enter(a, method, args)?;
@@ -99,6 +105,7 @@ impl Driver {
         ensures value { result ≡ copy_answer a self.old.owner.handles }
         ensures ok { OnOk result (self.new.owner ≡ with_handles self.old.owner (with_copy a self.old.owner.handles)) }
         ensures err { OnErr result (self.new ≡ self.old) }
+        ensures traced { OnOk result ((lines : CallerLines) → TracesStep lines (Copy a) self.old self.new) }
     {
         let copies = self.owner.copy(a)?;
         Ok(copies)

@@ -1,5 +1,7 @@
+use Rattle.std.proofs.Common.{refl}
 use Rattle.act_handles.specs.Handles.{actors_in}
 use Rattle.act_drive.proofs.Done.{fresh_calling, fresh_follows, driven_of, unset_flags}
+use Rattle.act_drive.proofs.Tracing.{fresh_tracing}
 use Rattle.act_drive.proofs.caller.drive_noting.Goals as goal
 
 pub run-starved-requires : goal.run-starved-requires
@@ -10,3 +12,4 @@ returns g c =
     let run = c.run-starved in
     driven_of c.args.lines.now c.args.plan.items _ _ run.new.self c.requires.fresh.unused.distinct run.ensures.calling run.ensures.stays
     (λ fed. run.ensures.done fed (actors_in c.args.owner.handles) c.requires.fits (fresh_follows c.args.lines.now c.args.owner c.args.passes _ c.requires.fresh)) run.ensures.ended
+    (λ fed. run.ensures.traced fed c.args.owner (fresh_tracing c.args.lines.now _ c.requires.fresh refl))

@@ -1,5 +1,6 @@
-use Rattle.std.proofs.Common.{subst}
+use Rattle.std.proofs.Common.{subst, refl, sym}
 use Rattle.act_owner.specs.Owner.{OwnerView}
+use Rattle.act_drive.specs.Driven.{IsFreshCaller}
 use Rattle.act_drive.specs.Coded.{HasRunCode}
 use Rattle.act_drive.proofs.Done.{fresh_calling, fresh_follows, unset_flags}
 use Rattle.act_drive.proofs.Worked.{run_code}
@@ -13,5 +14,6 @@ work-requires-clause-follows g c = rw c.make_room.ensures (fresh_follows c.args.
 
 pub returns : goal.returns
 returns g c =
+    let fresh : IsFreshCaller c.args.lines.now c.make_room.new.owner c.args.passes = subst (λ (o : OwnerView). IsFreshCaller c.args.lines.now o c.args.passes) (sym c.make_room.ensures) c.requires.fresh in
     subst (λ (o : OwnerView). HasRunCode c.args.lines.now o c.args.passes (g.C.Code.tells c.args.code) c.work.result) c.make_room.ensures
-    (run_code c.args.lines.now _ _ c.work.result c.requires.fresh.unused.distinct c.work.ensures)
+    (run_code c.args.lines.now _ _ c.work.result fresh refl c.work.ensures)

@@ -15,6 +15,6 @@ pub returns : goal.returns
 returns g c =
     let end = c.end_code-starved in
     has_worked g.O.Opening.actors g.O.Opening.began c.args.lines.now c.lent.inside.lines.now c.args.driver c.lent.inside.driver end.new.self c.lent.inside.kills end.result (g.C.Code.tells c.args.code) _
-    c.lent.invariant c.requires.only end.ensures.calling end.ensures.stays end.ensures.calls end.ensures.done end.ensures.ended
+    c.lent.invariant c.requires.only end.ensures.calling end.ensures.stays end.ensures.traced end.ensures.calls end.ensures.done end.ensures.ended
     (λ well. let l = end.ensures.given_up well in let e = c.run.ensures in search rules)
     c.lent.view_is

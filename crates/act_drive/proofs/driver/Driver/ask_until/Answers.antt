@@ -1,8 +1,12 @@
-use Rattle.std.proofs.Common.{refl, rules, ◌≡◌, true}
+use Rattle.std.proofs.Common.{refl, rules, ◌≡◌, ◌∙◌, ap, true, List}
+use Rattle.act_rules.specs.Submissions.{handle_refusal}
+use Rattle.act_handles.specs.Handles.{copies_in}
+use Rattle.act_handles.specs.declared.handles.Handle.{Handle}
 use Rattle.act_owner.specs.Owner.{is_known_dead}
 use Rattle.act_drive.proofs.Drivers.{stays_trans, waits_trans}
 use Rattle.act_drive.proofs.Kills.{kill_follows, kills_dead}
 use Rattle.act_drive.proofs.CodeSteps.{on_err}
+use Rattle.act_drive.proofs.Tracing.{traces_spared}
 use Rattle.act_drive.proofs.driver.Driver.ask_until.Goals as goal
 
 pub returns-then-is_dead-clause-follows : goal.returns-then-is_dead-clause-follows
@@ -22,6 +26,7 @@ pub loop-preserved : goal.loop-preserved
 loop-preserved g c = record {
   calling = c.in_ok-wait_turn.ensures.calling;
   waits = waits_trans _ _ _ (waits_trans _ _ _ c.loop.invariant.waits (c.ask.ensures.refused c.if-ask.false)) c.in_ok-wait_turn.ensures.waits;
+  traced = λ start done is. c.in_ok-wait_turn.ensures.traced start done (c.ask.ensures.on_refusal c.if-ask.false start done (c.loop.invariant.traced start done is));
 }
 
 pub returns-then-ask-clause-stays : goal.returns-then-ask-clause-stays
@@ -30,3 +35,14 @@ returns-then-ask-clause-stays g c = stays_trans _ _ _ c.loop.invariant.waits.sta
 pub returns-in_err-wait_turn-clause-waits : goal.returns-in_err-wait_turn-clause-waits
 returns-in_err-wait_turn-clause-waits g c =
     on_err c.from_residual.result _ (waits_trans _ _ _ (waits_trans _ _ _ c.loop.invariant.waits (c.ask.ensures.refused c.if-ask.false)) c.in_err-wait_turn.ensures.waits)
+
+pub returns-then-is_dead-clause-traced : goal.returns-then-is_dead-clause-traced
+returns-then-is_dead-clause-traced g c none = traces_spared c.args.lines.now c.args.self.now c.loop.self c.args.a c.loop.invariant.traced
+
+pub returns-then-ask-clause-traced : goal.returns-then-ask-clause-traced
+returns-then-ask-clause-traced g c none start done is =
+    c.ask.ensures.traced (ap (λ (h : List Handle). handle_refusal (copies_in c.args.a h)) c.loop.invariant.waits.handles ∙ none) c.if-ask.true start done (c.loop.invariant.traced start done is)
+
+pub returns-in_err-wait_turn-clause-on_refusal : goal.returns-in_err-wait_turn-clause-on_refusal
+returns-in_err-wait_turn-clause-on_refusal g c =
+    on_err c.from_residual.result _ (λ start done is. c.in_err-wait_turn.ensures.traced start done (c.ask.ensures.on_refusal c.if-ask.false start done (c.loop.invariant.traced start done is)))

@@ -4,6 +4,7 @@ use Rattle.act_rules.specs.Submissions.{copies_held}
 use Rattle.act_handles.specs.Handles.{copies_in}
 use Rattle.act_mailbox.specs.Mails.{MailView}
 use Rattle.act_drive.proofs.Closing.{winds_trans, none_more}
+use Rattle.act_drive.proofs.Tracing.{closing_trans}
 use Rattle.act_drive.proofs.driver.Driver.close.Goals as goal
 
 pub loop-mail-preserved : goal.loop-mail-preserved
@@ -13,6 +14,7 @@ loop-mail-preserved g c =
     record {
       calling = c.in_ok-let_go.ensures.calling;
       only_releases = winds_trans _ _ _ c.loop-mail.invariant.only_releases c.in_ok-let_go.ensures.only_releases;
+      traced = closing_trans c.args.lines.now _ _ _ c.loop-mail.invariant.traced c.in_ok-let_go.ensures.traced;
       none = none_more mails c.loop-mail.mail-index c.actor.result c.loop-mail.self c.let_go.new.self below (λ d. ap (λ (m : MailView). m.actor) (get_or_default mails c.loop-mail.mail-index d c.mail-item.result below ∙ sym c.mail-item.is) ∙ sym c.actor.ensures) c.in_ok-let_go.ensures.only_releases c.in_ok-let_go.ensures.none c.loop-mail.invariant.none;
     }
 

@@ -1,9 +1,12 @@
 use Rattle.std.proofs.Common.{refl}
+use Rattle.act_rules.specs.declared.script.Step.TheVariants.{Copy}
 use Rattle.act_owner.specs.Life.{Copied}
 use Rattle.act_drive.proofs.OwnChanges.{calling_step, ended_copied}
 use Rattle.act_drive.proofs.PlanSteps.{copy_follows}
 use Rattle.act_drive.proofs.Notes.{ok_of}
 use Rattle.act_drive.proofs.Keeps.{copy_returns}
+use Rattle.act_drive.specs.CallerSteps.{ChangeMade}
+use Rattle.act_drive.proofs.Tracing.{traces_step}
 use Rattle.act_drive.proofs.driver.Driver.copy.Goals as goal
 
 pub returns-in-Ok-clause-calling : goal.returns-in-Ok-clause-calling
@@ -12,3 +15,6 @@ returns-in-Ok-clause-calling g c lines calling =
 
 pub returns-in-Ok-clause-follows : goal.returns-in-Ok-clause-follows
 returns-in-Ok-clause-follows g c lines = copy_follows lines c.args.self.now _ c.args.a c.in-Ok.ensures.ok refl
+
+pub returns-in-Ok-clause-traced : goal.returns-in-Ok-clause-traced
+returns-in-Ok-clause-traced g c lines = traces_step lines c.args.self.now _ (Copy c.args.a) (ChangeMade (Copied c.args.a)) (λ _ _. refl) refl (ok_of _ _ _ c.in-Ok.ensures.value) c.in-Ok.ensures.ok refl refl

@@ -1,9 +1,12 @@
 use Rattle.std.proofs.Common.{refl}
+use Rattle.act_rules.specs.declared.script.Step.TheVariants.{Copy}
 use Rattle.act_owner.specs.Life.{Copied}
 use Rattle.act_drive.proofs.OwnChanges.{calling_step, ended_copied}
 use Rattle.act_drive.proofs.Notes.{ok_of}
 use Rattle.act_drive.proofs.Keeps.{copy_returns}
 use Rattle.act_drive.proofs.CodeSteps.{does_copy}
+use Rattle.act_drive.specs.CallerSteps.{ChangeMade}
+use Rattle.act_drive.proofs.Tracing.{traces_step}
 use Rattle.act_drive.proofs.driver.Driver.copy_told.Goals as goal
 
 pub returns-clause-calling : goal.returns-clause-calling
@@ -12,3 +15,6 @@ returns-clause-calling c lines calling =
 
 pub returns-clause-does : goal.returns-clause-does
 returns-clause-does c lines = does_copy lines c.args.self.now _ c.args.a c.in_ok-copies.ensures.ok refl (ok_of _ _ _ c.in_ok-copies.ensures.value)
+
+pub returns-clause-traced : goal.returns-clause-traced
+returns-clause-traced c lines = traces_step lines c.args.self.now _ (Copy c.args.a) (ChangeMade (Copied c.args.a)) (λ _ _. refl) refl (ok_of _ _ _ c.in_ok-copies.ensures.value) c.in_ok-copies.ensures.ok refl refl

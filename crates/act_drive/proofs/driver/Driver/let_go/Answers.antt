@@ -3,6 +3,7 @@ use Rattle.act_rules.specs.Submissions.{copies_held}
 use Rattle.act_handles.specs.Handles.{copies_in}
 use Rattle.act_handles.specs.declared.handles.Handle.{Handle}
 use Rattle.act_drive.proofs.Closing.{winds_trans, one_gone}
+use Rattle.act_drive.proofs.Tracing.{closing_trans, closing_step}
 use Rattle.act_drive.proofs.driver.Driver.let_go.Goals as goal
 
 pub loop-gone-preserved : goal.loop-gone-preserved
@@ -15,5 +16,6 @@ loop-gone-preserved g c =
     record {
       calling = c.in_ok-release.ensures.calling;
       only_releases = winds_trans _ _ _ c.loop-gone.invariant.only_releases c.in_ok-release.ensures.only_releases;
+      traced = closing_trans c.args.lines.now _ _ _ c.loop-gone.invariant.traced (closing_step c.args.lines.now _ _ c.args.a c.in_ok-release.ensures.traced);
       left = omega (arith, less, below, left);
     }

@@ -1,14 +1,17 @@
 use Rattle.std.proofs.Common.{refl, ◌≡◌, Some, None, Ok, ◌∙◌, ap}
 use Rattle.act_owner.specs.Owner.{OwnerView, with_handles, release_told}
+use Rattle.act_rules.specs.declared.script.Step.TheVariants.{Release}
 use Rattle.act_owner.specs.Life.{Released}
 use Rattle.act_handles.specs.Handles.{copies_in, without_copy}
 use Rattle.act_types.specs.declared.message.ReleaseNote.{ReleaseNote}
 use Rattle.act_mailbox.specs.declared.mail.Letter.TheVariants.{Note}
 use Rattle.act_drive.proofs.OwnChanges.{calling_step, ended_released}
 use Rattle.act_drive.proofs.PlanSteps.{release_follows}
-use Rattle.act_drive.proofs.Notes.{calling_noted, last_of, note_stays, not_last}
+use Rattle.act_drive.proofs.Notes.{calling_noted, last_of, note_stays, not_last, ok_of}
 use Rattle.act_drive.proofs.Closing.{released_winds}
 use Rattle.act_drive.proofs.Keeps.{release_returns}
+use Rattle.act_drive.specs.CallerSteps.{ChangeMade}
+use Rattle.act_drive.proofs.Tracing.{traces_step, traces_noted}
 use Rattle.act_drive.proofs.driver.Driver.release.Goals as goal
 
 pub returns-in-Ok-Some-clause-calling : goal.returns-in-Ok-Some-clause-calling
@@ -55,3 +58,16 @@ returns-in-Ok-Some-clause-handles g c = ap (λ (o : OwnerView). o.handles) c.in-
 
 pub returns-in-Ok-None-clause-handles : goal.returns-in-Ok-None-clause-handles
 returns-in-Ok-None-clause-handles g c = ap (λ (o : OwnerView). o.handles) c.in-Ok-None.ensures.ok ∙ ap (without_copy c.args.a) c.clear.ensures.waits.handles
+
+pub returns-in-Ok-Some-clause-traced : goal.returns-in-Ok-Some-clause-traced
+returns-in-Ok-Some-clause-traced g c start done is =
+    let between = c.clear.new.self in
+    let told : Ok (Some c.in-Ok-Some.note) ≡ release_told between.owner c.args.a = rw c.in-Ok-Some.field-0-is at c.in-Ok-Some.ensures.value in
+    let last = last_of _ _ _ _ told in
+    traces_noted c.args.lines.now between _ c.args.a c.in-Ok-Some.note (ok_of _ _ _ told) last.0 (ap (λ (n : ReleaseNote). n.actor) last.1) c.in-Ok-Some.ensures.ok refl refl start done (c.clear.ensures.traced start done is)
+
+pub returns-in-Ok-None-clause-traced : goal.returns-in-Ok-None-clause-traced
+returns-in-Ok-None-clause-traced g c start done is =
+    let between = c.clear.new.self in
+    let told : Ok None ≡ release_told between.owner c.args.a = rw c.in-Ok-None.field-0-is at c.in-Ok-None.ensures.value in
+    traces_step c.args.lines.now between _ (Release c.args.a) (ChangeMade (Released c.args.a)) (λ _ _. refl) refl (ok_of _ _ _ told) c.in-Ok-None.ensures.ok refl refl start done (c.clear.ensures.traced start done is)

@@ -20,5 +20,6 @@ loop-step-preserved g c =
         λ actors fits start.
             follows_waits c.args.lines.now actors (before.0 ++ step ∷ []) c.step.new.self c.turn_after.new.self c.in_ok-turn_after.ensures.waits
             (c.in_ok-step.ensures.follows actors before.0 (not_bad actors c.args.plan.items before.0 step rest all fits) (before.2 actors fits start)),
+        λ start is. c.in_ok-turn_after.ensures.traced start (before.0 ++ step ∷ []) (c.in_ok-step.ensures.traced start before.0 (before.3 start is)),
       );
     }

@@ -35,3 +35,6 @@ returns-clause-does g c =
 
 pub returns-clause-submits : goal.returns-clause-submits
 returns-clause-submits g c = submits_waited c.args.self.now c.wait_if_full.new.self c.enter.new.self c.args.a c.args.method c.args.args c.in_ok-wait_if_full.ensures.waits c.in_ok-k.ensures.ok
+
+pub returns-clause-traced : goal.returns-clause-traced
+returns-clause-traced g c start done is = c.in_ok-k.ensures.traced c.args.lines.now start done (c.in_ok-wait_if_full.ensures.traced start done is)

@@ -1,5 +1,6 @@
 use Rattle.std.proofs.Common.{refl, rules, ◌≡◌, None}
 use Rattle.act_drive.proofs.Drivers.{calling_taken}
+use Rattle.act_drive.proofs.Tracing.{traces_taken, ready_sends}
 use Rattle.act_drive.proofs.driver.Driver.take_up.Goals as goal
 
 pub returns-in-Some-clause-calling : goal.returns-in-Some-clause-calling
@@ -7,3 +8,8 @@ returns-in-Some-clause-calling g c lines calling =
     let packet = c.in-Some.packet in
     let empty : c.args.self.now.outbox ≡ None = search rules in
     calling_taken lines c.args.self.now _ packet.future packet (search rules) (search rules) empty (search rules) refl refl refl calling
+
+pub returns-in-Some-clause-traced : goal.returns-in-Some-clause-traced
+returns-in-Some-clause-traced g c lines =
+    let packet = c.in-Some.packet in
+    traces_taken lines c.args.self.now _ packet (ready_sends c.args.self.now.owner packet.future (search rules)) (search rules) refl refl

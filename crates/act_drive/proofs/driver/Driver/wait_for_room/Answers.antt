@@ -5,6 +5,7 @@ pub loop-preserved : goal.loop-preserved
 loop-preserved g c = record {
   calling = c.in_ok-wait_turn.ensures.calling;
   waits = waits_trans _ _ _ c.loop.invariant.waits c.in_ok-wait_turn.ensures.waits;
+  traced = λ start done is. c.in_ok-wait_turn.ensures.traced start done (c.loop.invariant.traced start done is);
 }
 
 pub returns-in_err-wait_turn-clause-waits : goal.returns-in_err-wait_turn-clause-waits

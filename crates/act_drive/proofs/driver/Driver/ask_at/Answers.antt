@@ -3,7 +3,8 @@ use Rattle.std.proofs.lemmas.List.{length_push}
 use Rattle.act_mailbox.specs.Controls.{ControlView}
 use Rattle.act_drive.specs.Driven.{bare_ask, HasNamed}
 use Rattle.act_drive.proofs.Kills.{kills_asked, ask_refused, asked_stays, calling_asked, named_more}
-use Rattle.act_drive.proofs.driver.Driver.ask.Goals as goal
+use Rattle.act_drive.proofs.Tracing.{traces_asked, traces_kept}
+use Rattle.act_drive.proofs.driver.Driver.ask_at.Goals as goal
 
 pub returns-in-Ok-clause-asked : goal.returns-in-Ok-clause-asked
 returns-in-Ok-clause-asked g c _ =
@@ -13,7 +14,7 @@ returns-in-Ok-clause-asked g c _ =
     record {
       owner = refl;
       collects = refl;
-      kills = λ taken steps. kills_asked c.args.lines.now.controls.now taken items c.args.a c.args.at endpoint c.ask.new.pass c.requires.calling.kills c.requires.below here
+      kills = λ taken steps. kills_asked c.args.lines.now.controls.now taken items c.args.a c.args.at endpoint c.ask_at.new.pass c.requires.calling.kills c.requires.below here
           (λ d. ap (λ (x : _). (get_or c.args.lines.now.controls.now x.place d).actor) here ∙ c.requires.place endpoint d)
           (ap (λ (p : _). length p.put) c.in-Ok.ensures.ok ∙ length_push endpoint.pass.put _) steps;
     }
@@ -24,10 +25,10 @@ returns-in-Err-clause-refused g c _ =
     let items = c.args.self.now.passes.kills.items in
     let here : endpoint ≡ get_or items c.args.at endpoint = search rules in
     record {
-      stay = asked_stays c.args.self.now _ c.args.at endpoint c.ask.new.pass here (ap (λ (p : _). bare_ask (record { place = endpoint.place; pass = p })) c.in-Err.ensures.err) refl refl refl refl;
+      stay = asked_stays c.args.self.now _ c.args.at endpoint c.ask_at.new.pass here (ap (λ (p : _). bare_ask (record { place = endpoint.place; pass = p })) c.in-Err.ensures.err) refl refl refl refl;
       calls = refl;
       handles = refl;
-      kills = ask_refused items c.args.at endpoint c.ask.new.pass here c.in-Err.ensures.err;
+      kills = ask_refused items c.args.at endpoint c.ask_at.new.pass here c.in-Err.ensures.err;
       heard = λ notice has. has;
     }
 
@@ -35,13 +36,13 @@ pub returns-in-Ok-clause-stays : goal.returns-in-Ok-clause-stays
 returns-in-Ok-clause-stays g c =
     let endpoint = c.index_mut-endpoint.result.now in
     let here : endpoint ≡ get_or c.args.self.now.passes.kills.items c.args.at endpoint = search rules in
-    asked_stays c.args.self.now _ c.args.at endpoint c.ask.new.pass here (ap (λ (p : _). bare_ask (record { place = endpoint.place; pass = p })) c.in-Ok.ensures.ok) refl refl refl refl
+    asked_stays c.args.self.now _ c.args.at endpoint c.ask_at.new.pass here (ap (λ (p : _). bare_ask (record { place = endpoint.place; pass = p })) c.in-Ok.ensures.ok) refl refl refl refl
 
 pub returns-in-Err-clause-stays : goal.returns-in-Err-clause-stays
 returns-in-Err-clause-stays g c =
     let endpoint = c.index_mut-endpoint.result.now in
     let here : endpoint ≡ get_or c.args.self.now.passes.kills.items c.args.at endpoint = search rules in
-    asked_stays c.args.self.now _ c.args.at endpoint c.ask.new.pass here (ap (λ (p : _). bare_ask (record { place = endpoint.place; pass = p })) c.in-Err.ensures.err) refl refl refl refl
+    asked_stays c.args.self.now _ c.args.at endpoint c.ask_at.new.pass here (ap (λ (p : _). bare_ask (record { place = endpoint.place; pass = p })) c.in-Err.ensures.err) refl refl refl refl
 
 pub returns-in-Ok-clause-calling : goal.returns-in-Ok-clause-calling
 returns-in-Ok-clause-calling g c =
@@ -52,5 +53,19 @@ returns-in-Ok-clause-calling g c =
     let here : endpoint ≡ get_or items c.args.at endpoint = search rules in
     let there : (d : ControlView) → (get_or controls endpoint.place d).actor ≡ c.args.a = λ d. ap (λ (x : _). (get_or controls x.place d).actor) here ∙ c.requires.place endpoint d in
     let was : HasNamed controls c.args.self.now.owner.id endpoint = subst (HasNamed controls c.args.self.now.owner.id) (sym here) (c.requires.calling.names c.args.at endpoint c.requires.below) in
-    calling_asked c.args.lines.now c.args.self.now _ c.args.at endpoint c.ask.new.pass c.requires.below here (ap (λ (p : _). p.line) c.in-Ok.ensures.ok)
-    (named_more controls c.args.self.now.owner.id c.args.a endpoint c.ask.new.pass _ there (ap (λ (n : ℕ). record { caller = n; actor = c.args.a }) id) (ap (λ (p : _). p.put) c.in-Ok.ensures.ok) was) refl refl refl refl refl refl c.requires.calling
+    calling_asked c.args.lines.now c.args.self.now _ c.args.at endpoint c.ask_at.new.pass c.requires.below here (ap (λ (p : _). p.line) c.in-Ok.ensures.ok)
+    (named_more controls c.args.self.now.owner.id c.args.a endpoint c.ask_at.new.pass _ there (ap (λ (n : ℕ). record { caller = n; actor = c.args.a }) id) (ap (λ (p : _). p.put) c.in-Ok.ensures.ok) was) refl refl refl refl refl refl c.requires.calling
+
+pub returns-in-Ok-clause-traced : goal.returns-in-Ok-clause-traced
+returns-in-Ok-clause-traced g c none _ =
+    let endpoint = c.index_mut-endpoint.result.now in
+    let controls = c.args.lines.now.controls.now in
+    let here : endpoint ≡ get_or c.args.self.now.passes.kills.items c.args.at endpoint = search rules in
+    traces_asked c.args.lines.now c.args.self.now _ c.args.a c.args.at endpoint c.ask_at.new.pass _ g.K.Stamped.stamp c.requires.stamp none c.requires.below here (λ d. ap (λ (x : _). (get_or controls x.place d).actor) here ∙ c.requires.place endpoint d) c.in-Ok.ensures.ok refl refl refl refl refl
+
+pub returns-in-Err-clause-on_refusal : goal.returns-in-Err-clause-on_refusal
+returns-in-Err-clause-on_refusal g c _ =
+    let endpoint = c.index_mut-endpoint.result.now in
+    let items = c.args.self.now.passes.kills.items in
+    let here : endpoint ≡ get_or items c.args.at endpoint = search rules in
+    traces_kept c.args.lines.now c.args.self.now _ refl refl (ask_refused items c.args.at endpoint c.ask_at.new.pass here c.in-Err.ensures.err) refl (λ letter has. has)

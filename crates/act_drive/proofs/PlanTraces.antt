@@ -1,0 +1,40 @@
+-- The steps of a plan in a trace, one after another.
+use Rattle.std.proofs.Common.{◌≡◌, List, [], ◌∷◌, ◌++◌, refl, sym, ◌∙◌, ap, arith, append_assoc, append-nil}
+use Rattle.std.proofs.lemmas.List.Elements.{All-push}
+use Rattle.act_rules.specs.declared.script.Step.{Step}
+use Rattle.act_owner.specs.Owner.{OwnerView}
+use Rattle.act_owner.specs.Life.{after_change}
+use Rattle.act_drive.specs.CallerSteps.{CallerStep, ChangeMade, KillAsked, owner_after_steps}
+use Rattle.act_drive.specs.PlanTraces.{IsMeanwhile, DoesStep, DoesPlan}
+
+owner_append : (start : OwnerView) (one two : List CallerStep) → owner_after_steps start (one ++ two) ≡ owner_after_steps (owner_after_steps start one) two
+owner_append start [] two = refl
+owner_append start (ChangeMade change ∷ one) two = owner_append (after_change start change) one two
+owner_append start (KillAsked a ∷ one) two = owner_append start one two
+
+-- a step more that is none of the plan's
+pub meanwhile_more : (owner : OwnerView) (plan : List Step) (steps : List CallerStep) (x : CallerStep) → IsMeanwhile x → DoesPlan owner plan steps → DoesPlan owner plan (steps ++ x ∷ [])
+meanwhile_more owner [] steps x is does = All-push IsMeanwhile steps x does is
+meanwhile_more owner (step ∷ plan) steps x is does = (
+  does.0,
+  does.1,
+  does.2 ++ x ∷ [],
+  does.3,
+  does.4,
+  ap (λ (l : List CallerStep). l ++ x ∷ []) does.5 ∙ append_assoc does.1 does.2 (x ∷ []),
+  meanwhile_more (owner_after_steps owner does.1) plan does.2 x is does.6,
+)
+
+-- the plan's next step
+pub plan_more : (owner : OwnerView) (plan : List Step) (steps : List CallerStep) (step : Step) (more : List CallerStep) → ((o : OwnerView) (before : List CallerStep) → owner_after_steps o before ≡ owner_after_steps owner steps → DoesStep o step before (before ++ more)) → DoesPlan owner plan steps
+    → DoesPlan owner (plan ++ step ∷ []) (steps ++ more)
+plan_more owner [] steps step more mine does = (steps, steps ++ more, [], does, mine owner steps refl, sym (append-nil (steps ++ more)), λ k e below. absurd (omega (arith, below)))
+plan_more owner (one ∷ plan) steps step more mine does = (
+  does.0,
+  does.1,
+  does.2 ++ more,
+  does.3,
+  does.4,
+  ap (λ (l : List CallerStep). l ++ more) does.5 ∙ append_assoc does.1 does.2 more,
+  plan_more (owner_after_steps owner does.1) plan does.2 step more (λ o before is. mine o before (is ∙ sym (owner_append owner does.1 does.2) ∙ ap (owner_after_steps owner) (sym does.5))) does.6,
+)

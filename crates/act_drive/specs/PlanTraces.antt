@@ -1,0 +1,44 @@
+-- That a caller's thread did the steps of its plan, in their order.
+use Rattle.std.specs.Prelude.{◌≡◌, ℕ, ◌⊎◌, List, [], ◌∷◌, ◌++◌, map, is_some, true, All}
+use Rattle.act_rules.specs.declared.script.Step.{Step}
+use Rattle.act_rules.specs.declared.script.Step.TheVariants.{Submit, Copy, Release, Kill, Await}
+use Rattle.act_rules.specs.Submissions.{kept_at}
+use Rattle.act_owner.specs.Owner.{OwnerView}
+use Rattle.act_owner.specs.Life.{Copied, Released, Submitted, Sent, Noticed}
+use Rattle.act_mailbox.specs.Controls.{ControlView}
+use Rattle.act_mailbox.specs.Traces.{steps_in}
+use Rattle.act_drive.specs.declared.driver.CallerPasses.{CallerPasses}
+use Rattle.act_drive.specs.CallerSteps.{CallerStep, ChangeMade, KillAsked, owner_after_steps}
+use Rattle.act_drive.specs.CallerTraces.{IsCallerTrace}
+
+-- the caller sends and collects meanwhile
+abbrev pub IsMeanwhile : CallerStep → Type 0
+IsMeanwhile (ChangeMade (Copied a)) = ⊥
+IsMeanwhile (ChangeMade (Released a)) = ⊥
+IsMeanwhile (ChangeMade (Submitted a method args)) = ⊥
+IsMeanwhile (ChangeMade (Sent k)) = Unit {0}
+IsMeanwhile (ChangeMade (Noticed notice)) = Unit {0}
+IsMeanwhile (KillAsked a) = ⊥
+
+-- after the steps `before` a caller that began as `owner` does a plan's step, and all its steps are then `steps`; a kill
+-- needn't be asked of an actor that is known to be dead, and what is awaited is answered before
+abbrev pub DoesStep : OwnerView → Step → List CallerStep → List CallerStep → Type 0
+DoesStep owner (Submit a method args) before steps = steps ≡ before ++ ChangeMade (Submitted a method args) ∷ []
+DoesStep owner (Copy a) before steps = steps ≡ before ++ ChangeMade (Copied a) ∷ []
+DoesStep owner (Release a) before steps = steps ≡ before ++ ChangeMade (Released a) ∷ []
+DoesStep owner (Kill a) before steps = (steps ≡ before) ⊎ (steps ≡ before ++ KillAsked a ∷ [])
+DoesStep owner (Await k) before steps = (steps ≡ before)
+    × (is_some (kept_at (owner_after_steps owner before).kept k) ≡ true)
+
+-- the steps do the plan's steps in their order; before each, and after the last, the caller sends and collects alone
+abbrev pub DoesPlan : OwnerView → List Step → List CallerStep → Type 0
+DoesPlan owner [] steps = All IsMeanwhile steps
+DoesPlan owner (step ∷ plan) steps = (before : List CallerStep) × (done : List CallerStep) × (later : List CallerStep)
+    × All IsMeanwhile before × DoesStep owner step before done × (steps ≡ done ++ later)
+    × DoesPlan (owner_after_steps owner done) plan later
+
+-- the caller did its plan in such steps, and then let some handles go
+abbrev pub HasDonePlan : List ControlView → OwnerView → OwnerView → List Step → CallerPasses → Type 0
+HasDonePlan controls start owner plan passes = (trace : List (ℕ × CallerStep))
+    × IsCallerTrace controls start owner passes trace
+    × ((closing : List ℕ) × DoesPlan start (plan ++ map (λ a. Release a) closing) (steps_in trace))
