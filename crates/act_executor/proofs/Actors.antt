@@ -1,6 +1,7 @@
 -- What each actor of a run left, at its place.
-use Rattle.std.proofs.Common.{◌≡◌, ℕ, ◌<◌, false, List, [], ◌∷◌, ◌++◌, length, map, get_or, slice_get, Some, sym, ap, ◌∙◌, subst, refl, All, Contains}
+use Rattle.std.proofs.Common.{◌≡◌, ℕ, ◌<◌, false, List, [], ◌∷◌, ◌++◌, length, map, zip, get_or, slice_get, Some, sym, ap, ◌∙◌, subst, refl, All, Contains}
 use Rattle.std.proofs.lemmas.Option.{get_or_from_slice_get}
+use Rattle.std.proofs.lemmas.Simd.{map-map}
 use Rattle.act_types.specs.KindState.{KindState}
 use Rattle.act_rules.specs.RunList.{NothingFollowsAnEnd}
 use Rattle.act_rules.specs.Consistent.{IsPrefix}
@@ -8,6 +9,7 @@ use Rattle.act_rules.specs.History.{ActorSpec, contains}
 use Rattle.act_rules.proofs.Unique.{map-slice_get}
 use Rattle.act_actor.specs.declared.cast.Cast.{Cast}
 use Rattle.act_actor.specs.Casts.{actor_spec}
+use Rattle.act_types.specs.declared.message.Notice.{Notice}
 use Rattle.act_mailbox.specs.declared.mail.Letter.{Letter}
 use Rattle.act_mailbox.specs.Lines.{items_from}
 use Rattle.act_mailbox.specs.Passes.{TakerView}
@@ -34,11 +36,18 @@ use Rattle.act_executor.specs.Joins.{ended_starved}
 abbrev pub served_view : {K : Type 0} → (K → KindState) → Finished K → ServedView
 served_view state finished = record { end = end_view state finished.ended; passes = finished.passes }
 
+-- endpoints at the same places are those of the same callers
+pub same_endpoint_callers : (replies : List RepliesView) (new old : List (Endpoint ReplyExecView)) → map without_given new ≡ map without_given old → endpoint_callers replies new ≡ endpoint_callers replies old
+same_endpoint_callers replies new old same =
+    let at : Endpoint ReplyExecView → ℕ = λ endpoint. caller_at replies endpoint.place in
+    sym (map-map at without_given new) ∙ ap (map at) same ∙ map-map at without_given old
+
 -- ---- what shows of an actor without the place of its list
 
 pub record IsLeft {K : Type 0} (state : K → KindState) (replies : List RepliesView) (cast : ActorSpec) (l : ActorLeft K) : Type 0 where
   pub callers : List ℕ
   pub same_callers : (c : ℕ) → contains c callers ≡ contains c cast.callers
+  pub endpoints : endpoint_callers replies l.notices ≡ callers
   pub log : IsLogOf cast.actor callers l.letters.taken (end_log (end_view state l.ended))
   pub last : NothingFollowsAnEnd (end_log (end_view state l.ended))
   pub given : All (λ (endpoint : Endpoint ReplyExecView). endpoint.pass.given ≡ replies_to cast.opening cast.actor (end_log (end_view state l.ended)) (caller_at replies endpoint.place) ++ deaths cast.actor (end_view state l.ended)) l.notices
@@ -52,6 +61,7 @@ module _ {K : Type 0} (state : K → KindState) (lines : Lines) (cast : Cast K) 
   left_is = record {
     callers = endpoint_callers lines.replies.items exec.pass.notices.items;
     same_callers = is.callers;
+    endpoints = same_endpoint_callers lines.replies.items actor.passes.notices.items exec.pass.notices.items served.stay.endpoints;
     log = served.log;
     last = served.last;
     given = served.given;
@@ -64,7 +74,7 @@ module _ {K : Type 0} (state : K → KindState) (lines : Lines) (cast : Cast K) 
   pub is_served : (last : Finished K) → left_of last ≡ left_of actor → IsServed lines.replies.items (actor_spec state cast) (served_view state last)
   is_served last same =
       let l = subst (IsLeft state lines.replies.items (actor_spec state cast)) (sym same) left_is in
-      record { callers = l.callers; same_callers = l.same_callers; log = l.log; last = l.last; given = l.given; kills = l.kills_are; askers = l.askers; drained = l.drained }
+      record { callers = l.callers; same_callers = l.same_callers; endpoints = l.endpoints; log = l.log; last = l.last; given = l.given; kills = l.kills_are; askers = l.askers; drained = l.drained }
 
   -- the endpoint that was there before, at the same place, of the same line
   old_endpoint : (k : ℕ) (endpoint : Endpoint ReplyExecView) → slice_get actor.passes.notices.items k ≡ Some endpoint → (old : Endpoint ReplyExecView) × (slice_get exec.pass.notices.items k ≡ Some old) × (without_given old ≡ without_given endpoint)
@@ -97,15 +107,19 @@ module _ {K : Type 0} (state : K → KindState) (lines : Lines) (cast : Cast K) 
   notices_audited i c callers d last same has named at told =
       let endpoint = new_endpoint i has in
       let there : IsIn last.passes.notices.items endpoint.0 = subst (λ (l : List (Endpoint ReplyExecView)). IsIn l endpoint.0) (sym (ap (λ (l : ActorLeft K). l.notices) same)) endpoint.1 in
-      let front = all_in (NoticeTold callers) actor.passes.notices.items endpoint.0 told endpoint.1 d in
-      let front_at : IsPrefix (items_from notice_actor cast.actor (get_or callers i d).passes.collects.taken) endpoint.0.pass.given =
-      subst (λ (a : ℕ). IsPrefix (items_from notice_actor a (get_or callers i d).passes.collects.taken) endpoint.0.pass.given) endpoint.3
-      (subst (λ (p : ℕ). IsPrefix (items_from notice_actor endpoint.0.pass.actor (get_or callers p d).passes.collects.taken) endpoint.0.pass.given) endpoint.2 front) in
+      let pass = endpoint.0.pass in
+      let heard = all_in (NoticeTold callers) actor.passes.notices.items endpoint.0 told endpoint.1 in
+      let At : ℕ × ℕ → Type 0 = λ p. IsPrefix (items_from notice_actor p.0 (get_or callers p.1 d).passes.collects.taken) pass.given in
+      let front_at : At (cast.actor, i) = subst At (λ k. (endpoint.3 k, endpoint.2 k)) (heard.front d) in
+      let Stamped : ℕ × ℕ → Type 0 = λ p. IsPrefix (items_from (λ (x : Notice × ℕ). notice_actor x.0) p.0 (zip (get_or callers p.1 d).passes.collects.taken (get_or callers p.1 d).passes.collects.stamps)) (zip pass.given pass.stamps) in
+      let stamped_at : Stamped (cast.actor, i) = subst Stamped (λ k. (endpoint.3 k, endpoint.2 k)) (heard.stamped d) in
+      let here : get_or callers i d ≡ d = get_or_from_slice_get callers i d d at in
       record {
         endpoint = endpoint.0;
         sits = contains_from_in last.passes.notices.items endpoint.0 there;
         line = ap (caller_at lines.replies.items) endpoint.2 ∙ named;
-        front = subst (λ (x : Driven). IsPrefix (items_from notice_actor cast.actor x.passes.collects.taken) endpoint.0.pass.given) (get_or_from_slice_get callers i d d at) front_at;
+        front = subst (λ (x : Driven). IsPrefix (items_from notice_actor cast.actor x.passes.collects.taken) pass.given) here front_at;
+        stamped = subst (λ (x : Driven). IsPrefix (items_from (λ (y : Notice × ℕ). notice_actor y.0) cast.actor (zip x.passes.collects.taken x.passes.collects.stamps)) (zip pass.given pass.stamps)) here stamped_at;
       }
 
   pub same_id : (last : Finished K) → left_of last ≡ left_of actor → end_id (end_view state last.ended) ≡ cast.actor

@@ -114,6 +114,10 @@ module _ {C : Type 0} (tells : C → SessionView → SessionView → Type 0) (ma
     fed = j.fed;
   }
 
+  -- with the steps that each did for plans, they are joined as any are
+  pub joined_so : (did : List (ℕ × List Step)) × AreJoined mails controls replies casts did driven served
+  joined_so = (steps, are_joined)
+
   abbrev owners : List OwnerView
   owners = map (λ (d : Driven). d.owner) driven
 

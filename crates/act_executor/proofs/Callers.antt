@@ -1,5 +1,5 @@
 -- What each caller of a run left, at its place.
-use Rattle.std.proofs.Common.{◌≡◌, ℕ, ◌<◌, false, List, length, map, get_or, slice_get, Some, sym, ap, ◌∙◌, subst, All, Contains}
+use Rattle.std.proofs.Common.{◌≡◌, ℕ, ◌<◌, false, List, length, map, zip, get_or, slice_get, Some, sym, ap, ◌∙◌, subst, All, Contains}
 use Rattle.std.proofs.lemmas.Option.{get_or_from_slice_get}
 use Rattle.act_rules.specs.Consistent.{IsPrefix}
 use Rattle.act_rules.specs.Plans.{planned}
@@ -98,15 +98,19 @@ module _ (lines : Lines) (does : Doing) (setup : CallerSetup) (caller : Endpoint
         let place : endpoint.place ≡ j = ap (λ (s : LetterEndpoint). s.place) new.2 ∙ old.2 in
         let number : endpoint.pass.number ≡ setup.caller = ap (λ (s : LetterEndpoint). s.pass.number) new.2 ∙ was.number in
         let there : IsIn d.passes.letters.items endpoint = record { place = in_map.place; at = new.1 } in
-        let front = all_in (LetterTold actors) d.passes.letters.items endpoint told there last in
-        let front_at : IsPrefix (items_from caller_of setup.caller (get_or actors j last).passes.letters.taken) endpoint.pass.put =
-        subst (λ (c : ℕ). IsPrefix (items_from caller_of c (get_or actors j last).passes.letters.taken) endpoint.pass.put) number
-        (subst (λ (p : ℕ). IsPrefix (items_from caller_of endpoint.pass.number (get_or actors p last).passes.letters.taken) endpoint.pass.put) place front) in
+        let pass = endpoint.pass in
+        let heard = all_in (LetterTold actors) d.passes.letters.items endpoint told there in
+        let At : ℕ × ℕ → Type 0 = λ p. IsPrefix (items_from caller_of p.0 (get_or actors p.1 last).passes.letters.taken) pass.put in
+        let front_at : At (setup.caller, j) = subst At (λ k. (number k, place k)) (heard.front last) in
+        let Stamped : ℕ × ℕ → Type 0 = λ p. IsPrefix (items_from (λ (x : Letter × ℕ). caller_of x.0) p.0 (zip (get_or actors p.1 last).passes.letters.taken (get_or actors p.1 last).passes.letters.stamps)) (zip pass.put pass.stamps) in
+        let stamped_at : Stamped (setup.caller, j) = subst Stamped (λ k. (number k, place k)) (heard.stamped last) in
+        let here : get_or actors j last ≡ last = get_or_from_slice_get actors j last last at_last in
         record {
           endpoint = endpoint;
           sits = contains_from_in d.passes.letters.items endpoint there;
           line = λ m. ap (λ (p : ℕ). (get_or lines.mails.items p m).actor) place ∙ of_actor m;
-          front = subst (λ (x : Finished K). IsPrefix (items_from caller_of setup.caller x.passes.letters.taken) endpoint.pass.put) (get_or_from_slice_get actors j last last at_last) front_at;
+          front = subst (λ (x : Finished K). IsPrefix (items_from caller_of setup.caller x.passes.letters.taken) pass.put) here front_at;
+          stamped = subst (λ (x : Finished K). IsPrefix (items_from (λ (y : Letter × ℕ). caller_of y.0) setup.caller (zip x.passes.letters.taken x.passes.letters.stamps)) (zip pass.put pass.stamps)) here stamped_at;
         }
 
     -- and its kills
@@ -121,13 +125,17 @@ module _ (lines : Lines) (does : Doing) (setup : CallerSetup) (caller : Endpoint
         let place : endpoint.place ≡ j = ap (λ (s : KillEndpoint). s.place) new.2 ∙ ap (λ (p : ℕ × ℕ). p.0) old.2 in
         let number : endpoint.pass.number ≡ setup.caller = ap (λ (s : KillEndpoint). s.pass.number) new.2 ∙ ap (λ (p : ℕ × ℕ). p.1) old.2 in
         let there : IsIn d.passes.kills.items endpoint = record { place = in_map.place; at = new.1 } in
-        let front = all_in (KillTold actors) d.passes.kills.items endpoint told there last in
-        let front_at : IsPrefix (items_from asker_of setup.caller (get_or actors j last).passes.kills.taken) endpoint.pass.put =
-        subst (λ (c : ℕ). IsPrefix (items_from asker_of c (get_or actors j last).passes.kills.taken) endpoint.pass.put) number
-        (subst (λ (p : ℕ). IsPrefix (items_from asker_of endpoint.pass.number (get_or actors p last).passes.kills.taken) endpoint.pass.put) place front) in
+        let pass = endpoint.pass in
+        let heard = all_in (KillTold actors) d.passes.kills.items endpoint told there in
+        let At : ℕ × ℕ → Type 0 = λ p. IsPrefix (items_from asker_of p.0 (get_or actors p.1 last).passes.kills.taken) pass.put in
+        let front_at : At (setup.caller, j) = subst At (λ k. (number k, place k)) (heard.front last) in
+        let Stamped : ℕ × ℕ → Type 0 = λ p. IsPrefix (items_from (λ (x : Asked × ℕ). asker_of x.0) p.0 (zip (get_or actors p.1 last).passes.kills.taken (get_or actors p.1 last).passes.kills.stamps)) (zip pass.put pass.stamps) in
+        let stamped_at : Stamped (setup.caller, j) = subst Stamped (λ k. (number k, place k)) (heard.stamped last) in
+        let here : get_or actors j last ≡ last = get_or_from_slice_get actors j last last at_last in
         record {
           endpoint = endpoint;
           sits = contains_from_in d.passes.kills.items endpoint there;
           line = λ k. ap (λ (p : ℕ). (get_or lines.controls.items p k).actor) place ∙ of_actor k;
-          front = subst (λ (x : Finished K). IsPrefix (items_from asker_of setup.caller x.passes.kills.taken) endpoint.pass.put) (get_or_from_slice_get actors j last last at_last) front_at;
+          front = subst (λ (x : Finished K). IsPrefix (items_from asker_of setup.caller x.passes.kills.taken) pass.put) here front_at;
+          stamped = subst (λ (x : Finished K). IsPrefix (items_from (λ (y : Asked × ℕ). asker_of y.0) setup.caller (zip x.passes.kills.taken x.passes.kills.stamps)) (zip pass.put pass.stamps)) here stamped_at;
         }

@@ -59,9 +59,9 @@ pub record AreDealt {K : Type 0} (casts : List (Cast K)) (setups : List CallerSe
   pub at_lines : AreAtLines opened
   pub actors : map (λ exec. exec.pass.kills.actor) opened.execs.items ≡ map (λ cast. cast.actor) casts
   pub askers : map (λ exec. exec.pass.kills.askers) opened.execs.items ≡ map (λ cast. starter ∷ cast.callers) casts
-  pub unread : All (λ exec. exec.pass.letters.taken ≡ []) opened.execs.items
-  pub unasked : All (λ exec. (exec.pass.kills.taken ≡ []) × (exec.pass.kills.lengths ≡ [])) opened.execs.items
-  pub uncollected : All (λ caller. caller.pass.collects.taken ≡ []) opened.callers.items
+  pub unread : All (λ exec. (exec.pass.letters.taken ≡ []) × (exec.pass.letters.stamps ≡ [])) opened.execs.items
+  pub unasked : All (λ exec. (exec.pass.kills.taken ≡ []) × (exec.pass.kills.stamps ≡ []) × (exec.pass.kills.lengths ≡ [])) opened.execs.items
+  pub uncollected : All (λ caller. (caller.pass.collects.taken ≡ []) × (caller.pass.collects.stamps ≡ [])) opened.callers.items
   pub notices : map (λ exec. exec.pass.notices.items) opened.execs.items ≡ map (λ cast. notices_of setups opened.lines.replies.items cast.actor) casts
   pub letters : map (λ caller. caller.pass.letters.items) opened.callers.items ≡ map (λ setup. letters_of casts opened.lines.mails.items setup.caller) setups
   pub kills : map (λ caller. caller.pass.kills.items) opened.callers.items ≡ map (λ setup. kills_of casts opened.lines.controls.items setup.caller) setups
@@ -141,6 +141,7 @@ module _ {K : Type 0} (casts : List (Cast K)) (setups : List CallerSetup) (match
       line = λ d. ap line_of_mail (get_or_from_slice_get mails i mail d at);
       number = refl;
       put = refl;
+      stamps = refl;
     })
 
     mails_apart : CallersDiffer (map (λ (mail : MailView). mail.actor) mails)
@@ -174,6 +175,9 @@ module _ {K : Type 0} (casts : List (Cast K)) (setups : List CallerSetup) (match
 
     unasked : (c : ℕ) → All (λ (endpoint : Endpoint (PutterView Asked ℕ)). endpoint.pass.put ≡ []) (kills_of casts controls c)
     unasked c = each_kill c (λ (endpoint : Endpoint (PutterView Asked ℕ)). endpoint.pass.put ≡ []) (λ i control cast at there named. refl)
+
+    unstamped : (c : ℕ) → All (λ (endpoint : Endpoint (PutterView Asked ℕ)). endpoint.pass.stamps ≡ []) (kills_of casts controls c)
+    unstamped c = each_kill c (λ (endpoint : Endpoint (PutterView Asked ℕ)). endpoint.pass.stamps ≡ []) (λ i control cast at there named. refl)
 
     actors_apart : CallersDiffer (map (λ (control : ControlView). control.actor) controls)
     actors_apart = subst CallersDiffer (sym actors) (map_apart (λ (cast : Cast K). cast.actor) casts matched.actors_differ)
@@ -230,7 +234,8 @@ module _ {K : Type 0} (casts : List (Cast K)) (setups : List CallerSetup) (match
       let control = at_other (λ (control : ControlView). control.line) (λ (exec : Endpoint ExecPasses). exec.pass.kills.line) controls execs (sym dealt.at_lines.controls) j exec there in
       let notices : exec.pass.notices.items ≡ notices_of setups replies cast.actor = at_both (λ (exec : Endpoint ExecPasses). exec.pass.notices.items) (λ (cast : Cast K). notices_of setups replies cast.actor) execs casts dealt.notices j exec cast there at in
       let actor : exec.pass.kills.actor ≡ cast.actor = at_both (λ (exec : Endpoint ExecPasses). exec.pass.kills.actor) (λ (cast : Cast K). cast.actor) execs casts dealt.actors j exec cast there at in
-      let bare = all_at (λ (exec : Endpoint ExecPasses). (exec.pass.kills.taken ≡ []) × (exec.pass.kills.lengths ≡ [])) execs j exec dealt.unasked there in
+      let bare = all_at (λ (exec : Endpoint ExecPasses). (exec.pass.kills.taken ≡ []) × (exec.pass.kills.stamps ≡ []) × (exec.pass.kills.lengths ≡ [])) execs j exec dealt.unasked there in
+      let unread = all_at (λ (exec : Endpoint ExecPasses). (exec.pass.letters.taken ≡ []) × (exec.pass.letters.stamps ≡ [])) execs j exec dealt.unread there in
       record {
         fit = λ m k. record {
           mail_is = sym mail.2 ∙ ap line_of_mail (sym (get_or_from_slice_get mails j mail.0 m mail.1) ∙ ap (λ (i : ℕ). get_or mails i m) (sym place));
@@ -242,9 +247,12 @@ module _ {K : Type 0} (casts : List (Cast K)) (setups : List CallerSetup) (match
         };
         unused = record {
           callers_are = refl;
-          letters = all_at (λ (exec : Endpoint ExecPasses). exec.pass.letters.taken ≡ []) execs j exec dealt.unread there;
-          kills = bare;
+          letters = unread.0;
+          letter_stamps = unread.1;
+          kills = (bare.0, bare.2);
+          kill_stamps = bare.1;
           given = subst (λ (l : List (Endpoint ReplyExecView)). All (λ (endpoint : Endpoint ReplyExecView). endpoint.pass.given ≡ []) l) (sym notices) (each_notice casts setups matched replies dealt.lines.replies cast.actor (λ (endpoint : Endpoint ReplyExecView). endpoint.pass.given ≡ []) (λ i r setup is line named. refl));
+          given_stamps = subst (λ (l : List (Endpoint ReplyExecView)). All (λ (endpoint : Endpoint ReplyExecView). endpoint.pass.stamps ≡ []) l) (sym notices) (each_notice casts setups matched replies dealt.lines.replies cast.actor (λ (endpoint : Endpoint ReplyExecView). endpoint.pass.stamps ≡ []) (λ i r setup is line named. refl));
         };
         callers = λ c. ap (λ (l : List (Endpoint ReplyExecView)). contains c (endpoint_callers replies l)) notices ∙ its_callers casts setups matched replies dealt.lines.replies j cast at c;
         askers = at_both (λ (exec : Endpoint ExecPasses). exec.pass.kills.askers) (λ (cast : Cast K). starter ∷ cast.callers) execs casts dealt.askers j exec cast there at;
@@ -256,13 +264,16 @@ module _ {K : Type 0} (casts : List (Cast K)) (setups : List CallerSetup) (match
       let line = at_other (λ (line : RepliesView). line.line) (λ (caller : Endpoint CallerPasses). caller.pass.collects.line) replies callers (sym dealt.at_lines.replies) i caller there in
       let letters : caller.pass.letters.items ≡ letters_of casts mails setup.caller = at_both (λ (caller : Endpoint CallerPasses). caller.pass.letters.items) (λ (setup : CallerSetup). letters_of casts mails setup.caller) callers setups dealt.letters i caller setup there at in
       let kills : caller.pass.kills.items ≡ kills_of casts controls setup.caller = at_both (λ (caller : Endpoint CallerPasses). caller.pass.kills.items) (λ (setup : CallerSetup). kills_of casts controls setup.caller) callers setups dealt.kills i caller setup there at in
+      let uncollected = all_at (λ (caller : Endpoint CallerPasses). (caller.pass.collects.taken ≡ []) × (caller.pass.collects.stamps ≡ [])) callers i caller dealt.uncollected there in
       record {
         collects = sym line.2 ∙ ap line_of_replies (sym (get_or_from_slice_get replies i line.0 r line.1) ∙ ap (λ (k : ℕ). get_or replies k r) (sym place));
-        taken = all_at (λ (caller : Endpoint CallerPasses). caller.pass.collects.taken ≡ []) callers i caller dealt.uncollected there;
+        taken = uncollected.0;
+        stamps = uncollected.1;
         letters = subst (λ (l : List (Endpoint (PutterView Letter Unit))). All (IsFreshEndpoint mails setup.caller) l) (sym letters) (fresh_letters casts setups matched mails dealt.lines.mails setup.caller);
         distinct = subst (AreDistinct mails) (sym letters) (letters_apart casts setups matched mails dealt.lines.mails setup.caller);
         kills = subst (λ (l : List (Endpoint (PutterView Asked ℕ))). AreKillEndpoints controls l) (sym kills) (kill_endpoints casts setups matched controls dealt.lines.controls setup.caller, kills_apart casts setups matched controls dealt.lines.controls setup.caller);
         asked = subst (λ (l : List (Endpoint (PutterView Asked ℕ))). All (λ (endpoint : Endpoint (PutterView Asked ℕ)). endpoint.pass.put ≡ []) l) (sym kills) (unasked casts setups matched controls dealt.lines.controls setup.caller);
+        asked_stamps = subst (λ (l : List (Endpoint (PutterView Asked ℕ))). All (λ (endpoint : Endpoint (PutterView Asked ℕ)). endpoint.pass.stamps ≡ []) l) (sym kills) (unstamped casts setups matched controls dealt.lines.controls setup.caller);
       }
 
   are_paired : ArePaired casts setups execs callers

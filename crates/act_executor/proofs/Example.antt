@@ -145,6 +145,7 @@ module _ (mail control reply : TableId) (ptr : Ptr) (alloc : Global) where
   serves cast e = subst (λ (x : ActorSpec). IsServed (replies reply) x s) (one_at _ cast 0 e) (record {
     callers = 1 ∷ [];
     same_callers = λ c. refl;
+    endpoints = refl;
     log = record {
       taken = all_one (λ (i : RunItem). Contains letters (Call (packet_of_item 1 i))) item (0, omega arith, refl);
       listed = all_one (λ (i : RunItem). contains i.caller (1 ∷ []) ≡ true) item refl;
@@ -196,9 +197,9 @@ module _ (mail control reply : TableId) (ptr : Ptr) (alloc : Global) where
 
   audits : AreAudited (mails mail) (controls control) (replies reply) 1 1 d s
   audits = record {
-    letters = record { endpoint = letter_endpoint mail letters; sits = (0, omega arith, refl); line = λ m. refl; front = ([], refl) };
-    kills = record { endpoint = kill_endpoint control []; sits = (0, omega arith, refl); line = λ k. refl; front = ([], refl) };
-    notices = record { endpoint = notice_endpoint reply log notices; sits = (0, omega arith, refl); line = refl; front = ([], refl) };
+    letters = record { endpoint = letter_endpoint mail letters; sits = (0, omega arith, refl); line = λ m. refl; front = ([], refl); stamped = ([], refl) };
+    kills = record { endpoint = kill_endpoint control []; sits = (0, omega arith, refl); line = λ k. refl; front = ([], refl); stamped = ([], refl) };
+    notices = record { endpoint = notice_endpoint reply log notices; sits = (0, omega arith, refl); line = refl; front = ([], refl); stamped = ([], refl) };
   }
 
   pub example : AreJoined (mails mail) (controls control) (replies reply) casts plans (d ∷ []) (s ∷ [])

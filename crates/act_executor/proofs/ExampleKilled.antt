@@ -77,6 +77,7 @@ module _ (mail control reply : TableId) (ptr : Ptr) (alloc : Global) where
   serves cast e = subst (λ (x : ActorSpec). IsServed (replies reply) x s) (one_at _ cast 0 e) (record {
     callers = 1 ∷ [];
     same_callers = λ c. refl;
+    endpoints = refl;
     log = record {
       taken = All-nil (λ (i : RunItem). Contains {X = Letter} [] (Call (packet_of_item 1 i)));
       listed = All-nil (λ (i : RunItem). contains i.caller (1 ∷ []) ≡ true);
@@ -115,9 +116,9 @@ module _ (mail control reply : TableId) (ptr : Ptr) (alloc : Global) where
 
   audits : AreAudited (mails mail) (controls control) (replies reply) 1 1 d s
   audits = record {
-    letters = record { endpoint = letter_endpoint mail letters; sits = (0, omega arith, refl); line = λ m. refl; front = (letters, refl) };
-    kills = record { endpoint = kill_endpoint control kills; sits = (0, omega arith, refl); line = λ k. refl; front = ([], refl) };
-    notices = record { endpoint = notice_endpoint reply [] notices; sits = (0, omega arith, refl); line = refl; front = ([], refl) };
+    letters = record { endpoint = letter_endpoint mail letters; sits = (0, omega arith, refl); line = λ m. refl; front = (letters, refl); stamped = ([], refl) };
+    kills = record { endpoint = kill_endpoint control kills; sits = (0, omega arith, refl); line = λ k. refl; front = ([], refl); stamped = ([], refl) };
+    notices = record { endpoint = notice_endpoint reply [] notices; sits = (0, omega arith, refl); line = refl; front = ([], refl); stamped = ([], refl) };
   }
 
   pub example : AreJoined (mails mail) (controls control) (replies reply) casts plans (d ∷ []) (s ∷ [])

@@ -29,7 +29,9 @@ use Rattle.act_mailbox.specs.Notices.{RepliesView}
 use Rattle.act_mailbox.specs.declared.endpoint.Endpoint.{Endpoint}
 use Rattle.act_serve.specs.declared.endpoint.Finished.{Finished}
 use Rattle.act_serve.specs.Served.{EndView, end_view, end_id, caller_at}
+use Rattle.act_serve.specs.ActorTraces.{IsActorTraced}
 use Rattle.act_drive.specs.declared.caller.Driven.{Driven}
+use Rattle.act_drive.specs.CallerTraces.{IsCallerTraced}
 use Rattle.act_plans.specs.declared.setup.CallerSetup.{CallerSetup}
 use Rattle.act_plans.specs.declared.rising.Prepared.{Prepared}
 use Rattle.act_drive.specs.Sessions.{SessionView}
@@ -37,13 +39,17 @@ use Rattle.act_plans.specs.Prepared.{by_rising_actor}
 use Rattle.act_plans.specs.Runs.{limits_naming, callers_of_casts, actors_of_casts, cast_at, plan_of}
 use Rattle.act_plans.proofs.ActorSpecs.{setups_view, plans_are, actors_are, limits_are, actors_view, each_cast_view}
 use Rattle.act_plans.proofs.Keys.{pairs_of_map}
+use Rattle.act_executor.proofs.HaveTraces.{HaveTraces, traced_moved}
 use Rattle.act_executor.proofs.Places.{as_long, at_other, all_at}
 use Rattle.act_executor.specs.Joined.{IsJoined, is_starved}
 use Rattle.act_executor.specs.Left.{ServedView, IsServed, IsDriven, AreAudited, AreCasts, AreJoined}
 use Rattle.act_executor.specs.ByCode.{code_of, opened_of, IsDrivenBy, AreJoinedBy, IsJoinedBy}
 use Rattle.act_executor.proofs.Elements.{all_by_places, range_at}
 use Rattle.act_executor.proofs.Ends.{joined as joined_is}
-use Rattle.act_executor.proofs.ByCode.{is_joined_by as joined_by_is}
+use Rattle.act_executor.proofs.ByCode.{joined_so, is_joined_by as joined_by_is}
+use Rattle.act_executor.specs.Plays.{IsPlayed}
+use Rattle.act_executor.proofs.SpecsFit.{specs_fit}
+use Rattle.act_executor.proofs.JoinedTraces.{is_played as played_of_joined}
 use Rattle.act_executor.specs.declared.joined.Joined.{Joined}
 use Rattle.act_executor.specs.Audits.{KillTold, CallerTold, NoticeTold, ActorLeft, left_of}
 use Rattle.act_executor.specs.Work.{IsUnusedStarter}
@@ -162,6 +168,7 @@ module _ {K : Type 0} (state : K → KindState) (does : ℕ → Doing) (casts : 
     pub steps : List Step
     pub did : IsDriven lines.mails.items lines.controls.items (actors_naming d.owner.id seen) steps d
     pub does_so : does d.owner.id (plan_of d.owner.id (map plan_view plans)) steps (opened_of d.owner.id seen) d.owner
+    pub traced : IsCallerTraced lines.controls.items (opened_of d.owner.id seen) d.owner d.passes
 
   did_at : (i : ℕ) (d : Driven) → slice_get callers i ≡ Some d → Did d
   did_at i d at =
@@ -176,12 +183,30 @@ module _ {K : Type 0} (state : K → KindState) (does : ℕ → Doing) (casts : 
       let limits : one.setup.limits.items ≡ limits_naming d.owner.id seen = limited ∙ ap (λ (n : ℕ). limits_naming n seen) (sym id) in
       let plan : one.setup.plan.items ≡ plan_of d.owner.id (map plan_view plans) = planned ∙ ap (λ (n : ℕ). plan_of n (map plan_view plans)) (sym id) in
       let steps = drove.driven_is.steps in
+      let traced = drove.driven_is.driven_is.traced fed in
       let At : ℕ × List Step × OwnerView → Type 0 = λ x. does x.0 x.1 steps x.2 d.owner in
+      let Traced : List ControlView × OwnerView → Type 0 = λ x. IsCallerTraced x.0 x.1 d.owner d.passes in
       record {
         steps = steps;
         did = is_driven lines (does one.setup.caller) one.setup one.caller d one.is drove (actors_naming d.owner.id seen) actors fed;
         does_so = subst At (λ k. (sym id k, plan k, opened_under (limits k) (sym id k) (actors k))) (drove.driven_is.does_so fed);
+        traced = subst Traced (λ k. (drove.controls k, opened_under (limits k) (sym id k) (actors k))) (traced.0, traced.1);
       }
+
+  -- each thread did its steps in order and in time
+  have_traces : HaveTraces lines.controls.items lines.replies.items seen callers (map (served_view state) last)
+  have_traces = record {
+    actors = all_by_places (λ (s : ServedView). IsActorTraced (end_id s.end) lines.replies.items s.end s.passes) (map (served_view state) last) (λ j s at.
+        let e = end_at j s at in
+        let served = run.served.each j e.there.cast e.there.exec e.a e.there.at_cast e.there.at_exec e.at_a in
+        let name = same_id state lines e.there.cast e.there.exec e.a e.there.is served e.f e.same in
+        let same = sym e.same in
+        let ended : end_view state e.a.ended ≡ end_view state e.f.ended = ap (λ (l : ActorLeft K). end_view state l.ended) same in
+        subst (λ (x : ServedView). IsActorTraced (end_id x.end) lines.replies.items x.end x.passes) (sym e.s_is)
+        (traced_moved e.a.passes e.f.passes (ap (λ (l : ActorLeft K). l.letters) same) (ap (λ (l : ActorLeft K). l.kills) same) (ap (λ (l : ActorLeft K). l.notices) same)
+        e.there.cast.actor (end_id (end_view state e.f.ended)) lines.replies.items (end_view state e.a.ended) (end_view state e.f.ended) (sym name) ended served.traced));
+    callers = all_by_places (λ (d : Driven). IsCallerTraced lines.controls.items (opened_of d.owner.id seen) d.owner d.passes) callers (λ i d at. (did_at i d at).traced);
+  }
 
   -- each caller keeps the limits of the casts
   limits : All (λ (d : Driven). d.owner.limits ≡ limits_naming d.owner.id seen) callers
@@ -247,7 +272,7 @@ module _ {K : Type 0} (state : K → KindState) (does : ℕ → Doing) (casts : 
       let plus : 0 + j ≡ j = omega arith in
       let place : endpoint.place ≡ j = range_at 0 (length controls) j endpoint.place in_range ∙ plus in
       let unused = (all_at (IsUnusedStarter controls) endpoints j endpoint run.starters.unused one.1).new (record { line = endpoint.pass.line; actor = 0 }) in
-      let told = all_at (KillTold last) endpoints j endpoint run.compared.starters one.1 e.f in
+      let told = (all_at (KillTold last) endpoints j endpoint run.compared.starters one.1).front e.f in
       let At : ℕ × ℕ × List Asked → Type 0 = λ x. IsPrefix (items_from asker_of x.0 (get_or last x.1 e.f).passes.kills.taken) x.2 in
       let front : IsPrefix (items_from asker_of starter (get_or last j e.f).passes.kills.taken) [] = subst At (λ k. (ap (λ (p : PutterView Asked ℕ). p.number) unused k, place k, ap (λ (p : PutterView Asked ℕ). p.put) unused k)) told in
       ap (λ (x : ServedView). items_from asker_of starter x.passes.kills.taken) e.s_is ∙ ap (λ (x : Finished K). items_from asker_of starter x.passes.kills.taken) (sym (get_or_from_slice_get last j e.f e.f e.at_f)) ∙ front_none _ front)
@@ -268,6 +293,12 @@ module _ {K : Type 0} (state : K → KindState) (does : ℕ → Doing) (casts : 
   abbrev ends : List EndView
   ends = map (λ (f : Finished K). end_view state f.ended) last
 
+  -- some play leaves what the threads leave
+  played_so : (steps : List (ℕ × List Step)) → AreJoined lines.mails.items lines.controls.items lines.replies.items seen steps callers (map (served_view state) last) → IsPlayed seen joined.owners.items ends
+  played_so steps j =
+      let At : List OwnerView × List EndView → Type 0 = λ p. IsPlayed seen p.0 p.1 in
+      subst At (λ k. (sym run.compared.owners k, map-map (λ (s : ServedView). s.end) (served_view state) last k)) (played_of_joined j have_traces (specs_fit state casts fit is.numbers))
+
   -- where each did its plan
   module _ (by_plan : (c : ℕ) (plan steps : List Step) (before later : OwnerView) → does c plan steps before later → steps ≡ plan) where
     all_driven : All (λ (d : Driven). IsDriven lines.mails.items lines.controls.items (actors_naming d.owner.id seen) (plan_of d.owner.id (map plan_view plans)) d) callers
@@ -283,6 +314,9 @@ module _ {K : Type 0} (state : K → KindState) (does : ℕ → Doing) (casts : 
         let whole = joined_is are_joined in
         let At : List OwnerView × List EndView → Type 0 = λ p. IsJoined seen (map plan_view plans) p.0 p.1 in
         subst At (λ k. (sym run.compared.owners k, map-map (λ (s : ServedView). s.end) (served_view state) last k)) whole
+
+    pub is_played : IsPlayed seen joined.owners.items ends
+    is_played = played_so (map plan_view plans) are_joined
 
   -- where some did what their code decided
   module _ {C : Type 0} (tells : C → SessionView → SessionView → Type 0) (codes : List (ℕ × C)) (fits : CodesFit casts plans codes)
@@ -324,3 +358,8 @@ module _ {K : Type 0} (state : K → KindState) (does : ℕ → Doing) (casts : 
         let whole = joined_by_is tells lines.mails.items lines.controls.items lines.replies.items seen (map plan_view plans) codes callers (map (served_view state) last) are_joined_by in
         let At : List OwnerView × List EndView → Type 0 = λ p. IsJoinedBy tells seen (map plan_view plans) codes p.0 p.1 in
         subst At (λ k. (sym run.compared.owners k, map-map (λ (s : ServedView). s.end) (served_view state) last k)) whole
+
+    pub is_played_by : IsPlayed seen joined.owners.items ends
+    is_played_by =
+        let so = joined_so tells lines.mails.items lines.controls.items lines.replies.items seen (map plan_view plans) codes callers (map (served_view state) last) are_joined_by in
+        played_so so.0 so.1

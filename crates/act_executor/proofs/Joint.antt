@@ -204,7 +204,7 @@ module _ {mails : List MailView} {controls : List ControlView} {replies : List R
     pub thread : Thread a s
     pub given : IsIn (replies_to thread.cast.cast.opening a (end_log s.end) c ++ deaths a s.end) notice
 
-  given_in : (c a : ℕ) (d : Driven) (notice : Notice) (s : ServedView) → (t : Thread a s) → IsIn t.cast.cast.callers c → driven_of c driven ≡ Some d → notice_actor notice ≡ a → IsIn d.passes.collects.taken notice → IsIn (replies_to t.cast.cast.opening a (end_log s.end) c ++ deaths a s.end) notice
+  pub given_in : (c a : ℕ) (d : Driven) (notice : Notice) (s : ServedView) → (t : Thread a s) → IsIn t.cast.cast.callers c → driven_of c driven ≡ Some d → notice_actor notice ≡ a → IsIn d.passes.collects.taken notice → IsIn (replies_to t.cast.cast.opening a (end_log s.end) c ++ deaths a s.end) notice
   given_in c a d notice s t names f actor got =
       let audit = (audit_of a c s d t names f).notices in
       let mine = in_filter (λ (x : Notice). notice_actor x == a) d.passes.collects.taken notice got (eq-eqb (notice_actor notice) a actor) in

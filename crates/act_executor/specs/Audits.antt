@@ -1,5 +1,5 @@
 -- What the audits of the lines tell.
-use Rattle.std.specs.Prelude.{◌≡◌, ℕ, ◌<◌, List, length, slice_index_or, All}
+use Rattle.std.specs.Prelude.{◌≡◌, ℕ, ◌<◌, List, length, zip, slice_index_or, All}
 use Rattle.act_rules.specs.Consistent.{IsPrefix}
 use Rattle.act_mailbox.specs.declared.mail.Letter.{Letter}
 use Rattle.act_mailbox.specs.declared.control.Asked.{Asked}
@@ -27,22 +27,36 @@ abbrev pub SitsAtReplies : List RepliesView → Endpoint ReplyExecView → Type 
 SitsAtReplies replies endpoint = (endpoint.place < length replies)
     × ((r : RepliesView) → (slice_index_or replies endpoint.place r).line ≡ endpoint.pass.line)
 
--- what the actor at the pass's place took of its caller is a prefix of what was put there
-abbrev pub LetterTold : {K : Type 0} → List (Finished K) → Endpoint (PutterView Letter Unit) → Type 0
-LetterTold {K} actors endpoint = (f : Finished K) →
-    IsPrefix (items_from caller_of endpoint.pass.number
-    (slice_index_or actors endpoint.place f).passes.letters.taken) endpoint.pass.put
+-- what the actor at the pass's place took of its caller is a prefix of what was put there, and so it is with stamps
+pub record LetterTold {K : Type 0} (actors : List (Finished K))
+    (endpoint : Endpoint (PutterView Letter Unit)) : Type 0 where
+  pub front : (f : Finished K) →
+      IsPrefix (items_from caller_of endpoint.pass.number
+      (slice_index_or actors endpoint.place f).passes.letters.taken) endpoint.pass.put
+  pub stamped : (f : Finished K) →
+      IsPrefix (items_from (λ x. caller_of x.0) endpoint.pass.number
+      (zip (slice_index_or actors endpoint.place f).passes.letters.taken
+      (slice_index_or actors endpoint.place f).passes.letters.stamps)) (zip endpoint.pass.put endpoint.pass.stamps)
 
-abbrev pub KillTold : {K : Type 0} → List (Finished K) → Endpoint (PutterView Asked ℕ) → Type 0
-KillTold {K} actors endpoint = (f : Finished K) →
-    IsPrefix (items_from asker_of endpoint.pass.number
-    (slice_index_or actors endpoint.place f).passes.kills.taken) endpoint.pass.put
+pub record KillTold {K : Type 0} (actors : List (Finished K)) (endpoint : Endpoint (PutterView Asked ℕ)) : Type 0 where
+  pub front : (f : Finished K) →
+      IsPrefix (items_from asker_of endpoint.pass.number
+      (slice_index_or actors endpoint.place f).passes.kills.taken) endpoint.pass.put
+  pub stamped : (f : Finished K) →
+      IsPrefix (items_from (λ x. asker_of x.0) endpoint.pass.number
+      (zip (slice_index_or actors endpoint.place f).passes.kills.taken
+      (slice_index_or actors endpoint.place f).passes.kills.stamps)) (zip endpoint.pass.put endpoint.pass.stamps)
 
--- what the caller at the pass's place collected of the actor is a prefix of what was given there
-abbrev pub NoticeTold : List Driven → Endpoint ReplyExecView → Type 0
-NoticeTold callers endpoint = (d : Driven) →
-    IsPrefix (items_from notice_actor endpoint.pass.actor
-    (slice_index_or callers endpoint.place d).passes.collects.taken) endpoint.pass.given
+-- what the caller at the pass's place collected of the actor is a prefix of what was given there, and so it is with
+-- stamps
+pub record NoticeTold (callers : List Driven) (endpoint : Endpoint ReplyExecView) : Type 0 where
+  pub front : (d : Driven) →
+      IsPrefix (items_from notice_actor endpoint.pass.actor
+      (slice_index_or callers endpoint.place d).passes.collects.taken) endpoint.pass.given
+  pub stamped : (d : Driven) →
+      IsPrefix (items_from (λ x. notice_actor x.0) endpoint.pass.actor
+      (zip (slice_index_or callers endpoint.place d).passes.collects.taken
+      (slice_index_or callers endpoint.place d).passes.collects.stamps)) (zip endpoint.pass.given endpoint.pass.stamps)
 
 -- a caller's passes are of the lines at their places
 pub record HasEndpoints (lines : Lines) (caller : Driven) : Type 0 where

@@ -1,5 +1,5 @@
 -- What the threads of a run leave, once their lines were audited.
-use Rattle.std.specs.Prelude.{◌≡◌, ◌≢◌, ℕ, ◌<◌, true, false, List, [], ◌∷◌, ◌++◌, length, map, slice_get, slice_index_or, Some, is_some, All, AllPairs, Contains}
+use Rattle.std.specs.Prelude.{◌≡◌, ◌≢◌, ℕ, ◌<◌, true, false, List, [], ◌∷◌, ◌++◌, length, map, zip, slice_get, slice_index_or, Some, is_some, All, AllPairs, Contains}
 use Rattle.act_types.specs.declared.limits.TheConstants.{MAX_ACTORS, MAX_CALLERS}
 use Rattle.act_rules.specs.declared.script.Step.{Step}
 use Rattle.act_rules.specs.RunList.{NothingFollowsAnEnd}
@@ -18,7 +18,7 @@ use Rattle.act_mailbox.specs.Controls.{ControlView, asker_of, starter}
 use Rattle.act_mailbox.specs.Notices.{RepliesView, ReplyExecView, notice_actor}
 use Rattle.act_mailbox.specs.declared.endpoint.Endpoint.{Endpoint}
 use Rattle.act_serve.specs.declared.endpoint.ExecPasses.{ExecPasses}
-use Rattle.act_serve.specs.Served.{EndView, end_id, end_log, IsLogOf, replies_to, deaths, caller_at, KillsTaken, HasDrained, IfRetired}
+use Rattle.act_serve.specs.Served.{EndView, end_id, end_log, IsLogOf, replies_to, deaths, caller_at, endpoint_callers, KillsTaken, HasDrained, IfRetired}
 use Rattle.act_drive.specs.declared.caller.Driven.{Driven}
 use Rattle.act_drive.specs.Driven.{HasPosted, HasAsked}
 use Rattle.act_plans.specs.Runs.{limits_naming, callers_of_casts, actors_of_casts, cast_at, plan_of}
@@ -33,6 +33,7 @@ pub record ServedView : Type 0 where
 pub record IsServed (replies : List RepliesView) (cast : ActorSpec) (s : ServedView) : Type 0 where
   pub callers : List ℕ
   pub same_callers : (c : ℕ) → contains c callers ≡ contains c cast.callers
+  pub endpoints : endpoint_callers replies s.passes.notices.items ≡ callers
   pub log : IsLogOf cast.actor callers s.passes.letters.taken (end_log s.end)
   pub last : NothingFollowsAnEnd (end_log s.end)
   pub given : All (λ endpoint.
@@ -51,12 +52,14 @@ pub record IsDriven (mails : List MailView) (controls : List ControlView) (actor
   pub answered : (k : ℕ) → k < length d.owner.calls → is_some (kept_at d.owner.kept k) ≡ true
   pub kills : All (HasAsked controls plan d.passes.collects.taken) d.passes.kills.items
 
--- what was taken of the caller in the actor's mail line is a prefix of what it put there
+-- what was taken of the caller in the actor's mail line is a prefix of what it put there, and so it is with stamps
 pub record LettersAudited (mails : List MailView) (a c : ℕ) (d : Driven) (s : ServedView) : Type 0 where
   pub endpoint : Endpoint (PutterView Letter Unit)
   pub sits : Contains d.passes.letters.items endpoint
   pub line : (m : MailView) → (slice_index_or mails endpoint.place m).actor ≡ a
   pub front : IsPrefix (items_from caller_of c s.passes.letters.taken) endpoint.pass.put
+  pub stamped : IsPrefix (items_from (λ x. caller_of x.0) c (zip s.passes.letters.taken s.passes.letters.stamps))
+      (zip endpoint.pass.put endpoint.pass.stamps)
 
 -- the same of its kills in the actor's control line
 pub record KillsAudited (controls : List ControlView) (a c : ℕ) (d : Driven) (s : ServedView) : Type 0 where
@@ -64,13 +67,18 @@ pub record KillsAudited (controls : List ControlView) (a c : ℕ) (d : Driven) (
   pub sits : Contains d.passes.kills.items endpoint
   pub line : (k : ControlView) → (slice_index_or controls endpoint.place k).actor ≡ a
   pub front : IsPrefix (items_from asker_of c s.passes.kills.taken) endpoint.pass.put
+  pub stamped : IsPrefix (items_from (λ x. asker_of x.0) c (zip s.passes.kills.taken s.passes.kills.stamps))
+      (zip endpoint.pass.put endpoint.pass.stamps)
 
--- what the caller collected of the actor is a prefix of what it was given
+-- what the caller collected of the actor is a prefix of what it was given, and so it is with stamps
 pub record NoticesAudited (replies : List RepliesView) (a c : ℕ) (d : Driven) (s : ServedView) : Type 0 where
   pub endpoint : Endpoint ReplyExecView
   pub sits : Contains s.passes.notices.items endpoint
   pub line : caller_at replies endpoint.place ≡ c
   pub front : IsPrefix (items_from notice_actor a d.passes.collects.taken) endpoint.pass.given
+  pub stamped : IsPrefix
+      (items_from (λ x. notice_actor x.0) a (zip d.passes.collects.taken d.passes.collects.stamps))
+      (zip endpoint.pass.given endpoint.pass.stamps)
 
 -- the lines of a pair were audited
 pub record AreAudited (mails : List MailView) (controls : List ControlView) (replies : List RepliesView) (a c : ℕ)

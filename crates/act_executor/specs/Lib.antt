@@ -8,3 +8,5 @@ pub mod Conducts
 pub mod Joins
 pub mod Runs
 pub mod Work
+pub mod Plays
+pub mod Traced

@@ -2,6 +2,7 @@
 
 ghost use Rattle.act_executor.specs.Left.{JoinedRunsAreConsistent};
 ghost use Rattle.act_executor.specs.ByCode.{JoinedCallersAreConsistent};
+ghost use Rattle.act_executor.specs.Traced.{TracedRunsArePlayed};
 
 use act_drive::Code;
 
@@ -16,4 +17,11 @@ pub fn joined_runs_are_consistent()
 #[tactic(none)]
 pub fn joined_callers_are_consistent<C: Code>()
     ensures { JoinedCallersAreConsistent C.tells }
+{}
+
+/// Whatever threads did in steps that each may do, where all that was taken was put earlier: some play
+/// does the same.
+#[tactic(none)]
+pub fn traced_runs_are_played()
+    ensures { TracedRunsArePlayed }
 {}

@@ -24,7 +24,7 @@ pub use act_serve::{Ended, ExecLines, ExecPasses, Finished, Gate, NoGate, serve}
 pub use by_code::run_callers;
 pub use fitting::codes_fit;
 pub use joined::Joined;
-pub use laws::{joined_callers_are_consistent, joined_runs_are_consistent};
+pub use laws::{joined_callers_are_consistent, joined_runs_are_consistent, traced_runs_are_played};
 pub use open::open_lines;
 pub use opened::{Lines, Opened};
 pub use run::{Pages, RunFault, run_plans, run_plans_noting};

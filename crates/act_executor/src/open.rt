@@ -55,7 +55,7 @@ fn open_mails<K>(alloc: Global, casts: &[Cast<K>]) -> Result<Mails, NoMemory>
         map (λ mail. mail.actor) opened.lines.items ≡ map (λ cast. cast.actor) casts.now) }
     ensures lines { IfOk result (λ opened.
         map (λ exec. exec.line) opened.execs.items ≡ map (λ mail. mail.line) opened.lines.items) }
-    ensures unused { IfOk result (λ opened. All (λ exec. exec.taken ≡ []) opened.execs.items) }
+    ensures unused { IfOk result (λ opened. All (λ exec. (exec.taken ≡ []) × (exec.stamps ≡ [])) opened.execs.items) }
     ensures endpoints { IfOk result (λ opened.
         opened.endpoints.items ≡
         endpoints_from new_putter 0 (map (λ mail. mail.line) opened.lines.items)
@@ -88,7 +88,8 @@ fn open_controls<K>(alloc: Global, casts: &[Cast<K>]) -> Result<Controls, NoMemo
         map (λ exec. exec.actor) opened.execs.items ≡ map (λ cast. cast.actor) casts.now) }
     ensures askers { IfOk result (λ opened.
         map (λ exec. exec.askers) opened.execs.items ≡ map (λ cast. starter ∷ cast.callers) casts.now) }
-    ensures unused { IfOk result (λ opened. All (λ exec. (exec.taken ≡ []) × (exec.lengths ≡ [])) opened.execs.items) }
+    ensures unused { IfOk result (λ opened.
+        All (λ exec. (exec.taken ≡ []) × (exec.stamps ≡ []) × (exec.lengths ≡ [])) opened.execs.items) }
     ensures starters { IfOk result (λ opened.
         opened.starters.items ≡ map (λ control. new_putter control.line starter) opened.lines.items) }
     ensures endpoints { IfOk result (λ opened.
@@ -126,7 +127,8 @@ fn open_replies(alloc: Global, setups: &[CallerSetup]) -> Result<AllReplies, NoM
         map (λ line. line.caller) opened.lines.items ≡ map (λ setup. setup.caller) setups.now) }
     ensures lines { IfOk result (λ opened.
         map (λ caller. caller.line) opened.callers.items ≡ map (λ line. line.line) opened.lines.items) }
-    ensures unused { IfOk result (λ opened. All (λ caller. caller.taken ≡ []) opened.callers.items) }
+    ensures unused { IfOk result (λ opened.
+        All (λ caller. (caller.taken ≡ []) × (caller.stamps ≡ [])) opened.callers.items) }
     ensures endpoints { IfOk result (λ opened.
         opened.endpoints.items ≡
         endpoints_from new_exec 0 (map (λ line. line.line) opened.lines.items)

@@ -7,7 +7,7 @@ use Rattle.act_executor.proofs.Endpoints.{endpoints_more, one_more, next_taken, 
 use Rattle.act_executor.proofs.open.open_controls.Goals as goal
 
 abbrev IsBare : ControlExecView → Type 0
-IsBare exec = (exec.taken ≡ []) × (exec.lengths ≡ [])
+IsBare exec = (exec.taken ≡ []) × (exec.stamps ≡ []) × (exec.lengths ≡ [])
 
 pub loop-place-preserved : goal.loop-place-preserved
 loop-place-preserved g c =
@@ -29,7 +29,7 @@ loop-place-preserved g c =
       lines = one_more (λ (exec : ControlExecView). exec.line) execs _ exec _ _ _ inv.lines to_execs (next_pushed (λ (control : ControlView). control.line) lines _ line to_lines) (ap (λ (exec : ControlExecView). exec.line) is);
       execs = one_more (λ (exec : ControlExecView). exec.actor) execs _ exec _ _ _ inv.execs to_execs (next_taken (λ (cast : Cast g.row.K.Denot). cast.actor) casts place cast below at) (ap (λ (exec : ControlExecView). exec.actor) is);
       askers = one_more (λ (exec : ControlExecView). exec.askers) execs _ exec _ _ _ inv.askers to_execs (next_taken (λ (cast : Cast g.row.K.Denot). starter ∷ cast.callers) casts place cast below at) (ap (λ (exec : ControlExecView). exec.askers) is ∙ ap (λ (l : List ℕ). starter ∷ l) c.as_slice.ensures);
-      unused = subst (λ (l : List ControlExecView). All IsBare l) (sym {A = List ControlExecView} to_execs) (All-push IsBare execs exec inv.unused (ap (λ (exec : ControlExecView). exec.taken) is, ap (λ (exec : ControlExecView). exec.lengths) is));
+      unused = subst (λ (l : List ControlExecView). All IsBare l) (sym {A = List ControlExecView} to_execs) (All-push IsBare execs exec inv.unused (ap (λ (exec : ControlExecView). exec.taken) is, ap (λ (exec : ControlExecView). exec.stamps) is, ap (λ (exec : ControlExecView). exec.lengths) is));
       starters = sym (one_more (λ (control : ControlView). new_putter control.line starter) lines _ line _ _ _ (sym inv.starters) to_lines c.in_ok-push-3.ensures.items (sym c.in_ok-line.ensures.starter));
       long = one_longer lines _ line place inv.long to_lines;
       endpoints = endpoints_more new_putter (λ (control : ControlView). control.line) (λ (cast : Cast g.row.K.Denot). cast.callers) lines c.push.new.self.items line casts place cast c.loop-place.endpoints.items c.in_ok-endpoints.endpoints.items c.in_ok-line.passes.items

@@ -10,7 +10,7 @@ invariant-loop-place g l = record {
   lines : map (λ exec. exec.line) l.execs.items ≡ map (λ control. control.line) l.lines.items;
   execs : map (λ exec. exec.actor) l.execs.items ≡ map (λ cast. cast.actor) (take l.place l.casts);
   askers : map (λ exec. exec.askers) l.execs.items ≡ map (λ cast. starter ∷ cast.callers) (take l.place l.casts);
-  unused : All (λ exec. (exec.taken ≡ []) × (exec.lengths ≡ [])) l.execs.items;
+  unused : All (λ exec. (exec.taken ≡ []) × (exec.stamps ≡ []) × (exec.lengths ≡ [])) l.execs.items;
   starters : l.starters.items ≡ map (λ control. new_putter control.line starter) l.lines.items;
   long : length l.lines.items ≡ l.place;
   endpoints : l.endpoints.items ≡ endpoints_from new_putter 0 (map (λ control. control.line) l.lines.items) (map (λ cast. cast.callers) (take l.place l.casts));

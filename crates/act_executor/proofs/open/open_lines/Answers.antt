@@ -59,9 +59,9 @@ returns g c =
       };
       actors = by_way (λ (exec : Endpoint ExecPasses). exec.pass.kills) (λ (pass : ControlExecView). pass.actor) execs controls.execs.items _ made.kills c.in_ok-controls.ensures.execs;
       askers = by_way (λ (exec : Endpoint ExecPasses). exec.pass.kills) (λ (pass : ControlExecView). pass.askers) execs controls.execs.items _ made.kills c.in_ok-controls.ensures.askers;
-      unread = all_through (λ (pass : TakerView Letter Unit). pass.taken ≡ []) (λ (exec : Endpoint ExecPasses). exec.pass.letters) execs mails.execs.items made.letters c.in_ok-mails.ensures.unused;
-      unasked = all_through (λ (pass : ControlExecView). (pass.taken ≡ []) × (pass.lengths ≡ [])) (λ (exec : Endpoint ExecPasses). exec.pass.kills) execs controls.execs.items made.kills c.in_ok-controls.ensures.unused;
-      uncollected = all_through (λ (pass : TakerView Notice RunItem). pass.taken ≡ []) (λ (caller : Endpoint CallerPasses). caller.pass.collects) callers replies.callers.items made_callers.collects c.in_ok-replies.ensures.unused;
+      unread = all_through (λ (pass : TakerView Letter Unit). (pass.taken ≡ []) × (pass.stamps ≡ [])) (λ (exec : Endpoint ExecPasses). exec.pass.letters) execs mails.execs.items made.letters c.in_ok-mails.ensures.unused;
+      unasked = all_through (λ (pass : ControlExecView). (pass.taken ≡ []) × (pass.stamps ≡ []) × (pass.lengths ≡ [])) (λ (exec : Endpoint ExecPasses). exec.pass.kills) execs controls.execs.items made.kills c.in_ok-controls.ensures.unused;
+      uncollected = all_through (λ (pass : TakerView Notice RunItem). (pass.taken ≡ []) × (pass.stamps ≡ [])) (λ (caller : Endpoint CallerPasses). caller.pass.collects) callers replies.callers.items made_callers.collects c.in_ok-replies.ensures.unused;
       notices = made.notices ∙ ap (λ (endpoints : List (Endpoint ReplyExecView)). map (λ (cast : Cast g.row.K.Denot). group_of (λ (pass : ReplyExecView). pass.actor) cast.actor endpoints) casts) c.in_ok-replies.ensures.endpoints;
       letters = made_callers.letters ∙ ap (λ (endpoints : List (Endpoint (PutterView Letter Unit))). map (λ (setup : CallerSetup). group_of (λ (pass : PutterView Letter Unit). pass.number) setup.caller endpoints) setups) c.in_ok-mails.ensures.endpoints;
       kills = made_callers.kills ∙ ap (λ (endpoints : List (Endpoint (PutterView Asked ℕ))). map (λ (setup : CallerSetup). group_of (λ (pass : PutterView Asked ℕ). pass.number) setup.caller endpoints) setups) c.in_ok-controls.ensures.endpoints;

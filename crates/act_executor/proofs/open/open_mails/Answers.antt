@@ -8,7 +8,7 @@ use Rattle.act_executor.proofs.Endpoints.{endpoints_more, one_more, next_taken, 
 use Rattle.act_executor.proofs.open.open_mails.Goals as goal
 
 abbrev IsBare : TakerView Letter Unit → Type 0
-IsBare exec = exec.taken ≡ []
+IsBare exec = (exec.taken ≡ []) × (exec.stamps ≡ [])
 
 pub loop-place-preserved : goal.loop-place-preserved
 loop-place-preserved g c =
@@ -28,7 +28,7 @@ loop-place-preserved g c =
     record {
       actors = one_more (λ (mail : MailView). mail.actor) lines _ line _ _ _ inv.actors to_lines (next_taken (λ (cast : Cast g.row.K.Denot). cast.actor) casts place cast below at) c.in_ok-line.ensures.actor;
       lines = one_more (λ (exec : TakerView Letter Unit). exec.line) execs _ exec _ _ _ inv.lines to_execs (next_pushed (λ (mail : MailView). mail.line) lines _ line to_lines) (ap (λ (exec : TakerView Letter Unit). exec.line) is);
-      unused = subst (λ (l : List (TakerView Letter Unit)). All IsBare l) (sym {A = List (TakerView Letter Unit)} to_execs) (All-push IsBare execs exec inv.unused (ap (λ (exec : TakerView Letter Unit). exec.taken) is));
+      unused = subst (λ (l : List (TakerView Letter Unit)). All IsBare l) (sym {A = List (TakerView Letter Unit)} to_execs) (All-push IsBare execs exec inv.unused (ap (λ (exec : TakerView Letter Unit). exec.taken) is, ap (λ (exec : TakerView Letter Unit). exec.stamps) is));
       long = one_longer lines _ line place inv.long to_lines;
       endpoints = endpoints_more new_putter (λ (mail : MailView). mail.line) (λ (cast : Cast g.row.K.Denot). cast.callers) lines c.push.new.self.items line casts place cast c.loop-place.endpoints.items c.in_ok-endpoints.endpoints.items c.in_ok-line.passes.items
           inv.endpoints inv.long below at to_lines (c.in_ok-line.ensures.callers ∙ ap (map (new_putter line.line)) c.as_slice.ensures) c.in_ok-endpoints.ensures;

@@ -7,7 +7,7 @@ abbrev pub invariant-loop-place : goal.invariant-loop-place
 invariant-loop-place g l = record {
   actors : map (λ mail. mail.actor) l.lines.items ≡ map (λ cast. cast.actor) (take l.place l.casts);
   lines : map (λ exec. exec.line) l.execs.items ≡ map (λ mail. mail.line) l.lines.items;
-  unused : All (λ exec. exec.taken ≡ []) l.execs.items;
+  unused : All (λ exec. (exec.taken ≡ []) × (exec.stamps ≡ [])) l.execs.items;
   long : length l.lines.items ≡ l.place;
   endpoints : l.endpoints.items ≡ endpoints_from new_putter 0 (map (λ mail. mail.line) l.lines.items) (map (λ cast. cast.callers) (take l.place l.casts));
 }

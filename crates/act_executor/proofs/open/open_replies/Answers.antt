@@ -9,7 +9,7 @@ use Rattle.act_executor.proofs.Endpoints.{endpoints_more, one_more, next_taken, 
 use Rattle.act_executor.proofs.open.open_replies.Goals as goal
 
 abbrev IsBare : TakerView Notice RunItem → Type 0
-IsBare caller = caller.taken ≡ []
+IsBare caller = (caller.taken ≡ []) × (caller.stamps ≡ [])
 
 pub loop-place-preserved : goal.loop-place-preserved
 loop-place-preserved c =
@@ -29,7 +29,7 @@ loop-place-preserved c =
     record {
       names = one_more (λ (line : RepliesView). line.caller) lines _ line _ _ _ inv.names to_lines (next_taken (λ (setup : CallerSetup). setup.caller) setups place setup below at) c.in_ok-line.ensures.caller;
       lines = one_more (λ (caller : TakerView Notice RunItem). caller.line) callers _ caller _ _ _ inv.lines to_callers (next_pushed (λ (line : RepliesView). line.line) lines _ line to_lines) (ap (λ (caller : TakerView Notice RunItem). caller.line) is);
-      unused = subst (λ (l : List (TakerView Notice RunItem)). All IsBare l) (sym {A = List (TakerView Notice RunItem)} to_callers) (All-push IsBare callers caller inv.unused (ap (λ (caller : TakerView Notice RunItem). caller.taken) is));
+      unused = subst (λ (l : List (TakerView Notice RunItem)). All IsBare l) (sym {A = List (TakerView Notice RunItem)} to_callers) (All-push IsBare callers caller inv.unused (ap (λ (caller : TakerView Notice RunItem). caller.taken) is, ap (λ (caller : TakerView Notice RunItem). caller.stamps) is));
       long = one_longer lines _ line place inv.long to_lines;
       endpoints = endpoints_more new_exec (λ (line : RepliesView). line.line) (λ (setup : CallerSetup). setup.actors.items) lines c.push.new.self.items line setups place setup c.loop-place.endpoints.items c.in_ok-endpoints.endpoints.items c.in_ok-line.passes.items
           inv.endpoints inv.long below at to_lines (c.in_ok-line.ensures.executors ∙ ap (map (new_exec line.line)) c.as_slice.ensures.value) c.in_ok-endpoints.ensures;

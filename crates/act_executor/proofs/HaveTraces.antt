@@ -1,0 +1,55 @@
+-- What each thread of a run did, step by step, beside what it left.
+use Rattle.std.proofs.Common.{◌≡◌, ℕ, List, [], ◌++◌, All, ap, ◌∙◌, subst}
+use Rattle.std.specs.Prelude.{flat_map}
+use Rattle.std.specs.List.{AllZip}
+use Rattle.act_rules.specs.declared.history.RunItem.{RunItem}
+use Rattle.act_rules.specs.History.{ActorSpec}
+use Rattle.act_mailbox.specs.Controls.{ControlView, ControlExecView}
+use Rattle.act_mailbox.specs.Notices.{RepliesView, ReplyExecView}
+use Rattle.act_mailbox.specs.Passes.{TakerView}
+use Rattle.act_mailbox.specs.Traces.{clock, steps_in, found_in, IsTimed, AreTakenLater}
+use Rattle.act_mailbox.specs.declared.endpoint.Endpoint.{Endpoint}
+use Rattle.act_mailbox.specs.declared.mail.Letter.{Letter}
+use Rattle.act_serve.specs.declared.endpoint.ExecPasses.{ExecPasses}
+use Rattle.act_serve.specs.Served.{EndView, Killed, Retired, Starved, end_id, caller_at, endpoint_callers}
+use Rattle.act_serve.specs.ActorSteps.{ActorStep, letter_taken, kill_taken, ActorMayDoAll}
+use Rattle.act_serve.specs.ActorTraces.{exec_clock, IsGivenAfter, IsActorTrace, IsActorTraced}
+use Rattle.act_drive.specs.declared.caller.Driven.{Driven}
+use Rattle.act_drive.specs.CallerTraces.{IsCallerTraced}
+use Rattle.act_executor.specs.ByCode.{opened_of}
+use Rattle.act_executor.specs.Left.{ServedView}
+
+-- each thread did its steps in order and in time
+pub record HaveTraces (controls : List ControlView) (replies : List RepliesView) (casts : List ActorSpec)
+    (driven : List Driven) (served : List ServedView) : Type 0 where
+  pub actors : All (λ s. IsActorTraced (end_id s.end) replies s.end s.passes) served
+  pub callers : All (λ d. IsCallerTraced controls (opened_of d.owner.id casts) d.owner d.passes) driven
+
+-- ---- the same trace, of passes that show the same
+
+module _ (p q : ExecPasses) (letters : p.letters ≡ q.letters) (kills : p.kills ≡ q.kills) (notices : p.notices.items ≡ q.notices.items) where
+  clocks : exec_clock p ≡ exec_clock q
+  clocks = λ i. clock (flat_map (λ (endpoint : Endpoint ReplyExecView). endpoint.pass.stamps) (notices i)) ((letters i).stamps ++ (kills i).stamps)
+
+  trace_moved : (a : ℕ) (lines : List RepliesView) (log : List RunItem) (trace : List (ℕ × ActorStep)) → IsActorTrace a lines log p trace → IsActorTrace a lines log q trace
+  trace_moved a lines log trace is = record {
+    timed = subst (λ (n : ℕ). IsTimed n trace) clocks is.timed;
+    allowed = subst (λ (l : List (Endpoint ReplyExecView)). ActorMayDoAll a (endpoint_callers lines l) [] (steps_in trace)) notices is.allowed;
+    letters = is.letters ∙ ap (λ (t : TakerView Letter Unit). t.taken) letters;
+    letters_later = subst (λ (t : TakerView Letter Unit). AreTakenLater (found_in letter_taken trace) t.stamps) letters is.letters_later;
+    kills = is.kills ∙ ap (λ (t : ControlExecView). t.taken) kills;
+    kills_later = subst (λ (t : ControlExecView). AreTakenLater (found_in kill_taken trace) t.stamps) kills is.kills_later;
+    runs = is.runs;
+    given = subst (λ (l : List (Endpoint ReplyExecView)). All (λ (endpoint : Endpoint ReplyExecView). AllZip (IsGivenAfter trace (caller_at lines endpoint.place)) endpoint.pass.given endpoint.pass.stamps) l) notices is.given;
+  }
+
+  traced_so : (a : ℕ) (lines : List RepliesView) (end : EndView) → IsActorTraced a lines end p → IsActorTraced a lines end q
+  traced_so a lines (Killed dead) is = (is.0, trace_moved a lines dead.log is.0 is.1, is.2)
+  traced_so a lines (Retired retired) is = (is.0, trace_moved a lines retired.log is.0 is.1, is.2)
+  traced_so a lines (Starved dead) is = tt
+
+  -- and of the same end under the same name
+  pub traced_moved : (a b : ℕ) (lines : List RepliesView) (end later : EndView) → a ≡ b → end ≡ later → IsActorTraced a lines end p → IsActorTraced b lines later q
+  traced_moved a b lines end later same ended is =
+      let At : ℕ × EndView → Type 0 = λ x. IsActorTraced x.0 lines x.1 q in
+      subst At (λ i. (same i, ended i)) (traced_so a lines end is)

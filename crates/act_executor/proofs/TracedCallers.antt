@@ -1,0 +1,119 @@
+-- What each caller's thread did, as the rules see it.
+use Rattle.std.proofs.Common.{◌≡◌, ℕ, ◌≤◌, Bool, List, ◌++◌, zip, refl, ap, sym, ◌∙◌, subst, AllPairs}
+use Rattle.std.specs.Prelude.{filter, slice_index_or}
+use Rattle.std.specs.List.{AllZip}
+use Rattle.std.proofs.lemmas.List.{map-append}
+use Rattle.std.proofs.lemmas.List.Elements.{All-filter, filter-append}
+use Rattle.std.proofs.lemmas.List.Kept.{AllPairs-filter}
+use Rattle.act_types.specs.declared.message.Notice.{Notice}
+use Rattle.act_rules.specs.History.{ActorSpec, actors_naming}
+use Rattle.act_rules.proofs.AsSubmitted.{filter-slice_get}
+use Rattle.act_handles.specs.Handles.{copies_in}
+use Rattle.act_owner.specs.Owner.{OwnerView}
+use Rattle.act_owner.specs.Life.{Sent, Noticed}
+use Rattle.act_mailbox.specs.declared.control.Asked.{Asked}
+use Rattle.act_mailbox.specs.declared.mail.Letter.{Letter}
+use Rattle.act_mailbox.specs.declared.mail.Letter.TheVariants.{Call, Note}
+use Rattle.act_mailbox.specs.declared.endpoint.Endpoint.{Endpoint}
+use Rattle.act_mailbox.specs.Passes.{PutterView}
+use Rattle.act_mailbox.specs.Controls.{ControlView}
+use Rattle.act_mailbox.specs.Notices.{notice_actor}
+use Rattle.act_mailbox.specs.Traces.{steps_in, found_in}
+use Rattle.act_drive.specs.declared.caller.Driven.{Driven}
+use Rattle.act_plans.specs.Runs.{limits_naming}
+use Rattle.act_causes.specs.Deeds.{IsNamed}
+use Rattle.act_drive.specs.CallerSteps.{CallerStep, ChangeMade, KillAsked, notice_collected, owner_after_steps, CallerMayDoAll}
+use Rattle.act_drive.specs.CallerTraces.{IsPostedAfter, IsAskedAfter, IsCallerTrace, IsCallerTraced}
+use Rattle.act_executor.specs.ByCode.{opened_of}
+use Rattle.act_executor.proofs.Elements.{IsIn, in_from_contains, contains_from_in, all_in, in_filter, contains_is}
+use Rattle.act_executor.proofs.Stamped.{IsTakenFrom, found_step, found_taken, zipped}
+use Rattle.act_executor.proofs.Kept.{keep_stamped, kept_steps}
+use Rattle.act_executor.proofs.CallerWork.{is_by_these, may_front, HoldsThese, opened_holds, IsStill, still}
+
+-- what the run needs of the steps of a caller's thread
+pub record IsCallerWork (casts : List ActorSpec) (controls : List ControlView) (d : Driven) (trace : List (ℕ × CallerStep)) : Type 0 where
+  pub named : IsNamed casts d.owner.id
+  pub rising : AllPairs (λ one other. one.0 ≤ other.0) trace
+  pub allowed : CallerMayDoAll (opened_of d.owner.id casts) (steps_in trace)
+  pub owner_is : d.owner ≡ owner_after_steps (opened_of d.owner.id casts) (steps_in trace)
+  pub notices : (m : ℕ) (notice : Notice) → IsIn {A = ℕ × CallerStep} trace (m, ChangeMade (Noticed notice)) →
+      IsIn (actors_naming d.owner.id casts) (notice_actor notice) × IsTakenFrom d.passes.collects.taken d.passes.collects.stamps notice m
+  pub posted : (endpoint : Endpoint (PutterView Letter Unit)) → IsIn d.passes.letters.items endpoint → (letter : Letter) (n : ℕ) → IsIn {A = Letter × ℕ} (zip endpoint.pass.put endpoint.pass.stamps) (letter, n) →
+      IsPostedAfter (opened_of d.owner.id casts) trace letter n
+  pub asked : (endpoint : Endpoint (PutterView Asked ℕ)) → IsIn d.passes.kills.items endpoint → (k : ControlView) (kill : Asked) (n : ℕ) → IsIn {A = Asked × ℕ} (zip endpoint.pass.put endpoint.pass.stamps) (kill, n) →
+      IsAskedAfter trace (slice_index_or controls endpoint.place k).actor kill n
+
+module _ (casts : List ActorSpec) (controls : List ControlView) (d : Driven) (named : IsNamed casts d.owner.id) (t : List (ℕ × CallerStep)) (is : IsCallerTrace controls (opened_of d.owner.id casts) d.owner d.passes t) where
+  abbrev start : OwnerView
+  start = opened_of d.owner.id casts
+
+  abbrev actors : List ℕ
+  actors = actors_naming d.owner.id casts
+
+  abbrev keep : CallerStep → Bool
+  keep = is_by_these actors
+
+  -- without the notices of strangers
+  abbrev f : List (ℕ × CallerStep)
+  f = filter (keep_stamped keep) t
+
+  holds : HoldsThese actors start
+  holds = opened_holds actors (limits_naming d.owner.id casts) d.owner.id
+
+  all_still : IsStill actors start (steps_in t)
+  all_still = still actors start (steps_in t) holds is.allowed
+
+  notices : (m : ℕ) (notice : Notice) → IsIn {A = ℕ × CallerStep} f (m, ChangeMade (Noticed notice)) → IsIn actors (notice_actor notice) × IsTakenFrom d.passes.collects.taken d.passes.collects.stamps notice m
+  notices m notice i =
+      let from = filter-slice_get (keep_stamped keep) t i.place (m, ChangeMade (Noticed notice)) i.at in
+      let there : IsIn {A = ℕ × CallerStep} t (m, ChangeMade (Noticed notice)) = record { place = from.place; at = from.at } in
+      (contains_is (notice_actor notice) actors from.passes, found_taken (found_in notice_collected t) d.passes.collects.taken d.passes.collects.stamps m notice is.notices is.notices_later (found_step notice_collected t m (ChangeMade (Noticed notice)) notice refl there))
+
+  -- the owner after the first of the steps is the same
+  first_same : (before later : List (ℕ × CallerStep)) → t ≡ before ++ later → owner_after_steps start (steps_in (filter (keep_stamped keep) before)) ≡ owner_after_steps start (steps_in before)
+  first_same before later cut =
+      let whole : steps_in t ≡ steps_in before ++ steps_in later = ap steps_in cut ∙ map-append (λ (x : ℕ × CallerStep). x.1) before later in
+      let may = may_front start (steps_in before) (steps_in later) (subst (CallerMayDoAll start) whole is.allowed) in
+      ap (owner_after_steps start) (kept_steps keep before) ∙ (still actors start (steps_in before) holds may).same
+
+  still_posted : (letter : Letter) (n : ℕ) → IsPostedAfter start t letter n → IsPostedAfter start f letter n
+  still_posted (Call packet) n posted =
+      let step : ℕ × CallerStep = (posted.0, ChangeMade (Sent packet.future)) in
+      (posted.0, contains_from_in f step (in_filter (keep_stamped keep) t step (in_from_contains t step posted.1) refl), posted.2)
+  still_posted (Note note) n posted =
+      let before = posted.0 in
+      let later = posted.1 in (
+        filter (keep_stamped keep) before,
+        filter (keep_stamped keep) later,
+        ap (filter (keep_stamped keep)) posted.2 ∙ filter-append (keep_stamped keep) before later,
+        All-filter (keep_stamped keep) (λ (x : ℕ × CallerStep). x.0 ≤ n) before posted.3,
+        ap (λ (o : OwnerView). copies_in note.actor o.handles) (first_same before later posted.2) ∙ posted.4,
+      )
+
+  posted_at : (endpoint : Endpoint (PutterView Letter Unit)) → IsIn d.passes.letters.items endpoint → (letter : Letter) (n : ℕ) → IsIn {A = Letter × ℕ} (zip endpoint.pass.put endpoint.pass.stamps) (letter, n) → IsPostedAfter start f letter n
+  posted_at endpoint i letter n there =
+      let each = all_in (λ (x : Endpoint (PutterView Letter Unit)). AllZip (IsPostedAfter start t) x.pass.put x.pass.stamps) d.passes.letters.items endpoint is.posted i in
+      still_posted letter n (zipped (IsPostedAfter start t) endpoint.pass.put endpoint.pass.stamps letter n each there)
+
+  asked_at : (endpoint : Endpoint (PutterView Asked ℕ)) → IsIn d.passes.kills.items endpoint → (k : ControlView) (kill : Asked) (n : ℕ) → IsIn {A = Asked × ℕ} (zip endpoint.pass.put endpoint.pass.stamps) (kill, n) → IsAskedAfter f (slice_index_or controls endpoint.place k).actor kill n
+  asked_at endpoint i k kill n there =
+      let a = (slice_index_or controls endpoint.place k).actor in
+      let each = all_in (λ (x : Endpoint (PutterView Asked ℕ)). (y : ControlView) → AllZip (IsAskedAfter t (slice_index_or controls x.place y).actor) x.pass.put x.pass.stamps) d.passes.kills.items endpoint is.asked i k in
+      let asked = zipped (IsAskedAfter t a) endpoint.pass.put endpoint.pass.stamps kill n each there in
+      let step : ℕ × CallerStep = (asked.0, KillAsked a) in
+      (asked.0, contains_from_in f step (in_filter (keep_stamped keep) t step (in_from_contains t step asked.1) refl), asked.2)
+
+  pub caller_work : IsCallerWork casts controls d f
+  caller_work = record {
+    named = named;
+    rising = AllPairs-filter (λ (one other : ℕ × CallerStep). one.0 ≤ other.0) (keep_stamped keep) t is.timed.rising;
+    allowed = subst (CallerMayDoAll start) (sym (kept_steps keep t)) all_still.may;
+    owner_is = is.owner_is ∙ sym all_still.same ∙ ap (owner_after_steps start) (sym (kept_steps keep t));
+    notices = notices;
+    posted = posted_at;
+    asked = asked_at;
+  }
+
+-- a caller that was driven did such steps
+pub caller_works : (casts : List ActorSpec) (controls : List ControlView) (d : Driven) → IsNamed casts d.owner.id → IsCallerTraced controls (opened_of d.owner.id casts) d.owner d.passes → (trace : List (ℕ × CallerStep)) × IsCallerWork casts controls d trace
+caller_works casts controls d named traced = (filter (keep_stamped (is_by_these (actors_naming d.owner.id casts))) traced.0, caller_work casts controls d named traced.0 traced.1)
