@@ -9,3 +9,4 @@ pub mod Sorting
 pub mod PlansOf
 pub mod Joined
 pub mod Playing
+pub mod Ended

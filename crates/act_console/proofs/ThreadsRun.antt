@@ -26,6 +26,7 @@ use Rattle.act_plans.specs.Setups.{PlansFit}
 use Rattle.act_plans.proofs.Keys.{pairs_of_map}
 use Rattle.act_plans.specs.Runs.{first_bad_plan}
 use Rattle.act_executor.specs.Joined.{IsJoined}
+use Rattle.act_executor.specs.Plays.{IsPlayed}
 use Rattle.act_executor.specs.declared.run.RunFault.{RunFault}
 use Rattle.act_executor.specs.declared.run.RunFault.TheVariants as faults
 use Rattle.act_executor.specs.Runs.{plan_view, IsFault}
@@ -36,7 +37,8 @@ use Rattle.act_scripts.specs.Roles.{AreFitting}
 use Rattle.act_scripts.specs.Spelled.{events_among, steps_among as items_steps, spelled_script}
 use Rattle.act_console.specs.declared.plans.Mark.{Mark}
 use Rattle.act_console.specs.Plans.{plan_from, script_of, mark_view, step_view, line_in, first_stranger, HasLine, Explains}
-use Rattle.act_console.specs.Threads.{plans_in, spelled_threads}
+use Rattle.act_console.specs.Threads.{plans_in, joined_summary, spelled_threads, IsSummary}
+use Rattle.act_console.proofs.Ended.{summary_same}
 use Rattle.act_console.proofs.Sorting.{callers_differ}
 use Rattle.act_console.proofs.PlansOf.{bad_plan_line, no_bad_line}
 
@@ -105,6 +107,26 @@ module _ {K : Type 0} (state : K → KindState) (casts : List (Cast K)) (roles :
     joined_same owners ends joined =
         subst (λ (casts : List ActorSpec). IsJoined casts (plans_in (script_of roles steps)) owners ends) same
         (subst (λ (plans : List (ℕ × List Step)). IsJoined (map (actor_spec state) casts) plans owners ends) sorted joined)
+
+    -- and a play of it is one of theirs
+    played_same : (owners : List OwnerView) (ends : List EndView) → IsPlayed (map (actor_spec state) casts) owners ends → IsPlayed (map actor_spec_of roles) owners ends
+    played_same owners ends played = subst (λ (casts : List ActorSpec). IsPlayed casts owners ends) same played
+
+    -- so the text that shows it is a summary of theirs
+    pub is_summary : (owners : List OwnerView) (ends : List EndView) (text : List ℕ) → IsJoined (map (actor_spec state) casts) (map plan_view plans) owners ends → IsPlayed (map (actor_spec state) casts) owners ends
+        → text ≡ joined_summary owners ends → IsSummary (script_of roles steps) text
+    is_summary owners ends text joined played shown =
+        let run : IsJoined (map actor_spec_of roles) (plans_in (script_of roles steps)) owners ends = joined_same owners ends joined in
+        let play : IsPlayed (map actor_spec_of roles) owners ends = played_same owners ends played in
+        record {
+          owners = owners;
+          ends = ends;
+          joined = run;
+          shown = shown;
+          events = play.0;
+          played = play.1;
+          told = shown ∙ sym (summary_same (map actor_spec_of roles) (plans_in (script_of roles steps)) owners ends play.0 run play.1);
+        }
 
     -- and has the same first bad step
     pub bad_same : first_bad_plan (map (actor_spec state) casts) (map plan_view plans) ≡ first_bad_plan (map actor_spec_of roles) (plans_in (script_of roles steps))

@@ -3,14 +3,17 @@ use Rattle.std.specs.Prelude.{◌≡◌, ℕ, ◌+◌, List, ◌++◌, codes, ma
 use Rattle.std.specs.Io.KnownBytes.{Keeps, Appends}
 use Rattle.act_types.specs.declared.limits.TheConstants.{MAX_ACTORS, MAX_CALLERS, MAX_SCRIPT_BYTES}
 use Rattle.act_types.specs.Texts.{state_text}
+use Rattle.act_rules.specs.declared.event.Event.{Event}
 use Rattle.act_rules.specs.declared.script.Step.{Step}
 use Rattle.act_rules.specs.declared.script.Wrong.{Wrong}
-use Rattle.act_rules.specs.Report.{future_lines, actor_lines, summary_of, fault_line}
+use Rattle.act_rules.specs.Laws.{history}
+use Rattle.act_rules.specs.Report.{future_lines, actor_lines, summary_of, summary, fault_line}
 use Rattle.act_rules.specs.Grammar.{Script}
 use Rattle.act_rules.specs.Scripts.{actor_spec_of, callers_of_roles, plan_in_script, spelled_plans}
 use Rattle.act_owner.specs.Owner.{OwnerView}
 use Rattle.act_serve.specs.Served.{EndView, Killed, Retired, Starved}
 use Rattle.act_executor.specs.Joined.{IsJoined, end_of, calls_in, kept_in, log_in}
+use Rattle.act_executor.specs.Plays.{IsPlayOf}
 use Rattle.act_console.specs.declared.output.Output.{Output}
 use Rattle.act_console.specs.declared.output.Output.TheVariants as outputs
 use Rattle.act_console.specs.declared.fault.ConsoleFault.{ConsoleFault}
@@ -48,12 +51,15 @@ joined_summary owners ends = summary_of (calls_in owners) (kept_in owners) (end_
 abbrev pub plans_in : Script → List (ℕ × List Step)
 plans_in script = map (λ c. (c, map (λ s. s.1) (plan_in_script c script))) (callers_of_roles script.roles)
 
--- the text is the summary of a run of the script's plans that the rules allow
+-- the text is the summary of a run of the script's plans that the rules allow, and that of a play which ends so
 pub record IsSummary (script : Script) (text : List ℕ) : Type 0 where
   pub owners : List OwnerView
   pub ends : List EndView
   pub joined : IsJoined (map actor_spec_of script.roles) (plans_in script) owners ends
   pub shown : text ≡ joined_summary owners ends
+  pub events : List Event
+  pub played : IsPlayOf (map actor_spec_of script.roles) events owners ends
+  pub told : text ≡ summary (history (map actor_spec_of script.roles) events)
 
 -- what bytes spell for threads: a script with good plans, or the first fault
 unfoldable pub spelled_threads : List ℕ → Result Script (ℕ × Wrong)

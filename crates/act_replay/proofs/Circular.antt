@@ -265,7 +265,7 @@ circle_unplayed events has = unplayed circle_casts events (both (history circle_
 
 -- a play has all calls and all run lists
 pub circle_no_play : IsNoPlay circle_casts circle_owners circle_ends
-circle_no_play events play = circle_unplayed events (record {
-  calls = λ i d below. (play.callers i d below).calls;
-  runs = λ i d below. (play.actors i d below).runs;
+circle_no_play played = circle_unplayed played.0 (record {
+  calls = λ i d below. (played.1.callers i d below).calls;
+  runs = λ i d below. (played.1.actors i d below).runs;
 })

@@ -13,7 +13,8 @@ use Rattle.act_serve.specs.Served.{EndView, Killed, Retired, Starved, end_id}
 use Rattle.act_world.specs.View.{SlotView, Runs, Died, Ended, Vacant, WorldView}
 use Rattle.act_world.specs.Refines.{IsOwnerAt, IsStage}
 use Rattle.act_world.specs.IsReachedBy.{IsReachedBy, HasPlayed}
-use Rattle.act_replay.specs.Play.{IsOwnerIn, IsEndIn, IsPlayOf, AreSame, IsSameEnd}
+use Rattle.act_executor.specs.Plays.{IsOwnerIn, IsEndIn, IsPlayOf}
+use Rattle.act_replay.specs.Play.{AreSame, IsSameEnd}
 
 -- ---- one caller
 

@@ -18,7 +18,7 @@ use Rattle.act_rules.specs.declared.script.Step.TheVariants.{Submit}
 use Rattle.act_rules.specs.History.{ActorSpec, History, calls_of, runs_of}
 use Rattle.act_rules.specs.Laws.{history}
 use Rattle.act_owner.specs.Owner.{OwnerView}
-use Rattle.act_replay.specs.Play.{IsPlayOf}
+use Rattle.act_executor.specs.Plays.{IsPlayed}
 use Rattle.act_serve.specs.Served.{EndView, Retired, end_id, end_log}
 
 -- ---- when a run is no play
@@ -32,9 +32,9 @@ pub record HasAllOf (h : History) (owners : List OwnerView) (ends : List EndView
 abbrev pub IsUnplayed : List ActorSpec → List OwnerView → List EndView → Type 0
 IsUnplayed casts owners ends = (events : List Event) → HasAllOf (history casts events) owners ends → ⊥
 
--- no list of events is a play of them
+-- no list of events is a play of them, so no run in threads leaves them
 abbrev pub IsNoPlay : List ActorSpec → List OwnerView → List EndView → Type 0
-IsNoPlay casts owners ends = (events : List Event) → IsPlayOf casts events owners ends → ⊥
+IsNoPlay casts owners ends = IsPlayed casts owners ends → ⊥
 
 -- ---- the circle: a caller and its own list have one number, and o is the other one
 

@@ -4,8 +4,8 @@ ghost use Rattle.act_executor.specs.Joined.{IsJoined};
 ghost use Rattle.act_replay.specs.Circle.{IsUnplayed, IsNoPlay, circle_casts, circle_plans, circle_owners, circle_ends};
 
 /// What the threads of a run leave fits together here, and yet no list of events leaves it: that all
-/// fits doesn't make a run a play. Each of two lists ran a call with an answer that the other gave
-/// later.
+/// fits doesn't make a run a play, which `run_plans` promises beside it (`played`). Each of two lists
+/// ran a call with an answer that the other gave later.
 #[tactic(none)]
 pub fn a_circle_is_joined_and_no_play()
     ensures joined { IsJoined circle_casts circle_plans circle_owners circle_ends }

@@ -10,7 +10,8 @@ ghost use Rattle.act_actor.specs.Casts.{actor_spec};
 ghost use Rattle.act_serve.specs.Served.{end_view, end_id};
 ghost use Rattle.act_world.specs.IsReachedBy.{IsReachedBy, HasRoom};
 ghost use Rattle.act_world.specs.View.{stage_view, world_view};
-ghost use Rattle.act_replay.specs.Play.{IsOwnerIn, IsEndIn, IsSameEnd, IsPlayOf};
+ghost use Rattle.act_executor.specs.Plays.{IsOwnerIn, IsEndIn, IsPlayOf};
+ghost use Rattle.act_replay.specs.Play.{IsSameEnd};
 
 use crate::same::{same_log, same_owner};
 use act_kinds::{Actor, Boxed};

@@ -8,7 +8,7 @@ ghost use Rattle.act_plans.specs.Setups.{PlansFit};
 ghost use Rattle.act_plans.specs.Runs.{first_bad_plan};
 ghost use Rattle.act_executor.specs.Joined.{IsJoined};
 ghost use Rattle.act_executor.specs.Runs.{plan_view};
-ghost use Rattle.act_replay.specs.Play.{IsPlayOf};
+ghost use Rattle.act_executor.specs.Plays.{IsPlayOf};
 ghost use Rattle.act_replay.specs.Faults.{IsRecordFault};
 
 use crate::merged::merge;

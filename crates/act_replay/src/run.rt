@@ -4,7 +4,7 @@ ghost use Rattle.std.specs.Prelude.{◌≡◌, map, IfOk, IfErr};
 ghost use Rattle.act_actor.specs.Cast.{IsFitting};
 ghost use Rattle.act_actor.specs.Casts.{actor_spec};
 ghost use Rattle.act_serve.specs.Served.{end_view};
-ghost use Rattle.act_replay.specs.Play.{IsPlayOf};
+ghost use Rattle.act_executor.specs.Plays.{IsPlayOf};
 ghost use Rattle.act_replay.specs.Faults.{IsPlayFault};
 
 use crate::compared::is_play_of;

@@ -51,7 +51,7 @@ fn opened_control(
     ensures actor { IfOk result (λ opened. opened.0.actor ≡ a) }
     ensures caller { IfOk result (λ opened. opened.1 ≡ new_putter opened.0.line 1) }
     ensures exec { IfOk result (λ opened. (opened.2.line ≡ opened.0.line) × (opened.2.actor ≡ a)) }
-    ensures unused { IfOk result (λ opened. (opened.2.taken ≡ []) × (opened.2.lengths ≡ [])) }
+    ensures unused { IfOk result (λ opened. (opened.2.taken ≡ []) × (opened.2.stamps ≡ []) × (opened.2.lengths ≡ [])) }
 {
     let (control, mut asks, _starter, kills) = Control::open(alloc, a, &[caller()])?;
     let ask = asks.pop().unwrap();
@@ -65,7 +65,7 @@ pub(crate) fn opened_lines(alloc: Global, a: ActorId) -> Result<Lines, NoMemory>
     ensures ask { IfOk result (λ opened. opened.ask ≡ new_putter opened.control.line 1) }
     ensures letters { IfOk result (λ opened. opened.letters ≡ new_taker opened.mail.line (1 ∷ [])) }
     ensures kills { IfOk result (λ opened. (opened.kills.line ≡ opened.control.line) × (opened.kills.actor ≡ a)) }
-    ensures unused { IfOk result (λ opened. (opened.kills.taken ≡ []) × (opened.kills.lengths ≡ [])) }
+    ensures unused { IfOk result (λ opened. (opened.kills.taken ≡ []) × (opened.kills.stamps ≡ []) × (opened.kills.lengths ≡ [])) }
 {
     let (mail, post, letters) = opened_mail(alloc, a)?;
     let (control, ask, kills) = opened_control(alloc, a)?;

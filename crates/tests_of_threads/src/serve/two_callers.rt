@@ -57,7 +57,8 @@ struct BothLines {
 fn opened_mail(alloc: Global) -> Result<(Mail, MailCaller, MailCaller, MailExec), NoMemory>
     ensures first { IfOk result (λ opened. (opened.1.line ≡ opened.0.line) × (opened.1.number ≡ 1)) }
     ensures second { IfOk result (λ opened. (opened.2.line ≡ opened.0.line) × (opened.2.number ≡ 2)) }
-    ensures letters { IfOk result (λ opened. (opened.3.line ≡ opened.0.line) × (opened.3.taken ≡ [])) }
+    ensures letters { IfOk result (λ opened.
+        (opened.3.line ≡ opened.0.line) × (opened.3.taken ≡ []) × (opened.3.stamps ≡ [])) }
 {
     let (mail, mut posts, letters) = Mail::open(alloc, actor(), &[caller(), second()])?;
     let other = posts.pop().unwrap();
@@ -67,7 +68,7 @@ fn opened_mail(alloc: Global) -> Result<(Mail, MailCaller, MailCaller, MailExec)
 
 fn opened_control(alloc: Global) -> Result<(Control, ControlExec), NoMemory>
     ensures line { IfOk result (λ opened. (opened.1.line ≡ opened.0.line) × (opened.1.actor ≡ 1)) }
-    ensures unused { IfOk result (λ opened. (opened.1.taken ≡ []) × (opened.1.lengths ≡ [])) }
+    ensures unused { IfOk result (λ opened. (opened.1.taken ≡ []) × (opened.1.stamps ≡ []) × (opened.1.lengths ≡ [])) }
 {
     let (control, _asks, _starter, kills) = Control::open(alloc, actor(), &[caller(), second()])?;
     Ok((control, kills))
@@ -76,9 +77,10 @@ fn opened_control(alloc: Global) -> Result<(Control, ControlExec), NoMemory>
 fn opened_both(alloc: Global) -> Result<BothLines, NoMemory>
     ensures first { IfOk result (λ opened. (opened.first.line ≡ opened.mail.line) × (opened.first.number ≡ 1)) }
     ensures second { IfOk result (λ opened. (opened.second.line ≡ opened.mail.line) × (opened.second.number ≡ 2)) }
-    ensures letters { IfOk result (λ opened. (opened.letters.line ≡ opened.mail.line) × (opened.letters.taken ≡ [])) }
+    ensures letters { IfOk result (λ opened.
+        (opened.letters.line ≡ opened.mail.line) × (opened.letters.taken ≡ []) × (opened.letters.stamps ≡ [])) }
     ensures kills { IfOk result (λ opened. (opened.kills.line ≡ opened.control.line) × (opened.kills.actor ≡ 1)) }
-    ensures unused { IfOk result (λ opened. (opened.kills.taken ≡ []) × (opened.kills.lengths ≡ [])) }
+    ensures unused { IfOk result (λ opened. (opened.kills.taken ≡ []) × (opened.kills.stamps ≡ []) × (opened.kills.lengths ≡ [])) }
 {
     let (mail, first, second, letters) = opened_mail(alloc)?;
     let (control, kills) = opened_control(alloc)?;

@@ -13,7 +13,7 @@ use Rattle.act_executor.specs.Runs.{plan_view}
 use Rattle.act_replay.specs.declared.run.RecordFault.{RecordFault}
 use Rattle.act_replay.specs.declared.run.RecordFault.TheVariants.{Run, Unplayed}
 use Rattle.act_replay.specs.Faults.{IsRecordFault}
-use Rattle.act_replay.specs.Play.{IsPlayOf}
+use Rattle.act_executor.specs.Plays.{IsPlayOf}
 use Rattle.act_console.specs.declared.plans.Mark.{Mark}
 use Rattle.act_console.specs.declared.plans.Sorted.{Sorted}
 use Rattle.act_console.specs.Plans.{AreSorted, plan_from, script_of, mark_view, step_view, first_stranger}

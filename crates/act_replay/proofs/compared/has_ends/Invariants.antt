@@ -7,7 +7,7 @@ use Rattle.act_serve.specs.declared.endpoint.Finished.{Finished}
 use Rattle.act_serve.specs.Served.{end_view}
 use Rattle.act_world.specs.IsReachedBy.{IsReachedBy}
 use Rattle.act_world.specs.View.{world_view}
-use Rattle.act_replay.specs.Play.{IsEndIn}
+use Rattle.act_executor.specs.Plays.{IsEndIn}
 use Rattle.act_replay.proofs.compared.has_ends.Given as goal
 
 -- the world has the actors so far

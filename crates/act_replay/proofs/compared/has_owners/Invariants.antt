@@ -5,7 +5,7 @@ use Rattle.act_rules.specs.History.{ActorSpec}
 use Rattle.act_rules.specs.Laws.{history}
 use Rattle.act_world.specs.IsReachedBy.{IsReachedBy}
 use Rattle.act_world.specs.View.{world_view}
-use Rattle.act_replay.specs.Play.{IsOwnerIn}
+use Rattle.act_executor.specs.Plays.{IsOwnerIn}
 use Rattle.act_replay.proofs.compared.has_owners.Given as goal
 
 -- the world has the callers so far

@@ -6,7 +6,7 @@ use Rattle.act_serve.specs.Served.{end_view}
 use Rattle.act_executor.specs.Runs.{plan_view}
 use Rattle.act_executor.proofs.Faults.{err_only}
 use Rattle.act_replay.specs.declared.run.RecordFault.{RecordFault}
-use Rattle.act_replay.specs.Play.{IsPlayOf}
+use Rattle.act_executor.specs.Plays.{IsPlayOf}
 use Rattle.act_replay.specs.Faults.{IsRecordFault}
 use Rattle.act_replay.proofs.Faults.{play_fault}
 use Rattle.act_replay.proofs.Twins.{twins_fit}

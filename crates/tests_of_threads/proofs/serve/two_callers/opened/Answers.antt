@@ -1,13 +1,40 @@
-use Rattle.std.proofs.Common.{rules}
-use Rattle.act_serve.proofs.Pair.{both_at_endpoints, both_differ}
+use Rattle.std.proofs.Common.{rules, ◌≡◌, ◌≢◌, ℕ, ◌<◌, List, [], ◌∷◌, ◌++◌, length, map, All, AllPairs, refl, ap, sym, ◌∙◌, subst, arith}
+use Rattle.std.specs.Prelude.{slice_index_or}
+use Rattle.std.proofs.lemmas.List.Elements.{All-nil}
+use Rattle.act_rules.proofs.Lists.{All-two}
+use Rattle.act_mailbox.specs.Notices.{RepliesView, ReplyExecView, IsNoDeath, new_exec}
+use Rattle.act_mailbox.specs.declared.endpoint.Endpoint.{Endpoint}
+use Rattle.act_plans.proofs.Matching.{numbers_differ}
+use Rattle.act_serve.specs.Served.{caller_at}
+use Rattle.act_serve.specs.Turns.{IsAtItsEndpoint}
 use Rattle.tests_of_threads.proofs.serve.two_callers.opened.Goals as goal
 
-pub returns-clause-fit : goal.returns-clause-fit
-returns-clause-fit c = record {
-  mail_is = search rules;
-  control_is = search rules;
-  actor_is = search rules;
-  looked = search rules;
-  endpoints = both_at_endpoints c.in_ok-first.first c.in_ok-other.other c.in_ok-first.first_pass c.in_ok-other.other_pass _ (search rules) (search rules) (search rules);
-  differ = both_differ c.in_ok-first.first c.in_ok-other.other c.in_ok-first.first_pass c.in_ok-other.other_pass _ (search rules) (search rules) (search rules);
+-- a new pass of actor 1 is at its endpoint
+new_at : (replies : List RepliesView) (r : RepliesView) (p : ReplyExecView) (place : ℕ) → place < length replies → ((d : RepliesView) → slice_index_or replies place d ≡ r) → p ≡ new_exec r.line 1
+    → IsAtItsEndpoint replies 1 [] (record { place = place; pass = p })
+new_at replies r p place below at fresh = record {
+  below = below;
+  line = λ d. ap (λ (x : RepliesView). x.line) (at d) ∙ sym (ap (λ (x : ReplyExecView). x.line) fresh);
+  actor_is = ap (λ (x : ReplyExecView). x.actor) fresh;
+  grown = ([], ap (λ (x : ReplyExecView). x.seen ++ []) fresh);
+  alive = subst (All IsNoDeath) (sym (ap (λ (x : ReplyExecView). x.given) fresh)) (All-nil IsNoDeath);
 }
+
+pub returns-clause-fit : goal.returns-clause-fit
+returns-clause-fit c =
+    let one = c.in_ok-first.first in
+    let two = c.in_ok-other.other in
+    let p = c.in_ok-first.first_pass in
+    let q = c.in_ok-other.other_pass in
+    let replies : List RepliesView = one ∷ two ∷ [] in
+    let items : c.push_reserved-2.new.self.items ≡ record { place = 0; pass = p } ∷ record { place = 1; pass = q } ∷ [] = search rules in
+    let callers : map (λ (e : Endpoint ReplyExecView). caller_at replies e.place) c.push_reserved-2.new.self.items ≡ 1 ∷ 2 ∷ [] =
+    ap (map (λ (e : Endpoint ReplyExecView). caller_at replies e.place)) items ∙ (λ i. (c.in_ok-first.ensures.caller ∙ c.caller.ensures) i ∷ (c.in_ok-other.ensures.caller ∙ c.second.ensures) i ∷ []) in
+    record {
+      mail_is = c.in_ok-lines.ensures.letters.0;
+      control_is = c.in_ok-lines.ensures.kills.0;
+      actor_is = c.in_ok-lines.ensures.kills.1;
+      looked = omega arith;
+      endpoints = rw items (All-two (IsAtItsEndpoint replies 1 []) (record { place = 0; pass = p }) (record { place = 1; pass = q }) (new_at replies one p 0 (omega arith) (λ d. refl) c.in_ok-first.ensures.exec) (new_at replies two q 1 (omega arith) (λ d. refl) c.in_ok-other.ensures.exec));
+      differ = subst (AllPairs (λ (one other : ℕ). one ≢ other)) (sym callers) (numbers_differ 2);
+    }
