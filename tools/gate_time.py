@@ -18,13 +18,15 @@ import sys
 import time
 
 KINDS = ("proof", "tests", "edits")
+# A crate from nothing is built; an edit of one, and its tests, are checked.
+WORKS = ("build", "check")
 OF_AN_EDIT = "/rt-edit-"
 TICKS = os.sysconf("SC_CLK_TCK")
 
 
 def crate_and_kind(words, folder):
     """Which crate a process of the prover checks, and as what, or None."""
-    if len(words) < 2 or not words[0].endswith("/rattle") or words[1] != "check" or "--crate-name" not in words:
+    if len(words) < 2 or not words[0].endswith("/rattle") or words[1] not in WORKS or "--crate-name" not in words:
         return None
     crate = words[words.index("--crate-name") + 1]
     return crate, "edits" if OF_AN_EDIT in folder else "tests" if "--test" in words else "proof"
