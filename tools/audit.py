@@ -42,6 +42,9 @@ ROOTS = [
     ("act_histories", "check", "check_history"),
 ]
 
+# How wide a line of the page may be.
+MAX_COLUMNS = 120
+
 WORDS_OF_THE_LANGUAGE = set("record data where let in do λ → × : = ← . ; , ( ) { } ⟦ ⟧ Type Unit ⊥ _".split())
 TYPES_OF_RUST = set("Vec Option Result String Box Self Drop Send Sync Copy Clone".split())
 LOWER_CONSTRUCTORS = {"true", "false", "pos", "negsuc", "zero", "suc"}
@@ -833,8 +836,12 @@ def rows_of(audit, definitions, names):
 
 
 def filled(listed):
-    """An item of a list, in lines of at most 120 columns."""
-    return textwrap.fill(listed, 120, subsequent_indent="  ", break_long_words=False, break_on_hyphens=False)
+    """An item of a list, in lines of at most 120 columns, and of as many bytes where its words are signs."""
+    for width in range(MAX_COLUMNS, MAX_COLUMNS // 2, -1):
+        lines = textwrap.wrap(listed, width, subsequent_indent="  ", break_long_words=False, break_on_hyphens=False)
+        if all(len(line.encode()) <= MAX_COLUMNS for line in lines):
+            break
+    return "\n".join(lines)
 
 
 def sections_of(audit):

@@ -20,8 +20,8 @@ IsMeanwhile (ChangeMade (Sent k)) = Unit {0}
 IsMeanwhile (ChangeMade (Noticed notice)) = Unit {0}
 IsMeanwhile (KillAsked a) = ⊥
 
--- after the steps `before` a caller that began as `owner` does a plan's step, and all its steps are then `steps`; a kill
--- needn't be asked of an actor that is known to be dead, and what is awaited is answered before
+-- a caller that began as `owner` and did the steps `before` does a plan's step, and its steps are then `steps`; a kill
+-- may go unasked, within what `HasDone` says of kills, and what is awaited is answered by then
 abbrev pub DoesStep : OwnerView → Step → List CallerStep → List CallerStep → Type 0
 DoesStep owner (Submit a method args) before steps = steps ≡ before ++ ChangeMade (Submitted a method args) ∷ []
 DoesStep owner (Copy a) before steps = steps ≡ before ++ ChangeMade (Copied a) ∷ []
@@ -30,7 +30,7 @@ DoesStep owner (Kill a) before steps = (steps ≡ before) ⊎ (steps ≡ before 
 DoesStep owner (Await k) before steps = (steps ≡ before)
     × (is_some (kept_at (owner_after_steps owner before).kept k) ≡ true)
 
--- the steps do the plan's steps in their order; before each, and after the last, the caller sends and collects alone
+-- the steps do the plan's steps in their order; before each, and after the last, the caller only sends and collects
 abbrev pub DoesPlan : OwnerView → List Step → List CallerStep → Type 0
 DoesPlan owner [] steps = All IsMeanwhile steps
 DoesPlan owner (step ∷ plan) steps = (before : List CallerStep) × (done : List CallerStep) × (later : List CallerStep)

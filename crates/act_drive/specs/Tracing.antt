@@ -11,8 +11,8 @@ use Rattle.act_drive.specs.CallerSteps.{CallerStep}
 use Rattle.act_drive.specs.CallerTraces.{caller_clock, IsPostedAfter, IsCallerTrace}
 use Rattle.act_drive.specs.PlanTraces.{DoesPlan}
 
--- a caller at work that began as `start` left a trace of a plan's steps `done`, in which the letter in its outbox has its
--- cause
+-- a caller at work that began as `start` left a trace, in which it did the steps `done` of a plan, and in which the
+-- letter in its outbox has its cause
 pub record IsTracing (start : OwnerView) (lines : CallerLines) (done : List Step) (driver : Driver) : Type 0 where
   pub trace : List (ℕ × CallerStep)
   pub trace_is : IsCallerTrace lines.controls.now start driver.owner driver.passes trace
