@@ -7,19 +7,16 @@ ghost use Rattle.act_handles.specs.Handles.{actors_in, copies_in};
 ghost use Rattle.act_drive.specs.Driven.{IsCalling, FollowsSteps, Stays, Waits, OnlyReleases, IsFreshCaller, HasDone, HasEndedAt, HasDriven};
 ghost use Rattle.act_drive.specs.Tracing.{Traces, TracesClosing, TracesPlan, TracesWhole};
 
-use crate::driver::{CallerLines, CallerPasses, Driver, NUMBERS};
+use crate::driver::{CallerLines, CallerPasses, Driver};
 use act_mailbox::{NoNotes, Notes};
 use act_owner::Owner;
-use act_rules::Step;
-use act_types::{ActorId, NoMemory};
+use act_rules::{Plan, Step};
+use act_types::{ACTOR_NUMBERS, ActorId, NoMemory};
 use std::alloc::Global;
 use std::sync::Wait;
 
 /// How many steps are done from one turn to the next. A wait has its own turns.
 const STEPS_BETWEEN_TURNS: u32 = 64;
-
-/// What a caller's thread does, in order.
-pub type Plan = Vec<Step>;
 
 /// What a caller leaves.
 #[derive(Drop)]
@@ -207,7 +204,7 @@ pub fn drive_noting<R: Wait, N: Notes>(
         owner,
         passes,
         outbox: None,
-        noted: [false; NUMBERS],
+        noted: [false; ACTOR_NUMBERS],
     };
     let starved = driver.run(rt, alloc, lines, plan, notes);
     let Driver { owner, passes, .. } = driver;

@@ -11,11 +11,11 @@ ghost use Rattle.act_drive.specs.Tracing.{TracesClosing};
 
 use crate::caller::Driven;
 use crate::code::Code;
-use crate::driver::{CallerLines, CallerPasses, Driver, NUMBERS};
+use crate::driver::{CallerLines, CallerPasses, Driver};
 use crate::lent::{Lent, Opening};
 use act_mailbox::NoNotes;
 use act_owner::Owner;
-use act_types::{MAX_CALLS, NoMemory};
+use act_types::{ACTOR_NUMBERS, MAX_CALLS, NoMemory};
 use std::alloc::Global;
 use std::marker::{Brand, PhantomData};
 use std::sync::Wait;
@@ -100,7 +100,7 @@ fn work<R: Wait, O: Opening, C: Code>(
         lines,
         driver,
         since: 0,
-        kills: [0; NUMBERS],
+        kills: [0; ACTOR_NUMBERS],
         of: PhantomData,
     };
     let has_given_up = code.run(&mut lent).is_err();
@@ -143,7 +143,7 @@ pub fn drive_code<R: Wait, C: Code>(
         owner,
         passes,
         outbox: None,
-        noted: [false; NUMBERS],
+        noted: [false; ACTOR_NUMBERS],
     };
     work::<R, Brand, C>(rt, alloc, driver, code, lines)
 }

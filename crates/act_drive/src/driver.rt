@@ -13,7 +13,7 @@ use act_mailbox::{
     ReplyCaller, Stamped,
 };
 use act_owner::Owner;
-use act_types::{ActorId, FutureId, MAX_ACTORS, NoMemory, Notice};
+use act_types::{ACTOR_NUMBERS, ActorId, FutureId, NoMemory, Notice};
 use std::alloc::Global;
 use std::marker::Brand;
 use std::sync::Wait;
@@ -38,9 +38,6 @@ pub struct CallerPasses {
 /// as a line holds, so that a turn can fill a line and empty one.
 const MAX_IN_A_TURN: u32 = 64;
 
-/// How many places a list by the actors' numbers has.
-pub(crate) const NUMBERS: usize = MAX_ACTORS as usize + 1;
-
 /// A caller at work: the letter that its line didn't take yet, and whether the note was posted, by
 /// the actors' numbers.
 #[derive(Drop)]
@@ -48,7 +45,7 @@ pub(crate) struct Driver {
     pub(crate) owner: Owner,
     pub(crate) passes: CallerPasses,
     pub(crate) outbox: Option<Letter>,
-    pub(crate) noted: [bool; NUMBERS],
+    pub(crate) noted: [bool; ACTOR_NUMBERS],
 }
 
 /// To whom a letter goes.
@@ -79,7 +76,7 @@ fn mark_of(notice: &Notice) -> Mark {
 }
 
 /// Marks the actor whose note was posted.
-fn mark(noted: &mut [bool; NUMBERS], actor: ActorId, is_note: bool)
+fn mark(noted: &mut [bool; ACTOR_NUMBERS], actor: ActorId, is_note: bool)
     ensures { noted.new ≡ (if is_note then slice_set noted.old actor true else noted.old) }
 {
     if is_note {

@@ -4,13 +4,13 @@ ghost use Rattle.std.specs.Prelude.{◌≡◌, ◌≢◌, length, None, IfOk, On
 ghost use Rattle.act_rules.specs.declared.outcome.SubmitRefusal.TheVariants.{NoMemory as NoRoom};
 ghost use Rattle.act_drive.specs.Sessions.{call_refusal, IsLater, OnlyHears, Submits};
 
-use crate::driver::{CallerLines, Driver, NUMBERS};
+use crate::driver::{CallerLines, Driver};
 use crate::refusals::{KillRefusal, WaitRefusal};
 use crate::session::{MAX_KILLS, Session};
 use act_handles::HandleRefusal;
 use act_mailbox::NoNotes;
 use act_rules::SubmitRefusal;
-use act_types::{ActorId, Answer, Arg, FutureId, ListOf, Method};
+use act_types::{ACTOR_NUMBERS, ActorId, Answer, Arg, FutureId, ListOf, Method};
 use std::alloc::Global;
 use std::marker::{Model, PhantomData};
 use std::sync::Wait;
@@ -35,7 +35,7 @@ pub(crate) struct Lent<'a, R, O: Opening> {
     pub(crate) lines: &'a CallerLines<'a>,
     pub(crate) driver: Driver,
     pub(crate) since: u32,
-    pub(crate) kills: [u32; NUMBERS],
+    pub(crate) kills: [u32; ACTOR_NUMBERS],
     pub(crate) of: PhantomData<O>,
 }
 

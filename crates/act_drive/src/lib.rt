@@ -15,7 +15,8 @@ mod starve;
 mod steps;
 mod told;
 
-pub use caller::{Driven, Plan, drive, drive_noting};
+pub use act_rules::Plan;
+pub use caller::{Driven, drive, drive_noting};
 pub use code::{Code, GaveUp};
 pub use coded::drive_code;
 pub use driver::{CallerLines, CallerPasses};

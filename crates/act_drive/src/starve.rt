@@ -7,9 +7,9 @@ ghost use Rattle.act_mailbox.specs.declared.endpoint.Endpoint.{Endpoint};
 ghost use Rattle.act_drive.specs.declared.driver.CallerLines.{CallerLines};
 ghost use Rattle.act_drive.specs.Driven.{IsCalling, IsAtKillEndpoint, Stays, IsThrough, HasEndedAt};
 
-use crate::driver::{CallerLines, Driver, NUMBERS, rest};
+use crate::driver::{CallerLines, Driver, rest};
 use act_mailbox::{IdleBackoff, Notes};
-use act_types::ActorId;
+use act_types::{ACTOR_NUMBERS, ActorId};
 use std::sync::Wait;
 
 impl Driver {
@@ -30,7 +30,7 @@ impl Driver {
         &mut self,
         rt: &R,
         lines: &CallerLines,
-        asked: &mut [bool; NUMBERS],
+        asked: &mut [bool; ACTOR_NUMBERS],
         at: usize,
         a: ActorId,
     )
@@ -52,7 +52,7 @@ impl Driver {
         &mut self,
         rt: &R,
         lines: &CallerLines,
-        asked: &mut [bool; NUMBERS],
+        asked: &mut [bool; ACTOR_NUMBERS],
         at: usize,
     ) -> bool
         requires calling { IsCalling lines.now self.old }
@@ -74,7 +74,12 @@ impl Driver {
     }
 
     /// Asks the kills that weren't asked. Whether the caller is through with all its actors.
-    fn end_all<R: Wait>(&mut self, rt: &R, lines: &CallerLines, asked: &mut [bool; NUMBERS]) -> bool
+    fn end_all<R: Wait>(
+        &mut self,
+        rt: &R,
+        lines: &CallerLines,
+        asked: &mut [bool; ACTOR_NUMBERS],
+    ) -> bool
         requires calling { IsCalling lines.now self.old }
         ensures calling { IsCalling lines.now self.new }
         ensures stays { Stays self.old self.new }
@@ -97,7 +102,7 @@ impl Driver {
         ensures through { All (HasEndedAt lines.now.controls.now self.new.owner self.new.passes) self.new.passes.kills.items }
     {
         let mut idle_backoff = IdleBackoff::new();
-        let mut asked = [false; NUMBERS];
+        let mut asked = [false; ACTOR_NUMBERS];
         for _ in rt.forever() {
             if self.end_all(rt, lines, &mut asked) {
                 return;

@@ -8,7 +8,7 @@ use crate::history::{Call, History, Ran, future_at, slot_of};
 use crate::progress::{Asked, Progress};
 use crate::reason::{Blame, CallName, Reason};
 use crate::rules::has_died;
-use act_types::{ActorId, Arg, CallerId, MAX_ACTORS, MAX_CALLERS, NoMemory};
+use act_types::{ACTOR_NUMBERS, ActorId, Arg, CallerId, MAX_ACTORS, MAX_CALLERS, NoMemory};
 use std::alloc::Global;
 
 /// A play that is stuck.
@@ -225,7 +225,7 @@ fn way_from(alloc: Global, stuck: &Stuck<'_>, first: ActorId) -> Result<Vec<Blam
     let mut way = Way {
         blames: Vec::new(alloc),
     };
-    let mut begins = [None; 9];
+    let mut begins = [None; ACTOR_NUMBERS];
     let mut at = first;
     for _step in 0..=MAX_ACTORS {
         let slot = slot_of(at);

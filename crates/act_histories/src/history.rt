@@ -3,7 +3,7 @@
 ghost use Rattle.std.specs.Prelude.{◌<◌};
 
 use act_rules::{KindName, RunItem, Step};
-use act_types::{ActorId, Answer, Arg, CallerId, FutureId, ListOf, Method};
+use act_types::{ACTOR_NUMBERS, ActorId, Answer, Arg, CallerId, FutureId, ListOf, Method};
 use std::alloc::Global;
 
 /// A call of a caller.
@@ -33,7 +33,7 @@ pub(crate) struct Caller {
     /// How many of its calls have a line that tells their answer.
     pub(crate) told: usize,
     /// How many calls of each actor it has.
-    pub(crate) counts: [u32; 9],
+    pub(crate) counts: [u32; ACTOR_NUMBERS],
 }
 
 /// How an actor is left.
@@ -85,7 +85,7 @@ pub(crate) struct Lines<'a> {
 
 /// The place of what is kept of an actor, by its number.
 pub(crate) fn slot_of(a: ActorId) -> usize
-    ensures { result < 9 }
+    ensures { result < ACTOR_NUMBERS }
 {
     a.number() as usize
 }
@@ -107,7 +107,7 @@ impl Caller {
             calls: Vec::new(alloc),
             has_plan: false,
             told: 0,
-            counts: [0; 9],
+            counts: [0; ACTOR_NUMBERS],
         }
     }
 

@@ -2,7 +2,7 @@
 
 use crate::history::{Call, Caller, History, future_at, slot_of};
 use crate::rules::has_died;
-use act_types::{ActorId, Arg, FutureId, NoMemory};
+use act_types::{ACTOR_NUMBERS, ActorId, Arg, FutureId, NoMemory};
 use std::alloc::Global;
 
 /// What a caller did so far.
@@ -11,9 +11,9 @@ pub(crate) struct Asked {
     /// Which of the calls that it submitted have an answer.
     answered: Vec<bool>,
     /// How many calls of each actor have none.
-    pending: [u32; 9],
+    pending: [u32; ACTOR_NUMBERS],
     /// Whether it heard that an actor died.
-    bereaved: [bool; 9],
+    bereaved: [bool; ACTOR_NUMBERS],
 }
 
 impl Asked {
@@ -21,8 +21,8 @@ impl Asked {
     pub(crate) fn new(alloc: Global) -> Asked {
         Asked {
             answered: Vec::new(alloc),
-            pending: [0; 9],
-            bereaved: [false; 9],
+            pending: [0; ACTOR_NUMBERS],
+            bereaved: [false; ACTOR_NUMBERS],
         }
     }
 

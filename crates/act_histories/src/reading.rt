@@ -6,8 +6,8 @@ use crate::mistake::{Mistake, Wrongly};
 use act_rules::{KindName, Role, RunItem, Step, Wrong};
 use act_scripts::LineFault;
 use act_types::{
-    ActorId, Answer, Arg, CallerId, CopyOf, FutureId, ListOf, MAX_ACTORS, MAX_CALLERS, Method,
-    NoMemory, Settled,
+    ACTOR_NUMBERS, ActorId, Answer, Arg, CALLER_NUMBERS, CallerId, CopyOf, FutureId, ListOf,
+    Method, NoMemory, Settled,
 };
 use std::alloc::Global;
 use std::str;
@@ -28,10 +28,10 @@ fn empty(alloc: Global) -> Result<History, NoMemory> {
         callers: Vec::new(alloc),
         actors: Vec::new(alloc),
     };
-    for _ in 0..=MAX_CALLERS {
+    for _ in 0..CALLER_NUMBERS {
         history.callers.push(Caller::new(alloc))?;
     }
-    for _ in 0..=MAX_ACTORS {
+    for _ in 0..ACTOR_NUMBERS {
         history.actors.push(Served::new(alloc))?;
     }
     Ok(history)

@@ -4,7 +4,8 @@ use crate::history::{Call, Caller, Ending, History, Ran, Served, future_at, slot
 use crate::reason::{Blame, CallName, PlaceName, Reason};
 use act_rules::RunItem;
 use act_types::{
-    ActorId, Arg, CallerId, Fault, FutureId, MAX_ACTORS, MAX_CALLERS, Method, NoMemory, Settled,
+    ACTOR_NUMBERS, ActorId, Arg, CALLER_NUMBERS, CallerId, Fault, FutureId, MAX_ACTORS,
+    MAX_CALLERS, Method, NoMemory, Settled,
 };
 use std::alloc::Global;
 
@@ -17,7 +18,7 @@ struct Counts {
 impl Counts {
     fn new(alloc: Global) -> Result<Counts, NoMemory> {
         let mut ran = Vec::new(alloc);
-        for _ in 0..=MAX_CALLERS {
+        for _ in 0..CALLER_NUMBERS {
             ran.push(0)?;
         }
         Ok(Counts { ran })
@@ -238,8 +239,8 @@ fn reason_of(call: &Call, name: CallName, ending: Ending) -> Option<Reason> {
 /// The first calls of a caller to each actor that have no answer, and that a death answered.
 #[derive(Drop)]
 struct Halves {
-    open: [Option<FutureId>; 9],
-    dead: [Option<FutureId>; 9],
+    open: [Option<FutureId>; ACTOR_NUMBERS],
+    dead: [Option<FutureId>; ACTOR_NUMBERS],
 }
 
 impl Halves {
@@ -274,8 +275,8 @@ fn reason_beside(halves: &mut Halves, call: &Call, name: CallName) -> Option<Rea
 /// The first call of a caller that can't be left so.
 fn check_caller(history: &History, c: CallerId, caller: &Caller) -> Option<Blame> {
     let mut halves = Halves {
-        open: [None; 9],
-        dead: [None; 9],
+        open: [None; ACTOR_NUMBERS],
+        dead: [None; ACTOR_NUMBERS],
     };
     for (place, call) in caller.calls.iter().enumerate() {
         let name = CallName {

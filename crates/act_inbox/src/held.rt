@@ -5,14 +5,11 @@ ghost use Rattle.std.specs.Prelude.{◌≡◌, ◌↔◌, ℕ, ◌<◌, [], None
 ghost use Rattle.act_types.specs.declared.message.Packet.{Packet};
 ghost use Rattle.act_inbox.specs.Inbox.{is_packet_of};
 
-use act_types::{CallerId, MAX_CALLERS, MAX_CALLS, Packet};
+use act_types::{CALLER_NUMBERS, CallerId, MAX_CALLS, Packet};
 use slab::Slab;
 use std::alloc::{AllocError, Global};
 use std::collections::BTreeMap;
 use std::marker::Model;
-
-/// Each caller has a number below this.
-pub(crate) const CALLER_NUMBERS: usize = MAX_CALLERS as usize + 1;
 
 /// The packets, and by the callers' numbers the key of each of their calls.
 #[derive(Drop)]

@@ -4,9 +4,9 @@ ghost use Rattle.std.specs.Prelude.{◌≡◌, ◌↔◌, ◌≢◌, ℕ, None, 
 ghost use Rattle.act_rules.specs.declared.outcome.Arrival.TheVariants.{New};
 ghost use Rattle.act_inbox.specs.Inbox.{InboxView, is_lane_of, is_packet_of, lane_at_first, is_listed, handed_of, note_of, waiting_packet, next_of, arrival_of, note_arrival, waiting_after, held_at, held_after, held_without, note_after, holding, HoldsNone, IsNextToCome, IsOpened, IsTakenIn, IsNextTaken, IsDrained};
 
-use crate::held::{CALLER_NUMBERS, HeldCalls};
+use crate::held::HeldCalls;
 use act_rules::Arrival;
-use act_types::{CallerId, MAX_CALLERS, MAX_CALLS, NoMemory, Packet, ReleaseNote};
+use act_types::{CALLER_NUMBERS, CallerId, MAX_CALLERS, MAX_CALLS, NoMemory, Packet, ReleaseNote};
 use std::alloc::{AllocError, Global};
 use std::marker::Model;
 

@@ -1,30 +1,12 @@
 //! Arguments, by the answers that are kept.
 
 ghost use Rattle.std.specs.Prelude.{◌≡◌, map, IfOk};
-ghost use Rattle.std.specs.List.{list_all};
-ghost use Rattle.act_rules.specs.Submissions.{is_earlier, settle};
+ghost use Rattle.act_rules.specs.Submissions.{settle};
 ghost use Rattle.act_owner.specs.Owner.{answers_of};
 
 use act_replies::ReplyTable;
 use act_types::{Arg, CopyOf, ListOf, NoMemory, Settled, SmallList};
 use std::alloc::Global;
-
-/// Whether the argument is a value or one of the first `count` futures.
-fn is_earlier(arg: &Arg, count: u32) -> bool
-    ensures { result ≡ is_earlier count arg.now }
-{
-    match arg {
-        Arg::Plain(_) => true,
-        Arg::Fut(future) => future.number() < count,
-    }
-}
-
-/// Whether each argument is a value or one of the first `count` futures.
-pub(crate) fn are_earlier(args: &ListOf<Arg>, count: u32) -> bool
-    ensures { result ≡ list_all (is_earlier count) args.now }
-{
-    args.as_slice().iter().all(|arg| is_earlier(arg, count))
-}
 
 /// What is sent for an argument that has its answer.
 fn settled(alloc: Global, arg: &Arg, table: &ReplyTable) -> Result<Settled, NoMemory>

@@ -9,15 +9,15 @@ ghost use Rattle.act_handles.specs.Handles.{copies_in, given_in, copy_answer, wi
 ghost use Rattle.act_owner.specs.Owner.{OwnerView, answers_of, open_owner, opened_under, opened_with, owner_limit, pending, with_handles, release_told, kill_told, refusal_to_submit, with_submission, call_at, is_sent, is_known_dead, sending_refusal, packet_at, address_at, with_sent, is_known_call, first_ready, is_to, is_death, is_of_call, collected_reply, after_reply, collected_death, owner_after_death, collect_result, after_collect, call_waits_for, KnowsDeath};
 ghost use Rattle.act_types.specs.declared.message.Notice.TheVariants.{Death};
 
-use crate::args::{all_settled, are_earlier};
+use crate::args::all_settled;
 use crate::futures::{answer_death, enter, enter_call};
-use act_handles::{HandleRefusal, Handles};
+use act_handles::{HandleRefusal, Handles, are_earlier};
 use act_replies::ReplyTable;
 use act_resolver::Resolver;
 use act_rules::{SendRefusal, SubmitRefusal};
 use act_types::{
-    ActorId, Answer, Arg, CallerId, Fault, FutureId, KillNote, ListOf, MAX_ARGS, MAX_CALLS, Method,
-    NoMemory, Notice, Packet, ReleaseNote, Reply,
+    ACTOR_NUMBERS, ActorId, Answer, Arg, CallerId, Fault, FutureId, KillNote, ListOf, MAX_ARGS,
+    MAX_CALLS, Method, NoMemory, Notice, Packet, ReleaseNote, Reply,
 };
 use std::alloc::Global;
 use std::marker::Model;
@@ -58,7 +58,7 @@ pub struct Owner {
     resolver: Resolver,
     table: ReplyTable,
     /// Whether each actor, by its number, is known to be dead.
-    dead: [bool; 9],
+    dead: [bool; ACTOR_NUMBERS],
     /// How many calls of an actor may have no answer yet, where the caller was opened with limits.
     limits: Limits,
 }
@@ -170,7 +170,7 @@ impl Owner {
             calls: Vec::new(alloc),
             resolver: Resolver::new(alloc),
             table: ReplyTable::new(alloc),
-            dead: [false; 9],
+            dead: [false; ACTOR_NUMBERS],
             limits,
         })
     }

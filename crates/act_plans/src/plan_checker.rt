@@ -1,11 +1,9 @@
 //! Which step of a plan would be refused.
 
 ghost use Rattle.std.specs.Prelude.{◌≡◌, ◌<◌, All, length, filter_map, slice_get, IfOk};
-ghost use Rattle.std.specs.List.{list_all};
 ghost use Rattle.act_types.specs.declared.call.Method.{Method};
 ghost use Rattle.act_rules.specs.declared.script.Step.TheVariants.{Submit};
 ghost use Rattle.act_rules.specs.Plans.{first_bad};
-ghost use Rattle.act_rules.specs.Submissions.{is_earlier};
 ghost use Rattle.act_handles.specs.Handles.{given_of_all};
 ghost use Rattle.act_actor.specs.Cast.{CallersDiffer};
 ghost use Rattle.act_plans.specs.Setups.{most_steps};
@@ -13,27 +11,10 @@ ghost use Rattle.act_plans.specs.Prepared.{bad_of_setup};
 ghost use Rattle.act_plans.specs.PlanChecks.{ChecksStep};
 
 use crate::CallerSetup;
-use act_handles::Handles;
+use act_handles::{Handles, are_earlier};
 use act_rules::Step;
 use act_types::{ActorId, Arg, CallerId, ListOf, MAX_ARGS, NoMemory};
 use std::alloc::Global;
-
-/// Whether the argument is a value or one of the first `count` futures.
-fn is_earlier(arg: &Arg, count: u32) -> bool
-    ensures { result ≡ is_earlier count arg.now }
-{
-    match arg {
-        Arg::Plain(_) => true,
-        Arg::Fut(future) => future.number() < count,
-    }
-}
-
-/// Whether each argument is a value or one of the first `count` futures.
-fn are_earlier(args: &ListOf<Arg>, count: u32) -> bool
-    ensures { result ≡ list_all (is_earlier count) args.now }
-{
-    args.as_slice().iter().all(|arg| is_earlier(arg, count))
-}
 
 /// What is known of a plan's steps so far: the handles, and the number of calls.
 #[derive(Drop)]

@@ -1,10 +1,7 @@
 //! A caller's part in a run.
 
-use act_rules::Step;
+use act_rules::Plan;
 use act_types::{ActorId, CallerId};
-
-/// What a caller's thread does, in order.
-pub type Plan = Vec<Step>;
 
 /// A caller, the actors whose casts name it, each of them with its limit, and its plan.
 #[derive(Drop)]

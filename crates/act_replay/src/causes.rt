@@ -2,19 +2,19 @@
 
 ghost use Rattle.std.specs.Prelude.{◌<◌};
 
-use act_types::{ActorId, CallerId, FutureId, MAX_ACTORS, MAX_CALLERS, NoMemory};
+use act_types::{ACTOR_NUMBERS, ActorId, CALLER_NUMBERS, CallerId, FutureId, NoMemory};
 use std::alloc::Global;
 
 /// The place of what is kept of a caller, by its number.
 fn caller_place(c: CallerId) -> usize
-    ensures { result < 17 }
+    ensures { result < CALLER_NUMBERS }
 {
     c.number() as usize
 }
 
 /// The place of what is kept of an actor, by its number.
 fn actor_place(a: ActorId) -> usize
-    ensures { result < 9 }
+    ensures { result < ACTOR_NUMBERS }
 {
     a.number() as usize
 }
@@ -26,7 +26,7 @@ struct Posted {
     submitted: u32,
     calls: Vec<Option<u32>>,
     /// The letters of its last releases, by the actors' numbers.
-    notes: [Option<u32>; 9],
+    notes: [Option<u32>; ACTOR_NUMBERS],
 }
 
 /// What an actor gave, and whether its kill was asked.
@@ -35,7 +35,7 @@ struct Given {
     /// The notice of each call that ran.
     replies: Vec<u32>,
     /// The notices of its death, by the callers' numbers.
-    deaths: [Option<u32>; 17],
+    deaths: [Option<u32>; CALLER_NUMBERS],
     is_asked: bool,
 }
 
@@ -57,17 +57,17 @@ impl Causes {
             callers: Vec::new(alloc),
             actors: Vec::new(alloc),
         };
-        for _caller in 0..MAX_CALLERS + 1 {
+        for _caller in 0..CALLER_NUMBERS {
             causes.callers.push(Posted {
                 submitted: 0,
                 calls: Vec::new(alloc),
-                notes: [None; 9],
+                notes: [None; ACTOR_NUMBERS],
             })?;
         }
-        for _actor in 0..MAX_ACTORS + 1 {
+        for _actor in 0..ACTOR_NUMBERS {
             causes.actors.push(Given {
                 replies: Vec::new(alloc),
-                deaths: [None; 17],
+                deaths: [None; CALLER_NUMBERS],
                 is_asked: false,
             })?;
         }

@@ -3,12 +3,12 @@
 ghost use Rattle.std.specs.Prelude.{◌<◌};
 
 use act_owner::Owner;
-use act_types::{ActorId, Arg, FutureId, NoMemory};
+use act_types::{ACTOR_NUMBERS, ActorId, Arg, FutureId, NoMemory};
 use std::alloc::Global;
 
 /// The place of what is kept of an actor, by its number.
 fn slot_of(a: ActorId) -> usize
-    ensures { result < 9 }
+    ensures { result < ACTOR_NUMBERS }
 {
     a.number() as usize
 }
@@ -21,9 +21,9 @@ pub(crate) struct Asked {
     /// Which of these have an answer.
     answered: Vec<bool>,
     /// How many calls of each actor have none.
-    pending: [u32; 9],
+    pending: [u32; ACTOR_NUMBERS],
     /// Whether it heard that an actor died.
-    bereaved: [bool; 9],
+    bereaved: [bool; ACTOR_NUMBERS],
 }
 
 impl Asked {
@@ -32,8 +32,8 @@ impl Asked {
         Asked {
             submitted: 0,
             answered: Vec::new(alloc),
-            pending: [0; 9],
-            bereaved: [false; 9],
+            pending: [0; ACTOR_NUMBERS],
+            bereaved: [false; ACTOR_NUMBERS],
         }
     }
 

@@ -3,7 +3,7 @@
 ghost use Rattle.std.specs.Prelude.{◌≡◌, ◌+◌, ◌<◌, ◌≤◌, [], ◌∷◌, ◌++◌, length, slice_set, count_by, None, Some, IfSome, OnOk, IsOk};
 ghost use Rattle.act_replies.specs.Chains.{with_found, is_for, linked_actors, before_of, after_of, IsLastBelow};
 
-use act_types::{ActorId, FutureId, MAX_CALLS, NoMemory};
+use act_types::{ACTOR_NUMBERS, ActorId, FutureId, MAX_CALLS, NoMemory};
 use std::alloc::Global;
 use std::marker::Model;
 
@@ -21,9 +21,9 @@ struct Link {
 pub(crate) struct Waiting {
     links: Vec<Link>,
     /// The last future that waits for each actor, by the actor's number.
-    last: [Option<FutureId>; 9],
+    last: [Option<FutureId>; ACTOR_NUMBERS],
     /// How many futures wait for each actor, by the actor's number.
-    counts: [u32; 9],
+    counts: [u32; ACTOR_NUMBERS],
 }
 
 impl Model for Waiting {
@@ -84,8 +84,8 @@ impl Waiting {
     {
         Waiting {
             links: Vec::new(alloc),
-            last: [None; 9],
-            counts: [0; 9],
+            last: [None; ACTOR_NUMBERS],
+            counts: [0; ACTOR_NUMBERS],
         }
     }
 

@@ -20,4 +20,4 @@ pub use laws::{
     pending_stays_within_the_limit, planned_is_what_a_world_takes, retired_ran_all,
 };
 pub use outcome::{Arrival, Did, HandleRefusal, Outcome, SendRefusal, SubmitRefusal, WorldRefusal};
-pub use script::{KindName, Line, Mode, Role, Step, Wrong};
+pub use script::{KindName, Line, Mode, Plan, Role, Step, Wrong};

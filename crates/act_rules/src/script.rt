@@ -44,6 +44,9 @@ pub enum Step {
     Await(FutureId),
 }
 
+/// What a caller does in threads, in order.
+pub type Plan = Vec<Step>;
+
 /// What one line of a script says.
 #[derive(Debug, Drop)]
 pub enum Line {

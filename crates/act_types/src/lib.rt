@@ -17,8 +17,8 @@ pub use call::{Arg, Method, Settled};
 pub use fault::{Answer, Fault};
 pub use ids::{ActorId, CallerId, FutureId};
 pub use limits::{
-    MAX_ACTORS, MAX_ARGS, MAX_CALLERS, MAX_CALLS, MAX_COPIES, MAX_ITEMS, MAX_KEYS, MAX_LINE_BYTES,
-    MAX_NAME_BYTES, MAX_SCRIPT_BYTES, MAX_TEXT_BYTES,
+    ACTOR_NUMBERS, CALLER_NUMBERS, MAX_ACTORS, MAX_ARGS, MAX_CALLERS, MAX_CALLS, MAX_COPIES,
+    MAX_ITEMS, MAX_KEYS, MAX_LINE_BYTES, MAX_NAME_BYTES, MAX_SCRIPT_BYTES, MAX_TEXT_BYTES,
 };
 pub use list_of::ListOf;
 pub use memory::{CopyOf, NoMemory};

@@ -6,6 +6,12 @@ pub const MAX_CALLERS: u8 = 16;
 /// The actors are numbered from 1 to this.
 pub const MAX_ACTORS: u8 = 8;
 
+/// An array by the callers' numbers has this many places: one more than callers, whose numbers begin at 1.
+pub const CALLER_NUMBERS: usize = MAX_CALLERS as usize + 1;
+
+/// An array by the actors' numbers has this many places: one more than actors, whose numbers begin at 1.
+pub const ACTOR_NUMBERS: usize = MAX_ACTORS as usize + 1;
+
 /// A caller submits at most this many calls.
 pub const MAX_CALLS: u32 = 65_536;
 

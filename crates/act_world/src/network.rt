@@ -8,8 +8,8 @@ ghost use Rattle.act_world.specs.IsReachedBy.{is_memory};
 use act_owner::Owner;
 use act_rules::{Event, HandleRefusal, WorldRefusal};
 use act_types::{
-    ActorId, CallerId, CopyOf, FutureId, MAX_CALLS, Method, NoMemory, Notice, Packet, ReleaseNote,
-    SmallList,
+    ACTOR_NUMBERS, ActorId, CALLER_NUMBERS, CallerId, CopyOf, FutureId, MAX_CALLS, Method,
+    NoMemory, Notice, Packet, ReleaseNote, SmallList,
 };
 use std::alloc::Global;
 use std::marker::Model;
@@ -85,7 +85,7 @@ pub(crate) struct Network {
     pub(crate) owners: Vec<Owner>,
     pub(crate) mail: Vec<MailEntry>,
     pub(crate) replies: Vec<Posted>,
-    pub(crate) asked: [bool; 9],
+    pub(crate) asked: [bool; ACTOR_NUMBERS],
 }
 
 impl Model for Network {
@@ -109,8 +109,8 @@ pub(crate) fn place_of(owners: &[Owner], c: CallerId) -> Option<usize>
 }
 
 /// How many calls the events submit, by the number of the caller.
-fn submissions(events: &[Event]) -> [usize; 17] {
-    let mut counts: [usize; 17] = [0; 17];
+fn submissions(events: &[Event]) -> [usize; CALLER_NUMBERS] {
+    let mut counts: [usize; CALLER_NUMBERS] = [0; CALLER_NUMBERS];
     for event in events {
         if let Event::Submit(c, _, _, _) = event {
             let count = &mut counts[c.number() as usize];
@@ -121,7 +121,7 @@ fn submissions(events: &[Event]) -> [usize; 17] {
 }
 
 /// Makes room for so many calls more of each caller, as far as memory serves.
-fn make_room_for(owners: &mut [Owner], counts: &[usize; 17])
+fn make_room_for(owners: &mut [Owner], counts: &[usize; CALLER_NUMBERS])
     ensures { owners.new ≡ owners.old }
 {
     for owner in owners.iter_mut() {

@@ -17,7 +17,7 @@ use crate::slot::{Slot, slot_of};
 use act_actor::{Cast, Live, limits_of};
 use act_kinds::Actor;
 use act_owner::Owner;
-use act_types::{ActorId, CallerId, NoMemory};
+use act_types::{ACTOR_NUMBERS, ActorId, CallerId, NoMemory};
 use std::alloc::Global;
 
 /// A caller with its first handles, and with the limits of its actors.
@@ -78,8 +78,8 @@ fn owners_of<K>(alloc: Global, casts: &[Cast<K>]) -> Result<Vec<Owner>, NoMemory
 }
 
 /// Slots with no actors.
-fn vacant<K: Actor>() -> [Slot<K>; 9]
-    ensures { map (slot_view K.state) result ≡ replicate 9 Vacant }
+fn vacant<K: Actor>() -> [Slot<K>; ACTOR_NUMBERS]
+    ensures { map (slot_view K.state) result ≡ replicate ACTOR_NUMBERS Vacant }
 {
     [
         Slot::Vacant,
@@ -95,7 +95,7 @@ fn vacant<K: Actor>() -> [Slot<K>; 9]
 }
 
 /// Puts an actor in its slot.
-fn endpoint<K: Actor>(slots: &mut [Slot<K>; 9], a: ActorId, live: Live<K>)
+fn endpoint<K: Actor>(slots: &mut [Slot<K>; ACTOR_NUMBERS], a: ActorId, live: Live<K>)
     ensures { (b : ℕ) → slice_get (map (slot_view K.state) slots.new) b ≡
         (if a == b then Some (Runs (live_view K.state live)) else slice_get (map (slot_view K.state) slots.old) b) }
 {
@@ -103,7 +103,10 @@ fn endpoint<K: Actor>(slots: &mut [Slot<K>; 9], a: ActorId, live: Live<K>)
 }
 
 /// The actors, each in its opening state.
-fn slots_of<K: Actor>(alloc: Global, casts: Vec<Cast<K>>) -> Result<[Slot<K>; 9], NoMemory>
+fn slots_of<K: Actor>(
+    alloc: Global,
+    casts: Vec<Cast<K>>,
+) -> Result<[Slot<K>; ACTOR_NUMBERS], NoMemory>
     requires fit { IsFitting casts.items }
     ensures { IfOk result (λ slots.
         (a : ℕ) → IsStage (opening (map (actor_spec K.state) casts.items)) a
@@ -141,7 +144,7 @@ impl<K: Actor> World<K> {
                 owners,
                 mail: Vec::new(alloc),
                 replies: Vec::new(alloc),
-                asked: [false; 9],
+                asked: [false; ACTOR_NUMBERS],
             },
             slots,
         })

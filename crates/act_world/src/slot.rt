@@ -14,7 +14,7 @@ use crate::network::{CallKey, MailEntry, Network};
 use act_actor::{Dead, Live, Retired};
 use act_kinds::{Actor, Boxed};
 use act_rules::{Arrival, Did, HandleRefusal, Outcome, WorldRefusal};
-use act_types::{ActorId, CallerId, NoMemory, Reply};
+use act_types::{ACTOR_NUMBERS, ActorId, CallerId, NoMemory, Reply};
 use std::mem;
 
 /// An actor in one of its states. A slot is vacant where there is no such actor, and while an actor
@@ -38,13 +38,13 @@ pub enum Stage<'a, K = Boxed> {
 /// The place of an actor's slot.
 pub(crate) fn slot_of(a: ActorId) -> usize
     ensures value { result ≡ a }
-    ensures below { result < 9 }
+    ensures below { result < ACTOR_NUMBERS }
 {
     a.number() as usize
 }
 
 /// The actor's slot.
-pub(crate) fn slot_at<K: Actor>(slots: &[Slot<K>; 9], a: ActorId) -> &Slot<K>
+pub(crate) fn slot_at<K: Actor>(slots: &[Slot<K>; ACTOR_NUMBERS], a: ActorId) -> &Slot<K>
     ensures { slice_get (map (slot_view K.state) slots.now) a ≡ Some (slot_view K.state result.now) }
 {
     &slots[slot_of(a)]
@@ -165,7 +165,7 @@ fn run_in<K: Actor>(
 
 /// The actor with this number runs the caller's next call, if it has arrived.
 pub(crate) fn run_at<K: Actor>(
-    slots: &mut [Slot<K>; 9],
+    slots: &mut [Slot<K>; ACTOR_NUMBERS],
     a: ActorId,
     c: CallerId,
 ) -> Result<Result<Option<Reply>, WorldRefusal>, NoMemory>

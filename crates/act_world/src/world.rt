@@ -24,14 +24,14 @@ use crate::slot::{
 use act_kinds::{Actor, Boxed};
 use act_owner::Owner;
 use act_rules::{Did, Event, Outcome, WorldRefusal};
-use act_types::{ActorId, CallerId, CopyOf, NoMemory, Notice};
+use act_types::{ACTOR_NUMBERS, ActorId, CallerId, CopyOf, NoMemory, Notice};
 
 /// A world of callers and actors.
 #[derive(Drop)]
 pub struct World<K = Boxed> {
     pub(crate) network: Network,
     /// The actors, by their numbers.
-    pub(crate) slots: [Slot<K>; 9],
+    pub(crate) slots: [Slot<K>; ACTOR_NUMBERS],
 }
 
 /// A world has fewer letters and notices than this: each has a place that a `u32` holds.

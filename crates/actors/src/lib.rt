@@ -51,9 +51,9 @@ pub use act_world::{Stage, World, is_memory};
 // Threads.
 pub use act_drive::{Code, GaveUp, KillRefusal, Session, WaitRefusal};
 pub use act_executor::{Joined, RunFault, codes_fit, run_callers, run_plans};
-pub use act_plans::{Plan, plans_fit};
+pub use act_plans::plans_fit;
 pub use act_replay::{RecordFault, Recorded, Source, play_of, run_recorded};
-pub use act_rules::Step;
+pub use act_rules::{Plan, Step};
 pub use act_serve::{Ended, Finished, Gate, NoGate};
 
 // Scripts.

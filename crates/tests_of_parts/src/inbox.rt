@@ -3,7 +3,8 @@
 
 use act_inbox::{Arrival, Inbox};
 use act_types::{
-    ActorId, CallerId, FutureId, Method, NoMemory, Packet, ReleaseNote, Settled, SmallList, Value,
+    ActorId, CALLER_NUMBERS, CallerId, FutureId, Method, NoMemory, Packet, ReleaseNote, Settled,
+    SmallList, Value,
 };
 use std::alloc::{AllocError, Global};
 use std::process::Abort;
@@ -243,7 +244,7 @@ fn seen(inbox: &Inbox, caller: CallerId) -> Seen {
 #[derive(Drop)]
 struct PlainInbox {
     held: Vec<Call>,
-    handed: [u32; 17],
+    handed: [u32; CALLER_NUMBERS],
 }
 
 impl PlainInbox {
@@ -367,7 +368,7 @@ fn random_run(rt: &impl Abort, alloc: Global, word: &mut u32) -> Result<(), Fail
     let mut inbox = Inbox::open(alloc, &callers)?;
     let mut plain = PlainInbox {
         held: Vec::new(alloc),
-        handed: [0; 17],
+        handed: [0; CALLER_NUMBERS],
     };
     for step in 0..30 {
         *word = word_after(*word);
