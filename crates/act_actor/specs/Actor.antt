@@ -8,12 +8,16 @@ use Rattle.act_rules.specs.RunList.{after_item, state_after, has_terminated}
 use Rattle.act_rules.specs.declared.history.RunItem.{RunItem}
 use Rattle.act_rules.specs.declared.outcome.Arrival.{Arrival}
 use Rattle.act_rules.specs.declared.outcome.Arrival.TheVariants.{New, Stranger}
-use Rattle.act_inbox.specs.Inbox.{InboxView, arrival_of, note_arrival, handed_of, holding, next_of, HoldsNone, IsNextTaken, IsDrained}
+use Rattle.act_inbox.specs.Inbox.{InboxView, call_arrival, note_arrival, handed_of, holding, next_of, HoldsNone, IsNextTaken, IsDrained}
 use Rattle.act_actor.specs.View.{ActorView}
+
+-- what the caller's call of this number to an actor is to the one of this name
+abbrev pub call_arrival_at : ℕ → InboxView → ℕ → ℕ → ℕ → Arrival
+call_arrival_at id inbox actor caller number = if actor == id then call_arrival inbox caller number else Stranger
 
 -- what a packet is to an actor
 abbrev pub arrival_at : ℕ → InboxView → Packet → Arrival
-arrival_at id inbox packet = if packet.actor == id then arrival_of inbox packet else Stranger
+arrival_at id inbox packet = call_arrival_at id inbox packet.actor packet.caller packet.number
 
 -- what a release note is to an actor
 abbrev pub note_arrival_at : ℕ → InboxView → ReleaseNote → Arrival

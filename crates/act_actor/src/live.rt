@@ -13,7 +13,7 @@ ghost use Rattle.act_rules.specs.RunList.{after_item, answer_at, has_terminated}
 ghost use Rattle.act_rules.specs.declared.outcome.Arrival.TheVariants.{New};
 ghost use Rattle.act_inbox.specs.Inbox.{IsOpened, note_of, waiting_packet, held_at, note_after, waiting_after, held_after, IsTakenIn, HoldsNone};
 ghost use Rattle.act_actor.specs.Cast.{CallersDiffer};
-ghost use Rattle.act_actor.specs.Actor.{item_of, reply_of_run, arrival_at, note_arrival_at, next_call, with_packet, MayRetire, RunsAtOnce, HasRunCall, HasRunFrom};
+ghost use Rattle.act_actor.specs.Actor.{item_of, reply_of_run, call_arrival_at, arrival_at, note_arrival_at, next_call, with_packet, MayRetire, RunsAtOnce, HasRunCall, HasRunFrom};
 ghost use Rattle.act_actor.specs.StateViews.{live_view, retired_view};
 
 use crate::arguments::values_of;
@@ -217,14 +217,16 @@ impl<K: Actor> Live<K> {
         self.inbox.hold(packet)
     }
 
-    /// What a packet is to the actor, before it is taken in.
-    pub fn arrival(&self, packet: &Packet) -> Arrival
-        ensures value { let now = live_view K.state self.now in result ≡ arrival_at now.id now.inbox packet.now }
+    /// What the caller's call of this number to an actor is to this one, before its packet is taken
+    /// in: the names alone tell it.
+    pub fn arrival(&self, actor: ActorId, caller: CallerId, number: u32) -> Arrival
+        ensures value { let now = live_view K.state self.now in
+            result ≡ call_arrival_at now.id now.inbox actor caller number }
     {
-        if packet.actor != self.id {
+        if actor != self.id {
             return Arrival::Stranger;
         }
-        self.inbox.arrival(packet)
+        self.inbox.arrival(caller, number)
     }
 
     /// Takes in that a caller's last handle copy is gone. Only its first note counts.
@@ -341,7 +343,8 @@ impl<K: Actor> Live<K> {
         if self.inbox.handed(packet.caller) != packet.number {
             return false;
         }
-        matches!(self.arrival(packet), Arrival::New)
+        let arrival = self.arrival(packet.actor, packet.caller, packet.number);
+        matches!(arrival, Arrival::New)
     }
 
     /// Runs a call at once, as `arrive` and then `run` do. It never stands in the inbox, each growth

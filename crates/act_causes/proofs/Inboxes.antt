@@ -14,7 +14,7 @@ use Rattle.act_owner.specs.Owner.{OwnerView}
 use Rattle.act_actor.specs.View.{ActorView}
 use Rattle.act_actor.specs.Actor.{arrival_at, note_arrival_at}
 use Rattle.act_world.specs.declared.network.CallKey.{CallKey}
-use Rattle.act_world.specs.Network.{head_of, packet_in, fill_head}
+use Rattle.act_world.specs.Network.{packet_in, named_as}
 use Rattle.act_world.specs.Slots.{HasTakenPacket, HasTakenCall, HasNoted}
 
 -- ---- a call
@@ -64,7 +64,7 @@ takes live packet Stranger is sound = record {
   inbox = sound;
 }
 
--- the actor after a call came, which its caller fills in
+-- the actor after a call came, of which its caller makes the packet
 pub record TakesCall (owners : List OwnerView) (call : CallKey) (live : ActorView) : Type 0 where
   pub arrival : Arrival
   pub next : ActorView
@@ -72,9 +72,9 @@ pub record TakesCall (owners : List OwnerView) (call : CallKey) (live : ActorVie
   pub inbox : IsInbox next.inbox.lanes next.inbox.held
 
 pub takes_call : (owners : List OwnerView) (call : CallKey) (live : ActorView) → IsInbox live.inbox.lanes live.inbox.held → TakesCall owners call live
-takes_call owners call live sound = go (packet_in owners (head_of call)) refl
+takes_call owners call live sound = go (packet_in owners call) refl
   where
-    go : (o : Option Packet) → packet_in owners (head_of call) ≡ o → TakesCall owners call live
+    go : (o : Option Packet) → packet_in owners call ≡ o → TakesCall owners call live
     go None none = record {
       arrival = Repeat;
       next = live;
@@ -82,14 +82,14 @@ takes_call owners call live sound = go (packet_in owners (head_of call)) refl
       inbox = sound;
     }
     go (Some found) is =
-        let t = takes live (fill_head (head_of call) found) (arrival_at live.id live.inbox (fill_head (head_of call) found)) refl sound in
+        let t = takes live (named_as call found) (arrival_at live.id live.inbox (named_as call found)) refl sound in
         record {
           arrival = t.arrival;
           next = t.next;
           taken = λ packet e.
               let both : Some found ≡ Some packet = sym is ∙ e in
               let same : found ≡ packet = cc in
-              subst (λ (p : Packet). HasTakenPacket (fill_head (head_of call) p) t.arrival live t.next) same t.taken;
+              subst (λ (p : Packet). HasTakenPacket (named_as call p) t.arrival live t.next) same t.taken;
           inbox = t.inbox;
         }
 

@@ -311,8 +311,8 @@ pub fn play_report<K: Actor>(
     Ok(())
 }
 
-/// Plays events in a world, and adds the line of each as it happens. An event is let go once it has
-/// happened.
+/// Plays events in a world, and adds the line of each as it happens. Each event is handed over to the
+/// world, so nothing of it is copied or kept here.
 fn play_all<K: Actor>(
     world: &mut World<K>,
     events: ListOf<Event>,
@@ -327,7 +327,7 @@ fn play_all<K: Actor>(
     left.reverse();
     let mut place = 0;
     while let Some(event) = left.pop() {
-        let outcome = world.apply(&event);
+        let outcome = world.apply_owned(event);
         if is_memory(&outcome) {
             return Err(NoMemory);
         }

@@ -5,7 +5,7 @@ use Rattle.std.proofs.lemmas.Bool.Decides.{nat_tests}
 use Rattle.act_types.specs.declared.message.Packet.{Packet}
 use Rattle.act_rules.specs.declared.outcome.Arrival.TheVariants.{New, Repeat, Stranger}
 use Rattle.act_inbox.specs.declared.inbox.Lane.{Lane}
-use Rattle.act_inbox.specs.Inbox.{InboxView, is_packet_of, lane_of, is_listed, handed_of, was_handed, waiting_packet, next_of, has_come, arrival_of, waiting_after, holding}
+use Rattle.act_inbox.specs.Inbox.{InboxView, is_packet_of, lane_of, is_listed, handed_of, was_handed, waiting_packet, next_of, has_come, call_arrival, arrival_of, waiting_after, holding}
 
 pub both_equal : (a b c d : ℕ) → ((a == b) && (c == d)) ≡ true → (a ≡ b) × (c ≡ d)
 both_equal a b c d e = grind (arith, nat_tests)
@@ -21,19 +21,19 @@ module _ (inbox : InboxView) (caller : ℕ) where
   pub listed_next : (lane : Lane) → lane_of inbox caller ≡ Some lane → next_of inbox caller ≡ find (is_packet_of caller lane.handed) inbox.held
   listed_next lane listed = rw (listed, le-ltb lane.handed lane.handed (omega arith)) refl
 
-module _ (inbox : InboxView) (packet : Packet) where
-  pub unlisted : lane_of inbox packet.caller ≡ None → Stranger ≡ arrival_of inbox packet
+module _ (inbox : InboxView) (caller number : ℕ) where
+  pub unlisted : lane_of inbox caller ≡ None → Stranger ≡ call_arrival inbox caller number
   unlisted none = rw none refl
 
-  module _ (lane : Lane) (listed : lane_of inbox packet.caller ≡ Some lane) (small : packet.number < 65536) where
-    pub handed_out : packet.number < lane.handed → Repeat ≡ arrival_of inbox packet
-    handed_out early = rw (listed, lt-ltb packet.number 65536 small, lt-ltb packet.number lane.handed early) refl
+  module _ (lane : Lane) (listed : lane_of inbox caller ≡ Some lane) (small : number < 65536) where
+    pub handed_out : number < lane.handed → Repeat ≡ call_arrival inbox caller number
+    handed_out early = rw (listed, lt-ltb number 65536 small, lt-ltb number lane.handed early) refl
 
-    pub held_already : lane.handed ≤ packet.number → (first : Packet) → find (is_packet_of packet.caller packet.number) inbox.held ≡ Some first → Repeat ≡ arrival_of inbox packet
-    held_already late first found = rw (listed, lt-ltb packet.number 65536 small, le-ltb packet.number lane.handed late, found) refl
+    pub held_already : lane.handed ≤ number → (first : Packet) → find (is_packet_of caller number) inbox.held ≡ Some first → Repeat ≡ call_arrival inbox caller number
+    held_already late first found = rw (listed, lt-ltb number 65536 small, le-ltb number lane.handed late, found) refl
 
-    pub comes_first : lane.handed ≤ packet.number → find (is_packet_of packet.caller packet.number) inbox.held ≡ None → New ≡ arrival_of inbox packet
-    comes_first late none = rw (listed, lt-ltb packet.number 65536 small, le-ltb packet.number lane.handed late, none) refl
+    pub comes_first : lane.handed ≤ number → find (is_packet_of caller number) inbox.held ≡ None → New ≡ call_arrival inbox caller number
+    comes_first late none = rw (listed, lt-ltb number 65536 small, le-ltb number lane.handed late, none) refl
 
 arrival_tells : (listed small early : Bool) (found : Option Packet) → (if listed && small then (if early || is_some (if early then None else found) then Repeat else New) else Stranger) ≡ New → (small ≡ true) × (early ≡ false) × (found ≡ None)
 arrival_tells false small early found e = absurd (cc)

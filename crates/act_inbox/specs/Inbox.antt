@@ -63,12 +63,16 @@ next_of inbox caller = if is_listed inbox caller then waiting_packet inbox calle
 abbrev pub has_come : InboxView → ℕ → ℕ → Bool
 has_come inbox caller number = was_handed inbox caller number || is_some (waiting_packet inbox caller number)
 
+-- what the caller's call of this number is to the inbox
+abbrev pub call_arrival : InboxView → ℕ → ℕ → Arrival
+call_arrival inbox caller number =
+    if is_listed inbox caller && nat_lt number MAX_CALLS
+    then (if has_come inbox caller number then Repeat else New)
+    else Stranger
+
 -- what a packet is to the inbox
 abbrev pub arrival_of : InboxView → Packet → Arrival
-arrival_of inbox packet =
-    if is_listed inbox packet.caller && nat_lt packet.number MAX_CALLS
-    then (if has_come inbox packet.caller packet.number then Repeat else New)
-    else Stranger
+arrival_of inbox packet = call_arrival inbox packet.caller packet.number
 
 -- what a release note is to the inbox: the first of a listed caller is new, whatever it tells
 abbrev pub note_arrival : InboxView → ReleaseNote → Arrival

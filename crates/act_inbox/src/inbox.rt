@@ -2,7 +2,7 @@
 
 ghost use Rattle.std.specs.Prelude.{◌≡◌, ◌↔◌, ◌≢◌, ℕ, None, Some, slice_index_or, ◌≤◌, ◌==◌, All, AllPairs, map, position, is_some, IfOk, OnOk, IfErr, OnErr, IfSome, IfNone, option_copied, IsTrue};
 ghost use Rattle.act_rules.specs.declared.outcome.Arrival.TheVariants.{New};
-ghost use Rattle.act_inbox.specs.Inbox.{InboxView, is_lane_of, is_packet_of, lane_at_first, is_listed, handed_of, note_of, waiting_packet, next_of, arrival_of, note_arrival, waiting_after, held_at, held_after, held_without, note_after, holding, HoldsNone, IsNextToCome, IsOpened, IsTakenIn, IsNextTaken, IsDrained};
+ghost use Rattle.act_inbox.specs.Inbox.{InboxView, is_lane_of, is_packet_of, lane_at_first, is_listed, handed_of, note_of, waiting_packet, next_of, call_arrival, arrival_of, note_arrival, waiting_after, held_at, held_after, held_without, note_after, holding, HoldsNone, IsNextToCome, IsOpened, IsTakenIn, IsNextTaken, IsDrained};
 
 use crate::held::HeldCalls;
 use act_rules::Arrival;
@@ -96,7 +96,7 @@ impl Inbox {
         ensures back { IfErr result (λ back. back ≡ packet) }
         ensures err { OnErr result (self.new ≡ self.old) }
     {
-        let arrival = self.arrival(&packet);
+        let arrival = self.arrival(packet.caller, packet.number);
         let Arrival::New = arrival else {
             return Ok(arrival);
         };
@@ -116,20 +116,21 @@ impl Inbox {
         self.held.insert(packet)
     }
 
-    /// What a packet is to the inbox, before it is taken in. It takes no memory.
-    pub fn arrival(&self, packet: &Packet) -> Arrival
-        ensures value { result ≡ arrival_of self.now packet.now }
+    /// What the caller's call of this number is to the inbox, before its packet is taken in: the
+    /// names alone tell it. It takes no memory.
+    pub fn arrival(&self, caller: CallerId, number: u32) -> Arrival
+        ensures value { result ≡ call_arrival self.now caller number }
     {
-        let Some(place) = place_of_lane(&self.lanes, packet.caller) else {
+        let Some(place) = place_of_lane(&self.lanes, caller) else {
             return Arrival::Stranger;
         };
-        if packet.number >= MAX_CALLS {
+        if number >= MAX_CALLS {
             return Arrival::Stranger;
         }
-        if packet.number < self.lanes[place].handed {
+        if number < self.lanes[place].handed {
             return Arrival::Repeat;
         }
-        match self.held.get(packet.caller, packet.number) {
+        match self.held.get(caller, number) {
             Some(_) => Arrival::Repeat,
             None => Arrival::New,
         }

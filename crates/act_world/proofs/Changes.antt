@@ -1,6 +1,6 @@
 -- How a world goes on where one of its actors changes, or nothing does.
 use Rattle.std.proofs.Common.{◌≡◌, ◌≢◌, ℕ, ◌<◌, true, false, List, length, map, get_or, Some, None, inl, inr, refl, ap, sym, ◌∙◌, subst}
-use Rattle.std.specs.Prelude.{Option, Result, Ok, Err, OnErr, slice_get, slice_set, option_map}
+use Rattle.std.specs.Prelude.{Option, Result, Ok, Err, OnErr, IfNone, slice_get, slice_set, option_map}
 use Rattle.std.proofs.lemmas.Bool.Decides.{eqb_tells}
 use Rattle.std.proofs.lemmas.Option.{slice_get-map, slice_get-get_or, get_or_from_slice_get}
 use Rattle.act_rules.specs.declared.event.Event.{Event}
@@ -29,6 +29,11 @@ accepted_follows h event told world accepted same refines = rw accepted (ap Ok s
 pub on_err : {A E P : Type 0} (result : Result A E) → P → OnErr result P
 on_err (Ok value) holds = tt
 on_err (Err error) holds = holds
+
+-- and of nothing
+pub on_none : {A P : Type 0} (found : Option A) → P → IfNone found P
+on_none (Some value) holds = tt
+on_none None holds = holds
 
 -- ---- slots
 

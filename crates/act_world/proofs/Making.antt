@@ -10,7 +10,7 @@ use Rattle.act_rules.specs.History.{History, cast_of, names, is_caller, calls_of
 use Rattle.act_rules.proofs.AsSubmitted.{IsCallTo, calls_to-at}
 use Rattle.act_rules.proofs.Letters.{calls_to-number}
 use Rattle.act_owner.specs.Owner.{OwnerView, packet_at}
-use Rattle.act_world.specs.Network.{is_owner, head_of, packet_in}
+use Rattle.act_world.specs.Network.{is_owner, packet_in}
 use Rattle.act_world.specs.Refines.{IsOwnerOf, IsOwnerAt, call_key, packet_as}
 use Rattle.act_world.proofs.Lawful.{named_caller}
 use Rattle.act_world.proofs.Numbered.{one_number}
@@ -38,7 +38,7 @@ made_by h c a n call owner is at =
 
 -- the caller makes the packet that the history tells
 pub made_there : (h : History) (owners : List OwnerView) (c a n : ℕ) (call : ℕ × Submission) → ((d : ℕ) → IsOwnerAt h d (find (is_owner d) owners)) → names c (cast_of a h) ≡ true → slice_get (calls_to a (calls_of c h)) n ≡ Some call
-    → packet_in owners (head_of (call_key c a n call)) ≡ Some (packet_as h c a n call)
+    → packet_in owners (call_key c a n call) ≡ Some (packet_as h c a n call)
 made_there h owners c a n call all named at = go (find (is_owner c) owners) (all c)
   where
     go : (found : Option OwnerView) → IsOwnerAt h c found → option_and_then (λ (owner : OwnerView). packet_at owner call.0) found ≡ Some (packet_as h c a n call)

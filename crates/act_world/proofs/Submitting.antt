@@ -1,5 +1,5 @@
 -- A call that is submitted.
-use Rattle.std.proofs.Common.{◌≡◌, ◌≢◌, ℕ, zero, suc, ◌+◌, ◌<◌, ◌≤◌, Bool, true, false, cond, List, [], ◌∷◌, ◌++◌, length, map, Some, None, Ok, Err, inl, inr, refl, ap, sym, ◌∙◌, subst, arith, length-append, get_or}
+use Rattle.std.proofs.Common.{◌≡◌, ◌≢◌, ℕ, zero, suc, ◌+◌, ◌<◌, ◌≤◌, Bool, true, false, cond, List, [], ◌∷◌, ◌++◌, length, map, Some, None, Result, Ok, Err, IfOk, OnOk, OnErr, inl, inr, refl, ap, sym, ◌∙◌, subst, arith, length-append, get_or}
 use Rattle.std.specs.Prelude.{Option, ◌==◌, ◌||◌, filter, position, slice_get, slice_set, option_map, unwrap_or, is_some, nat_lt, nat_le}
 use Rattle.std.specs.Option.{option_or}
 use Rattle.std.specs.List.{list_all, list_any, enumerate_from}
@@ -17,11 +17,12 @@ use Rattle.act_rules.specs.declared.history.Post.TheVariants.{Reply as ReplyPost
 use Rattle.act_rules.specs.declared.event.Event.TheVariants.{Submit}
 use Rattle.act_rules.specs.declared.outcome.Did.TheVariants.{Future}
 use Rattle.act_rules.specs.declared.outcome.SubmitRefusal.{SubmitRefusal}
-use Rattle.act_rules.specs.declared.outcome.SubmitRefusal.TheVariants.{NoActor as NoSuchActor, NoHandle as NoCopy, TooManyArgs, BadFuture, TooManyCalls}
+use Rattle.act_rules.specs.declared.outcome.SubmitRefusal.TheVariants.{NoActor as NoSuchActor, NoHandle as NoCopy, TooManyArgs, BadFuture, TooManyCalls, PendingLimit, NoMemory as NoRoom}
 use Rattle.act_rules.specs.declared.outcome.WorldRefusal.TheVariants.{NoCaller, Submit as SubmitRefused}
 use Rattle.act_rules.specs.Submissions.{needs, calls_to, number_of, copies_held, submit_refusal, limit_refusal, is_earlier}
 use Rattle.act_rules.specs.History.{History, is_caller, calls_of, limit_of, first_answer, has_letter}
-use Rattle.act_rules.specs.Rules.{unanswered, submission_refusal as history_refusal, refusal_of, outcome_of, was_sent, add_event, after}
+use Rattle.act_rules.specs.Laws.{history}
+use Rattle.act_rules.specs.Rules.{Outcome, unanswered, submission_refusal as history_refusal, refusal_of, outcome_of, was_sent, add_event, after}
 use Rattle.act_rules.proofs.Lists.{slice_get_more, option_or-none}
 use Rattle.act_rules.proofs.Ended.{needs-none, under-push}
 use Rattle.act_rules.proofs.Growth.{added_grows}
@@ -35,11 +36,12 @@ use Rattle.act_owner.proofs.Told.{calls_to-length}
 use Rattle.act_world.specs.Network.{NetworkView, is_owner}
 use Rattle.act_world.specs.View.{SlotView}
 use Rattle.act_world.specs.Refines.{Refines, IsOwnerOf, is_death_to}
+use Rattle.act_world.specs.IsReachedBy.{FollowsThere, IsUnrefusedThere}
 use Rattle.act_world.proofs.Changes.{refused_follows, accepted_follows}
 use Rattle.act_world.proofs.Lawful.{IsLawful}
 use Rattle.act_world.proofs.Frames.{SameCaller, owners_change, mail_stays}
 use Rattle.act_world.proofs.Pending.{unanswered_is}
-use Rattle.act_world.proofs.OneCaller.{needs_holds, IsHere, caller_here, callers_tie, sent_stays, under-other}
+use Rattle.act_world.proofs.OneCaller.{needs_holds, IsHere, caller_here, callers_tie, sent_stays, under-other, written_back}
 
 -- a submission is refused as the caller says
 pub submission_refused : (h : History) (c a : ℕ) (method : Method) (args : List Arg) (owner : OwnerView) (refusal : Option SubmitRefusal) → IsHere h c owner → refusal_to_submit owner a args ≡ refusal
@@ -202,3 +204,53 @@ submit_refused_follows h old slots c a place method args refusal owner refines a
 pub submit_unrefused : (h : History) (old : NetworkView) (slots : List SlotView) (c a place : ℕ) (method : Method) (args : List Arg) (owner : OwnerView) → Refines h (record { network = old; slots = slots })
     → position (is_owner c) old.owners ≡ Some place → owner ≡ get_or old.owners place owner → None ≡ refusal_to_submit owner a args → refusal_of h (Submit c a method args) ≡ None
 submit_unrefused h old slots c a place method args owner refines at owner_is told = submission_refused h c a method args owner None (caller_here h old slots c place owner refines at owner_is) (sym told)
+
+-- ---- what the caller tells, where it doesn't take the call
+
+needs_apart : (holds : Bool) (refusal : SubmitRefusal) (rest : Option SubmitRefusal) → refusal ≢ NoRoom → (rest ≡ Some NoRoom → ⊥) → needs holds refusal rest ≡ Some NoRoom → ⊥
+needs_apart true refusal rest apart none e = none e
+needs_apart false refusal rest apart none e = apart (cc)
+
+or_apart : (one other : Option SubmitRefusal) → (one ≡ Some NoRoom → ⊥) → (other ≡ Some NoRoom → ⊥) → option_or one other ≡ Some NoRoom → ⊥
+or_apart None other first second e = second e
+or_apart (Some refusal) other first second e = first e
+
+limit_apart : (limit : Option ℕ) (count : ℕ) → limit_refusal limit count ≡ Some NoRoom → ⊥
+limit_apart None count e = cc
+limit_apart (Some limit) count e = needs_apart (nat_lt count limit) PendingLimit None (λ same. cc) (λ none. cc) e
+
+-- want of memory is no refusal of the rules
+memory_apart : (owner : OwnerView) (a : ℕ) (args : List Arg) → refusal_to_submit owner a args ≡ Some NoRoom → ⊥
+memory_apart owner a args =
+    let copies = copies_in a owner.handles in
+    let count = length owner.calls in
+    or_apart (submit_refusal copies count args) (limit_refusal (limit_known owner a) (pending owner a))
+    (needs_apart (is_some copies) NoSuchActor _ (λ same. cc)
+    (needs_apart (nat_lt 0 (copies_held copies)) NoCopy _ (λ same. cc)
+    (needs_apart (nat_le (length args) 4) TooManyArgs _ (λ same. cc)
+    (needs_apart (list_all (is_earlier count) args) BadFuture _ (λ same. cc)
+    (needs_apart (nat_lt count 65536) TooManyCalls None (λ same. cc) (λ none. cc))))))
+    (limit_apart (limit_known owner a) (pending owner a))
+
+by_rules : (found : Option SubmitRefusal) (refusal : SubmitRefusal) → refusal ≡ unwrap_or found NoRoom → refusal ≢ NoRoom → Some refusal ≡ found
+by_rules None refusal says other = absurd (other says)
+by_rules (Some found) refusal says other = ap Some says
+
+by_memory : (found : Option SubmitRefusal) (refusal : SubmitRefusal) → (found ≡ Some NoRoom → ⊥) → refusal ≡ unwrap_or found NoRoom → refusal ≡ NoRoom → None ≡ found
+by_memory None refusal apart says memory = refl
+by_memory (Some found) refusal apart says memory = absurd (apart (ap Some (sym says ∙ memory)))
+
+module _ (old : NetworkView) (c a place : ℕ) (method : Method) (args : List Arg) (refusal : SubmitRefusal) (owner : OwnerView)
+    (at : position (is_owner c) old.owners ≡ Some place) (owner_is : owner ≡ get_or old.owners place owner) (says : refusal ≡ unwrap_or (refusal_to_submit owner a args) NoRoom) where
+  pub not_taken_follows : {E : Type 0} (new : OwnerView) (result : Result Outcome E) → new ≡ owner → IfOk result (λ told. told ≡ Err (SubmitRefused refusal)) → OnOk result (refusal ≢ NoRoom)
+      → IfOk result (FollowsThere (Submit c a method args) old (record old { owners = slice_set old.owners place new }))
+  not_taken_follows new (Err error) new_is told_is other = tt
+  not_taken_follows new (Ok told) new_is told_is other = λ slots casts before refines.
+      let h = history casts before in
+      let follows = submit_refused_follows h old slots c a place method args refusal owner refines at owner_is (by_rules (refusal_to_submit owner a args) refusal says other) in
+      (told_is ∙ follows.0, written_back (after h (Submit c a method args)) old slots place owner new owner_is new_is follows.1)
+
+  pub not_taken_unrefused : {A E : Type 0} (result : Result A E) → OnErr result (refusal ≡ NoRoom) → OnErr result (IsUnrefusedThere (Submit c a method args) old)
+  not_taken_unrefused (Ok told) memory = tt
+  not_taken_unrefused (Err error) memory = λ slots casts before refines.
+      submit_unrefused (history casts before) old slots c a place method args owner refines at owner_is (by_memory (refusal_to_submit owner a args) refusal (memory_apart owner a args) says memory)

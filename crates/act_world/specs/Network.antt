@@ -1,6 +1,5 @@
 -- What contracts see of the callers, and of what is on its way.
-use Rattle.std.specs.Prelude.{ℕ, ◌==◌, Bool, List, [], find, Option, Some, None, is_some, option_and_then, Ok, Err}
-use Rattle.act_types.specs.declared.call.Method.TheVariants.{Get}
+use Rattle.std.specs.Prelude.{ℕ, ◌==◌, Bool, List, find, Option, Some, None, is_some, option_and_then, Ok, Err}
 use Rattle.act_types.specs.declared.message.Notice.{Notice}
 use Rattle.act_types.specs.declared.message.Notice.TheVariants.{Answered, Death}
 use Rattle.act_types.specs.declared.message.Packet.{Packet}
@@ -52,14 +51,10 @@ abbrev pub entry_actor : MailEntry → ℕ
 entry_actor (CallEntry call) = call.actor
 entry_actor (NoteEntry note) = note.actor
 
--- a call's packet without its arguments
-abbrev pub head_of : CallKey → Packet
-head_of call = record { caller = call.caller; actor = call.actor; number = call.number; future = call.future; method = Get; args = [] }
+-- the packet that the caller of a call makes of it
+abbrev pub packet_in : List OwnerView → CallKey → Option Packet
+packet_in owners call = option_and_then (λ owner. packet_at owner call.future) (find (is_owner call.caller) owners)
 
--- the packet that the caller of a call makes of it, where the call is told by its head
-abbrev pub packet_in : List OwnerView → Packet → Option Packet
-packet_in owners head = option_and_then (λ owner. packet_at owner head.future) (find (is_owner head.caller) owners)
-
--- the head of a call, filled in with what its caller's packet carries
-abbrev pub fill_head : Packet → Packet → Packet
-fill_head head packet = record head { method = packet.method; args = packet.args }
+-- a packet under the names of a call
+abbrev pub named_as : CallKey → Packet → Packet
+named_as call packet = record packet { caller = call.caller; actor = call.actor; number = call.number; future = call.future }

@@ -17,8 +17,8 @@ use Rattle.act_rules.specs.RunList.{has_terminated}
 use Rattle.act_rules.specs.Rules.{Outcome}
 use Rattle.act_inbox.specs.Inbox.{IsTakenIn, IsNotedIn}
 use Rattle.act_actor.specs.View.{ActorView}
-use Rattle.act_actor.specs.Actor.{arrival_at, note_arrival_at, reply_of_run, next_call, MayRetire, HasRunCall}
-use Rattle.act_world.specs.Network.{head_of, packet_in, fill_head}
+use Rattle.act_actor.specs.Actor.{call_arrival_at, arrival_at, note_arrival_at, reply_of_run, next_call, MayRetire, HasRunCall}
+use Rattle.act_world.specs.Network.{packet_in, named_as}
 use Rattle.act_world.specs.View.{SlotView, Runs, Died, Ended, Vacant}
 
 abbrev pub IsLiveSlot : SlotView → Type 0
@@ -44,10 +44,10 @@ pub record HasTakenPacket (packet : Packet) (arrival : Arrival) (old new : Actor
   pub same : new ≡ record old { inbox = new.inbox }
   pub taken : IsTakenIn packet arrival old.inbox new.inbox
 
--- the running actor took a call in, which its caller filled in
+-- the running actor took a call in, of which its caller made the packet
 abbrev pub HasTakenCall : List OwnerView → CallKey → Arrival → ActorView → ActorView → Type 0
-HasTakenCall owners call arrival old new = (packet : Packet) → packet_in owners (head_of call) ≡ Some packet →
-    HasTakenPacket (fill_head (head_of call) packet) arrival old new
+HasTakenCall owners call arrival old new = (packet : Packet) → packet_in owners call ≡ Some packet →
+    HasTakenPacket (named_as call packet) arrival old new
 
 -- the running actor took a release note in
 pub record HasNoted (note : ReleaseNote) (arrival : Arrival) (old new : ActorView) : Type 0 where
@@ -60,9 +60,13 @@ abbrev pub HasArrived : List OwnerView → MailEntry → Arrival → ActorView �
 HasArrived owners (CallEntry call) arrival old new = HasTakenCall owners call arrival old new
 HasArrived owners (NoteEntry note) arrival old new = HasNoted note arrival old new
 
+-- what a call is to the running actor
+abbrev pub arrival_of_call : ActorView → CallKey → Arrival
+arrival_of_call live call = call_arrival_at live.id live.inbox call.actor call.caller call.number
+
 -- the letter is a call that the running actor takes in
 abbrev pub IsNewCall : MailEntry → SlotView → Type 0
-IsNewCall (CallEntry call) (Runs live) = arrival_at live.id live.inbox (head_of call) ≡ New
+IsNewCall (CallEntry call) (Runs live) = arrival_of_call live call ≡ New
 IsNewCall letter slot = ⊥
 
 -- the letter came to a running actor, or its actor has ended

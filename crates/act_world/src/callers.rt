@@ -1,14 +1,17 @@
 //! The events of callers.
 
-ghost use Rattle.std.specs.Prelude.{◌≡◌, IfOk, OnErr, false};
+ghost use Rattle.std.specs.Prelude.{◌≡◌, ◌≢◌, Err, IfOk, OnOk, OnErr, IfSome, IfNone, false};
+ghost use Rattle.act_types.specs.declared.call.Method.{Method};
 ghost use Rattle.act_rules.specs.declared.event.Event.TheVariants as event;
+ghost use Rattle.act_rules.specs.declared.outcome.SubmitRefusal.TheVariants.{NoMemory as NoRoom};
+ghost use Rattle.act_rules.specs.declared.outcome.WorldRefusal.TheVariants.{Submit};
 ghost use Rattle.act_world.specs.IsReachedBy.{HasRoom, FollowsThere, IsGrown, IsUnrefusedThere, is_memory};
 ghost use Rattle.act_world.specs.Memory.{TakesMemoryThere};
 ghost use Rattle.act_world.specs.Network.{told_collected};
 
 use crate::network::{CallKey, MailEntry, Network, copied, place_of};
 use act_owner::Collected;
-use act_rules::{Did, Outcome, WorldRefusal};
+use act_rules::{Did, Outcome, SubmitRefusal, WorldRefusal};
 use act_types::{ActorId, Arg, CallerId, CopyOf, FutureId, ListOf, Method, NoMemory};
 
 /// What is told of a notice that a caller took. None is a stray one.
@@ -24,9 +27,66 @@ fn told(c: CallerId, collected: Collected) -> Outcome
     }
 }
 
+/// What is told of a submission that is refused. Want of memory is no outcome of the rules.
+fn told_refused(refusal: SubmitRefusal) -> Result<Outcome, NoMemory>
+    ensures outcome { IfOk result (λ told. told ≡ Err (Submit refusal)) }
+    ensures other { OnOk result (refusal ≢ NoRoom) }
+    ensures memory { OnErr result (refusal ≡ NoRoom) }
+{
+    match refusal {
+        SubmitRefusal::NoMemory => Err(NoMemory),
+        _ => Ok(Err(WorldRefusal::Submit(refusal))),
+    }
+}
+
 impl Network {
-    /// The caller submits a call.
+    /// Why a submission of the caller would be refused, memory apart.
+    fn submission_refusal(
+        &self,
+        c: CallerId,
+        a: ActorId,
+        args: &ListOf<Arg>,
+    ) -> Option<WorldRefusal>
+        ensures refused { IfSome result (λ refusal. (method : Method) →
+            FollowsThere (event.Submit c a method args.now) self.now self.now (Err refusal)) }
+        ensures told { IfSome result (λ refusal. is_memory (Err refusal) ≡ false) }
+        ensures accepted { IfNone result ((method : Method) →
+            IsUnrefusedThere (event.Submit c a method args.now) self.now) }
+    {
+        let Some(place) = place_of(&self.owners, c) else {
+            return Some(WorldRefusal::NoCaller);
+        };
+        let refusal = self.owners[place].submission_refusal(a, args)?;
+        Some(WorldRefusal::Submit(refusal))
+    }
+
+    /// The caller submits a call, whose arguments are moved to it.
     pub(crate) fn submit(
+        &mut self,
+        c: CallerId,
+        a: ActorId,
+        method: Method,
+        args: ListOf<Arg>,
+    ) -> Result<Outcome, NoMemory>
+        ensures ok { IfOk result (FollowsThere (event.Submit c a method args) self.old self.new) }
+        ensures told { IfOk result (λ told. is_memory told ≡ false) }
+        ensures refused { IfOk result (λ told. OnErr told (self.new ≡ self.old)) }
+        ensures grown { IsGrown self.old self.new }
+        ensures memory_last { OnErr result (IsUnrefusedThere (event.Submit c a method args) self.old) }
+        ensures err { OnErr result (self.new ≡ self.old) }
+    {
+        let Some(place) = place_of(&self.owners, c) else {
+            return Ok(Err(WorldRefusal::NoCaller));
+        };
+        let k = match self.owners[place].submit(a, method, args) {
+            Ok(k) => k,
+            Err(refusal) => return told_refused(refusal),
+        };
+        Ok(Ok(Did::Future(c, k)))
+    }
+
+    /// The same with a copy of the arguments, which is made only where nothing refuses the call.
+    pub(crate) fn submit_copy(
         &mut self,
         c: CallerId,
         a: ActorId,
@@ -40,17 +100,11 @@ impl Network {
         ensures memory_last { OnErr result (IsUnrefusedThere (event.Submit c a method args.now) self.old) }
         ensures err { OnErr result (self.new ≡ self.old) }
     {
-        let Some(place) = place_of(&self.owners, c) else {
-            return Ok(Err(WorldRefusal::NoCaller));
-        };
-        if let Some(refusal) = self.owners[place].submission_refusal(a, args) {
-            return Ok(Err(WorldRefusal::Submit(refusal)));
+        if let Some(refusal) = self.submission_refusal(c, a, args) {
+            return Ok(Err(refusal));
         }
         let args = args.copy_of(self.alloc())?;
-        let Ok(k) = self.owners[place].submit(a, method, args) else {
-            return Err(NoMemory);
-        };
-        Ok(Ok(Did::Future(c, k)))
+        self.submit(c, a, method, args)
     }
 
     /// The caller copies its handle.

@@ -2,14 +2,14 @@
 
 ghost use Rattle.std.specs.Prelude.{◌≡◌, IfOk, OnErr, IfSome, Some, Err, find, position, option_copied, slice_get, unwrap_or, false};
 ghost use Rattle.std.specs.Option.{option_map};
-ghost use Rattle.act_world.specs.Network.{is_owner, naming_refusal, entry_actor, IsReplyNotice, head_of, packet_in, fill_head};
+ghost use Rattle.act_world.specs.Network.{is_owner, naming_refusal, entry_actor, IsReplyNotice, packet_in, named_as};
 ghost use Rattle.act_world.specs.IsReachedBy.{is_memory};
 
 use act_owner::Owner;
 use act_rules::{Event, HandleRefusal, WorldRefusal};
 use act_types::{
-    ACTOR_NUMBERS, ActorId, CALLER_NUMBERS, CallerId, CopyOf, FutureId, MAX_CALLS, Method,
-    NoMemory, Notice, Packet, ReleaseNote, SmallList,
+    ACTOR_NUMBERS, ActorId, CALLER_NUMBERS, CallerId, CopyOf, FutureId, MAX_CALLS, NoMemory,
+    Notice, Packet, ReleaseNote,
 };
 use std::alloc::Global;
 use std::marker::Model;
@@ -21,23 +21,6 @@ pub(crate) struct CallKey {
     pub(crate) actor: ActorId,
     pub(crate) number: u32,
     pub(crate) future: FutureId,
-}
-
-impl CallKey {
-    /// Its packet without the arguments, which shows what the call is to its actor. It takes no
-    /// memory.
-    pub(crate) fn head(&self, alloc: Global) -> Packet
-        ensures { result ≡ head_of self.now }
-    {
-        Packet {
-            caller: self.caller,
-            actor: self.actor,
-            number: self.number,
-            future: self.future,
-            method: Method::Get,
-            args: SmallList::new(alloc),
-        }
-    }
 }
 
 /// A letter of the mail. A call's packet is the same whenever its caller makes it, so the letter
@@ -175,21 +158,25 @@ impl Network {
         self.mail.get(i as usize)
     }
 
-    /// The packet of a call that was sent, which its caller fills in. The caller is one of these and
+    /// The packet of a call that was sent, which its caller makes. The caller is one of these and
     /// refuses nothing, so only memory is wanting where there is none.
-    pub(crate) fn filled(&self, head: Packet) -> Result<Packet, NoMemory>
-        ensures { IfOk result (λ packet. option_map (fill_head head) (packet_in self.now.owners head) ≡ Some packet) }
+    pub(crate) fn packet_of(&self, call: &CallKey) -> Result<Packet, NoMemory>
+        ensures { IfOk result (λ packet.
+            option_map (named_as call.now) (packet_in self.now.owners call.now) ≡ Some packet) }
     {
-        let Some(owner) = self.owner(head.caller) else {
+        let Some(owner) = self.owner(call.caller) else {
             return Err(NoMemory);
         };
-        let Ok(Packet { method, args, .. }) = owner.packet_of(self.alloc(), head.future) else {
+        let Ok(Packet { method, args, .. }) = owner.packet_of(self.alloc(), call.future) else {
             return Err(NoMemory);
         };
         Ok(Packet {
+            caller: call.caller,
+            actor: call.actor,
+            number: call.number,
+            future: call.future,
             method,
             args,
-            ..head
         })
     }
 

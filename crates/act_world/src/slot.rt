@@ -3,12 +3,10 @@
 ghost use Rattle.std.specs.Prelude.{◌≡◌, ◌<◌, ℕ, map, Some, slice_get, IfOk, OnErr, false};
 ghost use Rattle.std.specs.Option.{option_map};
 ghost use Rattle.act_rules.specs.declared.outcome.Arrival.TheVariants.{New};
-ghost use Rattle.act_actor.specs.Actor.{arrival_at};
 ghost use Rattle.act_actor.specs.StateViews.{live_view};
 ghost use Rattle.act_world.specs.View.{Runs, slot_view, stage_view, stage_of_slot};
-ghost use Rattle.act_world.specs.Network.{head_of};
 ghost use Rattle.act_world.specs.IsReachedBy.{is_memory};
-ghost use Rattle.act_world.specs.Slots.{IsLiveSlot, is_live_slot, is_dead_slot, has_next_in_slot, HasTakenCall, HasArrived, IsNewCall, IsBrought, IsRun, IsRunAt, IsRetiredIn, bury_ended, take_kill};
+ghost use Rattle.act_world.specs.Slots.{IsLiveSlot, is_live_slot, is_dead_slot, has_next_in_slot, HasTakenCall, HasArrived, arrival_of_call, IsNewCall, IsBrought, IsRun, IsRunAt, IsRetiredIn, bury_ended, take_kill};
 
 use crate::network::{CallKey, MailEntry, Network};
 use act_actor::{Dead, Live, Retired};
@@ -102,7 +100,7 @@ fn arrive<K: Actor>(
     }
 }
 
-/// The actor takes a call in. Its packet is filled in only where it is new.
+/// The actor takes a call in. Its packet is made only where it is new.
 fn take_in<K: Actor>(
     network: &Network,
     live: &mut Live<K>,
@@ -110,16 +108,14 @@ fn take_in<K: Actor>(
 ) -> Result<Arrival, NoMemory>
     ensures ok { IfOk result (λ arrival.
         HasTakenCall network.now.owners call.now arrival (live_view K.state live.old) (live_view K.state live.new)) }
-    ensures memory_last { let before = live_view K.state live.old in
-        OnErr result (arrival_at before.id before.inbox (head_of call.now) ≡ New) }
+    ensures memory_last { OnErr result (arrival_of_call (live_view K.state live.old) call.now ≡ New) }
     ensures err { OnErr result (live_view K.state live.new ≡ live_view K.state live.old) }
 {
-    let head = call.head(network.alloc());
-    let arrival = live.arrival(&head);
+    let arrival = live.arrival(call.actor, call.caller, call.number);
     let Arrival::New = arrival else {
         return Ok(arrival);
     };
-    let packet = network.filled(head)?;
+    let packet = network.packet_of(call)?;
     let Ok(()) = live.hold(packet) else {
         return Err(NoMemory);
     };

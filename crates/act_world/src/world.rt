@@ -164,7 +164,7 @@ impl<K: Actor> World<K> {
         ensures err { OnErr result (world_view K.state self.new ≡ world_view K.state self.old) }
     {
         match event {
-            Event::Submit(c, a, method, args) => self.network.submit(*c, *a, *method, args),
+            Event::Submit(c, a, method, args) => self.network.submit_copy(*c, *a, *method, args),
             Event::Copy(c, a) => Ok(self.network.copy(*c, *a)),
             Event::Release(c, a) => self.network.release(*c, *a),
             Event::Send(c, k) => self.network.send(*c, *k),
@@ -175,6 +175,23 @@ impl<K: Actor> World<K> {
             Event::TakeKill(a) => Ok(self.take_kill(*a)),
             Event::Tell(a, c) => self.tell(*a, *c),
             Event::Retire(a) => Ok(self.retire(*a)),
+        }
+    }
+
+    /// The same of an event that is handed over: the arguments of a submission are moved.
+    fn step_owned(&mut self, event: Event) -> Result<Outcome, NoMemory>
+        requires room { HasRoom 1 (world_view K.state self.old).network }
+        ensures ok { IfOk result (FollowsRules event (world_view K.state self.old) (world_view K.state self.new)) }
+        ensures told { IfOk result (λ told. is_memory told ≡ false) }
+        ensures refused { IfOk result (λ told. OnErr told (world_view K.state self.new ≡ world_view K.state self.old)) }
+        ensures grown { IsGrown (world_view K.state self.old).network (world_view K.state self.new).network }
+        ensures memory_last { OnErr result (IsUnrefused event (world_view K.state self.old)) }
+        ensures memory { OnErr result (TakesMemory event (world_view K.state self.old)) }
+        ensures err { OnErr result (world_view K.state self.new ≡ world_view K.state self.old) }
+    {
+        match event {
+            Event::Submit(c, a, method, args) => self.network.submit(c, a, method, args),
+            other => self.step(&other),
         }
     }
 
@@ -222,6 +239,33 @@ impl<K: Actor> World<K> {
             Err(NoMemory) => Err(WorldRefusal::NoMemory),
             Ok(outcome) => outcome,
         }
+    }
+
+    /// Does an event that is handed over, as `apply` does: the arguments of a submission are moved to
+    /// its caller, and none is copied.
+    pub fn apply_owned(&mut self, event: Event) -> Result<Did, WorldRefusal>
+        requires room { HasRoom 1 (world_view K.state self.old).network }
+        ensures outcome { is_memory result ≡ false → (casts : List ActorSpec) (before : List Happening) →
+            IsReachedBy casts before (world_view K.state self.old) →
+            result ≡ outcome_of (history casts before) event }
+        ensures reached { is_memory result ≡ false → (casts : List ActorSpec) (before : List Happening) →
+            IsReachedBy casts before (world_view K.state self.old) →
+            IsReachedBy casts (before ++ event ∷ []) (world_view K.state self.new) }
+        ensures grown { IsGrown (world_view K.state self.old).network (world_view K.state self.new).network }
+        // Want of memory comes last.
+        ensures memory_last { is_memory result ≡ true → (casts : List ActorSpec) (before : List Happening) →
+            IsReachedBy casts before (world_view K.state self.old) →
+            refusal_of (history casts before) event ≡ None }
+        // It comes for no event that takes none.
+        ensures memory { is_memory result ≡ true → (casts : List ActorSpec) (before : List Happening) →
+            IsReachedBy casts before (world_view K.state self.old) →
+            takes_memory event (history casts before) ≡ true }
+        ensures err { OnErr result (world_view K.state self.new ≡ world_view K.state self.old) }
+    {
+        let Ok(outcome) = self.step_owned(event) else {
+            return Err(WorldRefusal::NoMemory);
+        };
+        outcome
     }
 
     /// Does events in order, and adds what is told of each. It stops only where memory is refused,

@@ -7,7 +7,7 @@ pub use Rattle.act_actor.specs.Casts.{actor_spec, actors_that_name, limits_that_
 pub use Rattle.act_actor.specs.View.{LiveView, ActorView, DeadView, RetiredView}
 pub use Rattle.act_actor.specs.StateViews.{live_view, retired_view}
 -- what arrives
-pub use Rattle.act_actor.specs.Actor.{arrival_at, note_arrival_at}
+pub use Rattle.act_actor.specs.Actor.{arrival_at, call_arrival_at, note_arrival_at}
 pub use Rattle.act_inbox.specs.Inbox.{IsOpened, IsTakenIn, HoldsNone, held_at, held_after, waiting_packet, waiting_after}
 pub use Rattle.act_inbox.specs.Inbox.{note_of, note_after}
 -- what runs next, what is left of it, and when it may retire

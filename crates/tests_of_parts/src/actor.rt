@@ -571,7 +571,8 @@ fn assert_text<K: Actor>(
 /// Brings a call that came back, since memory was refused.
 fn bring_again<K: Actor>(rt: &impl Abort, live: &mut Live<K>, back: Packet, before: bool) {
     assert_eq!(rt; live.has_next(CallerId::new(1).unwrap()), before);
-    assert_eq!(rt; live.arrival(&back), Arrival::New);
+    let arrival = live.arrival(back.actor, back.caller, back.number);
+    assert_eq!(rt; arrival, Arrival::New);
     assert_eq!(rt; live.arrive(back), Ok(Arrival::New));
 }
 

@@ -163,7 +163,7 @@ fn opened(rt: &impl Abort, alloc: Global) -> Result<Inbox, NoMemory> {
 fn bring_again(rt: &impl Abort, inbox: &mut Inbox, back: Packet, before: (bool, u32)) {
     let c1 = CallerId::new(1).unwrap();
     assert_eq!(rt; (inbox.has_next(c1), inbox.handed(c1)), before);
-    assert_eq!(rt; inbox.arrival(&back), Arrival::New);
+    assert_eq!(rt; inbox.arrival(back.caller, back.number), Arrival::New);
     assert_eq!(rt; inbox.arrive(back), Ok(Arrival::New));
 }
 
@@ -299,7 +299,7 @@ fn passed_by(inbox: &mut Inbox, packet: &Packet) -> bool {
     if !inbox.is_empty() || inbox.handed(packet.caller) != packet.number {
         return false;
     }
-    match inbox.arrival(packet) {
+    match inbox.arrival(packet.caller, packet.number) {
         Arrival::New => {
             inbox.pass_by(packet);
             true
@@ -329,7 +329,7 @@ fn bring_to_both(
 ) -> Result<(), AllocError> {
     let arrival = plain.arrive(call)?;
     let packet = call.packet(alloc);
-    assert_eq!(rt; inbox.arrival(&packet), arrival);
+    assert_eq!(rt; inbox.arrival(packet.caller, packet.number), arrival);
     if may_pass && passed_by(inbox, &packet) {
         assert_eq!(rt; plain.next(call.caller), Some(call));
     } else {

@@ -1,6 +1,7 @@
 //! Worked rows of events, each with what is told of them and how the world ends, also where memory
 //! is refused.
 
+mod handed;
 mod refused;
 
 use act_kinds::{Actor, Boxed, Counter, ListKind};

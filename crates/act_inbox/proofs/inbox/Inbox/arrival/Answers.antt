@@ -8,28 +8,28 @@ use Rattle.act_inbox.proofs.inbox.Inbox.arrival.Goals as goal
 pub returns-in_default : goal.returns-in_default
 returns-in_default c =
     let inbox : InboxView = record { lanes = c.self.inside.lanes.items; held = c.self.inside.held; notes = c.self.inside.notes } in
-    let at : position (is_lane_of c.args.packet.now.caller) inbox.lanes ≡ None = rw c.deref.ensures.value at (sym c.place_of_lane.ensures ∙ c.in_default.is) in
-    record { value = rw (← c.self.view_is) (unlisted inbox c.args.packet.now (no_lane inbox c.args.packet.now.caller at)) }
+    let at : position (is_lane_of c.args.caller) inbox.lanes ≡ None = rw c.deref.ensures.value at (sym c.place_of_lane.ensures ∙ c.in_default.is) in
+    record { value = rw (← c.self.view_is) (unlisted inbox c.args.caller c.args.number (no_lane inbox c.args.caller at)) }
 
-pub returns-then-packet-index : goal.returns-then-packet-index
-returns-then-packet-index c =
+pub returns-then-number-index : goal.returns-then-number-index
+returns-then-number-index c =
     let inbox : InboxView = record { lanes = c.self.inside.lanes.items; held = c.self.inside.held; notes = c.self.inside.notes } in
-    let at : position (is_lane_of c.args.packet.now.caller) inbox.lanes ≡ Some c.in-Some.place = rw c.deref.ensures.value at (sym c.place_of_lane.ensures ∙ c.in-Some.is) in
-    let listed = lane_is inbox c.args.packet.now.caller c.in-Some.place at c.index.result.now c.index.ensures in
-    record { value = rw (← c.self.view_is) (handed_out inbox c.args.packet.now c.index.result.now listed c.if-packet-ge-MAX_CALLS.false c.if-packet-index.true) }
+    let at : position (is_lane_of c.args.caller) inbox.lanes ≡ Some c.in-Some.place = rw c.deref.ensures.value at (sym c.place_of_lane.ensures ∙ c.in-Some.is) in
+    let listed = lane_is inbox c.args.caller c.in-Some.place at c.index.result.now c.index.ensures in
+    record { value = rw (← c.self.view_is) (handed_out inbox c.args.caller c.args.number c.index.result.now listed c.if-number-ge-MAX_CALLS.false c.if-number-index.true) }
 
 pub returns-in-Some-get : goal.returns-in-Some-get
 returns-in-Some-get c =
     let inbox : InboxView = record { lanes = c.self.inside.lanes.items; held = c.self.inside.held; notes = c.self.inside.notes } in
-    let at : position (is_lane_of c.args.packet.now.caller) inbox.lanes ≡ Some c.in-Some.place = rw c.deref.ensures.value at (sym c.place_of_lane.ensures ∙ c.in-Some.is) in
-    let listed = lane_is inbox c.args.packet.now.caller c.in-Some.place at c.index.result.now c.index.ensures in
-    let there : find (is_packet_of c.args.packet.now.caller c.args.packet.now.number) inbox.held ≡ Some c.in-Some-get.field-0.now = sym c.get.ensures ∙ ap option_copied c.in-Some-get.is in
-    record { value = rw (← c.self.view_is) (held_already inbox c.args.packet.now c.index.result.now listed c.if-packet-ge-MAX_CALLS.false c.if-packet-index.false c.in-Some-get.field-0.now there) }
+    let at : position (is_lane_of c.args.caller) inbox.lanes ≡ Some c.in-Some.place = rw c.deref.ensures.value at (sym c.place_of_lane.ensures ∙ c.in-Some.is) in
+    let listed = lane_is inbox c.args.caller c.in-Some.place at c.index.result.now c.index.ensures in
+    let there : find (is_packet_of c.args.caller c.args.number) inbox.held ≡ Some c.in-Some-get.field-0.now = sym c.get.ensures ∙ ap option_copied c.in-Some-get.is in
+    record { value = rw (← c.self.view_is) (held_already inbox c.args.caller c.args.number c.index.result.now listed c.if-number-ge-MAX_CALLS.false c.if-number-index.false c.in-Some-get.field-0.now there) }
 
 pub returns-in-None : goal.returns-in-None
 returns-in-None c =
     let inbox : InboxView = record { lanes = c.self.inside.lanes.items; held = c.self.inside.held; notes = c.self.inside.notes } in
-    let at : position (is_lane_of c.args.packet.now.caller) inbox.lanes ≡ Some c.in-Some.place = rw c.deref.ensures.value at (sym c.place_of_lane.ensures ∙ c.in-Some.is) in
-    let listed = lane_is inbox c.args.packet.now.caller c.in-Some.place at c.index.result.now c.index.ensures in
-    let nowhere : find (is_packet_of c.args.packet.now.caller c.args.packet.now.number) inbox.held ≡ None = sym c.get.ensures ∙ ap option_copied c.in-None.is in
-    record { value = rw (← c.self.view_is) (comes_first inbox c.args.packet.now c.index.result.now listed c.if-packet-ge-MAX_CALLS.false c.if-packet-index.false nowhere) }
+    let at : position (is_lane_of c.args.caller) inbox.lanes ≡ Some c.in-Some.place = rw c.deref.ensures.value at (sym c.place_of_lane.ensures ∙ c.in-Some.is) in
+    let listed = lane_is inbox c.args.caller c.in-Some.place at c.index.result.now c.index.ensures in
+    let nowhere : find (is_packet_of c.args.caller c.args.number) inbox.held ≡ None = sym c.get.ensures ∙ ap option_copied c.in-None.is in
+    record { value = rw (← c.self.view_is) (comes_first inbox c.args.caller c.args.number c.index.result.now listed c.if-number-ge-MAX_CALLS.false c.if-number-index.false nowhere) }

@@ -8,10 +8,10 @@ use Rattle.act_world.proofs.Playing.{there, ok_there, last_there, memory_there}
 use Rattle.act_world.proofs.world.World.step.Goals as goal
 
 pub returns-in-Submit-clause-ok : goal.returns-in-Submit-clause-ok
-returns-in-Submit-clause-ok g c = ok_there (map (slot_view g.K.Actor.state) c.args.self.now.slots) (event.Submit c.in-Submit.c c.in-Submit.a c.in-Submit.method c.in-Submit.args) c.args.event.now _ c.submit.new.self c.submit.result c.in-Submit.is c.submit.ensures.ok
+returns-in-Submit-clause-ok g c = ok_there (map (slot_view g.K.Actor.state) c.args.self.now.slots) (event.Submit c.in-Submit.c c.in-Submit.a c.in-Submit.method c.in-Submit.args) c.args.event.now _ c.submit_copy.new.self c.submit_copy.result c.in-Submit.is c.submit_copy.ensures.ok
 
 pub returns-in-Submit-clause-memory_last : goal.returns-in-Submit-clause-memory_last
-returns-in-Submit-clause-memory_last g c = last_there (map (slot_view g.K.Actor.state) c.args.self.now.slots) (event.Submit c.in-Submit.c c.in-Submit.a c.in-Submit.method c.in-Submit.args) c.args.event.now _ c.submit.result c.in-Submit.is c.submit.ensures.memory_last
+returns-in-Submit-clause-memory_last g c = last_there (map (slot_view g.K.Actor.state) c.args.self.now.slots) (event.Submit c.in-Submit.c c.in-Submit.a c.in-Submit.method c.in-Submit.args) c.args.event.now _ c.submit_copy.result c.in-Submit.is c.submit_copy.ensures.memory_last
 
 pub returns-in-Release-clause-ok : goal.returns-in-Release-clause-ok
 returns-in-Release-clause-ok g c = ok_there (map (slot_view g.K.Actor.state) c.args.self.now.slots) (event.Release c.in-Release.c c.in-Release.a) c.args.event.now _ c.release.new.self c.release.result c.in-Release.is c.release.ensures.ok
