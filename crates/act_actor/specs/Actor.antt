@@ -42,6 +42,21 @@ item_of packet = record {
   args = packet.args;
 }
 
+-- the packet that an item of an actor's log was
+abbrev pub packet_of_item : ℕ → RunItem → Packet
+packet_of_item a item = record {
+  caller = item.caller;
+  actor = a;
+  number = item.number;
+  future = item.future;
+  method = item.method;
+  args = item.args;
+}
+
+-- the note that a caller let its last handle of the actor go, after so many calls
+abbrev pub note_after_calls : ℕ → ℕ → ℕ → ReleaseNote
+note_after_calls c a count = record { caller = c; actor = a; after = count }
+
 -- what the actor replies when it runs a packet
 abbrev pub reply_of_run : ActorView → Packet → Reply
 reply_of_run actor packet = record {

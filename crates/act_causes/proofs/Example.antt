@@ -14,8 +14,10 @@ use Rattle.act_types.specs.declared.value.Value.TheVariants as value
 use Rattle.act_rules.specs.declared.history.RunItem.{RunItem}
 use Rattle.act_rules.specs.History.{ActorSpec}
 use Rattle.act_rules.specs.RunList.{items_of}
+use Rattle.act_rules.proofs.Lists.{All-two}
 use Rattle.act_owner.specs.Life.{Copied, Released, Submitted, Sent, Noticed}
-use Rattle.act_causes.specs.Deeds.{Deed, Changed, AskedKill, TookCall, TookNote, Ran, TookKill, ToldDeath, Retired, changes_by, packet_to_run, AreCaused}
+use Rattle.act_actor.specs.Actor.{packet_of_item}
+use Rattle.act_causes.specs.Deeds.{Deed, Changed, AskedKill, TookCall, TookNote, Ran, TookKill, ToldDeath, Retired, changes_by, AreCaused}
 use Rattle.act_causes.specs.Plays.{SpecsFit}
 
 -- a counter that this caller may call
@@ -37,7 +39,7 @@ note = record { caller = 1; actor = 1; after = 1 }
 abbrev front : List Deed
 front =
     Changed 1 (Submitted 1 method.Add (Plain (value.Int (pos 5)) ∷ [])) ∷ Changed 1 (Copied 1) ∷ AskedKill 1 2 ∷ Changed 1 (Sent 0) ∷
-    TookCall 1 (packet_to_run 1 item) ∷ TookKill 2 ∷ Ran 1 item ∷ ToldDeath 2 1 ∷ Changed 1 (Noticed (Answered reply)) ∷
+    TookCall 1 (packet_of_item 1 item) ∷ TookKill 2 ∷ Ran 1 item ∷ ToldDeath 2 1 ∷ Changed 1 (Noticed (Answered reply)) ∷
     Changed 1 (Released 1) ∷ Changed 1 (Released 1) ∷ Changed 1 (Noticed (Death 2)) ∷ TookNote 1 note ∷ []
 
 abbrev deeds : List Deed
@@ -46,15 +48,12 @@ deeds = front ++ Retired 1 ∷ []
 all_one : {A : Type 0} (P : A → Type 0) (x : A) → P x → All P (x ∷ [])
 all_one P x holds = All-cons P x [] holds (All-nil P)
 
-all_two : {A : Type 0} (P : A → Type 0) (x y : A) → P x → P y → All P (x ∷ y ∷ [])
-all_two P x y one other = All-cons P x (y ∷ []) one (all_one P y other)
-
 pub fitting : SpecsFit casts
 fitting = record {
   actors_differ = two;
-  callers_differ = all_two (λ cast. AllPairs (λ one other. one ≢ other) cast.callers) (counter 1) (counter 2) one one;
-  actors = all_two (λ cast. cast.actor ≤ 8) (counter 1) (counter 2) (omega arith) (omega arith);
-  callers = all_two (λ cast. All (λ c. (1 ≤ c) × (c ≤ 16)) cast.callers) (counter 1) (counter 2) first first;
+  callers_differ = All-two (λ cast. AllPairs (λ one other. one ≢ other) cast.callers) (counter 1) (counter 2) one one;
+  actors = All-two (λ cast. cast.actor ≤ 8) (counter 1) (counter 2) (omega arith) (omega arith);
+  callers = All-two (λ cast. All (λ c. (1 ≤ c) × (c ≤ 16)) cast.callers) (counter 1) (counter 2) first first;
 }
   where
     two : AllPairs (λ one other. one.actor ≢ other.actor) casts

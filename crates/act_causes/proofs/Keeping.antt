@@ -29,12 +29,12 @@ use Rattle.act_plans.specs.Runs.{cast_at}
 use Rattle.act_world.specs.Network.{is_owner}
 use Rattle.act_world.specs.View.{SlotView, Runs, WorldView}
 use Rattle.act_world.specs.Refines.{IsOwnerOf, IsOwnerAt, Refines}
-use Rattle.act_world.proofs.Lawful.{IsLawful, lawful_step, has_letter-more, sent_call_named, named_caller}
+use Rattle.act_world.proofs.Lawful.{IsLawful, lawful_step, sent_call_named, named_caller}
 use Rattle.act_causes.specs.Deeds.{Deed, Changed, AskedKill, TookCall, TookNote, Ran, TookKill, ToldDeath, Retired, IsNamed, owner_by, change_of, changes_by, owner_after}
 use Rattle.act_causes.specs.Plays.{IsEventOf}
 use Rattle.act_causes.proofs.Unrefused.{IsUnrefused, AreUnrefused, unrefused_more}
 use Rattle.act_causes.proofs.Made.{known_on, sent_on, AreActorsOf}
-use Rattle.act_causes.proofs.Marks.{HasPost, AreReplied, AreNoted, post_stays, replied_step, noted_step}
+use Rattle.act_causes.proofs.Marks.{HasPost, AreReplied, AreNoted, letters_stay, post_stays, replied_step, noted_step}
 
 -- ---- what each deed has left
 
@@ -85,9 +85,7 @@ asked_grows h (Tell a c) = whole_front h.asked
 asked_grows h (Retire a) = whole_front h.asked
 
 arrived_stays : (h : History) (event : Event) (letter : Letter) → has_letter letter h.arrived ≡ true → has_letter letter (add_event h event).arrived ≡ true
-arrived_stays h event letter has =
-    let front = (added_grows h event).arrived in
-    subst (λ (l : List Letter). has_letter letter l ≡ true) front.1 (has_letter-more letter h.arrived front.0 has)
+arrived_stays h event letter has = letters_stay letter h.arrived (add_event h event).arrived (added_grows h event).arrived has
 
 -- what a deed has left stays
 left_stays : (casts : List ActorSpec) (deeds : List Deed) (deed : Deed) (h : History) (event : Event) (one : Deed) → HasLeft casts deeds h one → HasLeft casts (deeds ++ deed ∷ []) (add_event h event) one

@@ -97,7 +97,7 @@ last_letter h c a = NoteLetter c a (length (calls_to a (calls_of c h)))
 abbrev pub AreNoted : History → Type 0
 AreNoted h = (c a : ℕ) → copies_of c a h ≡ Some 0 → has_letter (last_letter h c a) h.mail ≡ true
 
-letters_stay : (letter : Letter) (xs ys : List Letter) → IsPrefix xs ys → has_letter letter xs ≡ true → has_letter letter ys ≡ true
+pub letters_stay : (letter : Letter) (xs ys : List Letter) → IsPrefix xs ys → has_letter letter xs ≡ true → has_letter letter ys ≡ true
 letters_stay letter xs ys front has = subst (λ (l : List Letter). has_letter letter l ≡ true) front.1 (has_letter-more letter xs front.0 has)
 
 -- a note that was sent stays, and counts the calls still

@@ -23,7 +23,7 @@ use Rattle.act_inbox.proofs.Packets.{unlisted_next, listed_next}
 use Rattle.act_inbox.proofs.Taking.{sound_then, next_taken}
 use Rattle.act_owner.specs.Owner.{OwnerView, packet_for as packet_made, packet_at}
 use Rattle.act_actor.specs.View.{ActorView}
-use Rattle.act_actor.specs.Actor.{item_of as item_made, reply_of_run, next_call, HasRunCall}
+use Rattle.act_actor.specs.Actor.{item_of as item_made, packet_of_item, reply_of_run, next_call, HasRunCall}
 use Rattle.act_plans.specs.Runs.{cast_at}
 use Rattle.act_world.specs.View.{Runs}
 use Rattle.act_world.specs.Slots.{dead_slot, bury_ended, HasRunNext}
@@ -31,7 +31,7 @@ use Rattle.act_world.specs.Refines.{IsOwnerOf}
 use Rattle.act_world.proofs.Frames.{still_lives}
 use Rattle.act_world.proofs.NextCall.{next_is, item_is}
 use Rattle.act_world.proofs.Running.{run_follows}
-use Rattle.act_causes.specs.Deeds.{Deed, TookCall, Ran, owner_by, packet_to_run, IsNextCall}
+use Rattle.act_causes.specs.Deeds.{Deed, TookCall, Ran, owner_by, IsNextCall}
 use Rattle.act_causes.proofs.Keeping.{Keeps, GoesOn, HasInbox, go_on, named_is, cast_is, owner_of}
 use Rattle.act_causes.proofs.Made.{AreActorsOf, owner_same, actors_ran}
 use Rattle.act_causes.proofs.Places.{found_at}
@@ -91,14 +91,14 @@ runs_next caller item live on sound e = go (next_call live.log live.inbox caller
 -- ---- the call
 
 -- the caller's packet is what the history runs next
-item_next : (h : History) (a c : ℕ) (owner : OwnerView) (item : RunItem) → IsOwnerOf h c owner → item.caller ≡ c → packet_at owner item.future ≡ Some (packet_to_run a item)
+item_next : (h : History) (a c : ℕ) (owner : OwnerView) (item : RunItem) → IsOwnerOf h c owner → item.caller ≡ c → packet_at owner item.future ≡ Some (packet_of_item a item)
     → has_letter (CallLetter c a item.number) h.arrived ≡ true → item.number ≡ ran_count c a h → next_item a c h ≡ Some item
 item_next h a c owner item is caller made came number = go (slice_get owner.calls item.future) refl made
   where
-    go : (o : Option Submission) → slice_get owner.calls item.future ≡ o → option_map (packet_made owner item.future) o ≡ Some (packet_to_run a item) → next_item a c h ≡ Some item
+    go : (o : Option Submission) → slice_get owner.calls item.future ≡ o → option_map (packet_made owner item.future) o ≡ Some (packet_of_item a item) → next_item a c h ≡ Some item
     go None at e = cc
     go (Some call) at e =
-        let same : packet_made owner item.future call ≡ packet_to_run a item = cc in
+        let same : packet_made owner item.future call ≡ packet_of_item a item = cc in
         let to : call.actor ≡ a = ap (λ (p : Packet). p.actor) same in
         let count : number_of call.actor item.future owner.calls ≡ ran_count c a h = ap (λ (p : Packet). p.number) same ∙ number in
         let there : slice_get (calls_of c h) item.future ≡ Some call = ap (λ (calls : List Submission). slice_get calls item.future) (sym is.calls) ∙ at in
@@ -120,7 +120,7 @@ module _ (casts : List ActorSpec) (deeds : List Deed) (h : History) (a : ℕ) (i
   pub ran : IsNextCall casts deeds a item → GoesOn casts deeds h (Ran a item)
   ran r =
       let c = item.caller in
-      let came = keeps.left (TookCall a (packet_to_run a item)) r.took in
+      let came = keeps.left (TookCall a (packet_of_item a item)) r.took in
       let is = owner_of casts deeds h c keeps came.named in
       let number : item.number ≡ ran_count c a h = r.number ∙ ap (λ (items : List RunItem). length (items_of c items)) (sym (keeps.actors.runs a)) in
       let next : next_item a c h ≡ Some item = item_next h a c (owner_by casts c deeds) item is refl came.is came.came number in

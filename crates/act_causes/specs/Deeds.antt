@@ -13,6 +13,7 @@ use Rattle.act_rules.specs.Submissions.{calls_to, handle_refusal, copy_refusal}
 use Rattle.act_handles.specs.Handles.{copies_in}
 use Rattle.act_owner.specs.Owner.{OwnerView, packet_at, refusal_to_submit, sending_refusal}
 use Rattle.act_owner.specs.Life.{Change, Copied, Released, Submitted, Sent, Noticed, caller}
+use Rattle.act_actor.specs.Actor.{packet_of_item, note_after_calls}
 use Rattle.act_plans.specs.Runs.{cast_at, limits_naming}
 
 -- what one thread did in one step
@@ -160,33 +161,18 @@ pub record IsLastNote (casts : List ActorSpec) (before : List Deed) (a : ℕ) (n
   pub gone : copies_in a (owner_after casts note.caller changes).handles ≡ Some 0
   pub counts : note.after ≡ length (calls_to a (owner_after casts note.caller changes).calls)
 
--- the packet of a call that an actor ran
-abbrev pub packet_to_run : ℕ → RunItem → Packet
-packet_to_run a item = record {
-  caller = item.caller;
-  actor = a;
-  number = item.number;
-  future = item.future;
-  method = item.method;
-  args = item.args;
-}
-
 -- the actor took the call, which is its caller's next
 pub record IsNextCall (casts : List ActorSpec) (before : List Deed) (a : ℕ) (item : RunItem) : Type 0 where
   pub lives : is_ended_by a before ≡ false
-  pub took : Contains before (TookCall a (packet_to_run a item))
+  pub took : Contains before (TookCall a (packet_of_item a item))
   pub number : item.number ≡ ran_by item.caller a before
-
--- the note that a caller let its last handle of the actor go after so many calls
-abbrev pub note_for : ℕ → ℕ → ℕ → ReleaseNote
-note_for c a count = record { caller = c; actor = a; after = count }
 
 -- each caller that the cast names sent its note, and the actor ran as many of its calls
 pub record HasRunAllCalls (casts : List ActorSpec) (before : List Deed) (a : ℕ) : Type 0 where
   pub lives : is_ended_by a before ≡ false
   pub cast : is_some (cast_at a casts) ≡ true
   pub notes : (c : ℕ) → names c (cast_at a casts) ≡ true →
-      Contains before (TookNote a (note_for c a (ran_by c a before)))
+      Contains before (TookNote a (note_after_calls c a (ran_by c a before)))
 
 -- a thread may do this after these deeds
 abbrev pub IsCaused : List ActorSpec → List Deed → Deed → Type 0

@@ -15,9 +15,6 @@ use Rattle.act_drive.specs.declared.driver.CallerPasses.{CallerPasses}
 use Rattle.act_drive.specs.Driven.{Waits, OnlyReleases}
 use Rattle.act_drive.proofs.Drivers.{stays_same, stays_trans}
 
-pub winds_same : (driver : Driver) → OnlyReleases driver driver
-winds_same driver = record { stay = stays_same driver driver refl refl refl refl; calls = refl; kills = refl; heard = λ notice has. has; handles = λ a. (refl, omega arith) }
-
 pub winds_trans : (one two three : Driver) → OnlyReleases one two → OnlyReleases two three → OnlyReleases one three
 winds_trans one two three a b = record { stay = stays_trans one two three a.stay b.stay; calls = b.calls ∙ a.calls; kills = b.kills ∙ a.kills; heard = λ notice has. b.heard notice (a.heard notice has); handles = λ n. ((b.handles n).0 ∙ (a.handles n).0, omega (arith, (b.handles n).1, (a.handles n).1)) }
 
@@ -26,9 +23,6 @@ same_handles : (one two : List Handle) (a : ℕ) → two ≡ one → (is_some (c
 same_handles one two a same =
     let held : copies_held (copies_in a two) ≡ copies_held (copies_in a one) = ap (λ (h : List Handle). copies_held (copies_in a h)) same in
     (ap (λ (h : List Handle). is_some (copies_in a h)) same, omega (arith, held))
-
-pub waits_wind : (one two : Driver) → Waits one two → OnlyReleases one two
-waits_wind one two a = record { stay = a.stay; calls = a.calls; kills = a.kills; heard = a.heard; handles = λ n. same_handles one.owner.handles two.owner.handles n a.handles }
 
 less_copies : (copies : Option ℕ) → (is_some (option_map (λ n. n - 1) copies) ≡ is_some copies) × (copies_held (option_map (λ n. n - 1) copies) ≤ copies_held copies)
 less_copies None = (refl, omega arith)

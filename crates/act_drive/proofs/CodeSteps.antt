@@ -1,19 +1,17 @@
 -- The steps of a caller's own code: what is told of each, and what it does.
-use Rattle.std.proofs.Common.{◌≡◌, ◌≢◌, ℕ, zero, suc, ◌<◌, Bool, true, false, nat_lt, nat_le, List, [], ◌∷◌, ◌++◌, length, map, Option, Some, None, Ok, Err, Result, is_some, refl, sym, ◌∙◌, ap, subst, arith, inl, inr, ◌⊎◌}
+use Rattle.std.proofs.Common.{◌≡◌, ◌≢◌, ℕ, zero, suc, Bool, true, false, nat_lt, List, [], ◌∷◌, ◌++◌, length, map, Option, Some, None, Ok, Err, Result, is_some, refl, sym, ◌∙◌, ap, subst, inl, inr, ◌⊎◌}
 use Rattle.std.specs.Prelude.{unwrap_or, IfErr, OnErr}
 use Rattle.std.specs.Result.{IsErrAnd}
 use Rattle.std.specs.Option.{option_or}
-use Rattle.std.specs.List.{list_all}
 use Rattle.act_types.specs.declared.call.Method.{Method}
 use Rattle.act_types.specs.declared.call.Arg.{Arg}
-use Rattle.act_types.specs.declared.limits.TheConstants.{MAX_ARGS, MAX_CALLS}
 use Rattle.act_rules.specs.declared.history.Submission.{Submission}
 use Rattle.act_rules.specs.declared.outcome.HandleRefusal.{HandleRefusal}
 use Rattle.act_rules.specs.declared.outcome.SubmitRefusal.{SubmitRefusal}
-use Rattle.act_rules.specs.declared.outcome.SubmitRefusal.TheVariants.{NoActor, NoHandle, TooManyArgs, BadFuture, TooManyCalls, PendingLimit, NoMemory}
+use Rattle.act_rules.specs.declared.outcome.SubmitRefusal.TheVariants.{PendingLimit, NoMemory}
 use Rattle.act_rules.specs.declared.script.Step.TheVariants.{Submit, Copy, Release, Kill}
 use Rattle.act_rules.specs.RunList.{Answer}
-use Rattle.act_rules.specs.Submissions.{needs, is_earlier, copies_held, kept_at, submit_refusal, limit_refusal, copy_refusal, handle_refusal}
+use Rattle.act_rules.specs.Submissions.{needs, kept_at, submit_refusal, limit_refusal, copy_refusal, handle_refusal}
 use Rattle.act_rules.specs.Plans.{done_by, nothing_done}
 use Rattle.act_rules.proofs.Lists.{option_or-none}
 use Rattle.act_handles.specs.Handles.{copies_in, with_copy}
@@ -23,7 +21,7 @@ use Rattle.act_owner.specs.Owner.{OwnerView, refusal_to_submit, owner_limit, pen
 use Rattle.act_drive.specs.declared.driver.CallerLines.{CallerLines}
 use Rattle.act_drive.specs.declared.driver.Driver.{Driver}
 use Rattle.act_drive.specs.declared.driver.CallerPasses.{CallerPasses}
-use Rattle.act_drive.specs.Driven.{KeptOn, bare_post, bare_ask, Stays, Waits, FollowsBy}
+use Rattle.act_drive.specs.Driven.{bare_post, bare_ask, Stays, Waits, FollowsBy}
 use Rattle.act_drive.specs.Sessions.{SessionView, session_view, call_refusal, use_refusal, OnlyHears, Submits}
 use Rattle.act_drive.specs.Lent.{Does}
 use Rattle.act_drive.proofs.PlanSteps.{follows_waits, submit_follows, copy_follows}
@@ -35,24 +33,7 @@ kept_before [] ys k answer has = absurd (cc has)
 kept_before (x ∷ xs) ys zero answer has = has
 kept_before (x ∷ xs) ys (suc k) answer has = kept_before xs ys k answer has
 
-some_is : {A : Type 0} (o : Option A) → is_some o ≡ true → (x : A) × (o ≡ Some x)
-some_is None is = absurd (cc is)
-some_is (Some x) is = (x, refl)
-
-pub kept_still : (before later : List (Option Answer)) (k : ℕ) → KeptOn before later → is_some (kept_at before k) ≡ true → is_some (kept_at later k) ≡ true
-kept_still before later k on has =
-    let answer = some_is (kept_at before k) has in
-    ap (λ (o : Option Answer). is_some o) (on k answer.0 answer.1)
-
-pub kept_below : (kept : List (Option Answer)) (k : ℕ) → is_some (kept_at kept k) ≡ true → k < length kept
-kept_below [] k has = absurd (cc has)
-kept_below (x ∷ kept) zero has = omega arith
-kept_below (x ∷ kept) (suc k) has = let below = kept_below kept k has in omega (arith, below)
-
 -- ---- what is seen
-
-pub hears_waits : (old new : Driver) → Waits old new → OnlyHears (session_view old.owner) (session_view new.owner)
-hears_waits old new waits = record { calls = waits.calls; handles = waits.handles; kills = refl }
 
 pub submits_hears : (call : Submission) (old mid new : SessionView) → Submits call old mid → OnlyHears mid new → Submits call old new
 submits_hears call old mid new submits hears = record {
@@ -82,22 +63,6 @@ submits_waited old mid new a method args waits is = record {
 }
 
 -- ---- refusals
-
-no_limit : (one two three four five : Bool) → needs one NoActor (needs two NoHandle (needs three TooManyArgs (needs four BadFuture (needs five TooManyCalls None)))) ≡ Some PendingLimit → ⊥
-no_limit false two three four five is = cc is
-no_limit true false three four five is = cc is
-no_limit true true false four five is = cc is
-no_limit true true true false five is = cc is
-no_limit true true true true false is = cc is
-no_limit true true true true true is = cc is
-
-or_limit : (refusal limit : Option SubmitRefusal) → (refusal ≡ Some PendingLimit → ⊥) → option_or refusal limit ≡ Some PendingLimit → refusal ≡ None
-or_limit None limit not_so is = refl
-or_limit (Some r) limit not_so is = absurd (not_so is)
-
--- the limit's refusal comes last
-pub limit_last : (owner : OwnerView) (a : ℕ) (args : List Arg) → refusal_to_submit owner a args ≡ Some PendingLimit → call_refusal (session_view owner) a args ≡ None
-limit_last owner a args is = or_limit (call_refusal (session_view owner) a args) (limit_refusal (owner_limit owner a) (pending owner a)) (λ full. no_limit (is_some (copies_in a owner.handles)) (nat_lt 0 (copies_held (copies_in a owner.handles))) (nat_le (length args) MAX_ARGS) (list_all (is_earlier (length owner.calls)) args) (nat_lt (length owner.calls) MAX_CALLS) full) is
 
 in_room : (refusal : Option SubmitRefusal) (limit : Option ℕ) (pending : ℕ) → option_or refusal (limit_refusal limit pending) ≢ Some PendingLimit → option_or refusal (limit_refusal limit pending) ≡ refusal
 in_room (Some r) limit pending room = refl

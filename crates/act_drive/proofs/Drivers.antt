@@ -33,6 +33,7 @@ use Rattle.act_drive.specs.declared.driver.CallerLines.{CallerLines}
 use Rattle.act_drive.specs.declared.driver.Driver.{Driver}
 use Rattle.act_drive.specs.declared.driver.CallerPasses.{CallerPasses}
 use Rattle.act_drive.specs.Driven.{actor_of_letter, future_of_letter, futures_in, IsSent, MayBeSent, IsPosting, IsEndpoint, AreKillEndpoints, IsCalling, Stays, Waits, OwnerGoesOn, bare_post, bare_ask, IsIdle, IsKeeping, is_note_letter, AreNoted}
+use Rattle.act_drive.specs.Tracing.{OnlyWaits}
 use Rattle.act_drive.proofs.Keeps.{keeps_on, same_returns, keeps_taken, keeps_dropped, keeps_posted}
 use Rattle.act_drive.proofs.Noted.{noted_on, noted_same, noted_posted}
 
@@ -182,6 +183,13 @@ waits_same driver = record { stay = stays_same driver driver refl refl refl refl
 
 pub waits_trans : (one two three : Driver) → Waits one two → Waits two three → Waits one three
 waits_trans one two three a b = record { stay = stays_trans one two three a.stay b.stay; calls = b.calls ∙ a.calls; handles = b.handles ∙ a.handles; kills = b.kills ∙ a.kills; heard = λ notice has. b.heard notice (a.heard notice has) }
+
+pub only_waits_trans : (lines : CallerLines) (one two three : Driver) → OnlyWaits lines one two → OnlyWaits lines two three → OnlyWaits lines one three
+only_waits_trans lines one two three a b = record {
+  calling = b.calling;
+  waits = waits_trans one two three a.waits b.waits;
+  traced = λ start done is. b.traced start done (a.traced start done is);
+}
 
 -- a letter more, or none, at an endpoint
 pub posted_waits : (old new : Driver) (at : ℕ) (endpoint : Endpoint (PutterView Letter Unit)) (pass : PutterView Letter Unit) → endpoint ≡ get_or old.passes.letters.items at endpoint → bare_post (record { place = endpoint.place; pass = pass }) ≡ bare_post endpoint

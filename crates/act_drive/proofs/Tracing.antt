@@ -10,7 +10,7 @@ use Rattle.act_types.specs.declared.message.Packet.{Packet}
 use Rattle.act_types.specs.declared.message.ReleaseNote.{ReleaseNote}
 use Rattle.act_rules.specs.declared.history.RunItem.{RunItem}
 use Rattle.act_rules.specs.declared.script.Step.{Step}
-use Rattle.act_rules.specs.declared.script.Step.TheVariants.{Submit, Copy, Release, Kill, Await}
+use Rattle.act_rules.specs.declared.script.Step.TheVariants.{Release, Kill, Await}
 use Rattle.act_rules.specs.declared.history.Submission.{Submission}
 use Rattle.act_rules.specs.declared.outcome.SendRefusal.TheVariants.{NotReady, Answered}
 use Rattle.act_rules.specs.Submissions.{needs, kept_at, copies_held, handle_refusal, send_refusal}
@@ -31,11 +31,12 @@ use Rattle.act_drive.specs.declared.driver.CallerPasses.{CallerPasses}
 use Rattle.act_drive.specs.declared.driver.Driver.{Driver}
 use Rattle.act_drive.specs.CallerSteps.{CallerStep, ChangeMade, KillAsked, notice_collected, owner_after_steps, CallerMayDo, CallerMayDoAll}
 use Rattle.act_drive.specs.CallerTraces.{caller_clock, IsPostedAfter, IsAskedAfter, IsCallerTrace}
-use Rattle.act_drive.specs.PlanTraces.{IsMeanwhile, DoesStep, DoesPlan, HasDonePlan}
+use Rattle.act_drive.specs.PlanTraces.{DoesStep, DoesPlan, HasDonePlan}
 use Rattle.act_drive.specs.Tracing.{IsTracing, IsTracingClosed, Traces, TracesStep, TracesClosing}
 use Rattle.act_drive.specs.Driven.{IsFreshCaller, IsFreshEndpoint}
 use Rattle.act_drive.proofs.PlanTraces.{meanwhile_more, plan_more}
-use Rattle.act_drive.proofs.Clocks.{greatest_grows, greatest_pushed, greatest_set, clock_grows, clock_taken, timed_none, timed_later, timed_more, steps_more, found_same, found_more, taken_more, zip_weaker, zip_none}
+use Rattle.act_mailbox.proofs.Clocks.{all_zip_weaker, steps_more, timed_later, timed_push, part_one, part_none, later_one, later_none}
+use Rattle.act_drive.proofs.Clocks.{greatest_grows, greatest_pushed, greatest_set, clock_grows, clock_taken, timed_none, zip_none}
 
 -- ---- the owner after steps
 
@@ -53,7 +54,7 @@ may_more start (KillAsked a ∷ steps) step all mine = (all.0, may_more start st
 stepped : (start old new : OwnerView) (trace : List (ℕ × CallerStep)) (n : ℕ) (step : CallerStep) → CallerMayDo old step → new ≡ owner_after_steps old (step ∷ []) → CallerMayDoAll start (steps_in trace) → old ≡ owner_after_steps start (steps_in trace)
     → CallerMayDoAll start (steps_in (trace ++ (n, step) ∷ [])) × (new ≡ owner_after_steps start (steps_in (trace ++ (n, step) ∷ [])))
 stepped start old new trace n step may is allowed was =
-    let more = steps_more trace n step in (
+    let more = steps_more trace ((n, step) ∷ []) in (
       subst (CallerMayDoAll start) (sym more) (may_more start (steps_in trace) step allowed (subst (λ (o : OwnerView). CallerMayDo o step) was may)),
       is ∙ ap (λ (o : OwnerView). owner_after_steps o (step ∷ [])) was ∙ sym (owner_more start (steps_in trace) step) ∙ ap (owner_after_steps start) (sym more),
     )
@@ -77,12 +78,12 @@ abbrev AreAskedAt : List ControlView → List (ℕ × CallerStep) → Endpoint (
 AreAskedAt controls trace endpoint = (d : ControlView) → AllZip (IsAskedAfter trace (get_or controls endpoint.place d).actor) endpoint.pass.put endpoint.pass.stamps
 
 all_posted_on : (start : OwnerView) (trace more : List (ℕ × CallerStep)) (endpoints : List (Endpoint (PutterView Letter Unit))) → All (ArePosted start trace) endpoints → All (ArePosted start (trace ++ more)) endpoints
-all_posted_on start trace more endpoints all = All-weaker (ArePosted start trace) (ArePosted start (trace ++ more)) (λ endpoint is. zip_weaker (IsPostedAfter start trace) (IsPostedAfter start (trace ++ more)) (λ letter stamp. posted_on start trace more letter stamp stamp (omega arith)) endpoint.pass.put endpoint.pass.stamps is) endpoints all
+all_posted_on start trace more endpoints all = All-weaker (ArePosted start trace) (ArePosted start (trace ++ more)) (λ endpoint is. all_zip_weaker (IsPostedAfter start trace) (IsPostedAfter start (trace ++ more)) endpoint.pass.put endpoint.pass.stamps (λ letter stamp. posted_on start trace more letter stamp stamp (omega arith)) is) endpoints all
 
 asked_on : (controls : List ControlView) (trace more : List (ℕ × CallerStep)) (endpoint : Endpoint (PutterView Asked ℕ)) → AreAskedAt controls trace endpoint → AreAskedAt controls (trace ++ more) endpoint
 asked_on controls trace more endpoint is d =
     let a = (get_or controls endpoint.place d).actor in
-    zip_weaker (IsAskedAfter trace a) (IsAskedAfter (trace ++ more) a) (λ kill stamp was. (was.0, Contains-append_left trace more (was.0, KillAsked a) was.1, was.2)) endpoint.pass.put endpoint.pass.stamps (is d)
+    all_zip_weaker (IsAskedAfter trace a) (IsAskedAfter (trace ++ more) a) endpoint.pass.put endpoint.pass.stamps (λ kill stamp was. (was.0, Contains-append_left trace more (was.0, KillAsked a) was.1, was.2)) (is d)
 
 all_asked_on : (controls : List ControlView) (trace more : List (ℕ × CallerStep)) (endpoints : List (Endpoint (PutterView Asked ℕ))) → All (AreAskedAt controls trace) endpoints → All (AreAskedAt controls (trace ++ more)) endpoints
 all_asked_on controls trace more endpoints all = All-weaker (AreAskedAt controls trace) (AreAskedAt controls (trace ++ more)) (λ endpoint. asked_on controls trace more endpoint) endpoints all
@@ -153,14 +154,13 @@ trace_step : (controls : List ControlView) (start old new : OwnerView) (passes :
     → IsCallerTrace controls start new passes (trace ++ (caller_clock passes, step) ∷ [])
 trace_step controls start old new passes trace step quiet may is was =
     let now = caller_clock passes in
-    let same = found_same notice_collected trace now step quiet in
     let after = stepped start old new trace now step may is was.allowed was.owner_is in
     record {
-      timed = timed_more now now trace step (omega arith) was.timed;
+      timed = timed_push now now now trace step (omega arith) (omega arith) was.timed;
       allowed = after.0;
       owner_is = after.1;
-      notices = ap (λ (l : List (ℕ × Notice)). map (λ x. x.1) l) same ∙ was.notices;
-      notices_later = subst (λ (l : List (ℕ × Notice)). AreTakenLater l passes.collects.stamps) (sym same) was.notices_later;
+      notices = part_none notice_collected trace now step passes.collects.taken passes.collects.taken quiet was.notices refl;
+      notices_later = later_none notice_collected trace now step passes.collects.stamps passes.collects.stamps quiet was.notices_later refl;
       posted = all_posted_on start trace ((now, step) ∷ []) passes.letters.items was.posted;
       asked = all_asked_on controls trace ((now, step) ∷ []) passes.kills.items was.asked;
     }
@@ -175,7 +175,7 @@ tracing_step lines start done next old new step quiet may is passes was does hel
       trace = was.trace ++ (now, step) ∷ [];
       trace_is = subst (λ (p : CallerPasses). IsCallerTrace lines.controls.now start new.owner p (was.trace ++ (now, step) ∷ [])) (sym passes) (trace_step lines.controls.now start old.owner new.owner old.passes was.trace step quiet may is was.trace_is);
       held = λ letter has. subst (λ (n : ℕ). IsPostedAfter start (was.trace ++ (now, step) ∷ []) letter n) (sym clocks) (held letter has);
-      does = subst (DoesPlan start next) (sym (steps_more was.trace now step)) does;
+      does = subst (DoesPlan start next) (sym (steps_more was.trace ((now, step) ∷ []))) does;
     }
 
 pub traces_step : (lines : CallerLines) (old new : Driver) (planned : Step) (step : CallerStep) → ((owner : OwnerView) (before : List CallerStep) → DoesStep owner planned before (before ++ step ∷ [])) → notice_collected step ≡ None → CallerMayDo old.owner step → new.owner ≡ owner_after_steps old.owner (step ∷ []) → new.passes ≡ old.passes → new.outbox ≡ old.outbox → TracesStep lines planned old new
@@ -236,21 +236,20 @@ traces_heard lines old new notice n is taken stamps letters kills outbox start d
     let takes = clock_taken (post_stamps old.passes ++ ask_stamps old.passes) old.passes.collects.stamps n in
     let on : caller_clock old.passes ≤ now = omega (arith, clocks, takes.0) in
     let later : n < now = omega (arith, clocks, takes.1) in
-    let found = found_more notice_collected trace now step notice refl in
     let after = stepped start old.owner new.owner trace now step tt is before.allowed before.owner_is in
     record {
       trace = trace ++ (now, step) ∷ [];
       trace_is = record {
-        timed = timed_more (caller_clock old.passes) now trace step on before.timed;
+        timed = timed_push (caller_clock old.passes) now now trace step on (omega arith) before.timed;
         allowed = after.0;
         owner_is = after.1;
-        notices = ap (λ (l : List (ℕ × Notice)). map (λ x. x.1) l) found ∙ map-append (λ (x : ℕ × Notice). x.1) (found_in notice_collected trace) ((now, notice) ∷ []) ∙ ap (λ (l : List Notice). l ++ notice ∷ []) before.notices ∙ sym taken;
-        notices_later = subst (λ (l : List ℕ). AreTakenLater (found_in notice_collected (trace ++ (now, step) ∷ [])) l) (sym stamps) (subst (λ (l : List (ℕ × Notice)). AreTakenLater l (old.passes.collects.stamps ++ n ∷ [])) (sym found) (taken_more (found_in notice_collected trace) old.passes.collects.stamps now n notice later before.notices_later));
+        notices = part_one notice_collected trace now step notice old.passes.collects.taken new.passes.collects.taken refl before.notices taken;
+        notices_later = later_one notice_collected trace now step notice n old.passes.collects.stamps new.passes.collects.stamps refl later before.notices_later stamps;
         posted = subst (λ (v : _). All (ArePosted start (trace ++ (now, step) ∷ [])) v.items) (sym letters) (all_posted_on start trace ((now, step) ∷ []) old.passes.letters.items before.posted);
         asked = subst (λ (v : _). All (AreAskedAt controls (trace ++ (now, step) ∷ [])) v.items) (sym kills) (all_asked_on controls trace ((now, step) ∷ []) old.passes.kills.items before.asked);
       };
       held = λ letter has. posted_on start trace ((now, step) ∷ []) letter (caller_clock old.passes) now on (was.held letter (sym outbox ∙ has));
-      does = subst (DoesPlan start done) (sym (steps_more trace now step)) (meanwhile_more start done (steps_in trace) step tt was.does);
+      does = subst (DoesPlan start done) (sym (steps_more trace ((now, step) ∷ []))) (meanwhile_more start done (steps_in trace) step tt was.does);
     }
 
 -- ---- a letter is posted
@@ -320,7 +319,7 @@ traces_asked lines old new a at endpoint pass kill stamp now may below here ther
         asked = subst (λ (l : List (Endpoint (PutterView Asked ℕ))). All (AreAskedAt controls trace) l) (sym kills) (All-set (AreAskedAt controls trace) old.passes.kills.items at next one before.asked);
       };
       held = λ letter has. posted_on start was.trace ((clock, step) ∷ []) letter clock (caller_clock new.passes) on (was.held letter (sym outbox ∙ has));
-      does = subst (DoesPlan start (done ++ Kill a ∷ [])) (sym (steps_more was.trace clock step)) (plan_more start done (steps_in was.trace) (Kill a) (step ∷ []) (λ o before same. inr refl) was.does);
+      does = subst (DoesPlan start (done ++ Kill a ∷ [])) (sym (steps_more was.trace ((clock, step) ∷ []))) (plan_more start done (steps_in was.trace) (Kill a) (step ∷ []) (λ o before same. inr refl) was.does);
     }
 
 -- ---- a step that leaves no step in the trace
@@ -345,9 +344,6 @@ traces_awaited lines old new k waits answered start done was = unstepped start l
 
 closed_steps : (done : List Step) (closing more : List ℕ) → (done ++ map (λ a. Release a) closing) ++ map (λ a. Release a) more ≡ done ++ map (λ a. Release a) (closing ++ more)
 closed_steps done closing more = append_assoc done (map (λ a. Release a) closing) (map (λ a. Release a) more) ∙ ap (λ (l : List Step). done ++ l) (sym (map-append (λ (a : ℕ). Release a) closing more))
-
-pub closing_none : (lines : CallerLines) (driver : Driver) → TracesClosing lines driver driver
-closing_none lines driver start done was = ([], subst (λ (l : List Step). IsTracing start lines l driver) (sym (append-nil done)) was)
 
 pub closing_trans : (lines : CallerLines) (old mid new : Driver) → TracesClosing lines old mid → TracesClosing lines mid new → TracesClosing lines old new
 closing_trans lines old mid new one two start done was =

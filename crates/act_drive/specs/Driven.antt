@@ -5,7 +5,7 @@ use Rattle.act_types.specs.declared.message.Notice.TheVariants.{Death}
 use Rattle.act_rules.specs.declared.history.Submission.{Submission}
 use Rattle.act_rules.specs.declared.script.Step.{Step}
 use Rattle.act_rules.specs.declared.script.Step.TheVariants.{Kill}
-use Rattle.act_rules.specs.Plans.{planned, holds, done_by, nothing_done, is_refused, kills_to}
+use Rattle.act_rules.specs.Plans.{first_bad, planned, holds, done_by, nothing_done, is_refused, kills_to}
 use Rattle.act_rules.specs.RunList.{Answer}
 use Rattle.act_rules.specs.Submissions.{calls_to, copies_held, kept_at}
 use Rattle.act_handles.specs.Handles.{copies_in, actors_in}
@@ -285,6 +285,10 @@ abbrev pub HasEndedAt : List ControlView → OwnerView → CallerPasses → Endp
 HasEndedAt controls owner passes endpoint = (d : ControlView) →
     IsThrough owner passes (slice_index_or controls endpoint.place d).actor
 
+-- the same of all the caller's actors
+abbrev pub HaveEnded : CallerLines → OwnerView → CallerPasses → Type 0
+HaveEnded lines owner passes = All (HasEndedAt lines.controls.now owner passes) passes.kills.items
+
 -- a plan was done to its end, by a caller of these actors
 pub record HasDone (lines : CallerLines) (actors : List ℕ) (plan : List Step) (owner : OwnerView)
     (passes : CallerPasses) : Type 0 where
@@ -296,6 +300,16 @@ pub record HasDone (lines : CallerLines) (actors : List ℕ) (plan : List Step) 
       ⊎ IsIdle lines.mails.now passes.collects.taken passes.letters.items (actor_of_letter letter)
   pub noted : All (λ endpoint. (d : MailView) →
       HasNote actors owner passes (slice_index_or lines.mails.now endpoint.place d).actor) passes.letters.items
+
+-- a plan that fits some actors is done to its end, where no step was done before
+abbrev pub DoesWhole : CallerLines → List Step → Driver → Driver → Type 0
+DoesWhole lines plan old new = (actors : List ℕ) → first_bad actors plan ≡ None → FollowsSteps lines actors [] old →
+    HasDone lines actors plan new.owner new.passes
+
+-- whatever steps were done before, they are done to their end
+abbrev pub EndsSteps : CallerLines → Driver → Driver → Type 0
+EndsSteps lines old new = (actors : List ℕ) (steps : List Step) → FollowsSteps lines actors steps old →
+    HasDone lines actors steps new.owner new.passes
 
 -- the letters at an endpoint are the owner's, and no call is there twice
 abbrev pub HasPosted : List MailView → OwnerView → Endpoint (PutterView Letter Unit) → Type 0
@@ -326,6 +340,5 @@ pub record HasDriven (lines : CallerLines) (owner : OwnerView) (before : CallerP
   pub hears : Hears driven.owner driven.passes.collects.taken
   pub names : All (HasNamed lines.controls.now driven.owner.id) driven.passes.kills.items
   pub done : driven.starved ≡ false → HasDone lines (actors_in owner.handles) plan driven.owner driven.passes
-  pub ended : driven.starved ≡ true →
-      All (HasEndedAt lines.controls.now driven.owner driven.passes) driven.passes.kills.items
+  pub ended : driven.starved ≡ true → HaveEnded lines driven.owner driven.passes
   pub traced : driven.starved ≡ false → HasDonePlan lines.controls.now owner driven.owner plan driven.passes

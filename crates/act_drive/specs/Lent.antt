@@ -1,11 +1,11 @@
 -- What the parts of a session leave.
-use Rattle.std.specs.Prelude.{◌≡◌, true, false, ℕ, List, ◌∷◌, ◌++◌, [], slice_index_or, All}
+use Rattle.std.specs.Prelude.{◌≡◌, true, false, ℕ, List, ◌∷◌, ◌++◌, [], slice_index_or}
 use Rattle.act_rules.specs.declared.script.Step.{Step}
 use Rattle.act_rules.specs.Plans.{kills_to}
 use Rattle.act_drive.specs.declared.driver.CallerLines.{CallerLines}
 use Rattle.act_drive.specs.declared.driver.Driver.{Driver}
 use Rattle.act_drive.specs.declared.caller.Driven.{Driven}
-use Rattle.act_drive.specs.Driven.{IsCalling, Stays, FollowsSteps, HasDone, HasEndedAt}
+use Rattle.act_drive.specs.Driven.{IsCalling, Stays, FollowsSteps, HasDone, HaveEnded}
 use Rattle.act_drive.specs.Sessions.{SessionView}
 use Rattle.act_drive.specs.Coded.{HasConcluded}
 use Rattle.act_drive.specs.Tracing.{TracesPlan, TracesWhole}
@@ -37,5 +37,5 @@ pub record HasDrivenCode (lines : CallerLines) (actors : List ℕ) (start : Driv
   pub steps : List Step
   pub traced : driven.starved ≡ false → TracesWhole lines steps start new
   pub done : driven.starved ≡ false → HasDone lines actors steps new.owner new.passes
-  pub ended : driven.starved ≡ true → All (HasEndedAt lines.controls.now new.owner new.passes) new.passes.kills.items
+  pub ended : driven.starved ≡ true → HaveEnded lines new.owner new.passes
   pub told : driven.starved ≡ false → HasConcluded tells steps start.owner new.owner

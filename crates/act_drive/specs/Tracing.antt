@@ -7,6 +7,7 @@ use Rattle.act_mailbox.specs.Traces.{steps_in}
 use Rattle.act_mailbox.specs.declared.mail.Letter.{Letter}
 use Rattle.act_drive.specs.declared.driver.CallerLines.{CallerLines}
 use Rattle.act_drive.specs.declared.driver.Driver.{Driver}
+use Rattle.act_drive.specs.Driven.{IsCalling, Waits}
 use Rattle.act_drive.specs.CallerSteps.{CallerStep}
 use Rattle.act_drive.specs.CallerTraces.{caller_clock, IsPostedAfter, IsCallerTrace}
 use Rattle.act_drive.specs.PlanTraces.{DoesPlan}
@@ -30,7 +31,13 @@ abbrev pub Traces : CallerLines → Driver → Driver → Type 0
 Traces lines old new = (start : OwnerView) (done : List Step) →
     IsTracing start lines done old → IsTracing start lines done new
 
--- the same, where one step of a plan was done
+-- the caller is at work still: meanwhile it only sent and collected
+pub record OnlyWaits (lines : CallerLines) (old new : Driver) : Type 0 where
+  pub calling : IsCalling lines new
+  pub waits : Waits old new
+  pub traced : Traces lines old new
+
+-- where there was a trace before, there is one after in which one step of a plan was done
 abbrev pub TracesStep : CallerLines → Step → Driver → Driver → Type 0
 TracesStep lines step old new = (start : OwnerView) (done : List Step) →
     IsTracing start lines done old → IsTracing start lines (done ++ step ∷ []) new

@@ -4,8 +4,8 @@ ghost use Rattle.std.specs.Prelude.{◌≡◌, ℕ, List, [], None, OnOk, All, t
 ghost use Rattle.act_rules.specs.Plans.{first_bad};
 ghost use Rattle.act_rules.specs.Submissions.{copies_held};
 ghost use Rattle.act_handles.specs.Handles.{actors_in, copies_in};
-ghost use Rattle.act_drive.specs.Driven.{IsCalling, FollowsSteps, Stays, Waits, OnlyReleases, IsFreshCaller, HasDone, HasEndedAt, HasDriven};
-ghost use Rattle.act_drive.specs.Tracing.{Traces, TracesClosing, TracesPlan, TracesWhole};
+ghost use Rattle.act_drive.specs.Driven.{IsCalling, FollowsSteps, Stays, OnlyReleases, IsFreshCaller, DoesWhole, HaveEnded, HasDriven};
+ghost use Rattle.act_drive.specs.Tracing.{OnlyWaits, TracesClosing, TracesPlan, TracesWhole};
 
 use crate::driver::{CallerLines, CallerPasses, Driver};
 use act_mailbox::{NoNotes, Notes};
@@ -51,9 +51,7 @@ impl Driver {
         notes: &mut N,
     ) -> Result<(), NoMemory>
         requires calling { IsCalling lines.now self.old }
-        ensures calling { IsCalling lines.now self.new }
-        ensures waits { Waits self.old self.new }
-        ensures traced { Traces lines.now self.old self.new }
+        ensures only_waits { OnlyWaits lines.now self.old self.new }
     {
         if *since < STEPS_BETWEEN_TURNS - 1 {
             *since += 1;
@@ -140,9 +138,7 @@ impl Driver {
         requires calling { IsCalling lines.now self.old }
         ensures calling { IsCalling lines.now self.new }
         ensures stays { Stays self.old self.new }
-        ensures done { OnOk result ((actors : List ℕ) → first_bad actors plan.items ≡ None →
-            FollowsSteps lines.now actors [] self.old →
-            HasDone lines.now actors plan.items self.new.owner self.new.passes) }
+        ensures done { OnOk result (DoesWhole lines.now plan.items self.old self.new) }
         ensures traced { OnOk result (TracesWhole lines.now plan.items self.old self.new) }
     {
         self.reserve(plan.as_slice())?;
@@ -166,11 +162,8 @@ impl Driver {
         requires calling { IsCalling lines.now self.old }
         ensures calling { IsCalling lines.now self.new }
         ensures stays { Stays self.old self.new }
-        ensures done { result ≡ false → (actors : List ℕ) → first_bad actors plan.items ≡ None →
-            FollowsSteps lines.now actors [] self.old →
-            HasDone lines.now actors plan.items self.new.owner self.new.passes }
-        ensures ended { result ≡ true →
-            All (HasEndedAt lines.now.controls.now self.new.owner self.new.passes) self.new.passes.kills.items }
+        ensures done { result ≡ false → DoesWhole lines.now plan.items self.old self.new }
+        ensures ended { result ≡ true → HaveEnded lines.now self.new.owner self.new.passes }
         ensures traced { result ≡ false → TracesWhole lines.now plan.items self.old self.new }
     {
         match self.whole(rt, alloc, lines, plan, notes) {

@@ -1,10 +1,9 @@
 //! A caller's thread that runs code of its own.
 
-ghost use Rattle.std.specs.Prelude.{◌≡◌, ℕ, List, [], All, OnOk, true, false};
-ghost use Rattle.act_rules.specs.declared.script.Step.{Step as AStep};
+ghost use Rattle.std.specs.Prelude.{◌≡◌, [], OnOk, true, false};
 ghost use Rattle.act_drive.specs.declared.driver.CallerLines.{CallerLines as SomeLines};
 ghost use Rattle.act_drive.specs.declared.driver.Driver.{Driver as ADriver};
-ghost use Rattle.act_drive.specs.Driven.{IsCalling, FollowsSteps, Stays, IsFreshCaller, HasDone, HasEndedAt};
+ghost use Rattle.act_drive.specs.Driven.{IsCalling, FollowsSteps, Stays, IsFreshCaller, EndsSteps, HaveEnded};
 ghost use Rattle.act_drive.specs.Coded.{HasRunCode};
 ghost use Rattle.act_drive.specs.Lent.{HasDrivenCode};
 ghost use Rattle.act_drive.specs.Tracing.{TracesClosing};
@@ -38,9 +37,7 @@ impl Driver {
         ensures calling { IsCalling lines.now self.new }
         ensures stays { Stays self.old self.new }
         ensures calls { OnOk result (self.new.owner.calls ≡ self.old.owner.calls) }
-        ensures done { OnOk result
-            ((actors : List ℕ) (steps : List AStep) → FollowsSteps lines.now actors steps self.old →
-            HasDone lines.now actors steps self.new.owner self.new.passes) }
+        ensures done { OnOk result (EndsSteps lines.now self.old self.new) }
         ensures traced { OnOk result (TracesClosing lines.now self.old self.new) }
     {
         // What is ready is posted before the notes of the last handles.
@@ -64,11 +61,8 @@ impl Driver {
         ensures stays { Stays self.old self.new }
         ensures given_up { result ≡ false → has_given_up ≡ false }
         ensures calls { result ≡ false → self.new.owner.calls ≡ self.old.owner.calls }
-        ensures done { result ≡ false → (actors : List ℕ) (steps : List AStep) →
-            FollowsSteps lines.now actors steps self.old →
-            HasDone lines.now actors steps self.new.owner self.new.passes }
-        ensures ended { result ≡ true →
-            All (HasEndedAt lines.now.controls.now self.new.owner self.new.passes) self.new.passes.kills.items }
+        ensures done { result ≡ false → EndsSteps lines.now self.old self.new }
+        ensures ended { result ≡ true → HaveEnded lines.now self.new.owner self.new.passes }
         ensures traced { result ≡ false → TracesClosing lines.now self.old self.new }
     {
         if !has_given_up && self.wind_up(rt, alloc, lines).is_ok() {

@@ -6,7 +6,7 @@ ghost use Rattle.act_rules.specs.Submissions.{kept_at};
 ghost use Rattle.act_drive.specs.Driven.{IsCalling, Waits, IsApart, IsAtEndpoint, actor_of_letter, is_note_letter};
 ghost use Rattle.act_drive.specs.Parts.{IsHeard};
 ghost use Rattle.act_drive.specs.CallerTraces.{caller_clock};
-ghost use Rattle.act_drive.specs.Tracing.{Traces};
+ghost use Rattle.act_drive.specs.Tracing.{OnlyWaits, Traces};
 
 use act_mailbox::{
     Control, ControlCaller, Endpoint, IdleBackoff, Letter, Mail, MailCaller, Mark, Notes, Replies,
@@ -115,10 +115,8 @@ impl Driver {
     /// Collects a notice, if there is one.
     pub(crate) fn collect<N: Notes>(&mut self, lines: &CallerLines, notes: &mut N) -> bool
         requires calling { IsCalling lines.now self.old }
-        ensures calling { IsCalling lines.now self.new }
-        ensures waits { Waits self.old self.new }
+        ensures only_waits { OnlyWaits lines.now self.old self.new }
         ensures heard { IsHeard self.old self.new }
-        ensures traced { Traces lines.now self.old self.new }
     {
         match lines.replies.try_collect(&mut self.passes.collects) {
             None => false,
@@ -149,9 +147,7 @@ impl Driver {
     /// Posts what is in the outbox, unless its actor is known dead. A full line leaves it there.
     pub(crate) fn send<R: Wait>(&mut self, rt: &R, lines: &CallerLines) -> bool
         requires calling { IsCalling lines.now self.old }
-        ensures calling { IsCalling lines.now self.new }
-        ensures waits { Waits self.old self.new }
-        ensures traced { Traces lines.now self.old self.new }
+        ensures only_waits { OnlyWaits lines.now self.old self.new }
     {
         self.send_at::<Brand, R>(rt, lines)
     }
@@ -198,9 +194,7 @@ impl Driver {
         notes: &mut N,
     ) -> Result<bool, NoMemory>
         requires calling { IsCalling lines.now self.old }
-        ensures calling { IsCalling lines.now self.new }
-        ensures waits { Waits self.old self.new }
-        ensures traced { Traces lines.now self.old self.new }
+        ensures only_waits { OnlyWaits lines.now self.old self.new }
     {
         self.take_up(alloc, notes)?;
         Ok(self.send(rt, lines))
@@ -215,9 +209,7 @@ impl Driver {
         notes: &mut N,
     ) -> Result<bool, NoMemory>
         requires calling { IsCalling lines.now self.old }
-        ensures calling { IsCalling lines.now self.new }
-        ensures waits { Waits self.old self.new }
-        ensures traced { Traces lines.now self.old self.new }
+        ensures only_waits { OnlyWaits lines.now self.old self.new }
     {
         for sent in 0..MAX_IN_A_TURN {
             if !self.send_next(rt, alloc, lines, notes)? {
@@ -230,9 +222,7 @@ impl Driver {
     /// Collects notices while there are some. Whether any came.
     fn collect_some<N: Notes>(&mut self, lines: &CallerLines, notes: &mut N) -> bool
         requires calling { IsCalling lines.now self.old }
-        ensures calling { IsCalling lines.now self.new }
-        ensures waits { Waits self.old self.new }
-        ensures traced { Traces lines.now self.old self.new }
+        ensures only_waits { OnlyWaits lines.now self.old self.new }
     {
         for heard in 0..MAX_IN_A_TURN {
             if !self.collect(lines, notes) {
@@ -251,9 +241,7 @@ impl Driver {
         notes: &mut N,
     ) -> Result<bool, NoMemory>
         requires calling { IsCalling lines.now self.old }
-        ensures calling { IsCalling lines.now self.new }
-        ensures waits { Waits self.old self.new }
-        ensures traced { Traces lines.now self.old self.new }
+        ensures only_waits { OnlyWaits lines.now self.old self.new }
     {
         let has_sent = self.send_some(rt, alloc, lines, notes)?;
         let has_heard = self.collect_some(lines, notes);
@@ -270,9 +258,7 @@ impl Driver {
         notes: &mut N,
     ) -> Result<(), NoMemory>
         requires calling { IsCalling lines.now self.old }
-        ensures calling { IsCalling lines.now self.new }
-        ensures waits { Waits self.old self.new }
-        ensures traced { Traces lines.now self.old self.new }
+        ensures only_waits { OnlyWaits lines.now self.old self.new }
     {
         let has_moved = self.turn(rt, alloc, lines, notes)?;
         rest(idle_backoff, has_moved);
@@ -282,10 +268,8 @@ impl Driver {
     /// Goes on when nothing is in the outbox.
     pub(crate) fn clear<R: Wait, N: Notes>(&mut self, rt: &R, lines: &CallerLines, notes: &mut N)
         requires calling { IsCalling lines.now self.old }
-        ensures calling { IsCalling lines.now self.new }
-        ensures waits { Waits self.old self.new }
+        ensures only_waits { OnlyWaits lines.now self.old self.new }
         ensures empty { self.new.outbox ≡ None }
-        ensures traced { Traces lines.now self.old self.new }
     {
         let mut idle_backoff = IdleBackoff::new();
         for _ in rt.forever() {
@@ -309,11 +293,9 @@ impl Driver {
         notes: &mut N,
     ) -> Result<(), NoMemory>
         requires calling { IsCalling lines.now self.old }
-        ensures calling { IsCalling lines.now self.new }
-        ensures waits { Waits self.old self.new }
+        ensures only_waits { OnlyWaits lines.now self.old self.new }
         ensures answered { OnOk result (is_some (kept_at self.new.owner.kept k) ≡ true) }
         ensures kept { is_some (kept_at self.old.owner.kept k) ≡ true → result ≡ Ok tt }
-        ensures traced { Traces lines.now self.old self.new }
     {
         let mut idle_backoff = IdleBackoff::new();
         for _ in rt.forever() {
@@ -334,11 +316,9 @@ impl Driver {
         notes: &mut N,
     ) -> Result<(), NoMemory>
         requires calling { IsCalling lines.now self.old }
-        ensures calling { IsCalling lines.now self.new }
-        ensures waits { Waits self.old self.new }
+        ensures only_waits { OnlyWaits lines.now self.old self.new }
         ensures answered { OnOk result (list_all is_some self.new.owner.kept ≡ true) }
         ensures empty { OnOk result (self.new.outbox ≡ None) }
-        ensures traced { Traces lines.now self.old self.new }
     {
         let mut idle_backoff = IdleBackoff::new();
         for _ in rt.forever() {

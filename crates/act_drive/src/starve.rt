@@ -1,11 +1,11 @@
 //! A caller that was refused memory: it asks for the end of its actors, and takes no more memory.
 
-ghost use Rattle.std.specs.Prelude.{◌≡◌, ℕ, ◌<◌, length, slice_index_or, true, All};
+ghost use Rattle.std.specs.Prelude.{◌≡◌, ℕ, ◌<◌, length, slice_index_or, true};
 ghost use Rattle.act_mailbox.specs.Passes.{PutterView};
 ghost use Rattle.act_mailbox.specs.declared.control.Asked.{Asked};
 ghost use Rattle.act_mailbox.specs.declared.endpoint.Endpoint.{Endpoint};
 ghost use Rattle.act_drive.specs.declared.driver.CallerLines.{CallerLines};
-ghost use Rattle.act_drive.specs.Driven.{IsCalling, IsAtKillEndpoint, Stays, IsThrough, HasEndedAt};
+ghost use Rattle.act_drive.specs.Driven.{IsCalling, IsAtKillEndpoint, Stays, IsThrough, HasEndedAt, HaveEnded};
 
 use crate::driver::{CallerLines, Driver, rest};
 use act_mailbox::{IdleBackoff, Notes};
@@ -83,8 +83,7 @@ impl Driver {
         requires calling { IsCalling lines.now self.old }
         ensures calling { IsCalling lines.now self.new }
         ensures stays { Stays self.old self.new }
-        ensures through { result ≡ true →
-            All (HasEndedAt lines.now.controls.now self.new.owner self.new.passes) self.new.passes.kills.items }
+        ensures through { result ≡ true → HaveEnded lines.now self.new.owner self.new.passes }
     {
         let mut is_through = true;
         for at in 0..self.passes.kills.len() {
@@ -99,7 +98,7 @@ impl Driver {
         requires calling { IsCalling lines.now self.old }
         ensures calling { IsCalling lines.now self.new }
         ensures stays { Stays self.old self.new }
-        ensures through { All (HasEndedAt lines.now.controls.now self.new.owner self.new.passes) self.new.passes.kills.items }
+        ensures through { HaveEnded lines.now self.new.owner self.new.passes }
     {
         let mut idle_backoff = IdleBackoff::new();
         let mut asked = [false; ACTOR_NUMBERS];

@@ -7,7 +7,7 @@ ghost use Rattle.act_handles.specs.Handles.{copy_answer, with_copy};
 ghost use Rattle.act_owner.specs.Owner.{refusal_to_submit, with_submission, with_handles};
 ghost use Rattle.act_drive.specs.declared.driver.CallerLines.{CallerLines};
 ghost use Rattle.act_drive.specs.Driven.{IsCalling, Stays, Waits};
-ghost use Rattle.act_drive.specs.Tracing.{Traces, TracesStep};
+ghost use Rattle.act_drive.specs.Tracing.{OnlyWaits, Traces, TracesStep};
 ghost use Rattle.act_drive.specs.Sessions.{session_view, call_refusal, use_refusal, Submits};
 ghost use Rattle.act_drive.specs.Lent.{Does};
 
@@ -53,12 +53,10 @@ impl Driver {
         args: &ListOf<Arg>,
     ) -> Result<(), NoMemory>
         requires calling { IsCalling lines.now self.old }
-        ensures calling { IsCalling lines.now self.new }
-        ensures waits { Waits self.old self.new }
+        ensures only_waits { OnlyWaits lines.now self.old self.new }
         ensures room { OnOk result (refusal_to_submit self.new.owner a args.now ≢ Some PendingLimit) }
         ensures full { OnErr result (call_refusal (session_view self.old.owner) a args.now ≡ None) }
         ensures same { (self.new ≡ self.old) ⊎ (call_refusal (session_view self.old.owner) a args.now ≡ None) }
-        ensures traced { Traces lines.now self.old self.new }
     {
         if self.has_room(a, args) {
             return Ok(());

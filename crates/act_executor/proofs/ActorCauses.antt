@@ -19,12 +19,12 @@ use Rattle.act_rules.specs.History.{ActorSpec, contains, names}
 use Rattle.act_rules.specs.RunList.{items_of}
 use Rattle.act_rules.specs.Submissions.{calls_to}
 use Rattle.act_rules.proofs.Lists.{whole_front}
-use Rattle.act_causes.specs.Deeds.{Deed, TookNote, IsSentCall, IsLastNote, HasRunAllCalls, IsCaused, owner_after, is_ended_by, is_end_of, note_for, ran_by}
+use Rattle.act_causes.specs.Deeds.{Deed, TookNote, IsSentCall, IsLastNote, HasRunAllCalls, IsCaused, owner_after, is_ended_by, is_end_of, ran_by}
 use Rattle.act_causes.specs.Merge.{deeds_of}
 use Rattle.act_causes.proofs.Unrefused.{AreUnrefused, unrefused_front, unrefused_rest, sent_known, gone_stays}
-use Rattle.act_serve.specs.ActorSteps.{ActorStep, LetterTaken, CallRun, KillTaken, DeathTold, Retirement, log_of_steps, has_died_in, has_ended_in, note_after_calls, ActorMayDo, ActorMayDoAll}
+use Rattle.act_serve.specs.ActorSteps.{ActorStep, LetterTaken, CallRun, KillTaken, DeathTold, Retirement, log_of_steps, has_died_in, has_ended_in, ActorMayDo, ActorMayDoAll}
 use Rattle.act_drive.specs.CallerSteps.{CallerStep, ChangeMade, KillAsked, change_made, changes_made}
-use Rattle.act_serve.specs.Ends.{packet_of_item}
+use Rattle.act_actor.specs.Actor.{packet_of_item, note_after_calls}
 use Rattle.act_executor.specs.Traced.{CallerThreads, ActorThreads, opened_by, IsCallPosted, IsNotePosted, AreTraced}
 use Rattle.act_executor.proofs.Cuts.{contains_mid, contains_map, contains_filter_map, contained_in_front, shorter_front}
 use Rattle.act_executor.proofs.Threads.{deed_of_actor}
@@ -124,7 +124,7 @@ module _ (casts : List ActorSpec) (callers : CallerThreads) (actors : ActorThrea
     drained lives notes = record {
       lives = ended_is ∙ lives;
       cast = ap (λ (o : Option ActorSpec). is_some o) cast.at;
-      notes = λ c named. subst (λ (n : ℕ). Contains before (TookNote a (note_for c a n))) (sym (ran_is c))
+      notes = λ c named. subst (λ (n : ℕ). Contains before (TookNote a (note_after_calls c a n))) (sym (ran_is c))
           (own.did (LetterTaken (Note (note_after_calls c a (length (items_of c (log_of_steps (steps_in front))))))) (notes c (sym (named_is c) ∙ named)));
     }
 

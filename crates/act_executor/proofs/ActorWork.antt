@@ -7,8 +7,8 @@ use Rattle.act_rules.specs.RunList.{items_of, has_terminated}
 use Rattle.act_rules.specs.History.{contains}
 use Rattle.act_mailbox.specs.declared.mail.Letter.TheVariants.{Call, Note}
 use Rattle.act_mailbox.specs.Mails.{caller_of}
-use Rattle.act_serve.specs.Served.{packet_of_item}
-use Rattle.act_serve.specs.ActorSteps.{ActorStep, LetterTaken, CallRun, KillTaken, DeathTold, Retirement, call_run, is_kill_step, is_retirement, log_of_steps, has_died_in, has_ended_in, note_after_calls, ActorMayDo, ActorMayDoAll}
+use Rattle.act_actor.specs.Actor.{packet_of_item, note_after_calls}
+use Rattle.act_serve.specs.ActorSteps.{ActorStep, LetterTaken, CallRun, KillTaken, DeathTold, Retirement, call_run, is_kill_step, is_retirement, log_of_steps, has_died_in, has_ended_in, ActorMayDo, ActorMayDoAll}
 use Rattle.act_executor.proofs.Elements.{in_from_contains, contains_from_in, in_filter}
 use Rattle.act_executor.proofs.Kept.{kept_any, kept_found, kept_more, lost_more, kept_first, lost_first}
 

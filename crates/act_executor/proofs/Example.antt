@@ -31,7 +31,8 @@ use Rattle.act_mailbox.specs.declared.control.Asked.{Asked}
 use Rattle.act_mailbox.specs.declared.mail.Letter.{Letter}
 use Rattle.act_mailbox.specs.declared.mail.Letter.TheVariants.{Call, Note}
 use Rattle.act_mailbox.specs.declared.endpoint.Endpoint.{Endpoint}
-use Rattle.act_serve.specs.Served.{Retired, end_id, packet_of_item, first_note, replies_to, deaths, caller_at}
+use Rattle.act_actor.specs.Actor.{packet_of_item}
+use Rattle.act_serve.specs.Served.{Retired, end_id, first_note, replies_to, deaths, caller_at}
 use Rattle.act_drive.specs.declared.caller.Driven.{Driven}
 use Rattle.act_drive.specs.Driven.{HasPosted, HasAsked, IsSent}
 use Rattle.act_plans.specs.Runs.{limits_naming, cast_at, plan_of}

@@ -84,7 +84,6 @@ is_posted casts callers a m n (Call packet) owner below sent left named posted =
     let no_later = posted.2 in
     record {
       to = sent.2;
-      named = named;
       stamp = posted.0;
       sent = posted.1;
       earlier = omega (arith, below, no_later);
@@ -197,7 +196,7 @@ module _ {mails : List MailView} {controls : List ControlView} {replies : List R
 
   -- ---- kills
 
-  kill_of : (a m : ℕ) (kill : Asked) (s : ServedView) (e : served_of a served ≡ Some s) (t : Thread j a s) → IsIn t.cast.cast.callers kill.asker → IsTakenFrom s.passes.kills.taken s.passes.kills.stamps kill m → IsKillAsked casts callers a m
+  kill_of : (a m : ℕ) (kill : Asked) (s : ServedView) (e : served_of a served ≡ Some s) (t : Thread j a s) → IsIn t.cast.cast.callers kill.asker → IsTakenFrom s.passes.kills.taken s.passes.kills.stamps kill m → IsKillAsked callers a m
   kill_of a m kill s e t names got =
       let c = kill.asker in
       let n = got.stamp in
@@ -210,9 +209,9 @@ module _ {mails : List MailView} {controls : List ControlView} {replies : List R
       let asked = subst (λ (b : ℕ). IsAskedAfter (deeds_of c callers) b kill n) (audit.line line) there in
       let no_later = asked.2 in
       let before = got.earlier in
-      record { caller = c; named = named_is c d found.is; stamp = asked.0; asked = asked.1; earlier = omega (arith, no_later, before) }
+      record { caller = c; stamp = asked.0; asked = asked.1; earlier = omega (arith, no_later, before) }
 
-  kill_asked : (a m : ℕ) (kill : Asked) (s : ServedView) → served_of a served ≡ Some s → IsIn {A = ℕ × ActorStep} (deeds_of a actors) (m, KillTaken kill) → IsKillAsked casts callers a m
+  kill_asked : (a m : ℕ) (kill : Asked) (s : ServedView) → served_of a served ≡ Some s → IsIn {A = ℕ × ActorStep} (deeds_of a actors) (m, KillTaken kill) → IsKillAsked callers a m
   kill_asked a m kill s e i =
       let t = thread j a s e in
       let got = (actor_found a s e).kills m kill i in
@@ -227,10 +226,10 @@ module _ {mails : List MailView} {controls : List ControlView} {replies : List R
         | inr names ↦ kill_of a m kill s e t names got
       ]
 
-  kills : (a m : ℕ) (kill : Asked) → Contains (deeds_of a actors) (m, KillTaken kill) → IsKillAsked casts callers a m
+  kills : (a m : ℕ) (kill : Asked) → Contains (deeds_of a actors) (m, KillTaken kill) → IsKillAsked callers a m
   kills a m kill has = go (served_of a served) refl
     where
-      go : (o : Option ServedView) → served_of a served ≡ o → IsKillAsked casts callers a m
+      go : (o : Option ServedView) → served_of a served ≡ o → IsKillAsked callers a m
       go None e = absurd (in_none {A = ℕ × ActorStep} (m, KillTaken kill) (subst (λ (l : List (ℕ × ActorStep)). IsIn {A = ℕ × ActorStep} l (m, KillTaken kill)) (actor_none a e) (in_from_contains (deeds_of a actors) (m, KillTaken kill) has)))
       go (Some s) e = kill_asked a m kill s e (in_from_contains (deeds_of a actors) (m, KillTaken kill) has)
 

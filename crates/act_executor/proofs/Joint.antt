@@ -25,7 +25,8 @@ use Rattle.act_mailbox.specs.Notices.{RepliesView, ReplyExecView, notice_actor}
 use Rattle.act_mailbox.specs.declared.mail.Letter.{Letter}
 use Rattle.act_mailbox.specs.declared.mail.Letter.TheVariants.{Call}
 use Rattle.act_mailbox.specs.declared.endpoint.Endpoint.{Endpoint}
-use Rattle.act_serve.specs.Served.{EndView, end_id, end_log, packet_of_item, replies_to, deaths, caller_at, IsLogOf}
+use Rattle.act_actor.specs.Actor.{packet_of_item}
+use Rattle.act_serve.specs.Served.{EndView, end_id, end_log, replies_to, deaths, caller_at, IsLogOf}
 use Rattle.act_drive.specs.declared.caller.Driven.{Driven}
 use Rattle.act_drive.specs.Driven.{IsSent, HasPosted}
 use Rattle.act_plans.specs.Runs.{cast_at, plan_of}

@@ -48,7 +48,6 @@ log_left actors a = log_of_steps (steps_in (deeds_of a actors))
 -- an actor took this call's letter later than its caller sent it, and the letter is the call's packet
 pub record IsCallPosted (casts : List ActorSpec) (callers : CallerThreads) (a m : ℕ) (packet : Packet) : Type 0 where
   pub to : packet.actor ≡ a
-  pub named : IsNamed casts packet.caller
   pub stamp : ℕ
   pub sent : Contains (deeds_of packet.caller callers) (stamp, ChangeMade (Sent packet.future))
   pub earlier : stamp < m
@@ -70,9 +69,8 @@ IsPosted casts callers a m (Call packet) = IsCallPosted casts callers a m packet
 IsPosted casts callers a m (Note note) = IsNotePosted casts callers a m note
 
 -- a caller asked the kill earlier
-pub record IsKillAsked (casts : List ActorSpec) (callers : CallerThreads) (a m : ℕ) : Type 0 where
+pub record IsKillAsked (callers : CallerThreads) (a m : ℕ) : Type 0 where
   pub caller : ℕ
-  pub named : IsNamed casts caller
   pub stamp : ℕ
   pub asked : Contains (deeds_of caller callers) (stamp, KillAsked a)
   pub earlier : stamp < m
@@ -114,7 +112,7 @@ pub record AreTraced (casts : List ActorSpec) (callers : CallerThreads) (actors 
   pub letters : (a m : ℕ) (letter : Letter) → Contains (deeds_of a actors) (m, LetterTaken letter) →
       IsPosted casts callers a m letter
   pub kills : (a m : ℕ) (kill : Asked) → Contains (deeds_of a actors) (m, KillTaken kill) →
-      IsKillAsked casts callers a m
+      IsKillAsked callers a m
   pub notices : (c m : ℕ) (notice : Notice) → Contains (deeds_of c callers) (m, ChangeMade (Noticed notice)) →
       IsNoticeGiven casts actors c m notice
 

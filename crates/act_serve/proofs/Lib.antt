@@ -6,5 +6,4 @@ pub mod Serving
 pub mod Answered
 pub mod Alone
 pub mod Nexts
-pub mod Pair
 pub mod AtOnce

@@ -22,10 +22,10 @@ use Rattle.act_rules.proofs.Lists.{eq_turned, range_push}
 use Rattle.act_rules.proofs.RunLists.{items_of-push}
 use Rattle.act_inbox.specs.Inbox.{InboxView, is_packet_of, is_listed, handed_of, was_handed, waiting_packet, waiting_after, next_of, note_of, note_after, note_arrival, has_come as came_before}
 use Rattle.act_actor.specs.View.{ActorView}
-use Rattle.act_actor.specs.Actor.{item_of, arrival_at, note_arrival_at, HasRunCall}
+use Rattle.act_actor.specs.Actor.{item_of, packet_of_item, arrival_at, note_arrival_at, HasRunCall}
 use Rattle.act_mailbox.specs.declared.mail.Letter.{Letter}
 use Rattle.act_mailbox.specs.declared.mail.Letter.TheVariants.{Call, Note}
-use Rattle.act_serve.specs.Served.{packet_of_item, IsLogOf, note_in, first_note, reply_notice, replies_to}
+use Rattle.act_serve.specs.Served.{IsLogOf, note_in, first_note, reply_notice, replies_to}
 use Rattle.act_serve.specs.Turns.{IsFed}
 
 -- two numbers are one, or they are not

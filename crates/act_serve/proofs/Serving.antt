@@ -185,10 +185,6 @@ pub none_of : {X : Type 0} (o : Option X) (P : Type 0) → IfNone o P → is_som
 none_of None P h e = h
 none_of (Some x) P h e = cc
 
-pub some_of : {X : Type 0} (o : Option X) (P : X → Type 0) → IfSome o P → is_some o ≡ true → (x : X) × P x
-some_of None P h e = cc
-some_of (Some x) P h e = (x, h)
-
 pub looked_on : (looked now long more : ℕ) → now ≡ looked_after looked long → long ≤ looked → more ≤ long + 1 → more ≤ now
 looked_on looked now long more is below within = go (tells looked long)
   where

@@ -8,6 +8,7 @@ use Rattle.std.proofs.lemmas.List.{get_or-map, length-map, map-append}
 use Rattle.std.proofs.lemmas.List.Elements.{All-set, Contains-get_or, Contains-push, Contains-append_left, Contains-append_right, Contains-append_cases, filter_map-append}
 use Rattle.std.proofs.lemmas.List.Folds.{list_any-append, list_any_at}
 use Rattle.std.proofs.lemmas.List.FromFn.{get_or-range_with_len}
+use Rattle.std.proofs.lemmas.Slice.Zip.{all_zipped_more}
 use Rattle.std.proofs.Math.Seq.{map-set_same, get_or-append_seam}
 use Rattle.act_types.specs.declared.message.Notice.{Notice}
 use Rattle.act_types.specs.declared.message.Notice.TheVariants.{Answered, Death}
@@ -18,6 +19,7 @@ use Rattle.act_rules.specs.RunList.{items_of, has_terminated}
 use Rattle.act_rules.proofs.Lists.{slice_get_more, slice_get_last}
 use Rattle.act_rules.proofs.RunLists.{items_of-push}
 use Rattle.act_actor.specs.View.{ActorView}
+use Rattle.act_actor.specs.Actor.{packet_of_item, note_after_calls}
 use Rattle.act_mailbox.specs.declared.control.Asked.{Asked}
 use Rattle.act_mailbox.specs.declared.endpoint.Endpoint.{Endpoint}
 use Rattle.act_mailbox.specs.declared.mail.Letter.{Letter}
@@ -27,11 +29,12 @@ use Rattle.act_mailbox.specs.Notices.{RepliesView, ReplyExecView}
 use Rattle.act_mailbox.specs.Passes.{TakerView}
 use Rattle.act_mailbox.specs.Traces.{steps_in, found_in, AreTakenLater}
 use Rattle.act_serve.specs.declared.endpoint.ExecPasses.{ExecPasses}
-use Rattle.act_serve.specs.ActorSteps.{ActorStep, LetterTaken, CallRun, KillTaken, DeathTold, Retirement, letter_taken, call_run, kill_taken, is_kill_step, is_retirement, log_of_steps, has_died_in, has_ended_in, note_after_calls, ActorMayDo, ActorMayDoAll}
+use Rattle.act_serve.specs.ActorSteps.{ActorStep, LetterTaken, CallRun, KillTaken, DeathTold, Retirement, letter_taken, call_run, kill_taken, is_kill_step, is_retirement, log_of_steps, has_died_in, has_ended_in, ActorMayDo, ActorMayDoAll}
 use Rattle.act_serve.specs.ActorTraces.{exec_clock, IsGivenAfter, IsActorTrace}
-use Rattle.act_serve.specs.Served.{packet_of_item, caller_at, endpoint_callers, IsLogOf, first_note, IsUntaken, KillsOfDead}
+use Rattle.act_serve.specs.Served.{caller_at, endpoint_callers, IsLogOf, first_note, IsUntaken, KillsOfDead}
 use Rattle.act_serve.specs.Turns.{HasReplied, IsFreshExec, IsTracedSoFar, replied_to, with_death_given}
-use Rattle.act_serve.proofs.Clocks.{contains_tail, contains_head, contains_map, all_zip_push, all_zip_weaker, all_zip_set, all_zip_map, flat_within, clock_taken, clock_within, found_alone, found_more, found_one, steps_more, contains_of_found, timed_push, timed_all, part_one, part_none, later_one, later_none, found_nothing}
+use Rattle.act_mailbox.proofs.Clocks.{all_zip_weaker, found_alone, found_more, found_one, steps_more, timed_push, part_one, part_none, later_one, later_none}
+use Rattle.act_serve.proofs.Clocks.{contains_tail, contains_head, contains_map, all_zip_set, all_zip_map, flat_within, clock_taken, clock_within, contains_of_found, timed_all, found_nothing}
 
 abbrev Trace : Type 0
 Trace = List (ℕ × ActorStep)
@@ -227,7 +230,7 @@ module _ (lines : List RepliesView) (callers : List ℕ) (letters : List Letter)
         let was : GivenAt lines trace endpoint = subst (GivenAt lines trace) (here endpoint) (before at endpoint below) in
         subst (λ (l : List (Endpoint ReplyExecView)). All (GivenAt lines trace) l) (sym gave)
         (All-set (GivenAt lines trace) passes.notices.items at given_endpoint
-        (all_zip_push (IsGivenAfter trace (caller_at lines endpoint.place)) endpoint.pass.given endpoint.pass.stamps (Answered reply) (exec_clock passes) was (exec_clock passes, ran.item, ran_there, omega arith)) before)
+        (all_zipped_more (IsGivenAfter trace (caller_at lines endpoint.place)) endpoint.pass.given endpoint.pass.stamps (Answered reply) (exec_clock passes) was (exec_clock passes, ran.item, ran_there, omega arith)) before)
 
     ran_on : IsTracedSoFar old.id lines (old.log ++ ran.item ∷ []) more
     ran_on = record {
@@ -373,7 +376,7 @@ module _ (a : ℕ) (lines : List RepliesView) (log : List RunItem) (passes more 
       (contains_map (λ (y : Endpoint ReplyExecView). (exec_clock passes, death_to lines y)) passes.notices.items x (Contains-get_or passes.notices.items k d below)) in
       let was : GivenAt lines told_trace x = all_given_more lines t.trace (map (λ (y : Endpoint ReplyExecView). (exec_clock passes, death_to lines y)) passes.notices.items) passes.notices.items t.steps.given k d below in
       subst (GivenAt lines told_trace) (sym (get_or-map (with_death_given a log (exec_clock passes)) passes.notices.items k d d below))
-      (all_zip_push (IsGivenAfter told_trace c) x.pass.given x.pass.stamps (Death a) (exec_clock passes) was (exec_clock passes, there, omega arith))
+      (all_zipped_more (IsGivenAfter told_trace c) x.pass.given x.pass.stamps (Death a) (exec_clock passes) was (exec_clock passes, there, omega arith))
 
   told_steps : IsActorTrace a lines log more told_trace
   told_steps = record {

@@ -1,14 +1,13 @@
 -- What an actor's thread does, and what it may do after what it did.
 use Rattle.std.specs.Prelude.{◌≡◌, ℕ, ◌||◌, Bool, true, false, List, [], ◌∷◌, ◌++◌, length, filter_map, Option, Some, None, Contains}
 use Rattle.std.specs.List.{list_any}
-use Rattle.act_types.specs.declared.message.ReleaseNote.{ReleaseNote}
 use Rattle.act_rules.specs.declared.history.RunItem.{RunItem}
 use Rattle.act_rules.specs.RunList.{items_of, has_terminated}
 use Rattle.act_rules.specs.History.{contains}
+use Rattle.act_actor.specs.Actor.{packet_of_item, note_after_calls}
 use Rattle.act_mailbox.specs.declared.control.Asked.{Asked}
 use Rattle.act_mailbox.specs.declared.mail.Letter.{Letter}
 use Rattle.act_mailbox.specs.declared.mail.Letter.TheVariants.{Call, Note}
-use Rattle.act_serve.specs.Ends.{packet_of_item}
 
 -- what an actor's thread does in one step
 pub data ActorStep : Type 0 where
@@ -65,10 +64,6 @@ has_died_in steps = list_any is_kill_step steps || has_terminated (log_of_steps 
 
 abbrev pub has_ended_in : List ActorStep → Bool
 has_ended_in steps = has_died_in steps || list_any is_retirement steps
-
--- the note that a caller let its last handle of the actor go, after so many calls
-abbrev pub note_after_calls : ℕ → ℕ → ℕ → ReleaseNote
-note_after_calls c a count = record { caller = c; actor = a; after = count }
 
 -- after these steps the actor, whose cast names these callers, may do this one: it runs a call that it took and that is
 -- its caller's next, tells its death where it died, and retires where it ran as many calls as each caller's note says

@@ -1,7 +1,6 @@
 -- How an actor ended, and what its log and its executor's endpoints name.
 use Rattle.std.specs.Prelude.{ℕ, List, map, slice_index_or}
 use Rattle.act_types.specs.KindState.{KindState}
-use Rattle.act_types.specs.declared.message.Packet.{Packet}
 use Rattle.act_rules.specs.declared.history.RunItem.{RunItem}
 use Rattle.act_actor.specs.View.{DeadView, RetiredView}
 use Rattle.act_actor.specs.StateViews.{retired_view}
@@ -29,17 +28,6 @@ abbrev pub end_log : EndView → List RunItem
 end_log (Killed dead) = dead.log
 end_log (Retired retired) = retired.log
 end_log (Starved dead) = dead.log
-
--- the packet that an item of an actor's log was
-abbrev pub packet_of_item : ℕ → RunItem → Packet
-packet_of_item a item = record {
-  caller = item.caller;
-  actor = a;
-  number = item.number;
-  future = item.future;
-  method = item.method;
-  args = item.args;
-}
 
 -- the caller whose line stands at a place
 abbrev pub caller_at : List RepliesView → ℕ → ℕ

@@ -10,6 +10,7 @@ use Rattle.act_rules.specs.declared.history.RunItem.{RunItem}
 use Rattle.act_rules.specs.RunList.{Answer, state_after, answer_at, answers_from, items_of, has_terminated, NothingFollowsAnEnd}
 use Rattle.act_rules.specs.History.{contains}
 use Rattle.act_actor.specs.View.{RetiredView}
+use Rattle.act_actor.specs.Actor.{packet_of_item}
 use Rattle.act_mailbox.specs.declared.control.Asked.{Asked}
 use Rattle.act_mailbox.specs.declared.mail.Letter.{Letter}
 use Rattle.act_mailbox.specs.declared.mail.Letter.TheVariants.{Call, Note}
@@ -17,7 +18,7 @@ use Rattle.act_mailbox.specs.Controls.{ControlExecView}
 use Rattle.act_mailbox.specs.Notices.{RepliesView, ReplyExecView}
 use Rattle.act_mailbox.specs.declared.endpoint.Endpoint.{Endpoint}
 use Rattle.act_serve.specs.declared.endpoint.ExecPasses.{ExecPasses}
-pub use Rattle.act_serve.specs.Ends.{EndView, Killed, Retired, Starved, end_view, end_id, end_log, packet_of_item, caller_at, endpoint_callers}
+pub use Rattle.act_serve.specs.Ends.{EndView, Killed, Retired, Starved, end_view, end_id, end_log, caller_at, endpoint_callers}
 use Rattle.act_serve.specs.ActorTraces.{IsActorTraced}
 
 -- the log's items are calls of letters, each of a listed caller, and each caller's are numbered from 0 on

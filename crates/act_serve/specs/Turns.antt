@@ -1,5 +1,5 @@
 -- What the parts of an actor's turn stand on, and what they leave.
-use Rattle.std.specs.Prelude.{◌≡◌, ◌≢◌, ℕ, ◌+◌, ◌<◌, ◌≤◌, ◌==◌, Bool, true, false, List, [], ◌∷◌, ◌++◌, length, position, slice_index_or, Some, is_some, All, AllPairs, Contains}
+use Rattle.std.specs.Prelude.{◌≡◌, ◌≢◌, ℕ, ◌+◌, ◌<◌, ◌≤◌, ◌==◌, Bool, true, false, List, [], ◌∷◌, ◌++◌, length, map, position, slice_index_or, Some, is_some, All, AllPairs, Contains}
 use Rattle.std.specs.List.{list_any}
 use Rattle.atomic_table.specs.Seated.{TableId}
 use Rattle.act_types.specs.KindState.{KindState}
@@ -25,7 +25,7 @@ use Rattle.act_serve.specs.declared.endpoint.ExecLines.{ExecLines}
 use Rattle.act_serve.specs.declared.endpoint.ExecPasses.{ExecPasses}
 use Rattle.act_serve.specs.ActorSteps.{ActorStep, is_kill_step, is_retirement}
 use Rattle.act_serve.specs.ActorTraces.{IsActorTrace}
-use Rattle.act_serve.specs.Served.{IsLogOf, first_note, replies_to, caller_at, endpoint_callers, KillsOfDead}
+use Rattle.act_serve.specs.Served.{IsLogOf, first_note, replies_to, caller_at, endpoint_callers, KillsOfDead, without_given}
 
 -- a pass is of the line at its place, and gave only what this actor's log shows
 pub record IsAtItsEndpoint (lines : List RepliesView) (actor : ℕ) (log : List RunItem)
@@ -39,6 +39,21 @@ pub record IsAtItsEndpoint (lines : List RepliesView) (actor : ℕ) (log : List 
 -- no caller has two endpoints
 abbrev pub EndpointsDiffer : List RepliesView → List (Endpoint ReplyExecView) → Type 0
 EndpointsDiffer lines endpoints = AllPairs (λ one other. one ≢ other) (endpoint_callers lines endpoints)
+
+-- the passes are of the lines at their places, for this actor, and no caller has two
+pub record EndpointsFit (lines : List RepliesView) (actor : ActorView) (passes : ExecPasses) : Type 0 where
+  pub at_places : All (IsAtItsEndpoint lines actor.id actor.log) passes.notices.items
+  pub differ : EndpointsDiffer lines passes.notices.items
+
+-- the passes of the same lines fit the actor as it is now
+pub record EndpointsStay (lines : List RepliesView) (actor : ActorView) (before after : ExecPasses) : Type 0 where
+  pub at_places : All (IsAtItsEndpoint lines actor.id actor.log) after.notices.items
+  pub stay : map without_given after.notices.items ≡ map without_given before.notices.items
+
+-- letters were taken, and no kill
+pub record TakesLetters (before after : ExecPasses) : Type 0 where
+  pub letters : after.letters ≡ record before.letters { taken = after.letters.taken; stamps = after.letters.stamps }
+  pub kills : after.kills ≡ before.kills
 
 -- the passes are of these lines, and an actor with this name and log may go on with them
 pub record PassesFit (mail control : TableId) (replies : List RepliesView) (actor : ℕ) (log : List RunItem)
@@ -127,6 +142,12 @@ pub record IsServing (opening : KindState) (callers : List ℕ) (lines : List Re
   pub follows : HasRunFrom opening actor
   pub given : All (HasReplies opening lines actor.id actor.log) endpoints
 
+-- whatever actor served these callers serves them after a turn
+abbrev pub KeepsServing : List RepliesView → ActorView → ActorView → ExecPasses → ExecPasses → Type 0
+KeepsServing lines old new before after = (opening : KindState) (callers : List ℕ) →
+    IsServing opening callers lines before.letters.taken old before.notices.items →
+    IsServing opening callers lines after.letters.taken new after.notices.items
+
 -- the actor, which did not terminate, ran a call of the caller, and this is its reply
 pub record HasReplied (caller : ℕ) (reply : Reply) (old new : ActorView) : Type 0 where
   pub lived : has_terminated old.log ≡ false
@@ -190,3 +211,9 @@ pub record IsTracedSoFar (a : ℕ) (lines : List RepliesView) (log : List RunIte
 abbrev pub KeepsTrace : List RepliesView → ActorView → ActorView → ExecPasses → ExecPasses → Type 0
 KeepsTrace lines old new before after = IsTracedSoFar old.id lines old.log before
     → IsTracedSoFar new.id lines new.log after
+
+-- the same of an actor that served some callers and did not terminate
+abbrev pub TracesTurn : List RepliesView → ActorView → ActorView → ExecPasses → ExecPasses → Type 0
+TracesTurn lines old new before after = (opening : KindState) (callers : List ℕ) →
+    IsServing opening callers lines before.letters.taken old before.notices.items →
+    has_terminated old.log ≡ false → KeepsTrace lines old new before after

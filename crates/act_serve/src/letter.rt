@@ -3,14 +3,12 @@
 
 ghost use Rattle.std.specs.Prelude.{◌≡◌, ℕ, ◌<◌, List, [], ◌∷◌, ◌++◌, false, length, map, position, Some, All, IfOk, OnErr, OnOk, IfSome};
 ghost use Rattle.act_types.specs.KindState.{KindState};
-ghost use Rattle.act_rules.specs.RunList.{has_terminated};
 ghost use Rattle.act_mailbox.specs.declared.mail.Letter.{Letter};
 ghost use Rattle.act_mailbox.specs.declared.mail.Letter.TheVariants.{Call};
 ghost use Rattle.act_actor.specs.Actor.{RunsAtOnce, with_packet};
 ghost use Rattle.act_actor.specs.StateViews.{live_view};
-ghost use Rattle.act_serve.specs.Turns.{IsAtItsEndpoint, EndpointsDiffer, HasReplied, ActorGoesOn, IsFed, IsIn, IsServing, HasCome, KeepsTrace, is_endpoint_of};
+ghost use Rattle.act_serve.specs.Turns.{EndpointsFit, EndpointsStay, TakesLetters, HasReplied, ActorGoesOn, IsFed, IsIn, IsServing, KeepsServing, HasCome, KeepsTrace, TracesTurn, is_endpoint_of};
 ghost use Rattle.act_serve.specs.declared.letter.Received.TheVariants.{Nothing};
-ghost use Rattle.act_serve.specs.Served.{without_given};
 
 use crate::endpoint::{ExecLines, ExecPasses};
 use crate::gate::{Passed, pass_gate};
@@ -106,13 +104,8 @@ fn take_call<R: Wait, K: Actor, F: Fn(ActorId, u32), N: Notes>(
     notes: &mut N,
 ) -> Result<Received, NoMemory>
     requires callable { F.IsAlwaysCallable pass.now }
-    requires endpoints { All
-        (IsAtItsEndpoint replies.now (live_view K.state live.old).id
-        (live_view K.state live.old).log) passes.old.notices.items }
-    requires differ { EndpointsDiffer replies.now passes.old.notices.items }
-    ensures endpoints { All (IsAtItsEndpoint replies.now (live_view K.state live.new).id
-        (live_view K.state live.new).log) passes.new.notices.items }
-    ensures stay { map without_given passes.new.notices.items ≡ map without_given passes.old.notices.items }
+    requires fit { EndpointsFit replies.now (live_view K.state live.old) passes.old }
+    ensures endpoints { EndpointsStay replies.now (live_view K.state live.new) passes.old passes.new }
     ensures on { ActorGoesOn (live_view K.state live.old) (live_view K.state live.new) }
     ensures taken { (passes.new.letters ≡ passes.old.letters) × (passes.new.kills ≡ passes.old.kills) }
     ensures came { (letters : List Letter) →
@@ -151,33 +144,18 @@ pub(crate) fn take_letter<R: Wait, K: Actor, F: Fn(ActorId, u32), N: Notes>(
 ) -> Result<Received, NoMemory>
     requires callable { F.IsAlwaysCallable pass.now }
     requires mail { passes.old.letters.line ≡ lines.now.mail.now.line }
-    requires endpoints { All (IsAtItsEndpoint lines.now.replies.now (live_view K.state live.old).id
-        (live_view K.state live.old).log) passes.old.notices.items }
-    requires differ { EndpointsDiffer lines.now.replies.now passes.old.notices.items }
-    ensures letters { passes.new.letters ≡ record passes.old.letters {
-      taken = passes.new.letters.taken;
-      stamps = passes.new.letters.stamps;
-    } }
-    ensures kills { passes.new.kills ≡ passes.old.kills }
+    requires fit { EndpointsFit lines.now.replies.now (live_view K.state live.old) passes.old }
+    ensures passes { TakesLetters passes.old passes.new }
     ensures still { IfOk result (λ came. came ≡ Nothing → passes.new.letters ≡ passes.old.letters) }
-    ensures endpoints { All (IsAtItsEndpoint lines.now.replies.now (live_view K.state live.new).id
-        (live_view K.state live.new).log) passes.new.notices.items }
-    ensures stay { map without_given passes.new.notices.items ≡ map without_given passes.old.notices.items }
+    ensures endpoints { EndpointsStay lines.now.replies.now (live_view K.state live.new) passes.old passes.new }
     ensures on { ActorGoesOn (live_view K.state live.old) (live_view K.state live.new) }
     ensures came { IfOk result (λ came.
         HasCome came passes.old.letters.taken passes.new.letters.taken passes.old.notices.items passes.new.notices.items
         (live_view K.state live.old) (live_view K.state live.new)) }
     ensures err { OnErr result ((live_view K.state live.new).log ≡ (live_view K.state live.old).log) }
-    ensures serving { (opening : KindState) (callers : List ℕ) →
-        IsServing opening callers lines.now.replies.now passes.old.letters.taken
-        (live_view K.state live.old) passes.old.notices.items →
-        IsServing opening callers lines.now.replies.now passes.new.letters.taken
-        (live_view K.state live.new) passes.new.notices.items }
-    ensures traced { (opening : KindState) (callers : List ℕ) →
-        IsServing opening callers lines.now.replies.now passes.old.letters.taken
-        (live_view K.state live.old) passes.old.notices.items →
-        has_terminated (live_view K.state live.old).log ≡ false →
-        KeepsTrace lines.now.replies.now (live_view K.state live.old) (live_view K.state live.new)
+    ensures serving { KeepsServing lines.now.replies.now (live_view K.state live.old) (live_view K.state live.new)
+        passes.old passes.new }
+    ensures traced { TracesTurn lines.now.replies.now (live_view K.state live.old) (live_view K.state live.new)
         passes.old passes.new }
 {
     match lines.mail.try_take(&mut passes.letters) {

@@ -10,9 +10,9 @@ ghost use Rattle.act_rules.specs.RunList.{has_terminated};
 ghost use Rattle.act_types.specs.declared.message.Notice.TheVariants.{Answered};
 ghost use Rattle.act_mailbox.specs.Notices.{ReplyExecView, notice_actor, IsNoDeath, NamesPlace};
 ghost use Rattle.act_mailbox.specs.declared.endpoint.Endpoint.{Endpoint};
-ghost use Rattle.act_serve.specs.Turns.{IsAtItsEndpoint, EndpointsDiffer, PassesOf, HasReplied, ActorGoesOn, IsServing, IsFreshExec, has_next, HasGone, RanFirst, HasLooked, KeepsTrace, replied_to, with_death_given};
+ghost use Rattle.act_serve.specs.Turns.{IsAtItsEndpoint, EndpointsFit, EndpointsStay, TakesLetters, PassesOf, HasReplied, ActorGoesOn, IsServing, KeepsServing, IsFreshExec, has_next, HasGone, RanFirst, HasLooked, KeepsTrace, TracesTurn, replied_to, with_death_given};
 ghost use Rattle.act_serve.specs.declared.turn.Turn.TheVariants.{Moved, Idle, Starved};
-ghost use Rattle.act_serve.specs.Served.{without_given, end_view, IsUntaken, HasServed};
+ghost use Rattle.act_serve.specs.Served.{end_view, IsUntaken, HasServed};
 
 use crate::endpoint::{Ended, ExecLines, ExecPasses, Finished};
 use crate::gate::{Gate, Passed, pass_gate};
@@ -136,13 +136,8 @@ fn run_one<R: Wait, K: Actor, F: Fn(ActorId, u32), N: Notes>(
     notes: &mut N,
 ) -> Result<bool, NoMemory>
     requires callable { F.IsAlwaysCallable pass.now }
-    requires endpoints { All
-        (IsAtItsEndpoint replies.now (live_view K.state live.old).id
-        (live_view K.state live.old).log) passes.old.notices.items }
-    requires differ { EndpointsDiffer replies.now passes.old.notices.items }
-    ensures endpoints { All (IsAtItsEndpoint replies.now (live_view K.state live.new).id
-        (live_view K.state live.new).log) passes.new.notices.items }
-    ensures stay { map without_given passes.new.notices.items ≡ map without_given passes.old.notices.items }
+    requires fit { EndpointsFit replies.now (live_view K.state live.old) passes.old }
+    ensures endpoints { EndpointsStay replies.now (live_view K.state live.new) passes.old passes.new }
     ensures on { ActorGoesOn (live_view K.state live.old) (live_view K.state live.new) }
     ensures taken { (passes.new.letters ≡ passes.old.letters) × (passes.new.kills ≡ passes.old.kills) }
     ensures gone { IfOk result (λ ran. HasGone ran replies.now passes.old.notices.items (live_view K.state live.old)
@@ -193,17 +188,9 @@ fn take_turn<R: Wait, K: Actor, F: Fn(ActorId, u32), N: Notes>(
 ) -> Turn
     requires callable { F.IsAlwaysCallable pass.now }
     requires mail { passes.old.letters.line ≡ lines.now.mail.now.line }
-    requires endpoints { All (IsAtItsEndpoint lines.now.replies.now (live_view K.state live.old).id
-        (live_view K.state live.old).log) passes.old.notices.items }
-    requires differ { EndpointsDiffer lines.now.replies.now passes.old.notices.items }
-    ensures letters { passes.new.letters ≡ record passes.old.letters {
-      taken = passes.new.letters.taken;
-      stamps = passes.new.letters.stamps;
-    } }
-    ensures kills { passes.new.kills ≡ passes.old.kills }
-    ensures endpoints { All (IsAtItsEndpoint lines.now.replies.now (live_view K.state live.new).id
-        (live_view K.state live.new).log) passes.new.notices.items }
-    ensures stay { map without_given passes.new.notices.items ≡ map without_given passes.old.notices.items }
+    requires fit { EndpointsFit lines.now.replies.now (live_view K.state live.old) passes.old }
+    ensures passes { TakesLetters passes.old passes.new }
+    ensures endpoints { EndpointsStay lines.now.replies.now (live_view K.state live.new) passes.old passes.new }
     ensures on { ActorGoesOn (live_view K.state live.old) (live_view K.state live.new) }
     ensures moved { result ≡ Moved → length passes.old.letters.taken + length
         (live_view K.state live.old).log < length passes.new.letters.taken + length (live_view K.state live.new).log }
@@ -211,16 +198,9 @@ fn take_turn<R: Wait, K: Actor, F: Fn(ActorId, u32), N: Notes>(
     ensures idle { result ≡ Idle → (passes.new.letters ≡ passes.old.letters) ×
         HasGone false lines.now.replies.now passes.old.notices.items (live_view K.state live.old)
         (live_view K.state live.new) }
-    ensures serving { (opening : KindState) (callers : List ℕ) →
-        IsServing opening callers lines.now.replies.now passes.old.letters.taken
-        (live_view K.state live.old) passes.old.notices.items →
-        IsServing opening callers lines.now.replies.now passes.new.letters.taken
-        (live_view K.state live.new) passes.new.notices.items }
-    ensures traced { (opening : KindState) (callers : List ℕ) →
-        IsServing opening callers lines.now.replies.now passes.old.letters.taken
-        (live_view K.state live.old) passes.old.notices.items →
-        has_terminated (live_view K.state live.old).log ≡ false →
-        KeepsTrace lines.now.replies.now (live_view K.state live.old) (live_view K.state live.new)
+    ensures serving { KeepsServing lines.now.replies.now (live_view K.state live.old) (live_view K.state live.new)
+        passes.old passes.new }
+    ensures traced { TracesTurn lines.now.replies.now (live_view K.state live.old) (live_view K.state live.new)
         passes.old passes.new }
 {
     match take_letter(rt, live, lines, passes, pass, notes) {

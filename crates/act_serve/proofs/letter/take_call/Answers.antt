@@ -31,7 +31,7 @@ pub give_reply-requires-clause-endpoints : goal.give_reply-requires-clause-endpo
 give_reply-requires-clause-endpoints g c =
     let before = with_packet c.args.packet (live_view g.K.Actor.state c.args.live.now) in
     let after = live_view g.K.Actor.state c.run_now.new.live in
-    endpoints_on c.args.replies.now c.args.packet.caller c.in_ok-reply.reply before after c.args.passes.now.notices.items c.in_ok-reply.ensures.ran c.requires.endpoints
+    endpoints_on c.args.replies.now c.args.packet.caller c.in_ok-reply.reply before after c.args.passes.now.notices.items c.in_ok-reply.ensures.ran c.requires.fit.at_places
 
 pub give_reply-requires-clause-place : goal.give_reply-requires-clause-place
 give_reply-requires-clause-place g c =
@@ -46,17 +46,12 @@ returns-clause-endpoints g c =
     let replies = c.args.replies.now in
     let endpoints = c.args.passes.now.notices.items in
     let at = found replies c.args.packet.caller c.in-Some.at endpoints c.as_slice.result.now c.as_slice.ensures.value c.in-Some.ensures.endpoint in
-    subst (λ (l : List (Endpoint ReplyExecView)). All (IsAtItsEndpoint replies after.id after.log) l) (sym (c.give_reply.ensures.given at.endpoint (sym (at.here at.endpoint))))
-    (endpoints_given replies endpoints c.in-Some.at at.endpoint at.here c.in_ok-reply.reply (exec_clock c.args.passes.now) after.id after.log
-    (endpoints_on replies c.args.packet.caller c.in_ok-reply.reply before after endpoints c.in_ok-reply.ensures.ran c.requires.endpoints) at.below)
-
-pub returns-clause-stay : goal.returns-clause-stay
-returns-clause-stay g c =
-    let after = live_view g.K.Actor.state c.run_now.new.live in
-    let replies = c.args.replies.now in
-    let endpoints = c.args.passes.now.notices.items in
-    let at = found replies c.args.packet.caller c.in-Some.at endpoints c.as_slice.result.now c.as_slice.ensures.value c.in-Some.ensures.endpoint in
-    ap (map without_given) (c.give_reply.ensures.given at.endpoint (sym (at.here at.endpoint))) ∙ bare_given replies endpoints c.in-Some.at at.endpoint at.here c.in_ok-reply.reply (exec_clock c.args.passes.now) after.log
+    record {
+      at_places = subst (λ (l : List (Endpoint ReplyExecView)). All (IsAtItsEndpoint replies after.id after.log) l) (sym (c.give_reply.ensures.given at.endpoint (sym (at.here at.endpoint))))
+          (endpoints_given replies endpoints c.in-Some.at at.endpoint at.here c.in_ok-reply.reply (exec_clock c.args.passes.now) after.id after.log
+          (endpoints_on replies c.args.packet.caller c.in_ok-reply.reply before after endpoints c.in_ok-reply.ensures.ran c.requires.fit.at_places) at.below);
+      stay = ap (map without_given) (c.give_reply.ensures.given at.endpoint (sym (at.here at.endpoint))) ∙ bare_given replies endpoints c.in-Some.at at.endpoint at.here c.in_ok-reply.reply (exec_clock c.args.passes.now) after.log;
+    }
 
 pub returns-clause-on : goal.returns-clause-on
 returns-clause-on g c =
@@ -75,7 +70,7 @@ returns-clause-serving g c =
     λ opening callers letters h.
     subst (λ (l : List (Endpoint ReplyExecView)). IsServing opening callers replies (letters ++ Call packet ∷ []) after l) (sym (c.give_reply.ensures.given at.endpoint (sym (at.here at.endpoint))))
     (serving_given replies endpoints c.in-Some.at at.endpoint at.here c.in_ok-reply.reply (exec_clock c.args.passes.now) opening callers (letters ++ Call packet ∷ []) packet.caller (with_packet packet before) after
-    c.in_ok-reply.ensures.ran at.below at.mine c.requires.differ (serving_held packet before c.in-Some.ensures.at_once opening callers replies letters endpoints h))
+    c.in_ok-reply.ensures.ran at.below at.mine c.requires.fit.differ (serving_held packet before c.in-Some.ensures.at_once opening callers replies letters endpoints h))
 
 pub returns-clause-traced : goal.returns-clause-traced
 returns-clause-traced g c =

@@ -19,7 +19,7 @@ give_reply-requires-clause-endpoints g c =
     let before = live_view g.K.Actor.state c.args.live.now in
     let after = live_view g.K.Actor.state c.run_next.new.live in
     let ran : HasReplied c.caller.result c.in-Ok-Some.reply before after = rw c.in-Ok-Some.field-0-is at c.in-Ok-Some.ensures.ran in
-    endpoints_on c.args.replies.now c.caller.result c.in-Ok-Some.reply before after c.args.passes.now.notices.items ran c.requires.endpoints
+    endpoints_on c.args.replies.now c.caller.result c.in-Ok-Some.reply before after c.args.passes.now.notices.items ran c.requires.fit.at_places
 
 pub give_reply-requires-clause-place : goal.give_reply-requires-clause-place
 give_reply-requires-clause-place g c =
@@ -38,18 +38,11 @@ returns-in-Ok-Some-clause-endpoints g c =
     let endpoint = c.index.result.now in
     let below : c.in-Some.at < length endpoints = search rules in
     let here : (d : Endpoint ReplyExecView) → get_or endpoints c.in-Some.at d ≡ endpoint = (λ d. get_or_default endpoints c.in-Some.at d endpoint below ∙ sym c.index.ensures) in
-    subst (λ (l : List (Endpoint ReplyExecView)). All (IsAtItsEndpoint replies after.id after.log) l) (sym (c.give_reply.ensures.given endpoint (sym (here endpoint))))
-    (endpoints_given replies endpoints c.in-Some.at endpoint here c.in-Ok-Some.reply (exec_clock c.args.passes.now) after.id after.log (endpoints_on replies c.caller.result c.in-Ok-Some.reply before after endpoints ran c.requires.endpoints) below)
-
-pub returns-in-Ok-Some-clause-stay : goal.returns-in-Ok-Some-clause-stay
-returns-in-Ok-Some-clause-stay g c =
-    let after = live_view g.K.Actor.state c.run_next.new.live in
-    let replies = c.args.replies.now in
-    let endpoints = c.args.passes.now.notices.items in
-    let endpoint = c.index.result.now in
-    let below : c.in-Some.at < length endpoints = search rules in
-    let here : (d : Endpoint ReplyExecView) → get_or endpoints c.in-Some.at d ≡ endpoint = (λ d. get_or_default endpoints c.in-Some.at d endpoint below ∙ sym c.index.ensures) in
-    ap (map without_given) (c.give_reply.ensures.given endpoint (sym (here endpoint))) ∙ bare_given replies endpoints c.in-Some.at endpoint here c.in-Ok-Some.reply (exec_clock c.args.passes.now) after.log
+    record {
+      at_places = subst (λ (l : List (Endpoint ReplyExecView)). All (IsAtItsEndpoint replies after.id after.log) l) (sym (c.give_reply.ensures.given endpoint (sym (here endpoint))))
+          (endpoints_given replies endpoints c.in-Some.at endpoint here c.in-Ok-Some.reply (exec_clock c.args.passes.now) after.id after.log (endpoints_on replies c.caller.result c.in-Ok-Some.reply before after endpoints ran c.requires.fit.at_places) below);
+      stay = ap (map without_given) (c.give_reply.ensures.given endpoint (sym (here endpoint))) ∙ bare_given replies endpoints c.in-Some.at endpoint here c.in-Ok-Some.reply (exec_clock c.args.passes.now) after.log;
+    }
 
 pub returns-in-Ok-Some-clause-on : goal.returns-in-Ok-Some-clause-on
 returns-in-Ok-Some-clause-on g c =
@@ -72,7 +65,7 @@ returns-in-Ok-Some-clause-serving g c =
     let mine : c.caller.result ≡ caller_at replies endpoint.place = c.caller.ensures ∙ caller_here replies endpoint.place c.index-replies-place.result was.below c.index-replies-place.is in
     λ opening callers letters h.
     subst (λ (l : List (Endpoint ReplyExecView)). IsServing opening callers replies letters after l) (sym (c.give_reply.ensures.given endpoint (sym (here endpoint))))
-    (serving_given replies endpoints c.in-Some.at endpoint here c.in-Ok-Some.reply (exec_clock c.args.passes.now) opening callers letters c.caller.result before after ran below mine c.requires.differ h)
+    (serving_given replies endpoints c.in-Some.at endpoint here c.in-Ok-Some.reply (exec_clock c.args.passes.now) opening callers letters c.caller.result before after ran below mine c.requires.fit.differ h)
 
 pub returns-in-Ok-Some-clause-first : goal.returns-in-Ok-Some-clause-first
 returns-in-Ok-Some-clause-first g c =

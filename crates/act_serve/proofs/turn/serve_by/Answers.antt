@@ -59,10 +59,10 @@ loop-preserved-in-Moved g c =
     let after : ExecPasses = c.take_turn.new.passes in
     let on : HasLooked false before.log c.loop.passes.kills c.is_over.new.kills = subst (λ (b : Bool). HasLooked b before.log c.loop.passes.kills c.is_over.new.kills) c.if-is_over.false c.is_over.ensures.told in
     let seen = look_on c.loop.passes.kills c.is_over.new.kills _ on.1 in
-    let look = look_on c.loop.passes.kills after.kills _ (turn.kills ∙ on.1) in
-    let still = stay_on c.args.passes c.loop.passes after old.stay turn.letters (kept_kills c.loop.passes.kills after.kills look.0) turn.stay in
+    let look = look_on c.loop.passes.kills after.kills _ (turn.passes.kills ∙ on.1) in
+    let still = stay_on c.args.passes c.loop.passes after old.stay turn.passes.letters (kept_kills c.loop.passes.kills after.kills look.0) turn.endpoints.stay in
     record {
-      passes = step_fit c.args.lines.now.mail.now.line c.args.lines.now.control.now.line replies before.id now.id before.log now.log c.loop.passes after old.passes turn.letters look.0 look.1 turn.on.id turn.on.long turn.endpoints turn.stay;
+      passes = step_fit c.args.lines.now.mail.now.line c.args.lines.now.control.now.line replies before.id now.id before.log now.log c.loop.passes after old.passes turn.passes.letters look.0 look.1 turn.on.id turn.on.long turn.endpoints.at_places turn.endpoints.stay;
       id = turn.on.id ∙ old.id;
       stay = still;
       serving = turn.serving (g.K.Actor.state c.args.live.kind) (endpoint_callers replies c.args.passes.notices.items) old.serving;
@@ -82,10 +82,10 @@ returns-in-Starved g c =
     let told : ExecPasses = c.tell_deaths-in-Starved.new.passes in
     let taken = c.tell_deaths-in-Starved.ensures.taken in
     let on : HasLooked false before.log c.loop.passes.kills c.is_over.new.kills = subst (λ (b : Bool). HasLooked b before.log c.loop.passes.kills c.is_over.new.kills) c.if-is_over.false c.is_over.ensures.told in
-    let look = look_on c.loop.passes.kills told.kills _ (taken.1 ∙ turn.kills ∙ on.1) in
+    let look = look_on c.loop.passes.kills told.kills _ (taken.1 ∙ turn.passes.kills ∙ on.1) in
     let letters : told.letters ≡ record c.loop.passes.letters { taken = told.letters.taken; stamps = told.letters.stamps } =
-    subst (λ (p : TakerView Letter (Unit {0})). p ≡ record c.loop.passes.letters { taken = p.taken; stamps = p.stamps }) (sym taken.0) turn.letters in
-    let still = stay_on c.args.passes c.loop.passes (record told { notices = after.notices }) old.stay letters (kept_kills c.loop.passes.kills told.kills look.0) turn.stay in
+    subst (λ (p : TakerView Letter (Unit {0})). p ≡ record c.loop.passes.letters { taken = p.taken; stamps = p.stamps }) (sym taken.0) turn.passes.letters in
+    let still = stay_on c.args.passes c.loop.passes (record told { notices = after.notices }) old.stay letters (kept_kills c.loop.passes.kills told.kills look.0) turn.endpoints.stay in
     starved_served (g.K.Actor.state c.args.live.kind) replies c.args.passes now after.notices.items told
     (subst (λ (p : TakerView Letter (Unit {0})). IsServing (g.K.Actor.state c.args.live.kind) (endpoint_callers replies c.args.passes.notices.items) replies p.taken now after.notices.items) (sym taken.0)
     (turn.serving (g.K.Actor.state c.args.live.kind) (endpoint_callers replies c.args.passes.notices.items) old.serving))
@@ -104,8 +104,8 @@ returns-in-Ok g c =
     let after : ExecPasses = c.take_turn.new.passes in
     let on : HasLooked false before.log c.loop.passes.kills c.is_over.new.kills = subst (λ (b : Bool). HasLooked b before.log c.loop.passes.kills c.is_over.new.kills) c.if-is_over.false c.is_over.ensures.told in
     let seen = look_on c.loop.passes.kills c.is_over.new.kills _ on.1 in
-    let look = look_on c.loop.passes.kills after.kills _ (turn.kills ∙ on.1) in
-    let still = stay_on c.args.passes c.loop.passes after old.stay turn.letters (kept_kills c.loop.passes.kills after.kills look.0) turn.stay in
+    let look = look_on c.loop.passes.kills after.kills _ (turn.passes.kills ∙ on.1) in
+    let still = stay_on c.args.passes c.loop.passes after old.stay turn.passes.letters (kept_kills c.loop.passes.kills after.kills look.0) turn.endpoints.stay in
     let may : MayRetire now.log now.inbox = search rules in
     retired_served (g.K.Actor.state c.args.live.kind) replies c.args.passes now after.notices.items after
     (turn.serving (g.K.Actor.state c.args.live.kind) (endpoint_callers replies c.args.passes.notices.items) old.serving) still.letters still.kills still.endpoints
@@ -124,13 +124,13 @@ loop-preserved g c =
     let after : ExecPasses = c.take_turn.new.passes in
     let on : HasLooked false before.log c.loop.passes.kills c.is_over.new.kills = subst (λ (b : Bool). HasLooked b before.log c.loop.passes.kills c.is_over.new.kills) c.if-is_over.false c.is_over.ensures.told in
     let seen = look_on c.loop.passes.kills c.is_over.new.kills _ on.1 in
-    let look = look_on c.loop.passes.kills after.kills _ (turn.kills ∙ on.1) in
-    let still = stay_on c.args.passes c.loop.passes after old.stay turn.letters (kept_kills c.loop.passes.kills after.kills look.0) turn.stay in
+    let look = look_on c.loop.passes.kills after.kills _ (turn.passes.kills ∙ on.1) in
+    let still = stay_on c.args.passes c.loop.passes after old.stay turn.passes.letters (kept_kills c.loop.passes.kills after.kills look.0) turn.endpoints.stay in
     let back = live_view g.K.Actor.state c.in-Err.back in
     let same : back ≡ now = c.in-Err.ensures.err in
     record {
       passes = subst (λ (s : ActorView). PassesFit c.args.lines.now.mail.now.line c.args.lines.now.control.now.line replies s.id s.log after) (sym same)
-          (step_fit c.args.lines.now.mail.now.line c.args.lines.now.control.now.line replies before.id now.id before.log now.log c.loop.passes after old.passes turn.letters look.0 look.1 turn.on.id turn.on.long turn.endpoints turn.stay);
+          (step_fit c.args.lines.now.mail.now.line c.args.lines.now.control.now.line replies before.id now.id before.log now.log c.loop.passes after old.passes turn.passes.letters look.0 look.1 turn.on.id turn.on.long turn.endpoints.at_places turn.endpoints.stay);
       id = ap (λ (s : ActorView). s.id) same ∙ turn.on.id ∙ old.id;
       stay = still;
       serving = subst (λ (s : ActorView). IsServing (g.K.Actor.state c.args.live.kind) (endpoint_callers replies c.args.passes.notices.items) replies after.letters.taken s after.notices.items) (sym same)

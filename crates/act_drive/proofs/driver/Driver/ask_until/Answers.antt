@@ -24,9 +24,9 @@ returns-then-ask-clause-follows g c =
 
 pub loop-preserved : goal.loop-preserved
 loop-preserved g c = record {
-  calling = c.in_ok-wait_turn.ensures.calling;
-  waits = waits_trans _ _ _ (waits_trans _ _ _ c.loop.invariant.waits (c.ask.ensures.refused c.if-ask.false)) c.in_ok-wait_turn.ensures.waits;
-  traced = λ start done is. c.in_ok-wait_turn.ensures.traced start done (c.ask.ensures.on_refusal c.if-ask.false start done (c.loop.invariant.traced start done is));
+  calling = c.in_ok-wait_turn.ensures.only_waits.calling;
+  waits = waits_trans _ _ _ (waits_trans _ _ _ c.loop.invariant.waits (c.ask.ensures.refused c.if-ask.false)) c.in_ok-wait_turn.ensures.only_waits.waits;
+  traced = λ start done is. c.in_ok-wait_turn.ensures.only_waits.traced start done (c.ask.ensures.on_refusal c.if-ask.false start done (c.loop.invariant.traced start done is));
 }
 
 pub returns-then-ask-clause-stays : goal.returns-then-ask-clause-stays
@@ -34,7 +34,7 @@ returns-then-ask-clause-stays g c = stays_trans _ _ _ c.loop.invariant.waits.sta
 
 pub returns-in_err-wait_turn-clause-waits : goal.returns-in_err-wait_turn-clause-waits
 returns-in_err-wait_turn-clause-waits g c =
-    on_err c.from_residual.result _ (waits_trans _ _ _ (waits_trans _ _ _ c.loop.invariant.waits (c.ask.ensures.refused c.if-ask.false)) c.in_err-wait_turn.ensures.waits)
+    on_err c.from_residual.result _ (waits_trans _ _ _ (waits_trans _ _ _ c.loop.invariant.waits (c.ask.ensures.refused c.if-ask.false)) c.in_err-wait_turn.ensures.only_waits.waits)
 
 pub returns-then-is_dead-clause-traced : goal.returns-then-is_dead-clause-traced
 returns-then-is_dead-clause-traced g c none = traces_spared c.args.lines.now c.args.self.now c.loop.self c.args.a c.loop.invariant.traced
@@ -45,4 +45,4 @@ returns-then-ask-clause-traced g c none start done is =
 
 pub returns-in_err-wait_turn-clause-on_refusal : goal.returns-in_err-wait_turn-clause-on_refusal
 returns-in_err-wait_turn-clause-on_refusal g c =
-    on_err c.from_residual.result _ (λ start done is. c.in_err-wait_turn.ensures.traced start done (c.ask.ensures.on_refusal c.if-ask.false start done (c.loop.invariant.traced start done is)))
+    on_err c.from_residual.result _ (λ start done is. c.in_err-wait_turn.ensures.only_waits.traced start done (c.ask.ensures.on_refusal c.if-ask.false start done (c.loop.invariant.traced start done is)))

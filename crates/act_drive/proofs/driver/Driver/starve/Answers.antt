@@ -9,6 +9,6 @@ returns-then-end_all-clause-through g c = c.end_all.ensures.through c.if-end_all
 
 pub loop-preserved : goal.loop-preserved
 loop-preserved g c = record {
-  calling = c.collect-has_heard.ensures.calling;
-  stay = stays_trans _ _ _ (stays_trans _ _ _ c.loop.invariant.stay c.end_all.ensures.stays) c.collect-has_heard.ensures.waits.stay;
+  calling = c.collect-has_heard.ensures.only_waits.calling;
+  stay = stays_trans _ _ _ (stays_trans _ _ _ c.loop.invariant.stay c.end_all.ensures.stays) c.collect-has_heard.ensures.only_waits.waits.stay;
 }

@@ -12,14 +12,14 @@ loop-step-preserved g c =
     let step = c.in-Some.step in
     let all : before.0 ++ step ∷ rest ≡ c.args.plan.items = ap (λ (l : List Step). before.0 ++ l) (sym c.in-Some.ensures.steps.0) ∙ before.1 in
     record {
-      calling = c.in_ok-turn_after.ensures.calling;
-      stay = stays_trans _ _ _ (stays_trans _ _ _ c.loop-step.invariant.stay c.in_ok-step.ensures.stays) c.in_ok-turn_after.ensures.waits.stay;
+      calling = c.in_ok-turn_after.ensures.only_waits.calling;
+      stay = stays_trans _ _ _ (stays_trans _ _ _ c.loop-step.invariant.stay c.in_ok-step.ensures.stays) c.in_ok-turn_after.ensures.only_waits.waits.stay;
       follows = (
         before.0 ++ step ∷ [],
         append_assoc before.0 (step ∷ []) rest ∙ all,
         λ actors fits start.
-            follows_waits c.args.lines.now actors (before.0 ++ step ∷ []) c.step.new.self c.turn_after.new.self c.in_ok-turn_after.ensures.waits
+            follows_waits c.args.lines.now actors (before.0 ++ step ∷ []) c.step.new.self c.turn_after.new.self c.in_ok-turn_after.ensures.only_waits.waits
             (c.in_ok-step.ensures.follows actors before.0 (not_bad actors c.args.plan.items before.0 step rest all fits) (before.2 actors fits start)),
-        λ start is. c.in_ok-turn_after.ensures.traced start (before.0 ++ step ∷ []) (c.in_ok-step.ensures.traced start before.0 (before.3 start is)),
+        λ start is. c.in_ok-turn_after.ensures.only_waits.traced start (before.0 ++ step ∷ []) (c.in_ok-step.ensures.traced start before.0 (before.3 start is)),
       );
     }

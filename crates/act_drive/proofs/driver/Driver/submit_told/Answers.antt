@@ -12,7 +12,7 @@ returns-in_err-k-clause-refusal g c =
     let old = c.args.self.now in
     let mid = c.wait_if_full.new.self in
     let told : c.in_err-k.field-0.0 ≡ unwrap_or (call_refusal (session_view old.owner) c.args.a c.args.args) NoMemory =
-    c.in_err-k.ensures.refusal ∙ ap (λ (o : Option SubmitRefusal). unwrap_or o NoMemory) (refusal_in_room old mid c.args.a c.args.args c.in_ok-wait_if_full.ensures.waits c.in_ok-wait_if_full.ensures.room) in
+    c.in_err-k.ensures.refusal ∙ ap (λ (o : Option SubmitRefusal). unwrap_or o NoMemory) (refusal_in_room old mid c.args.a c.args.args c.in_ok-wait_if_full.ensures.only_waits.waits c.in_ok-wait_if_full.ensures.room) in
     handed_on c.from_residual-in_err-k.result c.in_err-k.field-0.0 (λ (r : SubmitRefusal). r ≡ unwrap_or (call_refusal (session_view old.owner) c.args.a c.args.args) NoMemory) c.from_residual-in_err-k.ensures.1 told
 
 pub returns-in_err-k-clause-refused : goal.returns-in_err-k-clause-refused
@@ -20,21 +20,21 @@ returns-in_err-k-clause-refused g c =
     let old = c.args.self.now in
     let mid = c.wait_if_full.new.self in
     let told : c.in_err-k.field-0.0 ≡ unwrap_or (call_refusal (session_view old.owner) c.args.a c.args.args) NoMemory =
-    c.in_err-k.ensures.refusal ∙ ap (λ (o : Option SubmitRefusal). unwrap_or o NoMemory) (refusal_in_room old mid c.args.a c.args.args c.in_ok-wait_if_full.ensures.waits c.in_ok-wait_if_full.ensures.room) in
+    c.in_err-k.ensures.refusal ∙ ap (λ (o : Option SubmitRefusal). unwrap_or o NoMemory) (refusal_in_room old mid c.args.a c.args.args c.in_ok-wait_if_full.ensures.only_waits.waits c.in_ok-wait_if_full.ensures.room) in
     handed_on c.from_residual-in_err-k.result c.in_err-k.field-0.0 (λ (r : SubmitRefusal). r ≢ NoMemory → c.enter.new.self ≡ old) c.from_residual-in_err-k.ensures.1
     (refused_same c.in_err-k.field-0.0 (call_refusal (session_view old.owner) c.args.a c.args.args) old mid c.enter.new.self told c.in_err-k.ensures.err c.in_ok-wait_if_full.ensures.same)
 
 pub returns-clause-stays : goal.returns-clause-stays
-returns-clause-stays g c = stays_trans _ _ _ c.in_ok-wait_if_full.ensures.waits.stay c.in_ok-k.ensures.stays
+returns-clause-stays g c = stays_trans _ _ _ c.in_ok-wait_if_full.ensures.only_waits.waits.stay c.in_ok-k.ensures.stays
 
 pub returns-clause-does : goal.returns-clause-does
 returns-clause-does g c =
-    let waits = c.in_ok-wait_if_full.ensures.waits in
+    let waits = c.in_ok-wait_if_full.ensures.only_waits.waits in
     does_submit c.args.lines.now c.args.self.now c.wait_if_full.new.self c.enter.new.self c.args.a c.args.method c.args.args waits c.in_ok-k.ensures.ok c.in_ok-k.ensures.passes
     (accepted_before c.args.self.now c.wait_if_full.new.self c.args.a c.args.args waits c.in_ok-k.ensures.accepted)
 
 pub returns-clause-submits : goal.returns-clause-submits
-returns-clause-submits g c = submits_waited c.args.self.now c.wait_if_full.new.self c.enter.new.self c.args.a c.args.method c.args.args c.in_ok-wait_if_full.ensures.waits c.in_ok-k.ensures.ok
+returns-clause-submits g c = submits_waited c.args.self.now c.wait_if_full.new.self c.enter.new.self c.args.a c.args.method c.args.args c.in_ok-wait_if_full.ensures.only_waits.waits c.in_ok-k.ensures.ok
 
 pub returns-clause-traced : goal.returns-clause-traced
-returns-clause-traced g c start done is = c.in_ok-k.ensures.traced c.args.lines.now start done (c.in_ok-wait_if_full.ensures.traced start done is)
+returns-clause-traced g c start done is = c.in_ok-k.ensures.traced c.args.lines.now start done (c.in_ok-wait_if_full.ensures.only_waits.traced start done is)
