@@ -1,5 +1,5 @@
 -- What each actor of a run left, at its place.
-use Rattle.std.proofs.Common.{◌≡◌, ℕ, ◌<◌, false, List, [], ◌∷◌, ◌++◌, length, map, zip, get_or, slice_get, Some, sym, ap, ◌∙◌, subst, refl, All, Contains}
+use Rattle.std.proofs.Common.{◌≡◌, ℕ, ◌<◌, List, [], ◌∷◌, ◌++◌, length, map, zip, get_or, slice_get, Some, sym, ap, ◌∙◌, subst, All, Contains}
 use Rattle.std.proofs.lemmas.Option.{get_or_from_slice_get}
 use Rattle.std.proofs.lemmas.Simd.{map-map}
 use Rattle.act_types.specs.KindState.{KindState}
@@ -16,8 +16,6 @@ use Rattle.act_mailbox.specs.Passes.{TakerView}
 use Rattle.act_mailbox.specs.Controls.{ControlExecView, starter}
 use Rattle.act_mailbox.specs.Notices.{RepliesView, ReplyExecView, notice_actor}
 use Rattle.act_mailbox.specs.declared.endpoint.Endpoint.{Endpoint}
-use Rattle.act_serve.specs.declared.endpoint.Ended.TheVariants as ended
-use Rattle.act_serve.specs.declared.endpoint.Ended.{Ended}
 use Rattle.act_serve.specs.declared.endpoint.ExecPasses.{ExecPasses}
 use Rattle.act_serve.specs.declared.endpoint.Finished.{Finished}
 use Rattle.act_serve.specs.Served.{end_view, end_id, end_log, IsLogOf, replies_to, deaths, caller_at, endpoint_callers, KillsTaken, HasDrained, IfRetired, HasServed, without_given}
@@ -26,11 +24,9 @@ use Rattle.act_drive.specs.declared.caller.Driven.{Driven}
 use Rattle.act_executor.specs.declared.opened.Lines.{Lines}
 use Rattle.act_executor.specs.Opened.{IsExec}
 use Rattle.act_executor.proofs.Places.{at_other, all_at}
-use Rattle.act_executor.specs.Joined.{is_starved}
 use Rattle.act_executor.specs.Left.{ServedView, IsServed, NoticesAudited}
 use Rattle.act_executor.proofs.Elements.{IsIn, in_from_contains, contains_from_in, all_in, all_by_places}
 use Rattle.act_executor.specs.Audits.{SitsAtReplies, NoticeTold, ActorLeft, left_of}
-use Rattle.act_executor.specs.Joins.{ended_starved}
 
 -- an actor's end with its passes
 abbrev pub served_view : {K : Type 0} → (K → KindState) → Finished K → ServedView
@@ -130,8 +126,3 @@ module _ {K : Type 0} (state : K → KindState) (lines : Lines) (cast : Cast K) 
 
   pub same_kills_line : actor.passes.kills.line ≡ exec.pass.kills.line
   same_kills_line = ap (λ (t : ControlExecView). t.line) served.stay.kills
-
-pub not_starved : {K : Type 0} (state : K → KindState) (e : Ended K) → ended_starved e ≡ false → is_starved (end_view state e) ≡ false
-not_starved state (ended.Killed dead) fed = refl
-not_starved state (ended.Retired retired) fed = refl
-not_starved state (ended.Starved dead) fed = fed

@@ -53,17 +53,15 @@ module _ {P : Type 0} (new : TableId → ℕ → P) where
     endpoints_of lines ys = endpoints_from new 0 (map line_of lines) (map names_of ys)
 
     -- the turn of a loop that opens lines
-    pub endpoints_more : (lines after : List X) (line : X) (ys : List Y) (place : ℕ) (y : Y) (endpoints all : List (Endpoint P)) (passes : List P)
-        → endpoints ≡ endpoints_of lines (take place ys) → length lines ≡ place → place < length ys → y ≡ get_or ys place y
-        → after ≡ lines ++ line ∷ [] → passes ≡ map (new (line_of line)) (names_of y) → all ≡ endpoints ++ map (endpoint_at place) passes → all ≡ endpoints_of after (take (place + 1) ys)
-    endpoints_more lines after line ys place y endpoints all passes were long below at pushed are all_at_their_endpoints =
+    pub endpoints_more : (lines after : List X) (line : X) (ys : List Y) (place : ℕ) (y : Y) (passes : List P)
+        → length lines ≡ place → place < length ys → y ≡ get_or ys place y → after ≡ lines ++ line ∷ [] → passes ≡ map (new (line_of line)) (names_of y)
+        → endpoints_of lines (take place ys) ++ map (endpoint_at place) passes ≡ endpoints_of after (take (place + 1) ys)
+    endpoints_more lines after line ys place y passes long below at pushed are =
         let short : length (take place ys) ≡ place = length-take-le place ys (omega arith) in
         let longer : length (map line_of lines) ≡ place = length-map lines line_of ∙ long in
         let same : length (map names_of (take place ys)) ≡ length (map line_of lines) = length-map (take place ys) names_of ∙ short ∙ sym longer in
         let e : 0 + length (map line_of lines) ≡ place = omega arith in
-        all_at_their_endpoints
-        ∙ ap (λ (l : List (Endpoint P)). l ++ map (endpoint_at place) passes) were
-        ∙ ap (λ (l : List P). endpoints_of lines (take place ys) ++ map (endpoint_at place) l) are
+        ap (λ (l : List P). endpoints_of lines (take place ys) ++ map (endpoint_at place) l) are
         ∙ ap (λ (l : List (Endpoint P)). endpoints_of lines (take place ys) ++ l) (endpoints_at place (line_of line) (names_of y))
         ∙ ap (λ (k : ℕ). endpoints_of lines (take place ys) ++ map (λ c. endpoint_at k (new (line_of line) c)) (names_of y)) (sym e)
         ∙ sym (endpoints_push 0 (map line_of lines) (map names_of (take place ys)) (line_of line) (names_of y) same)

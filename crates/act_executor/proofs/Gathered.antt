@@ -1,25 +1,42 @@
--- Groups of endpoints by the names of a list.
-use Rattle.std.proofs.Common.{◌≡◌, ◌≢◌, ℕ, List, length, map, ap, sym, ◌∙◌, subst}
-use Rattle.std.specs.Prelude.{Vec, AllPairs}
+-- Hands of endpoints by the names of a list.
+use Rattle.std.proofs.Common.{◌≡◌, ℕ, ◌<◌, List, ◌++◌, length, map, get_or, ap, sym, ◌∙◌, arith}
+use Rattle.std.specs.Prelude.{Vec, ◌==◌}
 use Rattle.std.specs.declared.alloc.Global.{Global}
+use Rattle.std.proofs.lemmas.List.{get_or-map, length-map, same_lists}
+use Rattle.std.proofs.lemmas.List.Elements.{filter-append}
 use Rattle.std.proofs.lemmas.Simd.{map-map}
-use Rattle.act_actor.specs.Cast.{CallersDiffer}
+use Rattle.act_rules.proofs.Lists.{element}
 use Rattle.act_mailbox.specs.declared.endpoint.Endpoint.{Endpoint}
-use Rattle.act_executor.specs.Groups.{items_of_vec, group_of}
-use Rattle.act_executor.proofs.Places.{as_long, map_apart}
+use Rattle.act_executor.specs.Groups.{items_of_vec, group_of, AreHands, AreGrown}
+use Rattle.act_executor.proofs.Places.{as_long}
 
-module _ {X : Type 0} (name_of : X → ℕ) (xs : List X) (now numbers : List ℕ) (same : now ≡ numbers) (are : numbers ≡ map name_of xs) where
-  pub numbers_apart : AllPairs (λ one other. name_of one ≢ name_of other) xs → CallersDiffer now
-  numbers_apart apart = subst CallersDiffer (sym (same ∙ are)) (map_apart name_of xs apart)
+module _ {P : Type 0} (number : P → ℕ) (numbers : List ℕ) where
+  -- each name has a hand
+  pub hands_long : (endpoints : List (Endpoint P)) (hands : List (Vec (Endpoint P) Global)) → AreHands number numbers endpoints hands → length hands ≡ length numbers
+  hands_long endpoints hands dealt = as_long items_of_vec (λ (c : ℕ). group_of number c endpoints) hands numbers dealt
 
-  module _ {P : Type 0} (number : P → ℕ) (groups : List (Vec (Endpoint P) Global)) (endpoints dealt : List (Endpoint P)) (grouped : map items_of_vec groups ≡ map (λ c. group_of number c endpoints) now) where
-    pub groups_long : length groups ≡ length xs
-    groups_long = as_long items_of_vec (λ (x : X). group_of number (name_of x) endpoints) groups xs (grouped ∙ ap (map (λ c. group_of number c endpoints)) (same ∙ are) ∙ map-map (λ c. group_of number c endpoints) name_of xs)
+  -- hands to which more was dealt
+  pub dealt_more : (before more : List (Endpoint P)) (was hands : List (Vec (Endpoint P) Global)) → AreHands number numbers before was → AreGrown number numbers more was hands → AreHands number numbers (before ++ more) hands
+  dealt_more before more was hands dealt grown =
+      let long : length hands ≡ length numbers = grown.long ∙ hands_long before was dealt in
+      same_lists (map items_of_vec hands) (map (λ (c : ℕ). group_of number c (before ++ more)) numbers)
+      (length-map hands items_of_vec ∙ long ∙ sym (length-map numbers (λ (c : ℕ). group_of number c (before ++ more))))
+      (λ i d below.
+      let within : i < length hands = omega (arith, length-map hands items_of_vec) in
+      let there : i < length numbers = omega (arith, long) in
+      let short : i < length was = omega (arith, grown.long) in
+      let e = (element hands i within).0 in
+      let c = get_or numbers i 0 in
+      get_or-map items_of_vec hands i e d within
+      ∙ grown.each i e there
+      ∙ ap (λ (l : List (Endpoint P)). l ++ group_of number c more) (sym (get_or-map items_of_vec was i e d short) ∙ ap (λ (l : List (List (Endpoint P))). get_or l i d) dealt ∙ get_or-map (λ (c : ℕ). group_of number c before) numbers i 0 d there)
+      ∙ sym (filter-append (λ (endpoint : Endpoint P). number endpoint.pass == c) before more)
+      ∙ sym (get_or-map (λ (c : ℕ). group_of number c (before ++ more)) numbers i 0 d there))
 
-    pub groups_are : endpoints ≡ dealt → map items_of_vec groups ≡ map (λ x. group_of number (name_of x) dealt) xs
-    groups_are were =
-        grouped ∙ ap (map (λ c. group_of number c endpoints)) (same ∙ are) ∙ map-map (λ c. group_of number c endpoints) name_of xs
-        ∙ ap (λ (l : List (Endpoint P)). map (λ x. group_of number (name_of x) l) xs) were
+  -- the hands of the names that a list has
+  pub dealt_by : {X : Type 0} (name_of : X → ℕ) (xs : List X) → numbers ≡ map name_of xs → (endpoints : List (Endpoint P)) (hands : List (Vec (Endpoint P) Global)) → AreHands number numbers endpoints hands
+      → map items_of_vec hands ≡ map (λ x. group_of number (name_of x) endpoints) xs
+  dealt_by name_of xs are endpoints hands dealt = dealt ∙ ap (map (λ (c : ℕ). group_of number c endpoints)) are ∙ map-map (λ (c : ℕ). group_of number c endpoints) name_of xs
 
 -- what is read of each element by way of another list
 pub by_way : {X Y Z : Type 0} (f : X → Y) (g : Y → Z) (xs : List X) (ys : List Y) (zs : List Z) → map f xs ≡ ys → map g ys ≡ zs → map (λ x. g (f x)) xs ≡ zs

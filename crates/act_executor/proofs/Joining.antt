@@ -53,11 +53,10 @@ use Rattle.act_executor.proofs.JoinedTraces.{is_played as played_of_joined}
 use Rattle.act_executor.specs.declared.joined.Joined.{Joined}
 use Rattle.act_executor.specs.Audits.{KillTold, CallerTold, NoticeTold, ActorLeft, left_of}
 use Rattle.act_executor.specs.Work.{IsUnusedStarter}
-use Rattle.act_executor.specs.Joins.{ended_starved}
 use Rattle.act_executor.specs.Conducts.{Doing, does_code, CodesFit}
 use Rattle.act_executor.specs.Runs.{HasRunPlans, IsPrepared, plan_view}
 use Rattle.act_executor.proofs.Settled.{seen_through}
-use Rattle.act_executor.proofs.Actors.{served_view, is_served, notices_audited, same_id, not_starved}
+use Rattle.act_executor.proofs.Actors.{served_view, is_served, notices_audited, same_id}
 use Rattle.act_executor.proofs.Callers.{caller_is, is_driven, letters_audited, kills_audited}
 use Rattle.act_executor.proofs.Prepared.{maps_agree, ActorAt, actor_at, CallerAt, caller_at as caller_there}
 
@@ -280,8 +279,8 @@ module _ {K : Type 0} (state : K → KindState) (does : ℕ → Doing) (casts : 
   fed : All (λ (s : ServedView). is_starved s.end ≡ false) (map (served_view state) last)
   fed = all_by_places (λ (s : ServedView). is_starved s.end ≡ false) (map (served_view state) last) (λ j s at.
       let e = end_at j s at in
-      let no_want = all_at (λ (x : Finished K). ended_starved x.ended ≡ false) actors j e.a run.compared.fed e.at_a in
-      ap (λ (x : ServedView). is_starved x.end) e.s_is ∙ ap (λ (l : ActorLeft K). is_starved (end_view state l.ended)) e.same ∙ not_starved state e.a.ended no_want)
+      let no_want = all_at (λ (x : Finished K). is_starved (end_view state x.ended) ≡ false) actors j e.a run.compared.fed e.at_a in
+      ap (λ (x : ServedView). is_starved x.end) e.s_is ∙ ap (λ (l : ActorLeft K). is_starved (end_view state l.ended)) e.same ∙ no_want)
 
   -- no two of them are one caller
   differ : AllPairs (λ (one other : Driven). one.owner.id ≢ other.owner.id) callers

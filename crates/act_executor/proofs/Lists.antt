@@ -1,5 +1,5 @@
 -- Lists that are used up, and lists that agree place by place.
-use Rattle.std.proofs.Common.{◌≡◌, ℕ, ◌+◌, ◌<◌, suc, zero, List, [], ◌∷◌, ◌++◌, length, map, get_or, drop, zip, ◌⊎◌, inl, inr, sym, ap, ◌∙◌, subst, refl, arith, All}
+use Rattle.std.proofs.Common.{◌≡◌, ℕ, ◌+◌, ◌<◌, suc, zero, List, [], ◌∷◌, ◌++◌, length, map, get_or, zip, ◌⊎◌, inl, inr, sym, ap, ◌∙◌, subst, refl, arith, All}
 use Rattle.std.proofs.Math.Nat.{eq-or-lt_of_le}
 use Rattle.std.proofs.lemmas.List.{get_or-map, length-map}
 use Rattle.act_tasks.specs.Each.{Each}
@@ -32,13 +32,6 @@ each_pop D us ts ys xs t x is are each =
     let At : List _ × List _ → Type 0 = λ p. Each D p.0 p.1 in
     let whole : Each D (t ∷ ts) (x ∷ xs) = subst At (λ i. (is i, are i)) each in
     (whole.1 0 t x (omega arith), (omega (arith, whole.0), λ k a b lt. whole.1 (suc k) a b (omega arith)))
-
--- what a list goes on with
-pub drop_next : {X : Type 0} (n : ℕ) (xs : List X) (x : X) (rest : List X) → drop n xs ≡ x ∷ rest → (drop (suc n) xs ≡ rest) × (n < length xs) × ((d : X) → get_or xs n d ≡ x)
-drop_next zero [] x rest is = let no : 0 ≡ length (x ∷ rest) = ap length is in absurd (omega (arith, no))
-drop_next zero (y ∷ ys) x rest is = (ap (drop 1) is, omega arith, λ d. ap (λ l. get_or l 0 d) is)
-drop_next (suc n) [] x rest is = let no : 0 ≡ length (x ∷ rest) = ap length is in absurd (omega (arith, no))
-drop_next (suc n) (y ∷ ys) x rest is = let more = drop_next n ys x rest is in (more.0, omega (arith, more.1), more.2)
 
 -- where one of two lists is used up, nothing of them is left
 pub nothing_zips : {X Y : Type 0} (xs : List X) (ys : List Y) → (length xs ≡ 0) ⊎ (length ys ≡ 0) → zip xs ys ≡ []

@@ -1,5 +1,5 @@
 -- What the threads gave back, and what the comparison of their lines tells.
-use Rattle.std.specs.Prelude.{◌≡◌, ℕ, Bool, true, false, List, length, map, slice_get, Some, All}
+use Rattle.std.specs.Prelude.{◌≡◌, ℕ, false, List, length, map, slice_get, Some, All}
 use Rattle.std.specs.List.{range_with_len}
 use Rattle.act_types.specs.KindState.{KindState}
 use Rattle.act_owner.specs.Owner.{opened_under}
@@ -8,8 +8,6 @@ use Rattle.act_mailbox.specs.declared.control.Asked.{Asked}
 use Rattle.act_mailbox.specs.Passes.{PutterView}
 use Rattle.act_mailbox.specs.Controls.{ControlView}
 use Rattle.act_mailbox.specs.declared.endpoint.Endpoint.{Endpoint}
-use Rattle.act_serve.specs.declared.endpoint.Ended.{Ended}
-use Rattle.act_serve.specs.declared.endpoint.Ended.TheVariants.{Killed, Retired, Starved}
 use Rattle.act_serve.specs.declared.endpoint.ExecPasses.{ExecPasses}
 use Rattle.act_serve.specs.declared.endpoint.Finished.{Finished}
 use Rattle.act_serve.specs.Served.{HasServed, end_view}
@@ -21,14 +19,9 @@ use Rattle.act_plans.specs.declared.setup.CallerSetup.{CallerSetup}
 use Rattle.act_executor.specs.declared.opened.Lines.{Lines}
 use Rattle.act_executor.specs.declared.joined.Ends.{Ends}
 use Rattle.act_executor.specs.declared.joined.Joined.{Joined}
+use Rattle.act_executor.specs.Joined.{is_starved}
 use Rattle.act_executor.specs.Audits.{NoticeTold, KillTold, CallerTold, left_of}
 use Rattle.act_executor.specs.Work.{IsUnusedStarter}
-
--- whether an actor was refused memory
-abbrev pub ended_starved : {K : Type 0} → Ended K → Bool
-ended_starved (Killed dead) = false
-ended_starved (Retired retired) = false
-ended_starved (Starved dead) = true
 
 -- each cast's actor was served to its end, with its passes
 pub record AreServed {K : Type 0} (state : K → KindState) (lines : Lines) (casts : List (Cast K))
@@ -61,8 +54,8 @@ pub record AreStarters (controls : List ControlView) (endpoints : List (Endpoint
   pub places : map (λ endpoint. endpoint.place) endpoints ≡ range_with_len 0 (length controls)
 
 -- nobody was refused memory, and what each side of a line took is a prefix of what the other put
-pub record AreCompared {K : Type 0} (ends : Ends K) (joined : Joined K) : Type 0 where
-  pub fed : All (λ actor. ended_starved actor.ended ≡ false) ends.actors.items
+pub record AreCompared {K : Type 0} (state : K → KindState) (ends : Ends K) (joined : Joined K) : Type 0 where
+  pub fed : All (λ actor. is_starved (end_view state actor.ended) ≡ false) ends.actors.items
   pub fed_callers : All (λ caller. caller.starved ≡ false) ends.callers.items
   pub same : map left_of joined.actors.items ≡ map left_of ends.actors.items
   pub owners : joined.owners.items ≡ map (λ caller. caller.owner) ends.callers.items

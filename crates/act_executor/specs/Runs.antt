@@ -55,7 +55,7 @@ pub record HasRunPlans {K : Type 0} (state : K → KindState) (does : ℕ → Do
   pub served : AreServed state opened.lines prepared.casts.items opened.execs.items ends.actors.items
   pub driven : AreDriven opened.lines does prepared.setups.items opened.callers.items ends.callers.items
   pub starters : AreStarters opened.lines.controls.items ends.starters.items
-  pub compared : AreCompared ends joined
+  pub compared : AreCompared state ends joined
 
 -- the casts and the parts of these casts and plans, where no step of a plan would be refused
 pub record IsPrepared {K : Type 0} (state : K → KindState) (casts : List (Cast K)) (plans : List (ℕ × Vec Step))

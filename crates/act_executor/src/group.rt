@@ -1,7 +1,7 @@
-//! Passes of several lines, grouped by whose they are.
+//! Passes of several lines, dealt to those whose they are.
 
-ghost use Rattle.std.specs.Prelude.{◌≡◌, ◌≢◌, ℕ, ◌++◌, map, zip, AllPairs, IfOk};
-ghost use Rattle.act_executor.specs.Groups.{endpoint_at, items_of_vec, group_of};
+ghost use Rattle.std.specs.Prelude.{◌≡◌, ◌≢◌, [], length, map, AllPairs, IfOk};
+ghost use Rattle.act_executor.specs.Groups.{endpoint_at, AreHands, AreGrown};
 
 use act_mailbox::{Endpoint, Putter, ReplyExec};
 use act_types::NoMemory;
@@ -33,69 +33,37 @@ impl Numbered for ReplyExec {
     }
 }
 
-/// The endpoints, and those of the passes on the line at this place.
-pub(crate) fn endpoint_all<P: Drop>(
-    mut endpoints: Vec<Endpoint<P>>,
-    place: usize,
-    passes: Vec<P>,
-) -> Result<Vec<Endpoint<P>>, NoMemory>
-    ensures { IfOk result (λ all. all.items ≡ endpoints.items ++ map (endpoint_at place) passes.items) }
-{
-    for pass in passes {
-        endpoints.push(Endpoint { place, pass })?;
-    }
-    Ok(endpoints)
-}
-
-/// Parts the passes of a number from the others.
-fn setup<P: Numbered + Drop>(
-    alloc: Global,
-    number: u8,
-    endpoints: Vec<Endpoint<P>>,
-) -> Result<(Vec<Endpoint<P>>, Vec<Endpoint<P>>), NoMemory>
-    ensures mine { IfOk result (λ setups. setups.0.items ≡ group_of P.number number endpoints.items) }
-    ensures others { IfOk result (λ setups. (c : ℕ) → c ≢ number →
-        group_of P.number c setups.1.items ≡ group_of P.number c endpoints.items) }
-{
-    let mut mine = Vec::new(alloc);
-    let mut others = Vec::new(alloc);
-    for endpoint in endpoints {
-        if endpoint.pass.number() == number {
-            mine.push(endpoint)?;
-        } else {
-            others.push(endpoint)?;
-        }
-    }
-    Ok((mine, others))
-}
-
-/// The passes of each number of the list, in the order in which they stand.
-pub(crate) fn group<P: Numbered + Drop>(
+/// An empty hand for each number.
+pub(crate) fn empty_hands<P: Numbered + Drop>(
     alloc: Global,
     numbers: &[u8],
-    mut endpoints: Vec<Endpoint<P>>,
 ) -> Result<Vec<Vec<Endpoint<P>>>, NoMemory>
-    requires { AllPairs (λ one other. one ≢ other) numbers.now }
-    ensures { IfOk result (λ groups.
-        map items_of_vec groups.items ≡ map (λ c. group_of P.number c endpoints.items) numbers.now) }
+    ensures { IfOk result (λ hands. AreHands P.number numbers.now [] hands.items) }
 {
-    let mut groups = Vec::new(alloc);
-    for number in numbers {
-        let (mine, others) = setup(alloc, *number, endpoints)?;
-        endpoints = others;
-        groups.push(mine)?;
+    let mut hands = Vec::new(alloc);
+    for _ in numbers {
+        hands.push(Vec::new(alloc))?;
     }
-    Ok(groups)
+    Ok(hands)
 }
 
-/// The values of two lists, place by place.
-pub(crate) fn pair<X: Drop, Y: Drop>(
-    alloc: Global,
-    one: Vec<X>,
-    other: Vec<Y>,
-) -> Result<Vec<(X, Y)>, NoMemory>
-    ensures { IfOk result (λ pairs. pairs.items ≡ zip one.items other.items) }
+/// Deals the passes of the line at this place: each goes, in order, to the hand of its number.
+pub(crate) fn deal<P: Numbered + Drop>(
+    numbers: &[u8],
+    hands: &mut Vec<Vec<Endpoint<P>>>,
+    place: usize,
+    passes: Vec<P>,
+) -> Result<(), NoMemory>
+    requires differ { AllPairs (λ one other. one ≢ other) numbers.now }
+    requires long { length hands.old.items ≡ length numbers.now }
+    ensures { IfOk result (λ _.
+        AreGrown P.number numbers.now (map (endpoint_at place) passes.items) hands.old.items hands.new.items) }
 {
-    let pairs = one.into_iter().zip(other).collect(alloc)?;
-    Ok(pairs)
+    for pass in passes {
+        let number = pass.number();
+        if let Some(owner) = numbers.iter().position(|other| *other == number) {
+            hands[owner].push(Endpoint { place, pass })?;
+        }
+    }
+    Ok(())
 }

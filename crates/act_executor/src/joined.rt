@@ -2,13 +2,15 @@
 
 ghost use Rattle.std.specs.Prelude.{◌≡◌, map, All, IfOk, false};
 ghost use Rattle.std.specs.List.{list_any};
+ghost use Rattle.act_serve.specs.Served.{end_view};
 ghost use Rattle.act_executor.specs.Audits.{SitsAtControl, SitsAtReplies, HasEndpoints};
-ghost use Rattle.act_executor.specs.Joins.{ended_starved, AreCompared};
+ghost use Rattle.act_executor.specs.Joined.{is_starved};
+ghost use Rattle.act_executor.specs.Joins.{AreCompared};
 
 use crate::audits::{audit_actors, audit_callers, audit_kills};
 use crate::opened::Lines;
 use act_drive::Driven;
-use act_kinds::Boxed;
+use act_kinds::{Actor, Boxed};
 use act_mailbox::{ControlCaller, Endpoint};
 use act_owner::Owner;
 use act_serve::{Ended, Finished};
@@ -31,8 +33,9 @@ pub(crate) struct Ends<K> {
     pub(crate) starters: Vec<Endpoint<ControlCaller>>,
 }
 
-fn is_starved<K>(ended: &Ended<K>) -> bool
-    ensures { result ≡ ended_starved ended.now }
+/// Whether an actor ended for want of memory.
+fn has_starved<K: Actor>(ended: &Ended<K>) -> bool
+    ensures { result ≡ is_starved (end_view K.state ended.now) }
 {
     match ended {
         Ended::Starved(_) => true,
@@ -41,10 +44,10 @@ fn is_starved<K>(ended: &Ended<K>) -> bool
 }
 
 /// Whether an actor was refused memory.
-fn has_starved_actor<K>(actors: &[Finished<K>]) -> bool
-    ensures { result ≡ list_any (λ actor. ended_starved actor.ended) actors.now }
+fn has_starved_actor<K: Actor>(actors: &[Finished<K>]) -> bool
+    ensures { result ≡ list_any (λ actor. is_starved (end_view K.state actor.ended)) actors.now }
 {
-    actors.iter().any(|actor| is_starved(&actor.ended))
+    actors.iter().any(|actor| has_starved(&actor.ended))
 }
 
 /// Whether a caller was refused memory.
@@ -55,7 +58,7 @@ fn has_starved_caller(callers: &[Driven]) -> bool
 }
 
 /// Compares the two sides of each line, where nobody was refused memory.
-pub(crate) fn settle<K: Drop, R: Wait>(
+pub(crate) fn settle<K: Actor, R: Wait>(
     rt: &R,
     alloc: Global,
     lines: &Lines,
@@ -71,7 +74,7 @@ pub(crate) fn settle<K: Drop, R: Wait>(
         All (SitsAtReplies lines.now.replies.items) actor.passes.notices.items) ends.actors.items }
     requires callers { All (HasEndpoints lines.now) ends.callers.items }
     requires starters { All (SitsAtControl lines.now.controls.items) ends.starters.items }
-    ensures { IfOk result (λ joined. AreCompared ends joined) }
+    ensures { IfOk result (λ joined. AreCompared K.state ends joined) }
 {
     let Ends {
         mut actors,

@@ -1,16 +1,16 @@
 //! Opens the lines of a run, and gives each thread its passes.
 
-ghost use Rattle.std.specs.Prelude.{◌≡◌, ◌≢◌, ℕ, [], ◌∷◌, length, map, All, AllPairs, IfOk};
+ghost use Rattle.std.specs.Prelude.{◌≡◌, ◌≢◌, [], ◌∷◌, length, map, All, AllPairs, IfOk};
 ghost use Rattle.std.specs.List.{range_with_len};
 ghost use Rattle.act_actor.specs.Cast.{CallersDiffer};
 ghost use Rattle.act_mailbox.specs.Controls.{starter};
 ghost use Rattle.act_mailbox.specs.Passes.{new_putter};
 ghost use Rattle.act_mailbox.specs.Notices.{new_exec};
 ghost use Rattle.act_plans.specs.Setups.{AreMatched};
-ghost use Rattle.act_executor.specs.Groups.{items_of_vec, group_of, endpoints_from};
+ghost use Rattle.act_executor.specs.Groups.{items_of_vec, endpoints_from, AreHands};
 ghost use Rattle.act_executor.specs.Opened.{AreOpened};
 
-use crate::group::{endpoint_all, group, pair};
+use crate::group::{deal, empty_hands};
 use crate::opened::{Lines, Opened};
 use act_actor::Cast;
 use act_drive::CallerPasses;
@@ -23,12 +23,12 @@ use act_serve::ExecPasses;
 use act_types::NoMemory;
 use std::alloc::Global;
 
-/// The mail lines, their executors' passes, and all callers' passes.
+/// The mail lines, their executors' passes, and the callers' passes by whose they are.
 #[derive(Drop)]
 struct Mails {
     lines: Vec<Mail>,
     execs: Vec<MailExec>,
-    endpoints: Vec<Endpoint<MailCaller>>,
+    callers: Vec<Vec<Endpoint<MailCaller>>>,
 }
 
 /// The same of control lines, and the starter's passes.
@@ -36,50 +36,52 @@ struct Mails {
 struct Controls {
     lines: Vec<Control>,
     execs: Vec<ControlExec>,
-    endpoints: Vec<Endpoint<ControlCaller>>,
+    callers: Vec<Vec<Endpoint<ControlCaller>>>,
     starters: Vec<ControlCaller>,
 }
 
-/// The reply lines, their callers' passes, and all executors' passes.
+/// The reply lines, their callers' passes, and the executors' passes by whose they are.
 #[derive(Drop)]
 struct AllReplies {
     lines: Vec<Replies>,
     callers: Vec<ReplyCaller>,
-    endpoints: Vec<Endpoint<ReplyExec>>,
+    execs: Vec<Vec<Endpoint<ReplyExec>>>,
 }
 
-/// Opens a mail line for each cast.
-fn open_mails<K>(alloc: Global, casts: &[Cast<K>]) -> Result<Mails, NoMemory>
+/// Opens a mail line for each cast, and deals its callers' passes.
+fn open_mails<K>(alloc: Global, casts: &[Cast<K>], callers: &[u8]) -> Result<Mails, NoMemory>
     requires differ { All (λ cast. CallersDiffer cast.callers) casts.now }
+    requires callers { AllPairs (λ one other. one ≢ other) callers.now }
     ensures actors { IfOk result (λ opened.
         map (λ mail. mail.actor) opened.lines.items ≡ map (λ cast. cast.actor) casts.now) }
     ensures lines { IfOk result (λ opened.
         map (λ exec. exec.line) opened.execs.items ≡ map (λ mail. mail.line) opened.lines.items) }
     ensures unused { IfOk result (λ opened. All (λ exec. (exec.taken ≡ []) × (exec.stamps ≡ [])) opened.execs.items) }
-    ensures endpoints { IfOk result (λ opened.
-        opened.endpoints.items ≡
-        endpoints_from new_putter 0 (map (λ mail. mail.line) opened.lines.items)
-        (map (λ cast. cast.callers) casts.now)) }
+    ensures dealt { IfOk result (λ opened.
+        AreHands (λ pass. pass.number) callers.now
+        (endpoints_from new_putter 0 (map (λ mail. mail.line) opened.lines.items)
+        (map (λ cast. cast.callers) casts.now)) opened.callers.items) }
 {
     let mut lines = Vec::new(alloc);
     let mut execs = Vec::new(alloc);
-    let mut endpoints = Vec::new(alloc);
+    let mut hands = empty_hands(alloc, callers)?;
     for (place, cast) in casts.iter().enumerate() {
         let (line, passes, exec) = Mail::open(alloc, cast.actor, cast.callers.as_slice())?;
         lines.push(line)?;
         execs.push(exec)?;
-        endpoints = endpoint_all(endpoints, place, passes)?;
+        deal(callers, &mut hands, place, passes)?;
     }
     Ok(Mails {
         lines,
         execs,
-        endpoints,
+        callers: hands,
     })
 }
 
-/// Opens a control line for each cast.
-fn open_controls<K>(alloc: Global, casts: &[Cast<K>]) -> Result<Controls, NoMemory>
+/// Opens a control line for each cast, and deals its callers' passes.
+fn open_controls<K>(alloc: Global, casts: &[Cast<K>], callers: &[u8]) -> Result<Controls, NoMemory>
     requires differ { All (λ cast. CallersDiffer cast.callers) casts.now }
+    requires callers { AllPairs (λ one other. one ≢ other) callers.now }
     ensures actors { IfOk result (λ opened.
         map (λ control. control.actor) opened.lines.items ≡ map (λ cast. cast.actor) casts.now) }
     ensures lines { IfOk result (λ opened.
@@ -92,14 +94,14 @@ fn open_controls<K>(alloc: Global, casts: &[Cast<K>]) -> Result<Controls, NoMemo
         All (λ exec. (exec.taken ≡ []) × (exec.stamps ≡ []) × (exec.lengths ≡ [])) opened.execs.items) }
     ensures starters { IfOk result (λ opened.
         opened.starters.items ≡ map (λ control. new_putter control.line starter) opened.lines.items) }
-    ensures endpoints { IfOk result (λ opened.
-        opened.endpoints.items ≡
-        endpoints_from new_putter 0 (map (λ control. control.line) opened.lines.items)
-        (map (λ cast. cast.callers) casts.now)) }
+    ensures dealt { IfOk result (λ opened.
+        AreHands (λ pass. pass.number) callers.now
+        (endpoints_from new_putter 0 (map (λ control. control.line) opened.lines.items)
+        (map (λ cast. cast.callers) casts.now)) opened.callers.items) }
 {
     let mut lines = Vec::new(alloc);
     let mut execs = Vec::new(alloc);
-    let mut endpoints = Vec::new(alloc);
+    let mut hands = empty_hands(alloc, callers)?;
     let mut starters = Vec::new(alloc);
     for (place, cast) in casts.iter().enumerate() {
         let (line, passes, starter, exec) = Control::open(
@@ -110,43 +112,48 @@ fn open_controls<K>(alloc: Global, casts: &[Cast<K>]) -> Result<Controls, NoMemo
         lines.push(line)?;
         execs.push(exec)?;
         starters.push(starter)?;
-        endpoints = endpoint_all(endpoints, place, passes)?;
+        deal(callers, &mut hands, place, passes)?;
     }
     Ok(Controls {
         lines,
         execs,
-        endpoints,
+        callers: hands,
         starters,
     })
 }
 
-/// Opens a reply line for each part.
-fn open_replies(alloc: Global, setups: &[CallerSetup]) -> Result<AllReplies, NoMemory>
+/// Opens a reply line for each part, and deals its executors' passes.
+fn open_replies(
+    alloc: Global,
+    setups: &[CallerSetup],
+    actors: &[u8],
+) -> Result<AllReplies, NoMemory>
     requires differ { All (λ setup. CallersDiffer setup.actors.items) setups.now }
+    requires actors { AllPairs (λ one other. one ≢ other) actors.now }
     ensures names { IfOk result (λ opened.
         map (λ line. line.caller) opened.lines.items ≡ map (λ setup. setup.caller) setups.now) }
     ensures lines { IfOk result (λ opened.
         map (λ caller. caller.line) opened.callers.items ≡ map (λ line. line.line) opened.lines.items) }
     ensures unused { IfOk result (λ opened.
         All (λ caller. (caller.taken ≡ []) × (caller.stamps ≡ [])) opened.callers.items) }
-    ensures endpoints { IfOk result (λ opened.
-        opened.endpoints.items ≡
-        endpoints_from new_exec 0 (map (λ line. line.line) opened.lines.items)
-        (map (λ setup. setup.actors.items) setups.now)) }
+    ensures dealt { IfOk result (λ opened.
+        AreHands (λ pass. pass.actor) actors.now
+        (endpoints_from new_exec 0 (map (λ line. line.line) opened.lines.items)
+        (map (λ setup. setup.actors.items) setups.now)) opened.execs.items) }
 {
     let mut lines = Vec::new(alloc);
     let mut callers = Vec::new(alloc);
-    let mut endpoints = Vec::new(alloc);
+    let mut hands = empty_hands(alloc, actors)?;
     for (place, setup) in setups.iter().enumerate() {
         let (line, passes, caller) = Replies::open(alloc, setup.caller, setup.actors.as_slice())?;
         lines.push(line)?;
         callers.push(caller)?;
-        endpoints = endpoint_all(endpoints, place, passes)?;
+        deal(actors, &mut hands, place, passes)?;
     }
     Ok(AllReplies {
         lines,
         callers,
-        endpoints,
+        execs: hands,
     })
 }
 
@@ -165,9 +172,8 @@ fn exec_passes(
     ensures notices { IfOk result (λ execs.
         map (λ exec. exec.pass.notices.items) execs.items ≡ map items_of_vec notices.items) }
 {
-    let passes = pair(alloc, pair(alloc, letters, kills)?, notices)?;
     let mut execs = Vec::new(alloc);
-    for ((letters, kills), notices) in passes {
+    for ((letters, kills), notices) in letters.into_iter().zip(kills).zip(notices) {
         let place = execs.len();
         let pass = ExecPasses {
             letters,
@@ -195,9 +201,8 @@ fn caller_passes(
         map (λ caller. caller.pass.kills.items) callers.items ≡ map items_of_vec kills.items) }
     ensures collects { IfOk result (λ callers. map (λ caller. caller.pass.collects) callers.items ≡ collects.items) }
 {
-    let passes = pair(alloc, pair(alloc, letters, kills)?, collects)?;
     let mut callers = Vec::new(alloc);
-    for ((letters, kills), collects) in passes {
+    for ((letters, kills), collects) in letters.into_iter().zip(kills).zip(collects) {
         let place = callers.len();
         let pass = CallerPasses {
             letters,
@@ -206,76 +211,6 @@ fn caller_passes(
         };
         callers.push(Endpoint { place, pass })?;
     }
-    Ok(callers)
-}
-
-/// The actors' numbers.
-fn actor_numbers<K>(alloc: Global, casts: &[Cast<K>]) -> Result<Vec<u8>, NoMemory>
-    ensures { IfOk result (λ numbers. numbers.items ≡ map (λ cast. cast.actor) casts.now) }
-{
-    let numbers = casts.iter().map(|cast| cast.actor.number()).collect(alloc)?;
-    Ok(numbers)
-}
-
-/// The callers' numbers.
-fn caller_numbers(alloc: Global, setups: &[CallerSetup]) -> Result<Vec<u8>, NoMemory>
-    ensures { IfOk result (λ numbers. numbers.items ≡ map (λ setup. setup.caller) setups.now) }
-{
-    let numbers = setups
-        .iter()
-        .map(|setup| setup.caller.number())
-        .collect(alloc)?;
-    Ok(numbers)
-}
-
-/// The executors' passes, of which those on the callers' lines are each actor's own.
-fn deal_execs<K>(
-    alloc: Global,
-    casts: &[Cast<K>],
-    letters: Vec<MailExec>,
-    kills: Vec<ControlExec>,
-    endpoints: Vec<Endpoint<ReplyExec>>,
-) -> Result<Vec<Endpoint<ExecPasses>>, NoMemory>
-    requires differ { AllPairs (λ one other. one.actor ≢ other.actor) casts.now }
-    requires long { (length letters.items ≡ length casts.now) × (length kills.items ≡ length casts.now) }
-    ensures places { IfOk result (λ execs.
-        map (λ exec. exec.place) execs.items ≡ range_with_len 0 (length execs.items)) }
-    ensures letters { IfOk result (λ execs. map (λ exec. exec.pass.letters) execs.items ≡ letters.items) }
-    ensures kills { IfOk result (λ execs. map (λ exec. exec.pass.kills) execs.items ≡ kills.items) }
-    ensures notices { IfOk result (λ execs.
-        map (λ exec. exec.pass.notices.items) execs.items ≡
-        map (λ cast. group_of (λ pass. pass.actor) cast.actor endpoints.items) casts.now) }
-{
-    let actors = actor_numbers(alloc, casts)?;
-    let notices = group(alloc, actors.as_slice(), endpoints)?;
-    let execs = exec_passes(alloc, letters, kills, notices)?;
-    Ok(execs)
-}
-
-/// The callers' passes, of which those on the actors' lines are each caller's own.
-fn deal_callers(
-    alloc: Global,
-    setups: &[CallerSetup],
-    letters: Vec<Endpoint<MailCaller>>,
-    kills: Vec<Endpoint<ControlCaller>>,
-    collects: Vec<ReplyCaller>,
-) -> Result<Vec<Endpoint<CallerPasses>>, NoMemory>
-    requires differ { AllPairs (λ one other. one.caller ≢ other.caller) setups.now }
-    requires long { length collects.items ≡ length setups.now }
-    ensures places { IfOk result (λ callers.
-        map (λ caller. caller.place) callers.items ≡ range_with_len 0 (length callers.items)) }
-    ensures letters { IfOk result (λ callers.
-        map (λ caller. caller.pass.letters.items) callers.items ≡
-        map (λ setup. group_of (λ pass. pass.number) setup.caller letters.items) setups.now) }
-    ensures kills { IfOk result (λ callers.
-        map (λ caller. caller.pass.kills.items) callers.items ≡
-        map (λ setup. group_of (λ pass. pass.number) setup.caller kills.items) setups.now) }
-    ensures collects { IfOk result (λ callers. map (λ caller. caller.pass.collects) callers.items ≡ collects.items) }
-{
-    let callers = caller_numbers(alloc, setups)?;
-    let letters = group(alloc, callers.as_slice(), letters)?;
-    let kills = group(alloc, callers.as_slice(), kills)?;
-    let callers = caller_passes(alloc, letters, kills, collects)?;
     Ok(callers)
 }
 
@@ -288,17 +223,16 @@ pub fn open_lines<K>(
     requires matched { AreMatched casts.now setups.now }
     ensures { IfOk result (λ opened. AreOpened casts.now setups.now opened) }
 {
-    let mails = open_mails(alloc, casts)?;
-    let controls = open_controls(alloc, casts)?;
-    let replies = open_replies(alloc, setups)?;
-    let execs = deal_execs(alloc, casts, mails.execs, controls.execs, replies.endpoints)?;
-    let callers = deal_callers(
-        alloc,
-        setups,
-        mails.endpoints,
-        controls.endpoints,
-        replies.callers,
-    )?;
+    let actor_numbers: Vec<u8> = casts.iter().map(|cast| cast.actor.number()).collect(alloc)?;
+    let caller_numbers: Vec<u8> = setups
+        .iter()
+        .map(|setup| setup.caller.number())
+        .collect(alloc)?;
+    let mails = open_mails(alloc, casts, caller_numbers.as_slice())?;
+    let controls = open_controls(alloc, casts, caller_numbers.as_slice())?;
+    let replies = open_replies(alloc, setups, actor_numbers.as_slice())?;
+    let execs = exec_passes(alloc, mails.execs, controls.execs, replies.execs)?;
+    let callers = caller_passes(alloc, mails.callers, controls.callers, replies.callers)?;
     let lines = Lines {
         mails: mails.lines,
         controls: controls.lines,

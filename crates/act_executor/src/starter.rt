@@ -1,12 +1,11 @@
 //! What the starter does where a thread can't be started.
 
-ghost use Rattle.std.specs.Prelude.{◌≡◌, ℕ, ◌<◌, length, map, All, IfOk};
-ghost use Rattle.std.specs.List.{range_with_len};
+ghost use Rattle.std.specs.Prelude.{◌≡◌, map, IfOk};
 ghost use Rattle.act_mailbox.specs.Passes.{new_putter};
 ghost use Rattle.act_mailbox.specs.Controls.{starter};
 ghost use Rattle.act_executor.specs.Audits.{SitsAtControl};
 ghost use Rattle.act_executor.specs.Joins.{AreStarters};
-ghost use Rattle.act_executor.specs.Work.{IsUnusedStarter, IsAsked, CanStop, HasAskedAll};
+ghost use Rattle.act_executor.specs.Work.{IsAsked, CanStop, HasAskedAll};
 
 use act_mailbox::{Control, ControlCaller, Endpoint};
 use act_tasks::Stop;
@@ -63,25 +62,6 @@ impl<'a> Stop for Starter<'a> {
     }
 }
 
-/// The starter's passes with their places.
-pub(crate) fn endpoints_at(
-    alloc: Global,
-    controls: &[Control],
-    passes: Vec<ControlCaller>,
-) -> Result<Vec<Endpoint<ControlCaller>>, NoMemory>
-    requires { passes.items ≡ map (λ control. new_putter control.line starter) controls.now }
-    ensures sit { IfOk result (λ endpoints. All (IsUnusedStarter controls.now) endpoints.items) }
-    ensures places { IfOk result (λ endpoints.
-        map (λ endpoint. endpoint.place) endpoints.items ≡ range_with_len 0 (length controls.now)) }
-{
-    let mut endpoints = Vec::new(alloc);
-    for pass in passes {
-        let place = endpoints.len();
-        endpoints.push(Endpoint { place, pass })?;
-    }
-    Ok(endpoints)
-}
-
 /// The starter at these lines, with room for what comes of its kills.
 pub(crate) fn starter_at(
     alloc: Global,
@@ -93,7 +73,11 @@ pub(crate) fn starter_at(
     ensures starters { IfOk result (λ it. AreStarters controls.now it.endpoints.items) }
     ensures ready { IfOk result CanStop }
 {
-    let endpoints = endpoints_at(alloc, controls, passes)?;
+    let mut endpoints = Vec::new(alloc);
+    for pass in passes {
+        let place = endpoints.len();
+        endpoints.push(Endpoint { place, pass })?;
+    }
     let asked = Vec::with_capacity(alloc, endpoints.len())?;
     Ok(Starter {
         controls,

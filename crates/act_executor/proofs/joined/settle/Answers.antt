@@ -3,7 +3,8 @@ use Rattle.act_mailbox.specs.Controls.{ControlView}
 use Rattle.act_serve.specs.declared.endpoint.Finished.{Finished}
 use Rattle.act_drive.specs.declared.caller.Driven.{Driven}
 use Rattle.act_executor.specs.Audits.{HasEndpoints, KillTold, CallerTold, ActorLeft, left_of}
-use Rattle.act_executor.specs.Joins.{ended_starved}
+use Rattle.act_serve.specs.Served.{end_view}
+use Rattle.act_executor.specs.Joined.{is_starved}
 use Rattle.act_executor.proofs.Settled.{seen_through, none_any}
 use Rattle.act_executor.proofs.joined.settle.Goals as goal
 
@@ -25,7 +26,7 @@ returns g c =
     let kills = c.audit_kills.ensures.same in
     let callers = c.audit_actors.ensures.same in
     record {
-      fed = none_any (λ (f : Finished _). ended_starved f.ended) c.args.ends.actors.items (search rules);
+      fed = none_any (λ (f : Finished _). is_starved (end_view g.K.Actor.state f.ended)) c.args.ends.actors.items (search rules);
       fed_callers = none_any (λ (d : Driven). d.starved) c.args.ends.callers.items (search rules);
       same = ap (map left_of) (same ∙ kills) ∙ c.audit_actors.ensures.same_actors;
       owners = c.in_ok-owners.ensures.owners ∙ ap (map (λ (d : Driven). d.owner)) callers;

@@ -1,13 +1,18 @@
 use Rattle.std.proofs.Common.{◌≡◌, ◌++◌, length, map}
 use Rattle.std.specs.List.{range_with_len}
-use Rattle.std.specs.Vec.Iter.{into_iter_items}
+use Rattle.std.specs.Vec.Iter.{into_iter_items, into_iter_len}
 use Rattle.act_executor.specs.Groups.{items_of_vec}
 use Rattle.act_executor.proofs.open.caller_passes.Given as goal
 
 abbrev pub invariant-loop-letters : goal.invariant-loop-letters
 invariant-loop-letters l = record {
   places : map (λ caller. caller.place) l.callers.items ≡ range_with_len 0 (length l.callers.items);
-  letters : map (λ caller. caller.pass.letters.items) l.callers.items ++ map (λ all. items_of_vec all.0.0) (into_iter_items l.letters-iterator) ≡ map items_of_vec l.fn.letters.items;
-  kills : map (λ caller. caller.pass.kills.items) l.callers.items ++ map (λ all. items_of_vec all.0.1) (into_iter_items l.letters-iterator) ≡ map items_of_vec l.fn.kills.items;
-  collects : map (λ caller. caller.pass.collects) l.callers.items ++ map (λ all. all.1) (into_iter_items l.letters-iterator) ≡ l.fn.collects.items;
+  letters : map (λ caller. caller.pass.letters.items) l.callers.items ++ map items_of_vec (into_iter_items l.letters-iterator.a.a) ≡ map items_of_vec l.fn.letters.items;
+  kills : map (λ caller. caller.pass.kills.items) l.callers.items ++ map items_of_vec (into_iter_items l.letters-iterator.a.b) ≡ map items_of_vec l.fn.kills.items;
+  collects : map (λ caller. caller.pass.collects) l.callers.items ++ into_iter_items l.letters-iterator.b ≡ l.fn.collects.items;
+  letters_long : into_iter_len l.letters-iterator.a.a ≡ length (into_iter_items l.letters-iterator.a.a);
+  kills_long : into_iter_len l.letters-iterator.a.b ≡ length (into_iter_items l.letters-iterator.a.b);
+  collects_long : into_iter_len l.letters-iterator.b ≡ length (into_iter_items l.letters-iterator.b);
+  first : length (into_iter_items l.letters-iterator.a.b) ≡ length (into_iter_items l.letters-iterator.a.a);
+  last : length (into_iter_items l.letters-iterator.b) ≡ length (into_iter_items l.letters-iterator.a.a);
 }

@@ -1,31 +1,40 @@
-use Rattle.std.proofs.Common.{map, refl, ap, sym, ◌∙◌}
+use Rattle.std.proofs.Common.{rules, length, map, inl, inr, refl, ap, sym, ◌∙◌, arith}
 use Rattle.std.specs.Vec.Iter.{into_iter_items}
-use Rattle.std.proofs.lemmas.Simd.{map-map}
 use Rattle.act_mailbox.specs.declared.endpoint.Endpoint.{Endpoint}
 use Rattle.act_serve.specs.declared.endpoint.ExecPasses.{ExecPasses}
 use Rattle.act_executor.specs.Groups.{items_of_vec}
-use Rattle.act_executor.proofs.Pairs.{zipped, one_done, placed}
+use Rattle.act_executor.proofs.Pairs.{one_done, all_done, used_up, placed}
 use Rattle.act_executor.proofs.open.exec_passes.Goals as goal
-
-pub loop-letters-init : goal.loop-letters-init
-loop-letters-init c =
-    let are = zipped c.args.letters.items c.args.kills.items c.args.notices.items c.in_ok-pair.field-0.items c.in_ok-passes.passes.items c.in_ok-pair.ensures c.in_ok-passes.ensures c.requires.long.0 c.requires.long.1 in
-    let none = c.new-execs.ensures.items in
-    let left = c.into_iter-letters-iterator.ensures.into_iter_gives.0 in
-    record {
-      places = rw none refl;
-      letters = rw none (ap (map _) left ∙ are.first);
-      kills = rw none (ap (map _) left ∙ are.second);
-      notices = rw none (ap (map _) left ∙ sym (map-map items_of_vec (λ p. p.1) c.in_ok-passes.passes.items) ∙ ap (map items_of_vec) are.third);
-    }
 
 pub loop-letters-preserved : goal.loop-letters-preserved
 loop-letters-preserved c =
     let inv = c.loop-letters.invariant in
-    let rest = into_iter_items c.next.new.self in
+    let first = c.in-Some.ensures.steps.0.0.0 in
+    let second = c.in-Some.ensures.steps.0.1.0 in
+    let third = c.in-Some.ensures.steps.1.0 in
     record {
       places = placed c.loop-letters.execs.items c.push.new.self.items _ inv.places c.in_ok-push.ensures.items (c.len-place.ensures ∙ c.loop-letters.execs.ok.0);
-      letters = one_done (λ (exec : Endpoint ExecPasses). exec.pass.letters) _ c.loop-letters.execs.items c.push.new.self.items _ _ rest _ _ inv.letters c.in_ok-push.ensures.items c.in-Some.ensures.steps.0 refl;
-      kills = one_done (λ (exec : Endpoint ExecPasses). exec.pass.kills) _ c.loop-letters.execs.items c.push.new.self.items _ _ rest _ _ inv.kills c.in_ok-push.ensures.items c.in-Some.ensures.steps.0 refl;
-      notices = one_done (λ (exec : Endpoint ExecPasses). exec.pass.notices.items) _ c.loop-letters.execs.items c.push.new.self.items _ _ rest _ _ inv.notices c.in_ok-push.ensures.items c.in-Some.ensures.steps.0 refl;
+      letters = one_done (λ (exec : Endpoint ExecPasses). exec.pass.letters) c.loop-letters.execs.items c.push.new.self.items _ _ _ _ _ inv.letters c.in_ok-push.ensures.items first refl;
+      kills = one_done (λ (exec : Endpoint ExecPasses). exec.pass.kills) c.loop-letters.execs.items c.push.new.self.items _ _ _ _ _ inv.kills c.in_ok-push.ensures.items second refl;
+      notices = one_done (λ (exec : Endpoint ExecPasses). exec.pass.notices.items) c.loop-letters.execs.items c.push.new.self.items _ _ _ _ _ inv.notices c.in_ok-push.ensures.items (ap (map items_of_vec) third) refl;
+      letters_long = search (rules, first);
+      kills_long = search (rules, second);
+      notices_long = search (rules, third);
+      first = omega (arith, inv.first, ap length first, ap length second);
+      last = omega (arith, inv.last, ap length first, ap length third);
+    }
+
+pub returns : goal.returns
+returns c =
+    let inv = c.loop-letters.invariant in
+    let left = c.loop-letters.letters-iterator in
+    let none = used_up (into_iter_items left.a.a) (into_iter_items left.a.b) (into_iter_items left.b) inv.first inv.last (elim c.in-None.ensures.steps [
+      | inl s ↦ elim s.1 [ inl t ↦ inl (inl (sym inv.letters_long ∙ t.1.0)) | inr t ↦ inl (inr (sym inv.kills_long ∙ t.1.0)) ]
+      | inr s ↦ inr (sym inv.notices_long ∙ s.1.0)
+    ]) in
+    record {
+      places = inv.places;
+      letters = all_done _ _ _ none.0 inv.letters;
+      kills = all_done _ _ _ none.1 inv.kills;
+      notices = all_done _ _ _ (ap (map items_of_vec) none.2) inv.notices;
     }

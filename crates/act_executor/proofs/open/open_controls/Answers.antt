@@ -2,12 +2,22 @@ use Rattle.std.proofs.Common.{◌≡◌, ℕ, ◌<◌, List, [], ◌∷◌, All,
 use Rattle.std.proofs.lemmas.List.Elements.{All-push}
 use Rattle.act_actor.specs.declared.cast.Cast.{Cast}
 use Rattle.act_mailbox.specs.Controls.{ControlView, ControlExecView, starter}
-use Rattle.act_mailbox.specs.Passes.{new_putter}
+use Rattle.act_mailbox.specs.Passes.{PutterView, new_putter}
+use Rattle.act_mailbox.specs.declared.control.Asked.{Asked}
+use Rattle.act_mailbox.specs.declared.endpoint.Endpoint.{Endpoint}
+use Rattle.act_executor.specs.Groups.{AreHands}
+use Rattle.act_executor.proofs.Gathered.{hands_long, dealt_more}
 use Rattle.act_executor.proofs.Endpoints.{endpoints_more, one_more, next_taken, next_pushed, one_longer}
 use Rattle.act_executor.proofs.open.open_controls.Goals as goal
 
 abbrev IsBare : ControlExecView → Type 0
 IsBare exec = (exec.taken ≡ []) × (exec.stamps ≡ []) × (exec.lengths ≡ [])
+
+abbrev number : PutterView Asked ℕ → ℕ
+number pass = pass.number
+
+pub deal-requires-clause-long : goal.deal-requires-clause-long
+deal-requires-clause-long g c = hands_long number c.args.callers.now _ c.loop-place.hands.items c.loop-place.invariant.dealt
 
 pub loop-place-preserved : goal.loop-place-preserved
 loop-place-preserved g c =
@@ -32,6 +42,7 @@ loop-place-preserved g c =
       unused = subst (λ (l : List ControlExecView). All IsBare l) (sym {A = List ControlExecView} to_execs) (All-push IsBare execs exec inv.unused (ap (λ (exec : ControlExecView). exec.taken) is, ap (λ (exec : ControlExecView). exec.stamps) is, ap (λ (exec : ControlExecView). exec.lengths) is));
       starters = sym (one_more (λ (control : ControlView). new_putter control.line starter) lines _ line _ _ _ (sym inv.starters) to_lines c.in_ok-push-3.ensures.items (sym c.in_ok-line.ensures.starter));
       long = one_longer lines _ line place inv.long to_lines;
-      endpoints = endpoints_more new_putter (λ (control : ControlView). control.line) (λ (cast : Cast g.row.K.Denot). cast.callers) lines c.push.new.self.items line casts place cast c.loop-place.endpoints.items c.in_ok-endpoints.endpoints.items c.in_ok-line.passes.items
-          inv.endpoints inv.long below at to_lines (c.in_ok-line.ensures.callers ∙ ap (map (new_putter line.line)) c.as_slice.ensures) c.in_ok-endpoints.ensures;
+      dealt = subst (λ (endpoints : List (Endpoint (PutterView Asked ℕ))). AreHands number c.args.callers.now endpoints c.deal.new.hands.items)
+          (endpoints_more new_putter (λ (control : ControlView). control.line) (λ (cast : Cast g.row.K.Denot). cast.callers) lines c.push.new.self.items line casts place cast c.in_ok-line.passes.items inv.long below at to_lines (c.in_ok-line.ensures.callers ∙ ap (map (new_putter line.line)) c.as_slice.ensures))
+          (dealt_more number c.args.callers.now _ _ c.loop-place.hands.items c.deal.new.hands.items inv.dealt c.in_ok-deal.ensures);
     }

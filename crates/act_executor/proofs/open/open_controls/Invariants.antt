@@ -1,7 +1,7 @@
 use Rattle.std.proofs.Common.{◌≡◌, [], ◌∷◌, All, length, map, take}
 use Rattle.act_mailbox.specs.Controls.{starter}
 use Rattle.act_mailbox.specs.Passes.{new_putter}
-use Rattle.act_executor.specs.Groups.{endpoints_from}
+use Rattle.act_executor.specs.Groups.{endpoints_from, AreHands}
 use Rattle.act_executor.proofs.open.open_controls.Given as goal
 
 abbrev pub invariant-loop-place : goal.invariant-loop-place
@@ -13,5 +13,5 @@ invariant-loop-place g l = record {
   unused : All (λ exec. (exec.taken ≡ []) × (exec.stamps ≡ []) × (exec.lengths ≡ [])) l.execs.items;
   starters : l.starters.items ≡ map (λ control. new_putter control.line starter) l.lines.items;
   long : length l.lines.items ≡ l.place;
-  endpoints : l.endpoints.items ≡ endpoints_from new_putter 0 (map (λ control. control.line) l.lines.items) (map (λ cast. cast.callers) (take l.place l.casts));
+  dealt : AreHands (λ pass. pass.number) l.callers (endpoints_from new_putter 0 (map (λ control. control.line) l.lines.items) (map (λ cast. cast.callers) (take l.place l.casts))) l.hands.items;
 }

@@ -1,15 +1,24 @@
-use Rattle.std.proofs.Common.{◌≡◌, ◌<◌, List, [], All, arith, length, map, ap, sym, ◌∙◌, subst}
+use Rattle.std.proofs.Common.{◌≡◌, ℕ, ◌<◌, List, [], All, arith, length, map, ap, sym, ◌∙◌, subst}
 use Rattle.std.proofs.lemmas.List.Elements.{All-push}
 use Rattle.act_types.specs.declared.message.Notice.{Notice}
 use Rattle.act_rules.specs.declared.history.RunItem.{RunItem}
-use Rattle.act_mailbox.specs.Notices.{RepliesView, new_exec}
+use Rattle.act_mailbox.specs.Notices.{RepliesView, ReplyExecView, new_exec}
 use Rattle.act_mailbox.specs.Passes.{TakerView}
 use Rattle.act_plans.specs.declared.setup.CallerSetup.{CallerSetup}
+use Rattle.act_mailbox.specs.declared.endpoint.Endpoint.{Endpoint}
+use Rattle.act_executor.specs.Groups.{AreHands}
+use Rattle.act_executor.proofs.Gathered.{hands_long, dealt_more}
 use Rattle.act_executor.proofs.Endpoints.{endpoints_more, one_more, next_taken, next_pushed, one_longer}
 use Rattle.act_executor.proofs.open.open_replies.Goals as goal
 
 abbrev IsBare : TakerView Notice RunItem → Type 0
 IsBare caller = (caller.taken ≡ []) × (caller.stamps ≡ [])
+
+abbrev number : ReplyExecView → ℕ
+number pass = pass.actor
+
+pub deal-requires-clause-long : goal.deal-requires-clause-long
+deal-requires-clause-long c = hands_long number c.args.actors.now _ c.loop-place.hands.items c.loop-place.invariant.dealt
 
 pub loop-place-preserved : goal.loop-place-preserved
 loop-place-preserved c =
@@ -31,6 +40,7 @@ loop-place-preserved c =
       lines = one_more (λ (caller : TakerView Notice RunItem). caller.line) callers _ caller _ _ _ inv.lines to_callers (next_pushed (λ (line : RepliesView). line.line) lines _ line to_lines) (ap (λ (caller : TakerView Notice RunItem). caller.line) is);
       unused = subst (λ (l : List (TakerView Notice RunItem)). All IsBare l) (sym {A = List (TakerView Notice RunItem)} to_callers) (All-push IsBare callers caller inv.unused (ap (λ (caller : TakerView Notice RunItem). caller.taken) is, ap (λ (caller : TakerView Notice RunItem). caller.stamps) is));
       long = one_longer lines _ line place inv.long to_lines;
-      endpoints = endpoints_more new_exec (λ (line : RepliesView). line.line) (λ (setup : CallerSetup). setup.actors.items) lines c.push.new.self.items line setups place setup c.loop-place.endpoints.items c.in_ok-endpoints.endpoints.items c.in_ok-line.passes.items
-          inv.endpoints inv.long below at to_lines (c.in_ok-line.ensures.executors ∙ ap (map (new_exec line.line)) c.as_slice.ensures.value) c.in_ok-endpoints.ensures;
+      dealt = subst (λ (endpoints : List (Endpoint (ReplyExecView))). AreHands number c.args.actors.now endpoints c.deal.new.hands.items)
+          (endpoints_more new_exec (λ (line : RepliesView). line.line) (λ (setup : CallerSetup). setup.actors.items) lines c.push.new.self.items line setups place setup c.in_ok-line.passes.items inv.long below at to_lines (c.in_ok-line.ensures.executors ∙ ap (map (new_exec line.line)) c.as_slice.ensures.value))
+          (dealt_more number c.args.actors.now _ _ c.loop-place.hands.items c.deal.new.hands.items inv.dealt c.in_ok-deal.ensures);
     }

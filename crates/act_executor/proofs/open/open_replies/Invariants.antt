@@ -1,6 +1,6 @@
 use Rattle.std.proofs.Common.{◌≡◌, [], All, length, map, take}
 use Rattle.act_mailbox.specs.Notices.{new_exec}
-use Rattle.act_executor.specs.Groups.{endpoints_from}
+use Rattle.act_executor.specs.Groups.{endpoints_from, AreHands}
 use Rattle.act_executor.proofs.open.open_replies.Given as goal
 
 abbrev pub invariant-loop-place : goal.invariant-loop-place
@@ -9,5 +9,5 @@ invariant-loop-place l = record {
   lines : map (λ caller. caller.line) l.callers.items ≡ map (λ line. line.line) l.lines.items;
   unused : All (λ caller. (caller.taken ≡ []) × (caller.stamps ≡ [])) l.callers.items;
   long : length l.lines.items ≡ l.place;
-  endpoints : l.endpoints.items ≡ endpoints_from new_exec 0 (map (λ line. line.line) l.lines.items) (map (λ setup. setup.actors.items) (take l.place l.setups));
+  dealt : AreHands (λ pass. pass.actor) l.actors (endpoints_from new_exec 0 (map (λ line. line.line) l.lines.items) (map (λ setup. setup.actors.items) (take l.place l.setups))) l.hands.items;
 }
