@@ -8,7 +8,7 @@ use Rattle.act_rules.specs.RunList.{after_item, state_after, has_terminated}
 use Rattle.act_rules.specs.declared.history.RunItem.{RunItem}
 use Rattle.act_rules.specs.declared.outcome.Arrival.{Arrival}
 use Rattle.act_rules.specs.declared.outcome.Arrival.TheVariants.{New, Stranger}
-use Rattle.act_inbox.specs.Inbox.{InboxView, call_arrival, note_arrival, handed_of, holding, next_of, HoldsNone, IsNextTaken, IsDrained}
+use Rattle.act_inbox.specs.Inbox.{InboxView, call_arrival, note_arrival, handed_of, with_held, next_of, HoldsNone, IsNextTaken, IsDrained}
 use Rattle.act_actor.specs.View.{ActorView}
 
 -- what the caller's call of this number to an actor is to the one of this name
@@ -76,7 +76,7 @@ pub record RunsAtOnce (packet : Packet) (id : ℕ) (log : List RunItem) (inbox :
 
 -- the actor after a new packet arrived
 abbrev pub with_packet : Packet → ActorView → ActorView
-with_packet packet actor = record actor { inbox = holding packet actor.inbox }
+with_packet packet actor = record actor { inbox = with_held packet actor.inbox }
 
 -- the actor took the caller's packet, and it ran
 pub record HasRunCall (caller : ℕ) (packet : Packet) (old new : ActorView) : Type 0 where

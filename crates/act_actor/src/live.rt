@@ -17,7 +17,7 @@ ghost use Rattle.act_actor.specs.Actor.{item_of, reply_of_run, call_arrival_at, 
 ghost use Rattle.act_actor.specs.StateViews.{live_view, retired_view};
 
 use crate::arguments::values_of;
-use crate::terminate::{is_end, terminated};
+use crate::terminate::{answer_to_terminate, is_end};
 use crate::{Dead, Retired};
 use act_inbox::Inbox;
 use act_kinds::{Actor, Boxed};
@@ -75,7 +75,7 @@ fn answer_of<K: Actor>(alloc: Global, kind: &mut K, packet: &Packet) -> Result<A
 {
     match values_of(alloc, packet.args.as_slice())? {
         Ok(values) => match packet.method {
-            Method::Terminate => Ok(terminated(values.as_slice())),
+            Method::Terminate => Ok(answer_to_terminate(values.as_slice())),
             _ => kind.ask(&packet.method, values.as_slice()),
         },
         Err(future) => Ok(Err(Fault::Dependency(future))),
@@ -84,7 +84,7 @@ fn answer_of<K: Actor>(alloc: Global, kind: &mut K, packet: &Packet) -> Result<A
 
 /// Room in the log for a call, and the reply to it, which it gets there. The room comes first, and
 /// then the kind's answer.
-fn answered<K: Actor>(
+fn log_reply<K: Actor>(
     log: &mut Vec<RunItem>,
     id: ActorId,
     kind: &mut K,
@@ -292,7 +292,7 @@ impl<K: Actor> Live<K> {
         let Some(packet) = self.inbox.peek(caller) else {
             return Ok(None);
         };
-        let reply = answered(&mut self.log, self.id, &mut self.kind, packet)?;
+        let reply = log_reply(&mut self.log, self.id, &mut self.kind, packet)?;
         let packet = self.inbox.next(caller).unwrap();
         self.log.push_reserved(item_of(packet));
         Ok(Some(reply))
@@ -359,7 +359,7 @@ impl<K: Actor> Live<K> {
         ensures alone { HoldsNone (live_view K.state self.new).inbox }
         ensures err { OnErr result (live_view K.state self.new ≡ live_view K.state self.old) }
     {
-        let reply = answered(&mut self.log, self.id, &mut self.kind, &packet)?;
+        let reply = log_reply(&mut self.log, self.id, &mut self.kind, &packet)?;
         self.inbox.pass_by(&packet);
         self.log.push_reserved(item_of(packet));
         Ok(reply)

@@ -19,7 +19,7 @@ pub(crate) fn is_end(item: &RunItem) -> bool
 }
 
 /// What an actor answers to a `terminate`. Its kind isn't asked.
-pub(crate) fn terminated(values: &[Value]) -> Answer
+pub(crate) fn answer_to_terminate(values: &[Value]) -> Answer
     ensures { (state : KindState) → (state, result) ≡ step_of_reply state (call_reply state Terminate values.now) }
 {
     match values {

@@ -8,7 +8,7 @@ use Rattle.act_types.specs.declared.message.ReleaseNote.{ReleaseNote}
 use Rattle.act_rules.specs.declared.outcome.Arrival.{Arrival}
 use Rattle.act_rules.specs.declared.outcome.Arrival.TheVariants.{New, Repeat, Stranger}
 use Rattle.act_inbox.specs.View.{IsInbox}
-use Rattle.act_inbox.specs.Inbox.{InboxView, arrival_of, holding}
+use Rattle.act_inbox.specs.Inbox.{InboxView, arrival_of, with_held}
 use Rattle.act_inbox.proofs.Packets.{new_tells, waits_holding}
 use Rattle.act_owner.specs.Owner.{OwnerView}
 use Rattle.act_actor.specs.View.{ActorView}
@@ -47,7 +47,7 @@ takes live packet New is sound =
     let is_new = new_inside live.id live.inbox packet is in
     record {
       arrival = New;
-      next = record live { inbox = holding packet live.inbox };
+      next = record live { inbox = with_held packet live.inbox };
       taken = record { arrival_is = sym is; same = refl; taken = record { lanes = refl; notes = refl; waits = waits_holding live.inbox packet is_new } };
       inbox = holds_more live.inbox packet is_new sound;
     }

@@ -127,7 +127,7 @@ impl Driver {
     }
 
     /// The whole of a plan.
-    fn whole<R: Wait, N: Notes>(
+    fn do_whole_plan<R: Wait, N: Notes>(
         &mut self,
         rt: &R,
         alloc: Global,
@@ -166,7 +166,7 @@ impl Driver {
         ensures ended { result ≡ true → HaveEnded lines.now self.new.owner self.new.passes }
         ensures traced { result ≡ false → TracesWhole lines.now plan.items self.old self.new }
     {
-        match self.whole(rt, alloc, lines, plan, notes) {
+        match self.do_whole_plan(rt, alloc, lines, plan, notes) {
             Ok(()) => false,
             Err(_) => {
                 self.starve(rt, lines, notes);

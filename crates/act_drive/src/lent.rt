@@ -69,7 +69,7 @@ impl<'a, R: Wait, O: Opening> Lent<'a, R, O> {
     {
         let k = self
             .driver
-            .submit_told(self.rt, self.alloc, self.lines, actor, method, args)?;
+            .try_submit(self.rt, self.alloc, self.lines, actor, method, args)?;
         Ok(k)
     }
 
@@ -120,7 +120,7 @@ impl<'a, R: Wait, O: Opening> Session for Lent<'a, R, O> {
     }
 
     fn copy(&mut self, actor: ActorId) -> Result<u32, HandleRefusal> {
-        let copies = self.driver.copy_told(actor)?;
+        let copies = self.driver.try_copy(actor)?;
         Ok(copies)
     }
 

@@ -66,7 +66,7 @@ impl Driver {
     }
 
     /// Submits a call, once its actor's limit leaves room for it, and gives its future.
-    pub(crate) fn submit_told<R: Wait>(
+    pub(crate) fn try_submit<R: Wait>(
         &mut self,
         rt: &R,
         alloc: Global,
@@ -96,7 +96,7 @@ impl Driver {
     }
 
     /// Copies a handle, and gives how many copies are held.
-    pub(crate) fn copy_told(&mut self, a: ActorId) -> Result<u32, HandleRefusal>
+    pub(crate) fn try_copy(&mut self, a: ActorId) -> Result<u32, HandleRefusal>
         ensures calling { (lines : CallerLines) → IsCalling lines self.old → IsCalling lines self.new }
         ensures stays { Stays self.old self.new }
         ensures does { OnOk result ((lines : CallerLines) → Does lines (Copy a) self.old self.new) }

@@ -128,7 +128,7 @@ struct Passes {
 }
 
 /// The firsts and the seconds of pairs.
-fn parted<X: Drop, Y: Drop>(alloc: Global, pairs: Vec<(X, Y)>) -> Result<(Vec<X>, Vec<Y>), NoMemory>
+fn unzip<X: Drop, Y: Drop>(alloc: Global, pairs: Vec<(X, Y)>) -> Result<(Vec<X>, Vec<Y>), NoMemory>
     ensures { IfOk result (λ setups. setups.0.items ≡ map (λ pair. pair.0) pairs.items) }
 {
     let mut firsts = Vec::new(alloc);
@@ -165,8 +165,8 @@ fn run_tasks<
 {
     let (served, driven, starter) = run_both(rt, alloc, servings, drivings, starter)?;
     let Starter { endpoints, .. } = starter;
-    let (actors, of_actors) = parted(alloc, served)?;
-    let (callers, of_callers) = parted(alloc, driven)?;
+    let (actors, of_actors) = unzip(alloc, served)?;
+    let (callers, of_callers) = unzip(alloc, driven)?;
     let ends = Ends {
         actors,
         callers,

@@ -37,7 +37,7 @@ impl Model for Handles {
 }
 
 /// A handle of each actor, of which one copy is held.
-fn opened(alloc: Global, actors: &[ActorId]) -> Result<Vec<Handle>, NoMemory>
+fn open_handles(alloc: Global, actors: &[ActorId]) -> Result<Vec<Handle>, NoMemory>
     ensures { IfOk result (λ handles. handles.items ≡ map new_handle actors.now) }
 {
     let handles = actors
@@ -64,7 +64,7 @@ impl Handles {
         requires distinct { AllPairs (λ one other. one ≢ other) actors.now }
         ensures { IfOk result (λ handles. handles ≡ map new_handle actors.now) }
     {
-        let handles = opened(alloc, actors)?;
+        let handles = open_handles(alloc, actors)?;
         Ok(Handles { handles })
     }
 
@@ -86,7 +86,7 @@ impl Handles {
     }
 
     /// The place of the actor's handle, where a copy of it is held.
-    fn held(&self, actor: ActorId) -> Result<usize, HandleRefusal>
+    fn held_place(&self, actor: ActorId) -> Result<usize, HandleRefusal>
         ensures place { IfOk result (IsAt actor self.now) }
         ensures ok { OnOk result (handle_refusal (copies_in actor self.now) ≡ None) }
         ensures err { IfErr result (λ refusal. handle_refusal (copies_in actor self.now) ≡ Some refusal) }
@@ -104,11 +104,11 @@ impl Handles {
     pub fn refusal(&self, actor: ActorId) -> Option<HandleRefusal>
         ensures { result ≡ handle_refusal (copies_in actor self.now) }
     {
-        self.held(actor).err()
+        self.held_place(actor).err()
     }
 
     /// How many numbers were given in all.
-    fn given(&self) -> u32
+    fn numbers_given(&self) -> u32
         ensures { result ≡ given_of_all self.now }
     {
         self.handles.iter().map(|handle| handle.given).sum()
@@ -120,7 +120,7 @@ impl Handles {
         ensures ok { OnOk result (self.new ≡ with_copy actor self.old) }
         ensures err { OnErr result (self.new ≡ self.old) }
     {
-        let place = self.held(actor)?;
+        let place = self.held_place(actor)?;
         let handle = &mut self.handles[place];
         if handle.copies >= MAX_COPIES {
             return Err(HandleRefusal::TooManyCopies);
@@ -136,8 +136,8 @@ impl Handles {
         ensures counted { OnOk result (given_of_all self.new ≡ given_of_all self.old + 1) }
         ensures err { OnErr result (self.new ≡ self.old) }
     {
-        let place = self.held(actor)?;
-        if self.given() >= MAX_CALLS {
+        let place = self.held_place(actor)?;
+        if self.numbers_given() >= MAX_CALLS {
             return Err(HandleRefusal::TooManyCalls);
         }
         let handle = &mut self.handles[place];
@@ -153,7 +153,7 @@ impl Handles {
         ensures ok { OnOk result (self.new ≡ without_copy actor self.old) }
         ensures err { OnErr result (self.new ≡ self.old) }
     {
-        let place = self.held(actor)?;
+        let place = self.held_place(actor)?;
         let handle = &mut self.handles[place];
         handle.copies -= 1;
         if handle.copies > 0 {

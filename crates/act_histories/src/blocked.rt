@@ -27,13 +27,13 @@ enum Next {
 }
 
 impl<'a> Stuck<'a> {
-    fn asked(&self, c: CallerId) -> Option<&'a Asked> {
+    fn asked_by(&self, c: CallerId) -> Option<&'a Asked> {
         self.progress.callers.get(c.number() as usize)
     }
 
     /// The first call of the actor that didn't run.
     fn front(&self, a: ActorId) -> Option<&'a Ran> {
-        self.history.actor(a)?.log.get(self.progress.done(a).ran)
+        self.history.actor(a)?.log.get(self.progress.done_by(a).ran)
     }
 
     /// The line of the call.
@@ -45,7 +45,7 @@ impl<'a> Stuck<'a> {
     }
 
     fn is_answered(&self, name: &CallName) -> bool {
-        match self.asked(name.caller) {
+        match self.asked_by(name.caller) {
             Some(asked) => asked.is_answered(name.future),
             None => false,
         }
@@ -70,8 +70,8 @@ impl<'a> Stuck<'a> {
     /// The first call of a caller to the actor that was submitted and has no answer.
     fn first_open(&self, c: CallerId, a: ActorId) -> Option<CallName> {
         let caller = self.history.caller(c)?;
-        let asked = self.asked(c)?;
-        for place in 0..asked.submitted() {
+        let asked = self.asked_by(c)?;
+        for place in 0..asked.count_submitted() {
             let future = future_at(place);
             if caller.call(future)?.actor == a && !asked.is_answered(future) {
                 return Some(CallName { caller: c, future });
@@ -82,7 +82,7 @@ impl<'a> Stuck<'a> {
 
     /// The first call that a caller didn't submit.
     fn first_unsubmitted(&self, c: CallerId) -> Option<CallName> {
-        let submitted = self.asked(c)?.submitted();
+        let submitted = self.asked_by(c)?.count_submitted();
         if submitted >= self.history.caller(c)?.calls.len() {
             return None;
         }
@@ -270,7 +270,7 @@ fn way_of_held(alloc: Global, stuck: &Stuck<'_>) -> Result<Vec<Blame>, NoMemory>
 }
 
 /// Why the play can't go on, or nothing where all that is told happened.
-pub(crate) fn blocked(
+pub(crate) fn why_blocked(
     alloc: Global,
     history: &History,
     progress: &Progress,

@@ -15,12 +15,12 @@ ghost use Rattle.act_histories.specs.Lines.{told_lines};
 ghost use Rattle.act_histories.specs.Play.{EndsSo, IsPlayScript, IsPlayText};
 ghost use Rattle.act_histories.specs.Checked.{IsVerdict, IsVerdictOf, IsBeforeVerdict, WroteVerdict, Checked};
 
-use crate::blocked::blocked;
+use crate::blocked::why_blocked;
 use crate::compared::ends_so;
 use crate::fault::CheckFault;
 use crate::history::{History, Lines};
 use crate::mistake::{Mistake, Wrongly};
-use crate::parts::{Cut, cut_of, told_of};
+use crate::parts::{Cut, cut_of, second_part};
 use crate::printed::play_text;
 use crate::reading::read_history;
 use crate::reason::Blame;
@@ -84,7 +84,7 @@ fn why_not_events(
     ensures { IfOk result (λ why. why ≡ None →
         EndsSo (map actor_spec_of roles) lines.entry.steps.now events.now (told_lines lines.entry.rest.now)) }
 {
-    let shown = told_of(alloc, lines.rest)?;
+    let shown = second_part(alloc, lines.rest)?;
     let casts = casts_of(alloc, stock, roles)?;
     let mut world = World::open(alloc, casts)?;
     let mut told = Vec::new(alloc);
@@ -212,7 +212,7 @@ fn verdict_of_history(
         progress,
         ..
     } = rebuild(alloc, history)?;
-    let blames = blocked(alloc, history, &progress)?;
+    let blames = why_blocked(alloc, history, &progress)?;
     if !blames.is_empty() {
         return Ok(Verdict::Refused(blames_text(alloc, &blames)?));
     }

@@ -76,7 +76,7 @@ fn settled_of(alloc: Global, word: &str) -> Result<Settled, LineFault> {
 }
 
 /// What the line of a future tells, from its words.
-fn future_told(alloc: Global, words: &[&str]) -> Result<Told, LineFault> {
+fn read_future(alloc: Global, words: &[&str]) -> Result<Told, LineFault> {
     match words {
         [name, actor, rest @ ..] => {
             let (caller, future) = future_of(name)?;
@@ -106,7 +106,7 @@ fn check_values(alloc: Global, words: &[&str]) -> Result<(), LineFault> {
 }
 
 /// What the line of an actor tells, from the words after its name.
-fn end_told(alloc: Global, actor: ActorId, words: &[&str]) -> Result<Told, LineFault> {
+fn read_end(alloc: Global, actor: ActorId, words: &[&str]) -> Result<Told, LineFault> {
     match words {
         [word] if *word == "dead" => Ok(Told::End(actor, Ending::Dead, None)),
         [word, kind, state @ ..] => {
@@ -138,7 +138,7 @@ fn settled_args(alloc: Global, words: &[&str]) -> Result<SmallList<Settled>, Lin
 }
 
 /// What the line of a run tells, from the words after its place.
-fn run_told(alloc: Global, actor: ActorId, place: u32, words: &[&str]) -> Result<Told, LineFault> {
+fn read_run(alloc: Global, actor: ActorId, place: u32, words: &[&str]) -> Result<Told, LineFault> {
     match words {
         [name, method, args @ ..] => {
             let (caller, future) = future_of(name)?;
@@ -158,20 +158,20 @@ fn run_told(alloc: Global, actor: ActorId, place: u32, words: &[&str]) -> Result
 }
 
 /// What a line tells whose first word begins as an actor's name does.
-fn actor_told(alloc: Global, name: &str, words: &[&str]) -> Result<Told, LineFault> {
+fn read_actor_line(alloc: Global, name: &str, words: &[&str]) -> Result<Told, LineFault> {
     match name.split_once('.') {
-        None => end_told(alloc, actor_of(name)?, words),
-        Some((actor, place)) => run_told(alloc, actor_of(actor)?, number_of(place)?, words),
+        None => read_end(alloc, actor_of(name)?, words),
+        Some((actor, place)) => read_run(alloc, actor_of(actor)?, number_of(place)?, words),
     }
 }
 
 /// What the words of a line tell.
-pub(crate) fn told_in(alloc: Global, words: &[&str]) -> Result<Told, LineFault> {
+pub(crate) fn read_words(alloc: Global, words: &[&str]) -> Result<Told, LineFault> {
     let [name, rest @ ..] = words else {
         return Err(BAD_LINE);
     };
     match name.as_bytes() {
-        [b'c', ..] => future_told(alloc, words),
-        _ => actor_told(alloc, name, rest),
+        [b'c', ..] => read_future(alloc, words),
+        _ => read_actor_line(alloc, name, rest),
     }
 }

@@ -57,7 +57,7 @@ fn push_told(text: &mut Vec<u8>, line: &[u8]) -> Result<(), AllocError>
 }
 
 /// The lines of the second part, without those that are skipped.
-pub(crate) fn told_of(alloc: Global, rest: &[u8]) -> Result<Vec<u8>, NoMemory>
+pub(crate) fn second_part(alloc: Global, rest: &[u8]) -> Result<Vec<u8>, NoMemory>
     ensures { IfOk result (λ text. text.items ≡ told_lines rest.now) }
 {
     let mut text = Vec::new(alloc);

@@ -27,7 +27,7 @@ impl Asked {
     }
 
     /// How many of its calls it submitted.
-    pub(crate) fn submitted(&self) -> usize {
+    pub(crate) fn count_submitted(&self) -> usize {
         self.answered.len()
     }
 
@@ -67,7 +67,7 @@ impl Asked {
 
     /// Whether the call was submitted, and can be sent.
     pub(crate) fn may_send(&self, call: &Call, k: FutureId) -> bool {
-        (k.number() as usize) < self.submitted()
+        (k.number() as usize) < self.count_submitted()
             && call.args.as_slice().iter().all(|arg| self.knows(arg))
     }
 
@@ -90,7 +90,7 @@ impl Asked {
         let slot = slot_of(a);
         self.pending[slot] = 0;
         self.bereaved[slot] = true;
-        for number in 0..self.submitted() {
+        for number in 0..self.count_submitted() {
             if let Some(call) = caller.calls.get(number)
                 && call.actor == a
             {
@@ -135,7 +135,7 @@ impl Progress {
     }
 
     /// What the actor did so far.
-    pub(crate) fn done(&self, a: ActorId) -> Done {
+    pub(crate) fn done_by(&self, a: ActorId) -> Done {
         match self.actors.get(a.number() as usize) {
             Some(done) => *done,
             None => Done {

@@ -1,7 +1,7 @@
 //! A history, from the script and the lines of what was left.
 
 use crate::history::{Call, Caller, Ending, History, Lines, Ran, Served};
-use crate::line::{Told, told_in};
+use crate::line::{Told, read_words};
 use crate::mistake::{Mistake, Wrongly};
 use act_rules::{KindName, Role, RunItem, Step, Wrong};
 use act_scripts::LineFault;
@@ -23,7 +23,7 @@ struct Reading {
 }
 
 /// A history of nobody.
-fn empty(alloc: Global) -> Result<History, NoMemory> {
+fn empty_history(alloc: Global) -> Result<History, NoMemory> {
     let mut history = History {
         callers: Vec::new(alloc),
         actors: Vec::new(alloc),
@@ -316,7 +316,7 @@ fn mistake_of(line: u32, fault: LineFault) -> Mistake {
 }
 
 /// What a line tells that isn't skipped.
-fn told_at(alloc: Global, line: &[u8], number: u32) -> Result<Told, Mistake> {
+fn read_line(alloc: Global, line: &[u8], number: u32) -> Result<Told, Mistake> {
     let Ok(text) = str::from_utf8(line) else {
         return mistake(number, Wrongly::BadLine);
     };
@@ -324,7 +324,7 @@ fn told_at(alloc: Global, line: &[u8], number: u32) -> Result<Told, Mistake> {
     for word in text.split(' ') {
         words.push(word)?;
     }
-    match told_in(alloc, &words) {
+    match read_words(alloc, &words) {
         Ok(told) => Ok(told),
         Err(fault) => Err(mistake_of(number, fault)),
     }
@@ -335,7 +335,7 @@ fn add_line(reading: &mut Reading, line: &[u8], number: u32) -> Result<(), Mista
     match line {
         [] | [b'#', ..] => Ok(()),
         _ => {
-            let told = told_at(reading.alloc, line, number)?;
+            let told = read_line(reading.alloc, line, number)?;
             reading.add(told, number)
         }
     }
@@ -359,7 +359,7 @@ pub(crate) fn read_history(
 ) -> Result<History, Mistake> {
     let mut reading = Reading {
         alloc,
-        history: empty(alloc)?,
+        history: empty_history(alloc)?,
         caller: 0,
         actor: 0,
     };

@@ -61,9 +61,9 @@ impl Rebuilt {
     }
 
     /// How many calls the caller submitted.
-    fn submitted(&self, c: CallerId) -> usize {
+    fn count_submitted(&self, c: CallerId) -> usize {
         match self.progress.callers.get(c.number() as usize) {
-            Some(asked) => asked.submitted(),
+            Some(asked) => asked.count_submitted(),
             None => 0,
         }
     }
@@ -76,7 +76,7 @@ impl Rebuilt {
         caller: &Caller,
     ) -> Result<bool, NoMemory> {
         let mut has_moved = false;
-        for place in self.submitted(c)..caller.calls.len() {
+        for place in self.count_submitted(c)..caller.calls.len() {
             let call = &caller.calls[place];
             let limit = limit_of(history, call.actor);
             if !self.submit(c, call, limit)? {
@@ -133,7 +133,7 @@ impl Rebuilt {
 
     /// Runs the actor's calls as far as they can be sent.
     fn run_all(&mut self, history: &History, a: ActorId, log: &[Ran]) -> Result<bool, NoMemory> {
-        let mut done = self.progress.done(a);
+        let mut done = self.progress.done_by(a);
         let before = done.ran;
         for place in before..log.len() {
             if !self.run(history, a, &log[place])? {
@@ -183,7 +183,7 @@ impl Rebuilt {
 
     /// A dead actor dies once it ran all that it ran.
     fn die(&mut self, history: &History, a: ActorId, actor: &Served) -> Result<bool, NoMemory> {
-        let done = self.progress.done(a);
+        let done = self.progress.done_by(a);
         if actor.ending != Ending::Dead || done.is_dead || done.ran < actor.log.len() {
             return Ok(false);
         }

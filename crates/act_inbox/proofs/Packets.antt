@@ -5,7 +5,7 @@ use Rattle.std.proofs.lemmas.Bool.Decides.{nat_tests}
 use Rattle.act_types.specs.declared.message.Packet.{Packet}
 use Rattle.act_rules.specs.declared.outcome.Arrival.TheVariants.{New, Repeat, Stranger}
 use Rattle.act_inbox.specs.declared.inbox.Lane.{Lane}
-use Rattle.act_inbox.specs.Inbox.{InboxView, is_packet_of, lane_of, is_listed, handed_of, was_handed, waiting_packet, next_of, has_come, call_arrival, arrival_of, waiting_after, holding}
+use Rattle.act_inbox.specs.Inbox.{InboxView, is_packet_of, lane_of, is_listed, handed_of, was_handed, waiting_packet, next_of, has_come, call_arrival, arrival_of, waiting_after, with_held}
 
 pub both_equal : (a b c d : ℕ) → ((a == b) && (c == d)) ≡ true → (a ≡ b) × (c ≡ d)
 both_equal a b c d e = grind (arith, nat_tests)
@@ -71,5 +71,5 @@ module _ (old new : InboxView) (packet : Packet) (is_new : arrival_of old packet
   waits_then caller number = waits_by caller number (is_packet_of caller number packet) refl
 
 -- an inbox that holds a new packet more is the one that it comes to
-pub waits_holding : (inbox : InboxView) (packet : Packet) → arrival_of inbox packet ≡ New → (caller number : ℕ) → waiting_packet (holding packet inbox) caller number ≡ waiting_after New packet inbox caller number
-waits_holding inbox packet is_new caller number = waits_then inbox (holding packet inbox) packet is_new refl (λ _ _. refl) caller number
+pub waits_holding : (inbox : InboxView) (packet : Packet) → arrival_of inbox packet ≡ New → (caller number : ℕ) → waiting_packet (with_held packet inbox) caller number ≡ waiting_after New packet inbox caller number
+waits_holding inbox packet is_new caller number = waits_then inbox (with_held packet inbox) packet is_new refl (λ _ _. refl) caller number

@@ -9,7 +9,7 @@ use Rattle.std.proofs.lemmas.List.Elements.{All-set, All-cons}
 use Rattle.act_types.specs.declared.message.Packet.{Packet}
 use Rattle.act_inbox.specs.declared.inbox.Lane.{Lane}
 use Rattle.act_inbox.specs.View.{IsInbox}
-use Rattle.act_inbox.specs.Inbox.{InboxView, is_lane_of, is_packet_of, lane_of, is_listed, handed_of, was_handed, next_of, holding, IsNextToCome, IsNextTaken}
+use Rattle.act_inbox.specs.Inbox.{InboxView, is_lane_of, is_packet_of, lane_of, is_listed, handed_of, was_handed, next_of, with_held, IsNextToCome, IsNextTaken}
 use Rattle.act_rules.proofs.Finding.{find-tells}
 use Rattle.act_inbox.proofs.Lanes.{one_more, lane_is, caller_at, same_lane, listed_handed, lane_written, lane_left, in_all_written, in_all_bound}
 use Rattle.act_inbox.proofs.Packets.{is_call_tells, listed_next, new_tells}
@@ -140,10 +140,10 @@ module _ (inbox : InboxView) (packet : Packet) (place : ℕ) (lane : Lane)
 
   pub sound_passed : IsInbox passed.lanes passed.held
   sound_passed =
-      sound_then (holding packet inbox) packet.caller place lane packet at lane_stands held_first held_sound
+      sound_then (with_held packet inbox) packet.caller place lane packet at lane_stands held_first held_sound
       passed lane lane_stands refl (λ other number is. rw is refl) sound.numbered refl
 
-  pub next_passed : IsNextTaken packet.caller packet (holding packet inbox) passed
+  pub next_passed : IsNextTaken packet.caller packet (with_held packet inbox) passed
   next_passed =
-      next_taken (holding packet inbox) packet.caller place lane packet at lane_stands held_first held_sound
+      next_taken (with_held packet inbox) packet.caller place lane packet at lane_stands held_first held_sound
       passed lane lane_stands refl (λ other number is. rw is refl) sound.numbered refl

@@ -107,8 +107,8 @@ pub record IsTakenIn (packet : Packet) (arrival : Arrival) (old new : InboxView)
   pub waits : (caller number : ℕ) → waiting_packet new caller number ≡ waiting_after arrival packet old caller number
 
 -- the inbox that holds one more call
-abbrev pub holding : Packet → InboxView → InboxView
-holding packet inbox = record inbox { held = packet ∷ inbox.held }
+abbrev pub with_held : Packet → InboxView → InboxView
+with_held packet inbox = record inbox { held = packet ∷ inbox.held }
 
 -- no call is held
 abbrev pub HoldsNone : InboxView → Type 0

@@ -2,7 +2,7 @@
 
 ghost use Rattle.std.specs.Prelude.{◌≡◌, ◌↔◌, ◌≢◌, ℕ, None, Some, slice_index_or, ◌≤◌, ◌==◌, All, AllPairs, map, position, is_some, IfOk, OnOk, IfErr, OnErr, IfSome, IfNone, option_copied, IsTrue};
 ghost use Rattle.act_rules.specs.declared.outcome.Arrival.TheVariants.{New};
-ghost use Rattle.act_inbox.specs.Inbox.{InboxView, is_lane_of, is_packet_of, lane_at_first, is_listed, handed_of, note_of, waiting_packet, next_of, call_arrival, arrival_of, note_arrival, waiting_after, held_at, held_after, held_without, note_after, holding, HoldsNone, IsNextToCome, IsOpened, IsTakenIn, IsNextTaken, IsDrained};
+ghost use Rattle.act_inbox.specs.Inbox.{InboxView, is_lane_of, is_packet_of, lane_at_first, is_listed, handed_of, note_of, waiting_packet, next_of, call_arrival, arrival_of, note_arrival, waiting_after, held_at, held_after, held_without, note_after, with_held, HoldsNone, IsNextToCome, IsOpened, IsTakenIn, IsNextTaken, IsDrained};
 
 use crate::held::HeldCalls;
 use act_rules::Arrival;
@@ -209,7 +209,7 @@ impl Inbox {
     pub fn pass_by(&mut self, packet: &Packet)
         requires empty { HoldsNone self.old }
         requires next { IsNextToCome packet.now self.old }
-        ensures taken { IsNextTaken packet.now.caller packet.now (holding packet.now self.old) self.new }
+        ensures taken { IsNextTaken packet.now.caller packet.now (with_held packet.now self.old) self.new }
         ensures held { self.new.held ≡ self.old.held }
     {
         let place = place_of_lane(&self.lanes, packet.caller).unwrap();

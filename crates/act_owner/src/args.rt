@@ -9,7 +9,7 @@ use act_types::{Arg, CopyOf, ListOf, NoMemory, Settled, SmallList};
 use std::alloc::Global;
 
 /// What is sent for an argument that has its answer.
-fn settled(alloc: Global, arg: &Arg, table: &ReplyTable) -> Result<Settled, NoMemory>
+fn settle_arg(alloc: Global, arg: &Arg, table: &ReplyTable) -> Result<Settled, NoMemory>
     ensures { IfOk result (λ sent. sent ≡ settle (answers_of table.now.rows) arg.now) }
 {
     match arg {
@@ -22,7 +22,7 @@ fn settled(alloc: Global, arg: &Arg, table: &ReplyTable) -> Result<Settled, NoMe
 }
 
 /// What is sent for the arguments of a call.
-pub(crate) fn all_settled(
+pub(crate) fn settle_all(
     alloc: Global,
     args: &ListOf<Arg>,
     table: &ReplyTable,
@@ -31,7 +31,7 @@ pub(crate) fn all_settled(
 {
     let mut sent = SmallList::with_capacity(alloc, args.len())?;
     for arg in args.as_slice() {
-        sent.push(settled(alloc, arg, table)?)?;
+        sent.push(settle_arg(alloc, arg, table)?)?;
     }
     Ok(sent)
 }

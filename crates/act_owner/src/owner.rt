@@ -9,7 +9,7 @@ ghost use Rattle.act_handles.specs.Handles.{copies_in, given_in, copy_answer, wi
 ghost use Rattle.act_owner.specs.Owner.{OwnerView, answers_of, open_owner, opened_under, opened_with, owner_limit, pending, with_handles, release_told, kill_told, refusal_to_submit, with_submission, call_at, is_sent, is_known_dead, sending_refusal, packet_at, address_at, with_sent, is_known_call, first_ready, is_to, is_death, is_of_call, collected_reply, after_reply, collected_death, owner_after_death, collect_result, after_collect, call_waits_for, KnowsDeath};
 ghost use Rattle.act_types.specs.declared.message.Notice.TheVariants.{Death};
 
-use crate::args::all_settled;
+use crate::args::settle_all;
 use crate::futures::{answer_death, enter, enter_call};
 use act_handles::{HandleRefusal, Handles, are_earlier};
 use act_replies::ReplyTable;
@@ -142,7 +142,7 @@ fn packet_with(
       args = map (settle (answers_of table.now.rows)) call.now.args;
     }) }
 {
-    let args = all_settled(alloc, &call.args, table)?;
+    let args = settle_all(alloc, &call.args, table)?;
     Ok(Packet {
         caller,
         actor: call.actor,
@@ -155,7 +155,7 @@ fn packet_with(
 
 impl Owner {
     /// A caller of these actors, which holds one copy of each one's handle and submitted nothing.
-    fn opened_under(
+    fn open_under(
         alloc: Global,
         limits: Limits,
         id: CallerId,
@@ -181,7 +181,7 @@ impl Owner {
         requires distinct { AllPairs (λ one other. one ≢ other) actors.now }
         ensures { IfOk result (λ owner. owner ≡ open_owner id actors.now) }
     {
-        Owner::opened_under(alloc, Vec::new(alloc), id, actors)
+        Owner::open_under(alloc, Vec::new(alloc), id, actors)
     }
 
     /// The same of actors that are each given with the number of its calls that may have no answer
@@ -198,7 +198,7 @@ impl Owner {
     {
         let names = names_of(alloc, actors)?;
         let limits = copy_of(alloc, actors)?;
-        Owner::opened_under(alloc, limits, id, names.as_slice())
+        Owner::open_under(alloc, limits, id, names.as_slice())
     }
 
     /// This caller.

@@ -42,7 +42,7 @@ fn go_on(done: &mut Vec<usize>, at: usize) {
 }
 
 /// The letter is brought, where it stands.
-fn delivered(letter: Option<u32>) -> Option<Event> {
+fn deliver_event(letter: Option<u32>) -> Option<Event> {
     match letter {
         Some(place) => Some(Event::Deliver(place)),
         None => None,
@@ -50,7 +50,7 @@ fn delivered(letter: Option<u32>) -> Option<Event> {
 }
 
 /// The notice is collected, where it stands.
-fn collected(notice: Option<u32>) -> Option<Event> {
+fn collect_event(notice: Option<u32>) -> Option<Event> {
     match notice {
         Some(place) => Some(Event::Collect(place)),
         None => None,
@@ -66,7 +66,7 @@ fn id_of<K: Actor>(ended: &Ended<K>) -> ActorId {
 }
 
 /// How many marks the pages have, or none where one isn't whole.
-fn whole(pages: &[Page]) -> Option<usize> {
+fn count_marks(pages: &[Page]) -> Option<usize> {
     let mut marks: usize = 0;
     for page in pages {
         if !page.is_whole {
@@ -128,8 +128,8 @@ impl Merged {
                 self.causes.ask_kill(a);
                 Some(Event::AskKill(c, a))
             }
-            Mark::CollectReply(a, place) => collected(self.causes.reply(a, place)),
-            Mark::CollectDeath(a) => collected(self.causes.death(a, c)),
+            Mark::CollectReply(a, place) => collect_event(self.causes.reply(a, place)),
+            Mark::CollectDeath(a) => collect_event(self.causes.death(a, c)),
             _ => None,
         };
         Ok(event)
@@ -138,8 +138,8 @@ impl Merged {
     /// The event of an actor's mark, where its cause stands.
     fn event_of_actor(&mut self, a: ActorId, mark: Mark) -> Result<Option<Event>, NoMemory> {
         let event = match mark {
-            Mark::DeliverCall(c, k) => delivered(self.causes.call(c, k)),
-            Mark::DeliverNote(c) => delivered(self.causes.note(c, a)),
+            Mark::DeliverCall(c, k) => deliver_event(self.causes.call(c, k)),
+            Mark::DeliverNote(c) => deliver_event(self.causes.note(c, a)),
             Mark::Run(c) => {
                 self.causes.run(a)?;
                 Some(Event::Run(a, c))
@@ -228,7 +228,7 @@ pub(crate) fn merge<K: Actor>(
 ) -> Result<Option<Vec<Event>>, NoMemory> {
     let of_callers = pages.of_callers.as_slice();
     let of_actors = pages.of_actors.as_slice();
-    let (Some(called), Some(served)) = (whole(of_callers), whole(of_actors)) else {
+    let (Some(called), Some(served)) = (count_marks(of_callers), count_marks(of_actors)) else {
         return Ok(None);
     };
     let mut merged = Merged::open(alloc, owners.len(), actors.len())?;

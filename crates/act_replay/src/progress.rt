@@ -37,7 +37,7 @@ impl Asked {
         }
     }
 
-    pub(crate) fn submitted(&self) -> u32 {
+    pub(crate) fn count_submitted(&self) -> u32 {
         self.submitted
     }
 

@@ -118,9 +118,9 @@ impl Rebuilt {
         Ok(true)
     }
 
-    fn submitted(&self, at: usize) -> u32 {
+    fn count_submitted(&self, at: usize) -> u32 {
         match self.callers.get(at) {
-            Some(caller) => caller.submitted(),
+            Some(caller) => caller.count_submitted(),
             None => 0,
         }
     }
@@ -128,7 +128,7 @@ impl Rebuilt {
     /// Submits the caller's calls as far as its limits allow.
     fn submit_all(&mut self, owner: &Owner, at: usize) -> Result<bool, NoMemory> {
         let mut has_moved = false;
-        for number in self.submitted(at)..owner.count() {
+        for number in self.count_submitted(at)..owner.count() {
             if !self.submit(owner, at, FutureId::new(number))? {
                 return Ok(has_moved);
             }
@@ -182,7 +182,7 @@ impl Rebuilt {
     }
 
     /// What the actor did so far.
-    fn served(&self, at: usize) -> Served {
+    fn served_by(&self, at: usize) -> Served {
         match self.actors.get(at) {
             Some(served) => *served,
             None => Served {
@@ -207,7 +207,7 @@ impl Rebuilt {
         a: ActorId,
         log: &[RunItem],
     ) -> Result<bool, NoMemory> {
-        let mut served = self.served(at);
+        let mut served = self.served_by(at);
         let before = served.ran;
         for place in before..log.len() {
             if !self.run(owners, a, &log[place])? {
@@ -256,7 +256,7 @@ impl Rebuilt {
         a: ActorId,
         log: &[RunItem],
     ) -> Result<bool, NoMemory> {
-        let served = self.served(at);
+        let served = self.served_by(at);
         if served.is_dead || served.ran < log.len() {
             return Ok(false);
         }

@@ -13,7 +13,7 @@ ghost use Rattle.act_replay.specs.Faults.{IsRecordFault};
 
 use crate::merged::merge;
 use crate::rebuilt::rebuild;
-use crate::run::{RecordFault, played};
+use crate::run::{RecordFault, check_play};
 use act_executor::{Gate, Joined, Page, Pages, Plan, run_plans_noting};
 use act_kinds::{Actor, Boxed};
 use act_types::{CallerId, NoMemory};
@@ -85,7 +85,7 @@ pub fn run_recorded<R: Threads + Wait + Sync, K: Actor + Send, G: Gate>(
     let ran = run_plans_noting::<R, K, G, Page>(rt, alloc, casts, plans, gate)?;
     let (joined, pages) = ran;
     let (found, source) = events_of(alloc, &joined, &pages)?;
-    let events = played(alloc, twins, found, &joined)?;
+    let events = check_play(alloc, twins, found, &joined)?;
     Ok(Recorded {
         joined,
         events,

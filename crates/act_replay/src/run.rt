@@ -63,7 +63,7 @@ impl Error for RecordFault {}
 const MAX_EVENTS: usize = 4_294_967_296;
 
 /// The events, where they are a play of what is joined.
-pub(crate) fn played<K: Actor>(
+pub(crate) fn check_play<K: Actor>(
     alloc: Global,
     casts: Vec<Cast>,
     events: Vec<Event>,
@@ -102,6 +102,6 @@ pub fn play_of<K: Actor>(
     ensures fault { IfErr result IsPlayFault }
 {
     let events = rebuild(alloc, &joined.owners, &joined.actors)?;
-    let play = played(alloc, casts, events, joined)?;
+    let play = check_play(alloc, casts, events, joined)?;
     Ok(play)
 }

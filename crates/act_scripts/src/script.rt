@@ -36,7 +36,7 @@ pub struct Script {
 
 impl Items {
     /// No items of a script of this mode.
-    fn none(alloc: Global, mode: Mode) -> Items
+    fn no_items(alloc: Global, mode: Mode) -> Items
         ensures mode { mode_of result ≡ mode }
         ensures none { count_of result ≡ 0 }
     {
@@ -169,14 +169,14 @@ fn fault_of(script: &Script, role: &Role) -> Option<Wrong>
 }
 
 /// The script of no lines.
-fn empty(alloc: Global, mode: Mode) -> Script
+fn empty_script(alloc: Global, mode: Mode) -> Script
     ensures spelled { spelled_script result ≡ no_lines }
     ensures mode { mode_of result.items ≡ mode }
     ensures none { count_of result.items ≡ 0 }
 {
     Script {
         casts: ListOf::new(alloc),
-        items: Items::none(alloc, mode),
+        items: Items::no_items(alloc, mode),
     }
 }
 
@@ -285,7 +285,7 @@ fn read_lines(alloc: Global, bytes: &[u8], mode: Mode) -> Result<Script, ScriptF
     ensures mode { IfOk result (λ script. mode_of script.items ≡ mode) }
     ensures few { IfOk result (λ script. count_of script.items < 2 ^ 32) }
 {
-    let mut script = empty(alloc, mode);
+    let mut script = empty_script(alloc, mode);
     let mut words = Vec::new(alloc);
     let is_plain = are_plain_lines(bytes);
     let mut number = 0;

@@ -139,7 +139,7 @@ pub(crate) fn int_of(word: &str) -> Result<i64, LineFault>
 }
 
 /// What stands in a word after its first character, which is the mark.
-fn marked(word: &str, mark: char) -> Result<&str, LineFault>
+fn after_mark(word: &str, mark: char) -> Result<&str, LineFault>
     requires { mark < 128 }
     ensures { Gives (λ x. x.now) result (marked_at word.now mark) }
 {
@@ -150,7 +150,7 @@ fn marked(word: &str, mark: char) -> Result<&str, LineFault>
 }
 
 /// What stands in a word before its last character, which is the mark.
-fn closed(word: &str, mark: char) -> Result<&str, LineFault>
+fn before_mark(word: &str, mark: char) -> Result<&str, LineFault>
     requires { mark < 128 }
     ensures { Gives (λ x. x.now) result (closed_at word.now mark) }
 {
@@ -165,7 +165,7 @@ fn closed(word: &str, mark: char) -> Result<&str, LineFault>
 pub fn caller_of(word: &str) -> Result<CallerId, LineFault>
     ensures { Gives (λ x. x) result (caller_at word.now) }
 {
-    let number = number_of(marked(word, 'c')?)?;
+    let number = number_of(after_mark(word, 'c')?)?;
     if number < 1 || number > MAX_CALLERS as u32 {
         return Err(BAD_LINE);
     }
@@ -180,7 +180,7 @@ pub fn caller_of(word: &str) -> Result<CallerId, LineFault>
 pub fn actor_of(word: &str) -> Result<ActorId, LineFault>
     ensures { Gives (λ x. x) result (actor_at word.now) }
 {
-    let number = number_of(marked(word, 'a')?)?;
+    let number = number_of(after_mark(word, 'a')?)?;
     if number < 1 || number > MAX_ACTORS as u32 {
         return Err(BAD_LINE);
     }
@@ -195,8 +195,8 @@ pub fn actor_of(word: &str) -> Result<ActorId, LineFault>
 fn text_of(alloc: Global, word: &str) -> Result<Text, LineFault>
     ensures { Gives (λ x. x) result (text_at word.now) }
 {
-    let opened = marked(word, '"')?;
-    let text = closed(opened, '"')?;
+    let opened = after_mark(word, '"')?;
+    let text = before_mark(opened, '"')?;
     if !is_good_text(text) {
         return Err(BAD_LINE);
     }
@@ -223,7 +223,7 @@ pub(crate) fn arg_of(alloc: Global, word: &str) -> Result<Arg, LineFault>
     ensures { Gives (λ x. x) result (arg_at word.now) }
 {
     match word.as_bytes() {
-        [b'@', ..] => Ok(Arg::Fut(FutureId::new(number_of(marked(word, '@')?)?))),
+        [b'@', ..] => Ok(Arg::Fut(FutureId::new(number_of(after_mark(word, '@')?)?))),
         _ => Ok(Arg::Plain(value_of(alloc, word)?)),
     }
 }

@@ -15,7 +15,7 @@ use Rattle.act_rules.specs.declared.outcome.Arrival.{Arrival}
 use Rattle.act_rules.specs.declared.outcome.Arrival.TheVariants.{New, Stranger}
 use Rattle.act_rules.specs.RunList.{has_terminated, NothingFollowsAnEnd}
 use Rattle.act_rules.proofs.Terminated.{nothing_follows-push}
-use Rattle.act_inbox.specs.Inbox.{is_packet_of, is_listed, handed_of, was_handed, next_of, arrival_of, holding, HoldsNone}
+use Rattle.act_inbox.specs.Inbox.{is_packet_of, is_listed, handed_of, was_handed, next_of, arrival_of, with_held, HoldsNone}
 use Rattle.act_inbox.proofs.Packets.{new_listed, waits_holding}
 use Rattle.act_actor.specs.View.{ActorView}
 use Rattle.act_actor.specs.Actor.{item_of, reply_of_run, with_packet, RunsAtOnce, HasRunCall}
@@ -55,7 +55,7 @@ module _ (packet : Packet) (before : ActorView) (may : RunsAtOnce packet before.
   is_new = at_actor (packet.actor == before.id) (arrival_of before.inbox packet) may.is_new
 
   -- once it arrived, it is its caller's next
-  next_held : next_of (holding packet before.inbox) packet.caller ≡ Some packet
+  next_held : next_of (with_held packet before.inbox) packet.caller ≡ Some packet
   next_held =
       rw (
         new_listed before.inbox packet is_new,
@@ -66,7 +66,7 @@ module _ (packet : Packet) (before : ActorView) (may : RunsAtOnce packet before.
 
   fed_held : (callers : List ℕ) (letters : List Letter) → IsFed callers letters before → IsFed callers (letters ++ Call packet ∷ []) (with_packet packet before)
   fed_held callers letters h =
-      fed_arrive callers letters packet before (holding packet before.inbox) (Ok New) refl (λ _. refl) (sym may.is_new)
+      fed_arrive callers letters packet before (with_held packet before.inbox) (Ok New) refl (λ _. refl) (sym may.is_new)
       (λ caller number. waits_holding before.inbox packet is_new caller number) tt h
 
   pub serving_held : (opening : KindState) (callers : List ℕ) (lines : List RepliesView) (letters : List Letter) (endpoints : List (Endpoint ReplyExecView))

@@ -143,7 +143,7 @@ pub fn is_name(text: &str) -> bool
 }
 
 /// The bytes of a text, and zeros behind them.
-fn padded(text: &[u8]) -> [u8; MAX_NAME_BYTES]
+fn padded_bytes(text: &[u8]) -> [u8; MAX_NAME_BYTES]
     requires { length text.now ≤ 18 }
     ensures { result ≡ text.now ++ replicate (18 - length text.now) 0 }
 {
@@ -162,7 +162,7 @@ impl Name {
             return None;
         }
         Some(Name {
-            bytes: padded(text.as_bytes()),
+            bytes: padded_bytes(text.as_bytes()),
             len: text.len() as u8,
         })
     }

@@ -11,7 +11,7 @@ use Rattle.actors.specs.RunItem.{RunItem}
 use Rattle.actors.specs.Actors.{after_item, item_of}
 use Rattle.actors.specs.Callers.{kept_at, OwnerView, after_collect, is_death}
 use Rattle.actors.proofs.Lemmas.{answer_alive, alive_is}
-use Rattle.act_uses.specs.OneCall.{asking, question, step_of_question}
+use Rattle.act_uses.specs.OneCall.{asking_owner, question, step_of_question}
 
 -- no kind answers that the actor died
 answers_alive : (state : KindState) (method : Method) (value : Value) → is_death (step_of_question state method value).1 ≡ false
@@ -23,11 +23,11 @@ answers_alive state method value =
 abbrev pub reply_for : KindState → Packet → Reply
 reply_for state packet = record { actor = 1; caller = 1; future = packet.future; place = 0; answer = (after_item state (item_of packet)).1 }
 
-first : (method : Method) (value : Value) (answer : Answer) → is_death answer ≡ false → kept_at (after_collect (asking method value) (Answered (record { actor = 1; caller = 1; future = 0; place = 0; answer = answer }))).kept 0 ≡ Some answer
+first : (method : Method) (value : Value) (answer : Answer) → is_death answer ≡ false → kept_at (after_collect (asking_owner method value) (Answered (record { actor = 1; caller = 1; future = 0; place = 0; answer = answer }))).kept 0 ≡ Some answer
 first method value answer alive = rw alive refl
 
-pub heard : (old new : OwnerView) (packet : Packet) (reply : Reply) (state : KindState) (method : Method) (value : Value) → old ≡ asking method value → packet ≡ question method value → reply ≡ reply_for state packet
+pub heard : (old new : OwnerView) (packet : Packet) (reply : Reply) (state : KindState) (method : Method) (value : Value) → old ≡ asking_owner method value → packet ≡ question method value → reply ≡ reply_for state packet
     → new ≡ after_collect old (Answered reply) → kept_at new.kept 0 ≡ Some (step_of_question state method value).1
 heard old new packet reply state method value sent carried told after =
-    ap (λ (owner : OwnerView). kept_at owner.kept 0) (after ∙ ap (λ (owner : OwnerView). after_collect owner (Answered reply)) sent ∙ ap (λ (r : Reply). after_collect (asking method value) (Answered r)) (told ∙ ap (reply_for state) carried))
+    ap (λ (owner : OwnerView). kept_at owner.kept 0) (after ∙ ap (λ (owner : OwnerView). after_collect owner (Answered reply)) sent ∙ ap (λ (r : Reply). after_collect (asking_owner method value) (Answered r)) (told ∙ ap (reply_for state) carried))
     ∙ first method value (step_of_question state method value).1 (answers_alive state method value)

@@ -9,8 +9,8 @@ use Rattle.actors.specs.Packet.{Packet}
 use Rattle.actors.specs.Callers.{OwnerView, open_owner, with_submission, with_sent}
 
 -- a caller that submitted one call, and sent it
-abbrev pub asking : Method → Value → OwnerView
-asking method value = with_sent (with_submission (open_owner 1 (1 ∷ [])) 1 method (Plain value ∷ [])) 0
+abbrev pub asking_owner : Method → Value → OwnerView
+asking_owner method value = with_sent (with_submission (open_owner 1 (1 ∷ [])) 1 method (Plain value ∷ [])) 0
 
 -- the packet of that call
 abbrev pub question : Method → Value → Packet

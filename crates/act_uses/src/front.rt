@@ -57,7 +57,7 @@ fn log_of<'a, K: Actor>(stage: Stage<'a, K>) -> &'a [RunItem]
 }
 
 /// The caller's calls that the actor ran, in the order in which it ran them.
-fn listed<K: Actor>(
+fn calls_run<K: Actor>(
     alloc: Global,
     world: &World<K>,
     a: ActorId,
@@ -91,6 +91,6 @@ pub fn ran_of<K: Actor>(
         IsPrefix ran.items (submitted_in (world_view K.state world.now) a c)) }
 {
     world.consistent();
-    let ran = listed(alloc, world, a, c)?;
+    let ran = calls_run(alloc, world, a, c)?;
     Ok(ran)
 }

@@ -3,7 +3,7 @@
 ghost use Rattle.std.specs.Prelude.{◌≡◌, [], ◌∷◌, Some, IfOk, OnOk};
 ghost use Rattle.actors.specs.Actors.{after_item, item_of, live_view};
 ghost use Rattle.actors.specs.Callers.{kept_at, open_owner};
-ghost use Rattle.act_uses.specs.OneCall.{asking, question, step_of_question};
+ghost use Rattle.act_uses.specs.OneCall.{asking_owner, question, step_of_question};
 
 use actors::{
     Actor, ActorId, Arg, CallerId, ListOf, Live, Method, NoMemory, Notice, Owner, Packet, Reply,
@@ -19,9 +19,14 @@ pub struct Heard<K> {
 }
 
 /// A new caller submits the call and sends it.
-fn posed(alloc: Global, owner: &mut Owner, method: Method, value: Value) -> Result<Packet, NoMemory>
+fn pose_question(
+    alloc: Global,
+    owner: &mut Owner,
+    method: Method,
+    value: Value,
+) -> Result<Packet, NoMemory>
     requires { owner.old ≡ open_owner 1 (1 ∷ []) }
-    ensures owner { OnOk result (owner.new ≡ asking method value) }
+    ensures owner { OnOk result (owner.new ≡ asking_owner method value) }
     ensures packet { IfOk result (λ packet. packet ≡ question method value) }
 {
     let a = ActorId::new(1).unwrap();
@@ -37,19 +42,19 @@ fn posed(alloc: Global, owner: &mut Owner, method: Method, value: Value) -> Resu
 }
 
 /// The caller's side: it is opened, submits the call and sends it.
-fn sent(alloc: Global, method: Method, value: Value) -> Result<(Owner, Packet), NoMemory>
-    ensures owner { IfOk result (λ sent. sent.0 ≡ asking method value) }
+fn send_call(alloc: Global, method: Method, value: Value) -> Result<(Owner, Packet), NoMemory>
+    ensures owner { IfOk result (λ sent. sent.0 ≡ asking_owner method value) }
     ensures packet { IfOk result (λ sent. sent.1 ≡ question method value) }
 {
     let c = CallerId::new(1).unwrap();
     let a = ActorId::new(1).unwrap();
     let mut owner = Owner::open(alloc, c, &[a])?;
-    let packet = posed(alloc, &mut owner, method, value)?;
+    let packet = pose_question(alloc, &mut owner, method, value)?;
     Ok((owner, packet))
 }
 
 /// The actor's side: the call arrives and runs.
-fn ran<K: Actor>(alloc: Global, kind: K, packet: Packet) -> Result<(Live<K>, Reply), NoMemory>
+fn run_call<K: Actor>(alloc: Global, kind: K, packet: Packet) -> Result<(Live<K>, Reply), NoMemory>
     requires caller { packet.caller ≡ 1 }
     requires actor { packet.actor ≡ 1 }
     requires first { packet.number ≡ 0 }
@@ -88,8 +93,8 @@ pub fn ask_once<K: Actor>(
     ensures state { IfOk result (λ heard.
         (live_view K.state heard.live).state ≡ (step_of_question (K.state kind) method value).0) }
 {
-    let (mut owner, packet) = sent(alloc, method, value)?;
-    let (live, reply) = ran(alloc, kind, packet)?;
+    let (mut owner, packet) = send_call(alloc, method, value)?;
+    let (live, reply) = run_call(alloc, kind, packet)?;
     owner.collect(Notice::Answered(reply));
     Ok(Heard { owner, live })
 }

@@ -46,7 +46,7 @@ fn events_in(alloc: Global, bytes: &[u8]) -> Result<ListOf<Event>, ScriptFault>
 }
 
 /// The first events, or all where there are no more.
-fn first(events: &[Event], count: usize) -> &[Event]
+fn first_events(events: &[Event], count: usize) -> &[Event]
     ensures { result.now ≡ take count events.now }
 {
     if count < events.len() {
@@ -75,7 +75,7 @@ pub fn play_part<K: Actor>(
     ensures fault { IfErr result (λ fault. IsFaultOf fault (spelled Play bytes.now)) }
 {
     let events = events_in(alloc, bytes)?;
-    let part = first(events.as_slice(), count);
+    let part = first_events(events.as_slice(), count);
     if !world.has_room(part.len()) {
         return Err(PartFault::NoRoom);
     }

@@ -9,13 +9,13 @@ ghost use Rattle.act_world.specs.IsReachedBy.{HasRoom, FollowsThere, IsGrown, Is
 ghost use Rattle.act_world.specs.Memory.{TakesMemoryThere};
 ghost use Rattle.act_world.specs.Network.{told_collected};
 
-use crate::network::{CallKey, MailEntry, Network, copied, place_of};
+use crate::network::{CallKey, MailEntry, Network, copy_notice, place_of};
 use act_owner::Collected;
 use act_rules::{Did, Outcome, SubmitRefusal, WorldRefusal};
 use act_types::{ActorId, Arg, CallerId, CopyOf, FutureId, ListOf, Method, NoMemory};
 
 /// What is told of a notice that a caller took. None is a stray one.
-fn told(c: CallerId, collected: Collected) -> Outcome
+fn collect_outcome(c: CallerId, collected: Collected) -> Outcome
     ensures value { result ≡ told_collected c collected }
     ensures told { is_memory result ≡ false }
 {
@@ -220,8 +220,8 @@ impl Network {
         if let Collected::Late(k) = self.owners[place].collected(&posted.notice) {
             return Ok(Ok(Did::Late(caller, k)));
         }
-        let notice = copied(self.alloc(), &posted.notice)?;
+        let notice = copy_notice(self.alloc(), &posted.notice)?;
         let collected = self.owners[place].collect(notice);
-        Ok(told(caller, collected))
+        Ok(collect_outcome(caller, collected))
     }
 }

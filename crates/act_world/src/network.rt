@@ -51,7 +51,7 @@ pub(crate) struct Posted {
 }
 
 /// A copy of a notice. That of a death takes no memory.
-pub(crate) fn copied(alloc: Global, notice: &Notice) -> Result<Notice, NoMemory>
+pub(crate) fn copy_notice(alloc: Global, notice: &Notice) -> Result<Notice, NoMemory>
     ensures ok { IfOk result (λ copy. copy ≡ notice.now) }
     ensures memory_last { OnErr result (IsReplyNotice notice.now) }
 {

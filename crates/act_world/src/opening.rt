@@ -21,7 +21,7 @@ use act_types::{ACTOR_NUMBERS, ActorId, CallerId, NoMemory};
 use std::alloc::Global;
 
 /// A caller with its first handles, and with the limits of its actors.
-fn opened_owner<K>(alloc: Global, casts: &[Cast<K>], c: CallerId) -> Result<Owner, NoMemory>
+fn new_owner<K>(alloc: Global, casts: &[Cast<K>], c: CallerId) -> Result<Owner, NoMemory>
     requires fit { IsFitting casts.now }
     ensures { IfOk result (λ owner. owner ≡ opened_with c (limits_that_name c casts.now)) }
 {
@@ -43,7 +43,7 @@ fn add_owner<K>(
     if place_of(owners.as_slice(), c).is_some() {
         return Ok(());
     }
-    let owner = opened_owner(alloc, casts, c)?;
+    let owner = new_owner(alloc, casts, c)?;
     owners.push(owner)?;
     Ok(())
 }
@@ -78,7 +78,7 @@ fn owners_of<K>(alloc: Global, casts: &[Cast<K>]) -> Result<Vec<Owner>, NoMemory
 }
 
 /// Slots with no actors.
-fn vacant<K: Actor>() -> [Slot<K>; ACTOR_NUMBERS]
+fn vacant_slots<K: Actor>() -> [Slot<K>; ACTOR_NUMBERS]
     ensures { map (slot_view K.state) result ≡ replicate ACTOR_NUMBERS Vacant }
 {
     [
@@ -95,7 +95,7 @@ fn vacant<K: Actor>() -> [Slot<K>; ACTOR_NUMBERS]
 }
 
 /// Puts an actor in its slot.
-fn endpoint<K: Actor>(slots: &mut [Slot<K>; ACTOR_NUMBERS], a: ActorId, live: Live<K>)
+fn fill_slot<K: Actor>(slots: &mut [Slot<K>; ACTOR_NUMBERS], a: ActorId, live: Live<K>)
     ensures { (b : ℕ) → slice_get (map (slot_view K.state) slots.new) b ≡
         (if a == b then Some (Runs (live_view K.state live)) else slice_get (map (slot_view K.state) slots.old) b) }
 {
@@ -112,7 +112,7 @@ fn slots_of<K: Actor>(
         (a : ℕ) → IsStage (opening (map (actor_spec K.state) casts.items)) a
         (slice_get (map (slot_view K.state) slots) a)) }
 {
-    let mut slots = vacant();
+    let mut slots = vacant_slots();
     for cast in casts {
         let Cast {
             actor,
@@ -121,7 +121,7 @@ fn slots_of<K: Actor>(
             pending: _,
         } = cast;
         let live = Live::open(alloc, actor, callers.as_slice(), kind)?;
-        endpoint(&mut slots, actor, live);
+        fill_slot(&mut slots, actor, live);
     }
     Ok(slots)
 }

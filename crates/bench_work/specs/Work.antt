@@ -28,13 +28,13 @@ places zero = []
 places (suc n) = places n ++ n ∷ []
 
 -- whether a caller calls an actor, by its own one
-abbrev pub reaches : Reach → ℕ → ℕ → Bool
-reaches Own own actor = own == actor
-reaches Both own actor = true
+abbrev pub is_reached : Reach → ℕ → ℕ → Bool
+is_reached Own own actor = own == actor
+is_reached Both own actor = true
 
 -- the callers that call an actor
 abbrev pub callers_in_work : Work → ℕ → List ℕ
-callers_in_work work actor = filter (λ caller. reaches work.reach (actor_at work caller 0) actor) (one_to work.callers)
+callers_in_work work actor = filter (λ caller. is_reached work.reach (actor_at work caller 0) actor) (one_to work.callers)
 
 -- an actor, and who calls it
 abbrev pub cast_in_work : Work → ℕ → ℕ × List ℕ

@@ -63,7 +63,7 @@ fn order_of(words: &[String]) -> Option<Order> {
 }
 
 /// What the command line asks for. Words that are no text are refused as others are.
-pub fn order_given(rt: &(impl Env + AllocGlobal)) -> Result<Order, Stop> {
+pub fn read_order(rt: &(impl Env + AllocGlobal)) -> Result<Order, Stop> {
     let args = env::args(rt).map_err(|_| Stop::Usage)?;
     let words: Vec<String> = args.collect(rt.alloc()).map_err(|_| Stop::Memory)?;
     order_of(&words).ok_or(Stop::Usage)

@@ -8,7 +8,7 @@ mod stop;
 mod told;
 mod work;
 
-pub use command::{Order, order_given};
+pub use command::{Order, read_order};
 pub use prepared::Prepared;
 pub use served::are_served;
 pub use stop::{Stop, exit_code};

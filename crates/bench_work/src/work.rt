@@ -2,7 +2,7 @@
 
 ghost use Rattle.std.specs.Prelude.{◌≡◌, ◌<◌, ◌*◌, ◌^◌, IfOk, All, None, map, pos};
 ghost use Rattle.act_rules.specs.Report.{one_to};
-ghost use Rattle.bench_work.specs.Work.{actor_at, cast_in_work, cast_view, callers_in_work, one_more, reaches};
+ghost use Rattle.bench_work.specs.Work.{actor_at, cast_in_work, cast_view, callers_in_work, one_more, is_reached};
 
 use act_actor::Cast;
 use act_kinds::Counter;
@@ -58,7 +58,7 @@ impl Work {
 
     /// Whether a caller calls this actor at all.
     fn calls_actor(&self, caller: CallerId, actor: ActorId) -> bool
-        ensures { result ≡ reaches self.now.reach (actor_at self.now caller 0) actor }
+        ensures { result ≡ is_reached self.now.reach (actor_at self.now caller 0) actor }
     {
         match self.reach {
             Reach::Own => self.actor_at(caller, 0) == actor,

@@ -9,7 +9,7 @@ use Rattle.actors.specs.Kinds.{Answer}
 use Rattle.actors.specs.Callers.{kept_at}
 use Rattle.actors.specs.Codes.{SessionView, IsLater, Submits}
 use Rattle.own_callers.specs.declared.retry.Retry.{Retry}
-use Rattle.own_callers.specs.Retry.{tries, is_lacking, HasFailed, HasTried}
+use Rattle.own_callers.specs.Retry.{withdraw_try, is_lacking, HasFailed, HasTried}
 use Rattle.own_callers.proofs.Calls.{called, kept_same}
 use Rattle.own_callers.proofs.Works.{replicate_more, length_of, last_or_before}
 
@@ -24,10 +24,10 @@ lacking_there (Some answer) lacking = refl
 module _ (r : Retry) (n : ℕ) (old new : SessionView) (k : ℕ) (args : List Arg) (so : HasFailed r n old) (amount : args ≡ Plain (Int r.amount) ∷ []) (future : k ≡ length old.calls)
     (submits : Submits (record { actor = r.account; method = Withdraw; args = args }) old new) (on : IsLater old new) where
   place : k ≡ n
-  place = future ∙ length_of old.calls n (tries r) so.calls
+  place = future ∙ length_of old.calls n (withdraw_try r) so.calls
 
-  calls : new.calls ≡ replicate (n + 1) (tries r)
-  calls = called r.account Withdraw (Plain (Int r.amount) ∷ []) args (replicate n (tries r)) old new amount so.calls submits ∙ replicate_more n (tries r)
+  calls : new.calls ≡ replicate (n + 1) (withdraw_try r)
+  calls = called r.account Withdraw (Plain (Int r.amount) ∷ []) args (replicate n (withdraw_try r)) old new amount so.calls submits ∙ replicate_more n (withdraw_try r)
 
   still : (j : ℕ) → j < n → is_lacking (kept_at new.kept j) ≡ true
   still j below = ap is_lacking (kept_same old new j on (lacking_there (kept_at old.kept j) (so.failed j below))) ∙ so.failed j below

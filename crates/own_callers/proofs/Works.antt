@@ -13,7 +13,7 @@ use Rattle.actors.specs.Kinds.{Answer}
 use Rattle.actors.specs.Callers.{kept_at}
 use Rattle.actors.specs.Codes.{SessionView, IsLater, Submits}
 use Rattle.own_callers.specs.declared.worker.Worker.{Worker}
-use Rattle.own_callers.specs.Worker.{takes, is_job, HasDoneJobs}
+use Rattle.own_callers.specs.Worker.{dequeue_call, is_job, HasDoneJobs}
 use Rattle.own_callers.proofs.Calls.{called, kept_same}
 
 pub replicate_more : {A : Type 0} (n : ℕ) (x : A) → replicate n x ++ x ∷ [] ≡ replicate (n + 1) x
@@ -27,7 +27,7 @@ last_or_before j n below = eq-or-lt_of_le (omega (arith, below))
 
 -- it was given so many jobs so far
 pub record AtWork (w : Worker) (n : ℕ) (seen : SessionView) : Type 0 where
-  pub calls : seen.calls ≡ replicate n (takes w)
+  pub calls : seen.calls ≡ replicate n (dequeue_call w)
   pub given : (k : ℕ) → k < n → is_job (kept_at seen.kept k) ≡ true
 
 pub at_work : (w : Worker) (seen : SessionView) → seen.calls ≡ [] → AtWork w 0 seen
@@ -45,13 +45,13 @@ module _ (w : Worker) (n : ℕ) (old new : SessionView) (k : ℕ) (method : Meth
     (work : AtWork w n old) (word : method ≡ Own (codes "dequeue")) (none : args ≡ []) (future : k ≡ length old.calls)
     (submits : Submits (record { actor = w.queue; method = method; args = args }) old new) (on : IsLater old new) where
   place : k ≡ n
-  place = future ∙ length_of old.calls n (takes w) work.calls
+  place = future ∙ length_of old.calls n (dequeue_call w) work.calls
 
-  calls : new.calls ≡ replicate (n + 1) (takes w)
+  calls : new.calls ≡ replicate (n + 1) (dequeue_call w)
   calls =
-      called w.queue method [] args (replicate n (takes w)) old new none work.calls submits
-      ∙ ap (λ (m : Method). replicate n (takes w) ++ record { actor = w.queue; method = m; args = [] } ∷ []) word
-      ∙ replicate_more n (takes w)
+      called w.queue method [] args (replicate n (dequeue_call w)) old new none work.calls submits
+      ∙ ap (λ (m : Method). replicate n (dequeue_call w) ++ record { actor = w.queue; method = m; args = [] } ∷ []) word
+      ∙ replicate_more n (dequeue_call w)
 
   pub works_more : is_job (kept_at new.kept k) ≡ true → AtWork w (n + 1) new
   works_more job = record { calls = calls; given = λ j below. go j (last_or_before j n below) }
@@ -67,7 +67,7 @@ module _ (w : Worker) (n : ℕ) (old new : SessionView) (k : ℕ) (method : Meth
       let same : kept_at last.kept n ≡ kept_at new.kept k = ap (kept_at last.kept) (sym place) ∙ kept_same new last k later asked in
       record {
         jobs = n;
-        calls = called w.counter Add (Plain (Int (pos n)) ∷ []) given (replicate (n + 1) (takes w)) new last number calls adding;
+        calls = called w.counter Add (Plain (Int (pos n)) ∷ []) given (replicate (n + 1) (dequeue_call w)) new last number calls adding;
         given = still new last n later (still old new n on work.given);
         asked = ap is_some same ∙ asked;
         none = ap is_job same ∙ no_job;

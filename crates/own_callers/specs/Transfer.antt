@@ -11,14 +11,14 @@ use Rattle.own_callers.specs.declared.transfer.Transfer.{Transfer}
 
 -- ---- its three calls
 
-abbrev pub asks : Transfer → Submission
-asks t = record { actor = t.from; method = Balance; args = [] }
+abbrev pub balance_call : Transfer → Submission
+balance_call t = record { actor = t.from; method = Balance; args = [] }
 
-abbrev pub withdraws : Transfer → Submission
-withdraws t = record { actor = t.from; method = Withdraw; args = Plain (Int t.amount) ∷ [] }
+abbrev pub withdraw_call : Transfer → Submission
+withdraw_call t = record { actor = t.from; method = Withdraw; args = Plain (Int t.amount) ∷ [] }
 
-abbrev pub deposits : Transfer → Submission
-deposits t = record { actor = t.to; method = Deposit; args = Plain (Int t.amount) ∷ [] }
+abbrev pub deposit_call : Transfer → Submission
+deposit_call t = record { actor = t.to; method = Deposit; args = Plain (Int t.amount) ∷ [] }
 
 -- ---- how it ends
 
@@ -33,20 +33,20 @@ is_enough amount answer = false
 
 -- it asked for the balance, was not told as much, and did no more
 pub record HasStoppedShort (t : Transfer) (seen : SessionView) : Type 0 where
-  pub calls : seen.calls ≡ asks t ∷ []
+  pub calls : seen.calls ≡ balance_call t ∷ []
   pub asked : is_some (kept_at seen.kept 0) ≡ true
   pub short : is_enough t.amount (kept_at seen.kept 0) ≡ false
 
 -- it was told as much, and was refused the withdrawal
 pub record IsRefused (t : Transfer) (seen : SessionView) : Type 0 where
-  pub calls : seen.calls ≡ asks t ∷ withdraws t ∷ []
+  pub calls : seen.calls ≡ balance_call t ∷ withdraw_call t ∷ []
   pub enough : is_enough t.amount (kept_at seen.kept 0) ≡ true
   pub asked : is_some (kept_at seen.kept 1) ≡ true
   pub refused : is_amount (kept_at seen.kept 1) ≡ false
 
 -- it was told as much, was granted the withdrawal, and deposited what it withdrew
 pub record HasMoved (t : Transfer) (seen : SessionView) : Type 0 where
-  pub calls : seen.calls ≡ asks t ∷ withdraws t ∷ deposits t ∷ []
+  pub calls : seen.calls ≡ balance_call t ∷ withdraw_call t ∷ deposit_call t ∷ []
   pub enough : is_enough t.amount (kept_at seen.kept 0) ≡ true
   pub granted : is_amount (kept_at seen.kept 1) ≡ true
 

@@ -10,11 +10,11 @@ use Rattle.actors.specs.Codes.{SessionView}
 use Rattle.own_callers.specs.declared.worker.Worker.{Worker}
 
 -- it takes a job, and it adds their number
-abbrev pub takes : Worker → Submission
-takes w = record { actor = w.queue; method = Own (codes "dequeue"); args = [] }
+abbrev pub dequeue_call : Worker → Submission
+dequeue_call w = record { actor = w.queue; method = Own (codes "dequeue"); args = [] }
 
-abbrev pub adds : Worker → ℕ → Submission
-adds w jobs = record { actor = w.counter; method = Add; args = Plain (Int (pos jobs)) ∷ [] }
+abbrev pub add_call : Worker → ℕ → Submission
+add_call w jobs = record { actor = w.counter; method = Add; args = Plain (Int (pos jobs)) ∷ [] }
 
 -- whether the answer is a job, and no fault
 abbrev pub is_job : Option Answer → Bool
@@ -24,7 +24,7 @@ is_job answer = false
 -- it was given so many jobs, one after another, then none, and added their number to the counter
 pub record HasDoneJobs (w : Worker) (seen : SessionView) : Type 0 where
   pub jobs : ℕ
-  pub calls : seen.calls ≡ replicate (jobs + 1) (takes w) ++ adds w jobs ∷ []
+  pub calls : seen.calls ≡ replicate (jobs + 1) (dequeue_call w) ++ add_call w jobs ∷ []
   pub given : (k : ℕ) → k < jobs → is_job (kept_at seen.kept k) ≡ true
   pub asked : is_some (kept_at seen.kept jobs) ≡ true
   pub none : is_job (kept_at seen.kept jobs) ≡ false

@@ -11,7 +11,7 @@ use std::alloc::Global;
 
 impl<'a, R: Print> Walker<'a, R> {
     /// A step that is drawn.
-    fn drawn<S: Session>(&mut self, session: &mut S) -> Result<(), GaveUp> {
+    fn do_drawn_step<S: Session>(&mut self, session: &mut S) -> Result<(), GaveUp> {
         let count = session.count();
         match self.draw.below(100) {
             0..=39 => {
@@ -28,15 +28,19 @@ impl<'a, R: Print> Walker<'a, R> {
             }
             77..=86 => {
                 let k = future(&mut self.draw, count);
-                self.trace.asks("look", k)?;
+                self.trace.write_ask("look", k)?;
                 self.hear(session, k)
             }
-            choice => self.drawn_of_handles(session, choice),
+            choice => self.do_step_of_handles(session, choice),
         }
     }
 
     /// A step that a draw from 87 on chose: one of handles, or a look at what is open.
-    fn drawn_of_handles<S: Session>(&mut self, session: &mut S, choice: u32) -> Result<(), GaveUp> {
+    fn do_step_of_handles<S: Session>(
+        &mut self,
+        session: &mut S,
+        choice: u32,
+    ) -> Result<(), GaveUp> {
         let actor = self.actor();
         match choice {
             87..=90 => self.copy(session, actor),
@@ -51,7 +55,7 @@ impl<'a, R: Print> Walker<'a, R> {
         let next = self.next;
         self.next = Next::Draw;
         match next {
-            Next::Draw => self.drawn(session),
+            Next::Draw => self.do_drawn_step(session),
             Next::LetGo(actor) => self.release(session, actor),
             Next::Look(actor) => {
                 let wanted = self.look(session.alloc(), actor);
@@ -75,10 +79,10 @@ impl<'a, R: Print> Code for Walker<'a, R> {
             self.step(session)?;
         }
         if self.gives_up {
-            self.trace.ends("give_up")?;
+            self.trace.write_end("give_up")?;
             return Err(GaveUp);
         }
-        self.trace.ends("end")
+        self.trace.write_end("end")
     }
 }
 

@@ -24,7 +24,7 @@ pub(crate) struct Crew {
 
 impl Crew {
     /// A crew of so many callers and actors.
-    pub(crate) fn drawn(draw: &mut Draw, callers: CallerId, actors: ActorId) -> Crew
+    pub(crate) fn draw(draw: &mut Draw, callers: CallerId, actors: ActorId) -> Crew
         ensures callers { result.callers ≡ callers }
         ensures planned { result.planned < callers }
     {

@@ -15,7 +15,7 @@ mod turn;
 mod walk;
 mod walker;
 
-use command::order_given;
+use command::read_order;
 use std::process::ExitCode;
 use std::rt::Env;
 use std::sync::Wait;
@@ -25,7 +25,7 @@ use turn::run_crew;
 
 /// Runs the crew that the command line asks for.
 fn run<Rt: Env + AllocGlobal + Print + Threads + Wait + Sync>(rt: &Rt) -> Result<(), Stop> {
-    let order = order_given(rt)?;
+    let order = read_order(rt)?;
     run_crew(rt, rt.alloc(), &order)
 }
 

@@ -117,7 +117,7 @@ pub(crate) fn run_crew<Rt: Print + Threads + Wait + Sync>(
     order: &Order,
 ) -> Result<(), Stop> {
     let mut draw = Draw::new(order.seed);
-    let crew = Crew::drawn(&mut draw, order.callers, order.actors);
+    let crew = Crew::draw(&mut draw, order.callers, order.actors);
     let casts = casts_of(alloc, &crew, &mut draw)?;
     for cast in &casts {
         print_cast(rt, &crew, cast)?;

@@ -10,12 +10,12 @@ impl<'a, R: Print> Walker<'a, R> {
     /// Tells the answer that is kept for a future, if one is, and decides by it.
     pub(crate) fn hear<S: Session>(&mut self, session: &S, k: FutureId) -> Result<(), GaveUp> {
         match session.answer(k) {
-            None => self.trace.told(format_args!("open {k}")),
+            None => self.trace.write_told(format_args!("open {k}")),
             Some(answer) => {
                 self.decide(k, answer);
                 match answer {
-                    Ok(value) => self.trace.told(format_args!("answer {k} {value}")),
-                    Err(fault) => self.trace.told(format_args!("answer {k} {fault}")),
+                    Ok(value) => self.trace.write_told(format_args!("answer {k} {value}")),
+                    Err(fault) => self.trace.write_told(format_args!("answer {k} {fault}")),
                 }
             }
         }
@@ -26,7 +26,7 @@ impl<'a, R: Print> Walker<'a, R> {
         session: &mut S,
         wanted: Wanted,
     ) -> Result<(), GaveUp> {
-        self.trace.asks("submit", &wanted)?;
+        self.trace.write_ask("submit", &wanted)?;
         let Wanted {
             actor,
             method,
@@ -35,9 +35,9 @@ impl<'a, R: Print> Walker<'a, R> {
         match session.submit(actor, method, args) {
             Ok(k) => {
                 self.called.push(actor)?;
-                self.trace.told(format_args!("future {k}"))
+                self.trace.write_told(format_args!("future {k}"))
             }
-            Err(refusal) => self.trace.refused(refusal),
+            Err(refusal) => self.trace.write_refusal(refusal),
         }
     }
 
@@ -46,7 +46,7 @@ impl<'a, R: Print> Walker<'a, R> {
         session: &mut S,
         wanted: Wanted,
     ) -> Result<(), GaveUp> {
-        self.trace.asks("ask", &wanted)?;
+        self.trace.write_ask("ask", &wanted)?;
         let Wanted {
             actor,
             method,
@@ -55,18 +55,18 @@ impl<'a, R: Print> Walker<'a, R> {
         match session.ask(actor, method, args) {
             Ok(k) => {
                 self.called.push(actor)?;
-                self.trace.told(format_args!("future {k}"))?;
+                self.trace.write_told(format_args!("future {k}"))?;
                 self.hear(session, k)
             }
-            Err(refusal) => self.trace.refused(refusal),
+            Err(refusal) => self.trace.write_refusal(refusal),
         }
     }
 
     pub(crate) fn wait<S: Session>(&mut self, session: &mut S, k: FutureId) -> Result<(), GaveUp> {
-        self.trace.asks("await", k)?;
+        self.trace.write_ask("await", k)?;
         match session.wait(k) {
             Ok(()) => self.hear(session, k),
-            Err(refusal) => self.trace.refused(refusal),
+            Err(refusal) => self.trace.write_refusal(refusal),
         }
     }
 
@@ -75,10 +75,10 @@ impl<'a, R: Print> Walker<'a, R> {
         session: &mut S,
         actor: ActorId,
     ) -> Result<(), GaveUp> {
-        self.trace.asks("copy", actor)?;
+        self.trace.write_ask("copy", actor)?;
         match session.copy(actor) {
-            Ok(copies) => self.trace.told(format_args!("copies {copies}")),
-            Err(refusal) => self.trace.refused(refusal),
+            Ok(copies) => self.trace.write_told(format_args!("copies {copies}")),
+            Err(refusal) => self.trace.write_refusal(refusal),
         }
     }
 
@@ -87,13 +87,13 @@ impl<'a, R: Print> Walker<'a, R> {
         session: &mut S,
         actor: ActorId,
     ) -> Result<(), GaveUp> {
-        self.trace.asks("release", actor)?;
+        self.trace.write_ask("release", actor)?;
         match session.release(actor) {
             Ok(()) => {
                 let copies = session.holds(actor);
-                self.trace.told(format_args!("copies {copies}"))
+                self.trace.write_told(format_args!("copies {copies}"))
             }
-            Err(refusal) => self.trace.refused(refusal),
+            Err(refusal) => self.trace.write_refusal(refusal),
         }
     }
 
@@ -102,22 +102,22 @@ impl<'a, R: Print> Walker<'a, R> {
         session: &mut S,
         actor: ActorId,
     ) -> Result<(), GaveUp> {
-        self.trace.asks("kill", actor)?;
+        self.trace.write_ask("kill", actor)?;
         match session.kill(actor) {
-            Ok(()) => self.trace.told("asked"),
-            Err(refusal) => self.trace.refused(refusal),
+            Ok(()) => self.trace.write_told("asked"),
+            Err(refusal) => self.trace.write_refusal(refusal),
         }
     }
 
     /// Tells how many calls of an actor have no answer, and how many may have none.
     pub(crate) fn count<S: Session>(&mut self, session: &S, actor: ActorId) -> Result<(), GaveUp> {
-        self.trace.asks("count", actor)?;
+        self.trace.write_ask("count", actor)?;
         let pending = session.pending(actor);
         match session.limit(actor) {
-            None => self.trace.told(format_args!("pending {pending}")),
+            None => self.trace.write_told(format_args!("pending {pending}")),
             Some(limit) => self
                 .trace
-                .told(format_args!("pending {pending} of {limit}")),
+                .write_told(format_args!("pending {pending} of {limit}")),
         }
     }
 }

@@ -37,7 +37,7 @@ fn stop_of_args(error: &io::Error) -> Stop {
 }
 
 /// The mode that the command line names. Words that are no text are refused as others are.
-pub(crate) fn mode_given(rt: &(impl Env + AllocGlobal)) -> Result<Mode, Stop> {
+pub(crate) fn read_mode(rt: &(impl Env + AllocGlobal)) -> Result<Mode, Stop> {
     let args = env::args(rt).map_err(|error| stop_of_args(&error))?;
     let words: Vec<String> = args
         .collect(rt.alloc())

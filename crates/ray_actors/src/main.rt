@@ -14,7 +14,7 @@ use act_console::{ConsoleFault, NoGate, Stock, play_script, threads_script};
 use act_kinds::{Account, Boxed, Counter, ListKind, Table};
 use act_rules::Mode;
 use act_types::MAX_ACTORS;
-use command::mode_given;
+use command::read_mode;
 use status::{Stop, exit_code};
 use std::io;
 use std::io::{Read, Write};
@@ -58,7 +58,7 @@ fn run_script<Rt: AllocGlobal + Threads + Wait + Sync, R: Read, W: Write>(
 }
 
 fn run<Rt: Env + AllocGlobal + Input + Print + Threads + Wait + Sync>(rt: &Rt) -> Result<(), Stop> {
-    let mode = mode_given(rt)?;
+    let mode = read_mode(rt)?;
     let mut reader = rt.reader();
     let mut writer = io::writer(rt);
     run_script(rt, mode, &mut reader, &mut writer)?;

@@ -4,7 +4,7 @@
 mod plans;
 mod turn;
 
-use bench_work::{Order, Stop, exit_code, order_given, print_turn};
+use bench_work::{Order, Stop, exit_code, print_turn, read_order};
 use std::process::ExitCode;
 use std::rt::{Clock, Env};
 use std::sync::Wait;
@@ -13,7 +13,7 @@ use turn::take_turn;
 
 /// Takes the turns that the command line asks for, and prints a line for each.
 fn run<Rt: Env + AllocGlobal + Clock + Print + Threads + Wait + Sync>(rt: &Rt) -> Result<(), Stop> {
-    let Order { work, turns } = order_given(rt)?;
+    let Order { work, turns } = read_order(rt)?;
     for _ in 0..turns {
         let micros = take_turn(rt, rt.alloc(), &work)?;
         print_turn(rt, &work, micros)?;

@@ -15,7 +15,7 @@ fn stop_of_args(error: &io::Error) -> Stop {
 }
 
 /// Refuses every word after the program's name.
-pub(crate) fn no_words_given(rt: &(impl Env + AllocGlobal)) -> Result<(), Stop> {
+pub(crate) fn refuse_words(rt: &(impl Env + AllocGlobal)) -> Result<(), Stop> {
     let args = env::args(rt).map_err(|error| stop_of_args(&error))?;
     let words: Vec<String> = args.collect(rt.alloc()).map_err(|_| NO_MEMORY)?;
     if words.len() != 1 {

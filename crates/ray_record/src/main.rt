@@ -12,7 +12,7 @@ use act_console::{NoGate, Stock};
 use act_kinds::{Account, Boxed, Counter, ListKind, Table};
 use act_record::{RecordingFault, Source, Written, record_script};
 use act_types::MAX_ACTORS;
-use command::no_words_given;
+use command::refuse_words;
 use status::{Stop, exit_code};
 use std::io;
 use std::io::{Read, Write};
@@ -78,7 +78,7 @@ fn tell(rt: &impl Eprint, written: Written) {
 fn run<Rt: Env + AllocGlobal + Input + Print + Eprint + Threads + Wait + Sync>(
     rt: &Rt,
 ) -> Result<(), Stop> {
-    no_words_given(rt)?;
+    refuse_words(rt)?;
     let mut reader = rt.reader();
     let mut writer = io::writer(rt);
     let written = run_script(rt, &mut reader, &mut writer)?;

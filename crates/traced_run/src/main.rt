@@ -22,7 +22,7 @@ impl<'a, R: Print + Sync> Gate for Trace<'a, R> {
 }
 
 /// A plan of one call, which adds a number.
-fn adding(alloc: Global, actor: ActorId, number: i64) -> Result<Plan> {
+fn plan_of_add(alloc: Global, actor: ActorId, number: i64) -> Result<Plan> {
     let mut args = ListOf::new(alloc);
     args.push(Arg::Plain(Value::Int(number)))?;
     Ok(vec![in alloc; Step::Submit(actor, Method::Add, args)]?)
@@ -44,7 +44,10 @@ fn main(rt: HostRuntime) -> Result<()> {
         pending: Some(2),
     };
     let casts = vec![in alloc; cast]?;
-    let plans = vec![in alloc; (c1, adding(alloc, a1, 5)?), (c2, adding(alloc, a1, 7)?)]?;
+    let plans = vec![in alloc;
+        (c1, plan_of_add(alloc, a1, 5)?),
+        (c2, plan_of_add(alloc, a1, 7)?),
+    ]?;
     let fit = cast_fits(&casts) && plans_fit(&casts, &plans);
     ensure!(fit, "the casts or the plans don't fit");
 

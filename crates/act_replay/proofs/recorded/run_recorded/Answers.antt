@@ -12,8 +12,8 @@ use Rattle.act_replay.proofs.Faults.{play_fault}
 use Rattle.act_replay.proofs.Twins.{twins_fit}
 use Rattle.act_replay.proofs.recorded.run_recorded.Goals as goal
 
-pub played-requires : goal.played-requires
-played-requires g c = record { fit = twins_fit g.K.Actor.state _ c.args.casts.items c.args.twins.items c.requires.twins c.requires.fit }
+pub check_play-requires : goal.check_play-requires
+check_play-requires g c = record { fit = twins_fit g.K.Actor.state _ c.args.casts.items c.args.twins.items c.requires.twins c.requires.fit }
 
 pub returns-in_err-events-clause-fault : goal.returns-in_err-events-clause-fault
 returns-in_err-events-clause-fault g c =

@@ -24,7 +24,7 @@ loop-cast-init g c =
     let items : into_iter_items c.into_iter-cast-iterator.result ≡ casts = c.into_iter-cast-iterator.ensures.into_iter_gives.0 in (
       search rules,
       subst (AllByRecursion (IsToOpen state (opening (map (actor_spec state) casts)))) (sym items) (to_open state casts c.requires.fit.actors c.requires.fit.callers),
-      subst (λ rest. AreOpened state (opening (map (actor_spec state) casts)) rest (map (slot_view state) c.vacant-slots.result)) (sym items) (none_opened state casts (map (slot_view state) c.vacant-slots.result) c.vacant-slots.ensures),
+      subst (λ rest. AreOpened state (opening (map (actor_spec state) casts)) rest (map (slot_view state) c.vacant_slots-slots.result)) (sym items) (none_opened state casts (map (slot_view state) c.vacant_slots-slots.result) c.vacant_slots-slots.ensures),
     )
 
 pub loop-cast-preserved : goal.loop-cast-preserved
@@ -36,9 +36,9 @@ loop-cast-preserved g c =
     let live = c.in_ok-live.ensures in (
       search rules,
       rest.1,
-      one_more state (map (actor_spec state) casts) c.in-Some.cast (into_iter_items c.next.new.self) (live_view state c.in_ok-live.live) (map (slot_view state) c.loop-cast.slots) (map (slot_view state) c.endpoint.new.slots)
+      one_more state (map (actor_spec state) casts) c.in-Some.cast (into_iter_items c.next.new.self) (live_view state c.in_ok-live.live) (map (slot_view state) c.loop-cast.slots) (map (slot_view state) c.fill_slot.new.slots)
           (subst (λ rest. AreOpened state (opening (map (actor_spec state) casts)) rest (map (slot_view state) c.loop-cast.slots)) step.0 c.loop-cast.invariant.2)
-          rest.0.0 live.id (subst (λ callers. IsOpened callers (live_view state c.in_ok-live.live).inbox) c.as_slice.ensures live.inbox) live.log live.state c.endpoint.ensures,
+          rest.0.0 live.id (subst (λ callers. IsOpened callers (live_view state c.in_ok-live.live).inbox) c.as_slice.ensures live.inbox) live.log live.state c.fill_slot.ensures,
     )
 
 pub returns : goal.returns

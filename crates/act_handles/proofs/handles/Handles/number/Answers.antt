@@ -7,7 +7,7 @@ use Rattle.act_handles.proofs.handles.Handles.number.Goals as goal
 pub invariant_of-self : goal.invariant_of-self
 invariant_of-self c =
     let handle = c.index_mut-handle.result.now in
-    change_fine c.args.actor c.args.self.now c.self.inside.handles.items c.in_ok-place.place handle _ c.self.view_is c.self.invariant c.in_ok-place.ensures.place c.index_mut-handle.ensures.value refl (omega (arith, c.given.ensures, ap given_of_all c.self.view_is))
+    change_fine c.args.actor c.args.self.now c.self.inside.handles.items c.in_ok-place.place handle _ c.self.view_is c.self.invariant c.in_ok-place.ensures.place c.index_mut-handle.ensures.value refl (omega (arith, c.numbers_given.ensures, ap given_of_all c.self.view_is))
 
 pub returns-clause-ok : goal.returns-clause-ok
 returns-clause-ok c =

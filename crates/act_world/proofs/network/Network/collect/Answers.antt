@@ -47,11 +47,11 @@ returns-clause-ok c slots casts before reached =
       owner_is = c.index_mut.ensures.value ∙ ap (λ (network : NetworkView). get_or network.owners c.in-Some-place_of.place owner) c.self.view_is;
     } in
     let copied : c.in_ok-notice.notice ≡ notice.notice = c.in_ok-notice.ensures.ok in
-    let told : c.told.result ≡ told_collected notice.caller (collect_result owner notice.notice) = c.told.ensures.value ∙ ap (told_collected notice.caller) (c.collect-collected.ensures.value ∙ ap (collect_result owner) copied) in
+    let told : c.collect_outcome.result ≡ told_collected notice.caller (collect_result owner notice.notice) = c.collect_outcome.ensures.value ∙ ap (told_collected notice.caller) (c.collect-collected.ensures.value ∙ ap (collect_result owner) copied) in
     let new : c.collect-collected.new.self ≡ after_collect owner notice.notice = c.collect-collected.ensures.after ∙ ap (after_collect owner) copied in
     let known : KnowsDeath notice.notice owner c.collect-collected.new.self = subst (λ (one : Notice). KnowsDeath one owner c.collect-collected.new.self) copied c.collect-collected.ensures.known in
-    subst (λ (network : NetworkView). (c.told.result ≡ outcome_of h (event.Collect c.args.j)) × Refines (after h (event.Collect c.args.j)) (record { network = record network { owners = slice_set network.owners c.in-Some-place_of.place c.collect-collected.new.self }; slots = slots })) (sym c.self.view_is)
-    (collect_follows h c.args.self.now slots c.args.j notice (world_lawful casts before) reached here c.in-Some-place_of.place owner c.collect-collected.new.self c.told.result sees told new known)
+    subst (λ (network : NetworkView). (c.collect_outcome.result ≡ outcome_of h (event.Collect c.args.j)) × Refines (after h (event.Collect c.args.j)) (record { network = record network { owners = slice_set network.owners c.in-Some-place_of.place c.collect-collected.new.self }; slots = slots })) (sym c.self.view_is)
+    (collect_follows h c.args.self.now slots c.args.j notice (world_lawful casts before) reached here c.in-Some-place_of.place owner c.collect-collected.new.self c.collect_outcome.result sees told new known)
 
 pub returns-in_err-notice-clause-memory : goal.returns-in_err-notice-clause-memory
 returns-in_err-notice-clause-memory c =

@@ -6,7 +6,7 @@ use Rattle.actors.specs.Arg.TheVariants.{Plain}
 use Rattle.actors.specs.Method.TheVariants.{Balance, Deposit, Withdraw}
 use Rattle.actors.specs.Kinds.{Answer}
 use Rattle.actors.specs.Callers.{kept_at}
-use Rattle.own_callers.specs.Transfer.{asks, withdraws, is_enough, is_amount}
+use Rattle.own_callers.specs.Transfer.{balance_call, withdraw_call, is_enough, is_amount}
 use Rattle.own_callers.proofs.Calls.{called, kept_on, kept_here}
 use Rattle.own_callers.proofs.transfer.TransferCode.run.Goals as goal
 
@@ -57,7 +57,7 @@ returns-in_default-answer g c = λ fresh.
     let one = g.S.Session.seen c.ask.new.self in
     let two = g.S.Session.seen c.ask-2.new.self in
     let b = c.in-Some-Ok-Int.balance in
-    let first : one.calls ≡ asks t ∷ [] = called t.from Balance [] c.new.result [] old one c.new.ensures fresh c.in_ok-asked.ensures.submits in
+    let first : one.calls ≡ balance_call t ∷ [] = called t.from Balance [] c.new.result [] old one c.new.ensures fresh c.in_ok-asked.ensures.submits in
     let sum : c.in_ok-number.field-0 ≡ Plain (Int t.amount) ∷ [] = search rules in
     let told : kept_at one.kept c.in_ok-asked.asked ≡ Some (Ok (Int b)) =
     sym c.answer.ensures ∙ ap option_copied c.in-Some-Ok-Int.is ∙ ap (λ (v : Answer). Some v) (c.in-Some-Ok-Int.field-0-is ∙ ap (λ (v : Value). Ok v) c.in-Some-Ok-Int.field-0-0-is) in
@@ -65,7 +65,7 @@ returns-in_default-answer g c = λ fresh.
     let enough : is_enough t.amount (Some (Ok (Int b))) ≡ true = grind (arith, c.if-balance-self.false) in
     let place : c.in_ok-taken.taken ≡ 1 = c.in_ok-taken.ensures.future ∙ ap length first in
     inr (inl (record {
-      calls = called t.from Withdraw (Plain (Int t.amount) ∷ []) c.in_ok-number.field-0 (asks t ∷ []) one two sum first c.in_ok-taken.ensures.submits;
+      calls = called t.from Withdraw (Plain (Int t.amount) ∷ []) c.in_ok-number.field-0 (balance_call t ∷ []) one two sum first c.in_ok-taken.ensures.submits;
       enough = ap (is_enough t.amount) (kept_on one two 0 (Ok (Int b)) c.ask-2.ensures.on asked) ∙ enough;
       asked = ap (λ (k : ℕ). is_some (kept_at two.kept k)) (sym place) ∙ c.in_ok-taken.ensures.answered;
       refused = ap (λ (k : ℕ). is_amount (kept_at two.kept k)) (sym place) ∙ ap is_amount (sym c.answer-2.ensures ∙ ap option_copied c.in_default-answer.is) ∙ search rules;
@@ -78,7 +78,7 @@ returns-in_default-answer-2 g c = λ fresh.
     let one = g.S.Session.seen c.ask.new.self in
     let two = g.S.Session.seen c.ask-2.new.self in
     let b = c.in-Some-Ok-Int.balance in
-    let first : one.calls ≡ asks t ∷ [] = called t.from Balance [] c.new.result [] old one c.new.ensures fresh c.in_ok-asked.ensures.submits in
+    let first : one.calls ≡ balance_call t ∷ [] = called t.from Balance [] c.new.result [] old one c.new.ensures fresh c.in_ok-asked.ensures.submits in
     let sum : c.in_ok-number.field-0 ≡ Plain (Int t.amount) ∷ [] = search rules in
     let told : kept_at one.kept c.in_ok-asked.asked ≡ Some (Ok (Int b)) =
     sym c.answer.ensures ∙ ap option_copied c.in-Some-Ok-Int.is ∙ ap (λ (v : Answer). Some v) (c.in-Some-Ok-Int.field-0-is ∙ ap (λ (v : Value). Ok v) c.in-Some-Ok-Int.field-0-0-is) in
@@ -86,7 +86,7 @@ returns-in_default-answer-2 g c = λ fresh.
     let enough : is_enough t.amount (Some (Ok (Int b))) ≡ true = grind (arith, c.if-balance-self.false) in
     let place : c.in_ok-taken.taken ≡ 1 = c.in_ok-taken.ensures.future ∙ ap length first in
     inr (inl (record {
-      calls = called t.from Withdraw (Plain (Int t.amount) ∷ []) c.in_ok-number.field-0 (asks t ∷ []) one two sum first c.in_ok-taken.ensures.submits;
+      calls = called t.from Withdraw (Plain (Int t.amount) ∷ []) c.in_ok-number.field-0 (balance_call t ∷ []) one two sum first c.in_ok-taken.ensures.submits;
       enough = ap (is_enough t.amount) (kept_on one two 0 (Ok (Int b)) c.ask-2.ensures.on asked) ∙ enough;
       asked = ap (λ (k : ℕ). is_some (kept_at two.kept k)) (sym place) ∙ c.in_ok-taken.ensures.answered;
       refused = ap (λ (k : ℕ). is_amount (kept_at two.kept k)) (sym place) ∙ ap is_amount (sym c.answer-2.ensures ∙ ap option_copied c.in_default-answer.is) ∙ search rules;
@@ -100,10 +100,10 @@ returns g c = λ fresh.
     let two = g.S.Session.seen c.ask-2.new.self in
     let three = g.S.Session.seen c.ask-3.new.self in
     let b = c.in-Some-Ok-Int.balance in
-    let first : one.calls ≡ asks t ∷ [] = called t.from Balance [] c.new.result [] old one c.new.ensures fresh c.in_ok-asked.ensures.submits in
+    let first : one.calls ≡ balance_call t ∷ [] = called t.from Balance [] c.new.result [] old one c.new.ensures fresh c.in_ok-asked.ensures.submits in
     let sum : c.in_ok-number.field-0 ≡ Plain (Int t.amount) ∷ [] = search rules in
     let sum2 : c.in_ok-number-2.field-0 ≡ Plain (Int t.amount) ∷ [] = search rules in
-    let second : two.calls ≡ asks t ∷ withdraws t ∷ [] = called t.from Withdraw (Plain (Int t.amount) ∷ []) c.in_ok-number.field-0 (asks t ∷ []) one two sum first c.in_ok-taken.ensures.submits in
+    let second : two.calls ≡ balance_call t ∷ withdraw_call t ∷ [] = called t.from Withdraw (Plain (Int t.amount) ∷ []) c.in_ok-number.field-0 (balance_call t ∷ []) one two sum first c.in_ok-taken.ensures.submits in
     let told : kept_at one.kept c.in_ok-asked.asked ≡ Some (Ok (Int b)) =
     sym c.answer.ensures ∙ ap option_copied c.in-Some-Ok-Int.is ∙ ap (λ (v : Answer). Some v) (c.in-Some-Ok-Int.field-0-is ∙ ap (λ (v : Value). Ok v) c.in-Some-Ok-Int.field-0-0-is) in
     let asked : kept_at one.kept 0 ≡ Some (Ok (Int b)) = kept_here one c.in_ok-asked.asked 0 (Ok (Int b)) (c.in_ok-asked.ensures.future ∙ ap length fresh) told in
@@ -113,7 +113,7 @@ returns g c = λ fresh.
     sym c.answer-2.ensures ∙ ap option_copied v.is ∙ ap (λ (x : Answer). Some x) (v.field-0-is ∙ ap (λ (x : Value). Ok x) v.field-0-0-is) in
     let granted : kept_at two.kept 1 ≡ Some (Ok (Int _)) = kept_here two c.in_ok-taken.taken 1 (Ok (Int _)) (c.in_ok-taken.ensures.future ∙ ap length first) left in
     inr (inr (record {
-      calls = called t.to Deposit (Plain (Int t.amount) ∷ []) c.in_ok-number-2.field-0 (asks t ∷ withdraws t ∷ []) two three sum2 second c.in_ok-ask.ensures.submits;
+      calls = called t.to Deposit (Plain (Int t.amount) ∷ []) c.in_ok-number-2.field-0 (balance_call t ∷ withdraw_call t ∷ []) two three sum2 second c.in_ok-ask.ensures.submits;
       enough = ap (is_enough t.amount) (kept_on two three 0 (Ok (Int b)) c.ask-3.ensures.on (kept_on one two 0 (Ok (Int b)) c.ask-2.ensures.on asked)) ∙ enough;
       granted = ap is_amount (kept_on two three 1 (Ok (Int _)) c.ask-3.ensures.on granted);
     }))

@@ -1,7 +1,7 @@
 use Rattle.std.proofs.Common.{◌≡◌, map}
 use Rattle.std.specs.List.{flat_map}
 use Rattle.act_histories.specs.Lines.{told_line}
-use Rattle.act_histories.proofs.parts.told_of.Given as goal
+use Rattle.act_histories.proofs.parts.second_part.Given as goal
 
 -- the lines so far are told
 abbrev pub invariant-loop-line : goal.invariant-loop-line

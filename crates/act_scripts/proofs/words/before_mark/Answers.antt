@@ -1,7 +1,7 @@
 use Rattle.std.proofs.Common.{Some, None}
 use Rattle.std.proofs.lemmas.Str.Pattern.{strip_suffix_char}
 use Rattle.act_scripts.proofs.Marks.{closed_some, closed_none}
-use Rattle.act_scripts.proofs.words.closed.Goals as goal
+use Rattle.act_scripts.proofs.words.before_mark.Goals as goal
 
 pub returns-in-Some : goal.returns-in-Some
 returns-in-Some c = closed_some _ _ _ (strip_suffix_char c.args.mark c.args.word.now (Some c.in-Some.front) c.in-Some.ensures.cases c.requires)

@@ -1,7 +1,7 @@
 use Rattle.std.proofs.Common.{◌≡◌, map, take}
 use Rattle.act_rules.specs.Submissions.{settle}
 use Rattle.act_owner.specs.Owner.{answers_of}
-use Rattle.act_owner.proofs.args.all_settled.Given as goal
+use Rattle.act_owner.proofs.args.settle_all.Given as goal
 
 -- the arguments so far are settled
 abbrev pub invariant-loop-arg : goal.invariant-loop-arg

@@ -1,5 +1,5 @@
 use Rattle.act_owner.proofs.Calls.{opened_fine}
-use Rattle.act_owner.proofs.owner.Owner.opened_under.Goals as goal
+use Rattle.act_owner.proofs.owner.Owner.open_under.Goals as goal
 
 pub invariant_of-result : goal.invariant_of-result
 invariant_of-result c =

@@ -1,6 +1,6 @@
 use Rattle.act_drive.proofs.PlanSteps.{follows_waits}
 use Rattle.act_drive.proofs.Done.{done_of}
-use Rattle.act_drive.proofs.driver.Driver.whole.Goals as goal
+use Rattle.act_drive.proofs.driver.Driver.do_whole_plan.Goals as goal
 
 pub returns-clause-done : goal.returns-clause-done
 returns-clause-done g c actors fits start =

@@ -4,7 +4,7 @@ use Rattle.act_actor.specs.StateViews.{live_view}
 use Rattle.act_world.specs.declared.slot.Slot.TheVariants as slot
 use Rattle.act_world.specs.View.{Runs, slot_view}
 use Rattle.act_world.proofs.OpenedSlots.{set_map}
-use Rattle.act_world.proofs.opening.endpoint.Goals as goal
+use Rattle.act_world.proofs.opening.fill_slot.Goals as goal
 
 pub returns : goal.returns
 returns g c = λ b.

@@ -5,7 +5,7 @@ use Rattle.act_rules.specs.declared.outcome.SubmitRefusal.TheVariants.{NoMemory}
 use Rattle.act_drive.specs.Sessions.{session_view, call_refusal}
 use Rattle.act_drive.proofs.Drivers.{stays_trans}
 use Rattle.act_drive.proofs.CodeSteps.{refusal_in_room, accepted_before, refused_same, handed_on, does_submit, submits_waited}
-use Rattle.act_drive.proofs.driver.Driver.submit_told.Goals as goal
+use Rattle.act_drive.proofs.driver.Driver.try_submit.Goals as goal
 
 pub returns-in_err-k-clause-refusal : goal.returns-in_err-k-clause-refusal
 returns-in_err-k-clause-refusal g c =

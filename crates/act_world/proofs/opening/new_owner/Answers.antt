@@ -1,6 +1,6 @@
 use Rattle.std.proofs.Common.{◌≢◌, ℕ, List, Option, Some, All, AllPairs, sym, subst, ◌∙◌}
 use Rattle.act_world.proofs.OpenedOwners.{actors_differ, limits_fit}
-use Rattle.act_world.proofs.opening.opened_owner.Goals as goal
+use Rattle.act_world.proofs.opening.new_owner.Goals as goal
 
 pub open_with-requires : goal.open_with-requires
 open_with-requires g c =

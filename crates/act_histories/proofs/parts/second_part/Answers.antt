@@ -4,7 +4,7 @@ use Rattle.std.proofs.lemmas.Iterator.Consumers.{YieldsList-end}
 use Rattle.std.proofs.lemmas.Iterator.Splits.{YieldsList-from_slice_split}
 use Rattle.act_histories.specs.Lines.{told_line}
 use Rattle.act_histories.proofs.Told.{one_more}
-use Rattle.act_histories.proofs.parts.told_of.Goals as goal
+use Rattle.act_histories.proofs.parts.second_part.Goals as goal
 
 pub loop-line-preserved : goal.loop-line-preserved
 loop-line-preserved c = one_more c.loop-line.yielded c.in-Some.line _ _ c.in_ok-push_told.ensures c.loop-line.invariant

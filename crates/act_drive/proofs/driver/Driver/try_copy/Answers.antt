@@ -7,7 +7,7 @@ use Rattle.act_drive.proofs.Keeps.{copy_returns}
 use Rattle.act_drive.proofs.CodeSteps.{does_copy}
 use Rattle.act_drive.specs.CallerSteps.{ChangeMade}
 use Rattle.act_drive.proofs.Tracing.{traces_step}
-use Rattle.act_drive.proofs.driver.Driver.copy_told.Goals as goal
+use Rattle.act_drive.proofs.driver.Driver.try_copy.Goals as goal
 
 pub returns-clause-calling : goal.returns-clause-calling
 returns-clause-calling c lines calling =
