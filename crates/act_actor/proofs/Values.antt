@@ -2,7 +2,7 @@
 use Rattle.std.proofs.Common.{◌≡◌, ℕ, suc, ◌<◌, List, [], ◌∷◌, ◌++◌, Ok, Err, length, get_or, take, drop, map, refl, ap, sym, ◌∙◌, arith}
 use Rattle.std.proofs.Math.Seq.{split_at}
 use Rattle.std.proofs.lemmas.List.{take_all}
-use Rattle.act_types.specs.declared.value.Value.{Value}
+use Rattle.act_types.specs.declared.call.Value.{Value}
 use Rattle.act_types.specs.declared.call.Settled.{Settled}
 use Rattle.act_types.specs.declared.call.Settled.TheVariants.{Good, Bad}
 use Rattle.act_rules.specs.RunList.{values_of}

@@ -1,9 +1,9 @@
 -- What the calls of an actor do.
 use Rattle.std.specs.Prelude.{◌≡◌, ℕ, ◌==◌, false, List, [], ◌∷◌, ◌++◌, length, Option, None, if◌then◌else◌}
 use Rattle.act_types.specs.KindState.{KindState}
-use Rattle.act_types.specs.declared.message.Packet.{Packet}
-use Rattle.act_types.specs.declared.message.ReleaseNote.{ReleaseNote}
-use Rattle.act_types.specs.declared.message.Reply.{Reply}
+use Rattle.act_types.specs.declared.call.Packet.{Packet}
+use Rattle.act_types.specs.declared.call.ReleaseNote.{ReleaseNote}
+use Rattle.act_types.specs.declared.call.Reply.{Reply}
 use Rattle.act_rules.specs.RunList.{after_item, state_after, has_terminated}
 use Rattle.act_rules.specs.declared.history.RunItem.{RunItem}
 use Rattle.act_rules.specs.declared.outcome.Arrival.{Arrival}

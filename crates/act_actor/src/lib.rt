@@ -1,12 +1,10 @@
 //! An actor that runs the calls of its inbox one after another and keeps a log of them.
 #![tactic(auto)]
 
-mod arguments;
 mod cast;
 mod dead;
 mod live;
 mod retired;
-mod terminate;
 
 pub use act_rules::{Arrival, RunItem};
 pub use cast::{Cast, actors_of, cast_fits, limits_of};

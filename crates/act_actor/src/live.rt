@@ -3,28 +3,27 @@
 //! `K` is the kind, mostly a box. A clause names what is seen of an actor by `live_view` at the
 //! kind's state.
 
-ghost use Rattle.std.specs.Prelude.{◌≡◌, ◌≢◌, ◌<◌, ◌≤◌, ◌*◌, ◌↔◌, ◌++◌, ℕ, [], length, Some, IfOk, OnOk, IfErr, OnErr, IfSome, IfNone, IsOk, IsSome, is_some, IsTrue};
+ghost use Rattle.std.specs.Prelude.{◌≡◌, ◌≢◌, ◌<◌, ◌≤◌, ◌*◌, ◌↔◌, ◌++◌, ℕ, [], length, Some, IfOk, OnOk, IfErr, OnErr, IfSome, IfNone, IsOk, IsSome, is_some, IsTrue, Ok, Err, MatchResult};
 ghost use Rattle.std.specs.Option.{option_map};
 ghost use Rattle.std.specs.String.{string_bytes};
 ghost use Rattle.std.specs.Vec.{vec_len, vec_capacity};
 ghost use Rattle.act_types.specs.KindState.{KindState};
 ghost use Rattle.act_types.specs.Texts.{state_text};
-ghost use Rattle.act_rules.specs.RunList.{after_item, answer_at, has_terminated};
+ghost use Rattle.act_rules.specs.RunList.{after_item, answer_at, has_terminated, values_of, step_of_reply, call_reply, ends_actor};
 ghost use Rattle.act_rules.specs.declared.outcome.Arrival.TheVariants.{New};
 ghost use Rattle.act_inbox.specs.Inbox.{IsOpened, note_of, waiting_packet, held_at, note_after, waiting_after, held_after, IsTakenIn, HoldsNone};
 ghost use Rattle.act_actor.specs.Cast.{CallersDiffer};
 ghost use Rattle.act_actor.specs.Actor.{item_of, reply_of_run, call_arrival_at, arrival_at, note_arrival_at, next_call, with_packet, MayRetire, RunsAtOnce, HasRunCall, HasRunFrom};
 ghost use Rattle.act_actor.specs.StateViews.{live_view, retired_view};
+ghost use Rattle.act_types.specs.declared.call.Method.TheVariants.{Terminate};
 
-use crate::arguments::values_of;
-use crate::terminate::{answer_to_terminate, is_end};
 use crate::{Dead, Retired};
 use act_inbox::Inbox;
 use act_kinds::{Actor, Boxed};
 use act_rules::{Arrival, RunItem};
 use act_types::{
-    ActorId, Answer, CallerId, Fault, MAX_CALLERS, MAX_CALLS, Method, NoMemory, Packet,
-    ReleaseNote, Reply,
+    ActorId, Answer, CallerId, CopyOf, Fault, FutureId, MAX_CALLERS, MAX_CALLS, Method, NoMemory,
+    Packet, ReleaseNote, Reply, Settled, SmallList, Value,
 };
 use std::alloc::Global;
 use std::marker::Model;
@@ -386,5 +385,44 @@ impl<K: Actor> Live<K> {
         }
         let Live { id, log, kind, .. } = self;
         Ok(Retired::new(id, log, kind))
+    }
+}
+
+/// Copies of the values of settled arguments, or the future of the first that failed.
+#[tactic(auto, using(crate::proofs::Values::scanned))]
+pub(crate) fn values_of(
+    alloc: Global,
+    args: &[Settled],
+) -> Result<Result<SmallList<Value>, FutureId>, NoMemory>
+    ensures { IfOk result (λ given.
+        MatchResult given (λ values. values_of args.now ≡ Ok values) (λ future. values_of args.now ≡ Err future)) }
+{
+    let mut values = SmallList::with_capacity(alloc, args.len())?;
+    for arg in args {
+        match arg {
+            Settled::Good(value) => values.push(value.copy_of(alloc)?)?,
+            Settled::Bad(future) => return Ok(Err(*future)),
+        }
+    }
+    Ok(Ok(values))
+}
+
+/// Whether a call ended the actor that ran it.
+pub(crate) fn is_end(item: &RunItem) -> bool
+    ensures { result ≡ ends_actor (Some item.now) }
+{
+    match item.method {
+        Method::Terminate => item.args.as_slice().is_empty(),
+        _ => false,
+    }
+}
+
+/// What an actor answers to a `terminate`. Its kind isn't asked.
+pub(crate) fn answer_to_terminate(values: &[Value]) -> Answer
+    ensures { (state : KindState) → (state, result) ≡ step_of_reply state (call_reply state Terminate values.now) }
+{
+    match values {
+        [] => Ok(Value::Unit),
+        _ => Err(Fault::BadArgs),
     }
 }

@@ -7,10 +7,10 @@ use Rattle.act_types.specs.KindState.{CounterAt}
 use Rattle.act_types.specs.declared.call.Arg.TheVariants.{Plain}
 use Rattle.act_types.specs.declared.call.Method.TheVariants as method
 use Rattle.act_types.specs.declared.call.Settled.TheVariants.{Good}
-use Rattle.act_types.specs.declared.message.Notice.TheVariants.{Answered, Death}
-use Rattle.act_types.specs.declared.message.Reply.{Reply}
-use Rattle.act_types.specs.declared.message.ReleaseNote.{ReleaseNote}
-use Rattle.act_types.specs.declared.value.Value.TheVariants as value
+use Rattle.act_types.specs.declared.call.Notice.TheVariants.{Answered, Death}
+use Rattle.act_types.specs.declared.call.Reply.{Reply}
+use Rattle.act_types.specs.declared.call.ReleaseNote.{ReleaseNote}
+use Rattle.act_types.specs.declared.call.Value.TheVariants as value
 use Rattle.act_rules.specs.declared.history.RunItem.{RunItem}
 use Rattle.act_rules.specs.History.{ActorSpec}
 use Rattle.act_rules.specs.RunList.{items_of}

@@ -2,9 +2,9 @@
 use Rattle.std.proofs.Common.{◌≡◌, ℕ, Bool, true, false, cond, List, [], ◌∷◌, ◌++◌, length, Option, Some, None, refl, ap, sym, ◌∙◌, subst}
 use Rattle.std.specs.Prelude.{IfSome, slice_get, slice_set, option_map}
 use Rattle.std.proofs.lemmas.Bool.{eq-eqb}
-use Rattle.act_types.specs.declared.message.Packet.{Packet}
-use Rattle.act_types.specs.declared.message.Notice.TheVariants.{Answered}
-use Rattle.act_types.specs.declared.message.Reply.{Reply}
+use Rattle.act_types.specs.declared.call.Packet.{Packet}
+use Rattle.act_types.specs.declared.call.Notice.TheVariants.{Answered}
+use Rattle.act_types.specs.declared.call.Reply.{Reply}
 use Rattle.act_rules.specs.declared.event.Event.TheVariants.{Run}
 use Rattle.act_rules.specs.declared.history.Letter.TheVariants.{Call as CallLetter}
 use Rattle.act_rules.specs.declared.history.RunItem.{RunItem}

@@ -1,8 +1,8 @@
 -- An actor that takes a letter.
 use Rattle.std.proofs.Common.{Contains, ◌≡◌, ℕ, true, List, [], ◌∷◌, ◌++◌, length, Option, Some, None, Ok, refl, ap, sym, ◌∙◌, subst}
 use Rattle.std.specs.Prelude.{slice_get, slice_set, option_map, option_and_then, is_some}
-use Rattle.act_types.specs.declared.message.Packet.{Packet}
-use Rattle.act_types.specs.declared.message.ReleaseNote.{ReleaseNote}
+use Rattle.act_types.specs.declared.call.Packet.{Packet}
+use Rattle.act_types.specs.declared.call.ReleaseNote.{ReleaseNote}
 use Rattle.act_rules.specs.declared.event.Event.TheVariants.{Deliver}
 use Rattle.act_rules.specs.declared.history.Letter.{Letter}
 use Rattle.act_rules.specs.declared.history.Letter.TheVariants.{Call as CallLetter, Note as NoteLetter}

@@ -1,10 +1,10 @@
 -- What the threads of a run did, one step after another, and what must stand before each step.
 use Rattle.std.specs.Prelude.{◌≡◌, ℕ, ◌==◌, ◌||◌, Bool, true, false, List, [], ◌∷◌, ◌++◌, length, filter_map, slice_get, Option, Some, None, is_some, if◌then◌else◌, Contains}
 use Rattle.std.specs.List.{list_any}
-use Rattle.act_types.specs.declared.message.Packet.{Packet}
-use Rattle.act_types.specs.declared.message.ReleaseNote.{ReleaseNote}
-use Rattle.act_types.specs.declared.message.Reply.{Reply}
-use Rattle.act_types.specs.declared.message.Notice.TheVariants.{Answered, Death}
+use Rattle.act_types.specs.declared.call.Packet.{Packet}
+use Rattle.act_types.specs.declared.call.ReleaseNote.{ReleaseNote}
+use Rattle.act_types.specs.declared.call.Reply.{Reply}
+use Rattle.act_types.specs.declared.call.Notice.TheVariants.{Answered, Death}
 use Rattle.act_rules.specs.declared.history.RunItem.{RunItem}
 use Rattle.act_rules.specs.Consistent.{IsPrefix}
 use Rattle.act_rules.specs.History.{ActorSpec, contains, names, actors_naming}

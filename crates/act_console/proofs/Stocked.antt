@@ -8,7 +8,7 @@ use Rattle.act_rules.specs.History.{ActorSpec}
 use Rattle.act_rules.specs.Scripts.{actor_spec_of}
 use Rattle.act_actor.specs.declared.cast.Cast.{Cast}
 use Rattle.act_actor.specs.Casts.{actor_spec}
-use Rattle.act_console.specs.declared.stock.Stock.{Stock}
+use Rattle.act_console.specs.declared.console.Stock.{Stock}
 use Rattle.act_console.specs.Stock.{HasOf, HasEach}
 
 fewer_of : {K : Type 0} (state : K → KindState) (name : KindName) (most count : ℕ) (kinds : List K) → count ≤ most → HasOf state name most kinds → HasOf state name count kinds

@@ -35,7 +35,7 @@ use Rattle.act_scripts.specs.declared.script.Items.TheVariants.{Steps}
 use Rattle.act_scripts.specs.declared.script.Script.{Script}
 use Rattle.act_scripts.specs.Roles.{AreFitting}
 use Rattle.act_scripts.specs.Spelled.{events_among, steps_among as items_steps, spelled_script}
-use Rattle.act_console.specs.declared.plans.Mark.{Mark}
+use Rattle.act_console.specs.declared.threads.Mark.{Mark}
 use Rattle.act_console.specs.Plans.{plan_from, script_of, mark_view, step_view, line_in, first_stranger, HasLine, Explains}
 use Rattle.act_console.specs.Threads.{plans_in, joined_summary, spelled_threads, IsSummary}
 use Rattle.act_console.proofs.Ended.{summary_same}

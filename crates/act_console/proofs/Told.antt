@@ -7,8 +7,8 @@ use Rattle.act_rules.specs.declared.script.Wrong.{Wrong}
 use Rattle.act_rules.specs.declared.script.Mode.TheVariants.{Play}
 use Rattle.act_rules.specs.Grammar.{Script, spelled}
 use Rattle.act_rules.specs.Scripts.{text_of}
-use Rattle.act_console.specs.declared.output.Output.{Output}
-use Rattle.act_console.specs.declared.output.Output.TheVariants.{Report, Refusal}
+use Rattle.act_console.specs.declared.streams.Output.{Output}
+use Rattle.act_console.specs.declared.streams.Output.TheVariants.{Report, Refusal}
 use Rattle.act_console.specs.declared.fault.ConsoleFault.{ConsoleFault}
 use Rattle.act_console.specs.declared.fault.ConsoleFault.TheVariants as faults
 use Rattle.act_console.specs.Input.{IsWholeInput}

@@ -9,8 +9,8 @@ use Rattle.act_rules.specs.Grammar.{Script, spelled}
 use Rattle.act_rules.specs.Scripts.{world_of, output_of}
 use Rattle.act_console.specs.declared.fault.ConsoleFault.{ConsoleFault}
 use Rattle.act_console.specs.declared.fault.ConsoleFault.TheVariants as faults
-use Rattle.act_console.specs.declared.output.Output.{Output}
-use Rattle.act_console.specs.declared.output.Output.TheVariants as outputs
+use Rattle.act_console.specs.declared.streams.Output.{Output}
+use Rattle.act_console.specs.declared.streams.Output.TheVariants as outputs
 use Rattle.act_console.specs.Input.{IsWholeInput}
 use Rattle.act_console.specs.Output.{AppendsPrefix}
 

@@ -1,8 +1,8 @@
 -- What a writer holds.
 use Rattle.std.specs.Prelude.{◌≡◌, ℕ, List, ◌++◌, Option, Some, None, Result, Ok, Err, string_bytes}
 use Rattle.std.specs.Io.KnownBytes.{Appends}
-use Rattle.act_console.specs.declared.output.Output.{Output}
-use Rattle.act_console.specs.declared.output.Output.TheVariants.{Report, Refusal}
+use Rattle.act_console.specs.declared.streams.Output.{Output}
+use Rattle.act_console.specs.declared.streams.Output.TheVariants.{Report, Refusal}
 use Rattle.act_console.specs.declared.fault.ConsoleFault.{ConsoleFault}
 use Rattle.act_console.specs.declared.fault.ConsoleFault.TheVariants as faults
 

@@ -5,7 +5,7 @@ use Rattle.act_types.specs.KindState.{KindState}
 use Rattle.act_rules.specs.declared.script.KindName.{KindName}
 use Rattle.act_rules.specs.declared.script.KindName.TheVariants as kind
 use Rattle.act_rules.specs.Scripts.{opening_state}
-use Rattle.act_console.specs.declared.stock.Stock.{Stock}
+use Rattle.act_console.specs.declared.console.Stock.{Stock}
 
 -- there are so many kinds of this name at least, and each is in its opening state
 pub record HasOf {K : Type 0} (state : K → KindState) (name : KindName) (count : ℕ) (kinds : List K) : Type 0 where

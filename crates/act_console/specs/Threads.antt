@@ -14,8 +14,8 @@ use Rattle.act_owner.specs.Owner.{OwnerView}
 use Rattle.act_serve.specs.Served.{EndView, Killed, Retired, Starved}
 use Rattle.act_executor.specs.Joined.{IsJoined, end_of, calls_in, kept_in, log_in}
 use Rattle.act_executor.specs.Plays.{IsPlayOf}
-use Rattle.act_console.specs.declared.output.Output.{Output}
-use Rattle.act_console.specs.declared.output.Output.TheVariants as outputs
+use Rattle.act_console.specs.declared.streams.Output.{Output}
+use Rattle.act_console.specs.declared.streams.Output.TheVariants as outputs
 use Rattle.act_console.specs.declared.fault.ConsoleFault.{ConsoleFault}
 use Rattle.act_console.specs.declared.fault.ConsoleFault.TheVariants as faults
 use Rattle.act_console.specs.Input.{IsWholeInput}

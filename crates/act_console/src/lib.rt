@@ -4,25 +4,16 @@
 
 mod console;
 mod fault;
-mod output;
-mod plans;
-mod reading;
 mod report;
-mod stock;
+mod streams;
 mod summary;
 mod threads;
-mod words;
-mod writing;
 
 pub use act_executor::{Gate, NoGate};
 pub use act_scripts::{Items, Script, ScriptFault, read_script};
-pub use console::play_script;
+pub use console::{Stock, casts_of, play_script};
 pub use fault::ConsoleFault;
-pub use output::refusal_of;
-pub use plans::{Mark, Sorted, first_stranger, line_of, sort};
-pub use reading::read_whole;
 pub use report::play_report;
-pub use stock::{Stock, casts_of};
+pub use streams::{read_whole, refusal_of, write_whole};
 pub use summary::joined_report;
-pub use threads::threads_script;
-pub use writing::write_whole;
+pub use threads::{Mark, Sorted, first_stranger, line_of, sort, threads_script};

@@ -1,10 +1,10 @@
 -- What the tests stand on: the passes of a caller with one actor as they are opened, and what an actor's run leaves.
 use Rattle.std.proofs.Common.{◌≡◌, ◌≢◌, ℕ, zero, suc, ◌<◌, List, [], ◌∷◌, ◌++◌, length, get_or, refl, sym, ap, ◌∙◌, subst, arith, All, AllPairs, Option, Some, None, Ok, Err, Result, append-nil}
 use Rattle.std.specs.Prelude.{slice_get, option_map, IfOk, OnOk, OnErr, IfSome, IfNone}
-use Rattle.act_types.specs.declared.message.Packet.{Packet}
-use Rattle.act_types.specs.declared.message.Reply.{Reply}
-use Rattle.act_types.specs.declared.message.Notice.{Notice}
-use Rattle.act_types.specs.declared.message.Notice.TheVariants.{Answered}
+use Rattle.act_types.specs.declared.call.Packet.{Packet}
+use Rattle.act_types.specs.declared.call.Reply.{Reply}
+use Rattle.act_types.specs.declared.call.Notice.{Notice}
+use Rattle.act_types.specs.declared.call.Notice.TheVariants.{Answered}
 use Rattle.act_rules.specs.declared.history.RunItem.{RunItem}
 use Rattle.act_rules.specs.Consistent.{IsPrefix}
 use Rattle.act_rules.proofs.Lists.{All-two}
@@ -18,7 +18,7 @@ use Rattle.act_mailbox.specs.Notices.{RepliesView, ReplyExecView, IsNoDeath, Nam
 use Rattle.act_mailbox.specs.Passes.{PutterView, new_putter, new_taker}
 use Rattle.act_mailbox.specs.declared.control.Asked.{Asked}
 use Rattle.act_mailbox.specs.declared.mail.Letter.{Letter}
-use Rattle.act_mailbox.specs.declared.endpoint.Endpoint.{Endpoint}
+use Rattle.act_mailbox.specs.declared.thread.Endpoint.{Endpoint}
 use Rattle.act_drive.specs.declared.driver.CallerPasses.{CallerPasses}
 use Rattle.act_drive.specs.Driven.{IsFreshEndpoint, IsKillEndpoint, AreKillEndpoints, IsUnusedCaller}
 

@@ -5,8 +5,8 @@ use Rattle.std.proofs.lemmas.Bool.{or_right}
 use Rattle.std.proofs.lemmas.Bool.Decides.{leb_tells}
 use Rattle.std.proofs.lemmas.List.{length-replicate, get_or-replicate, get_or_past}
 use Rattle.std.proofs.lemmas.List.Elements.{All-weaker}
-use Rattle.act_types.specs.declared.message.Notice.{Notice}
-use Rattle.act_types.specs.declared.message.Notice.TheVariants.{Death}
+use Rattle.act_types.specs.declared.call.Notice.{Notice}
+use Rattle.act_types.specs.declared.call.Notice.TheVariants.{Death}
 use Rattle.act_rules.specs.RunList.{Answer}
 use Rattle.act_rules.specs.declared.script.Step.{Step}
 use Rattle.act_rules.specs.Plans.{Progress, holds, occurrences, done_by, nothing_done}
@@ -21,7 +21,7 @@ use Rattle.act_mailbox.specs.Passes.{PutterView}
 use Rattle.act_mailbox.specs.Mails.{MailView}
 use Rattle.act_mailbox.specs.declared.control.Asked.{Asked}
 use Rattle.act_mailbox.specs.declared.mail.Letter.{Letter}
-use Rattle.act_mailbox.specs.declared.endpoint.Endpoint.{Endpoint}
+use Rattle.act_mailbox.specs.declared.thread.Endpoint.{Endpoint}
 use Rattle.act_drive.specs.declared.driver.CallerLines.{CallerLines}
 use Rattle.act_drive.specs.declared.driver.Driver.{Driver}
 use Rattle.act_drive.specs.declared.driver.CallerPasses.{CallerPasses}

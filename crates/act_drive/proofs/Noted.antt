@@ -8,7 +8,7 @@ use Rattle.act_owner.specs.Owner.{OwnerView}
 use Rattle.act_mailbox.specs.Passes.{PutterView}
 use Rattle.act_mailbox.specs.declared.mail.Letter.{Letter}
 use Rattle.act_mailbox.specs.declared.mail.Letter.TheVariants.{Call, Note}
-use Rattle.act_mailbox.specs.declared.endpoint.Endpoint.{Endpoint}
+use Rattle.act_mailbox.specs.declared.thread.Endpoint.{Endpoint}
 use Rattle.act_drive.specs.Driven.{actor_of_letter, is_note_letter, IsSent, OwnerGoesOn, last_note, posted_in, IsNoted, AreNoted}
 use Rattle.act_drive.proofs.Keeps.{more_posted}
 

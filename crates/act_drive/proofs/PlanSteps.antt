@@ -4,8 +4,8 @@ use Rattle.std.specs.Prelude.{OnOk}
 use Rattle.std.proofs.lemmas.List.Elements.{All-weaker, filter-append}
 use Rattle.act_types.specs.declared.call.Method.{Method}
 use Rattle.act_types.specs.declared.call.Arg.{Arg}
-use Rattle.act_types.specs.declared.message.Notice.{Notice}
-use Rattle.act_types.specs.declared.message.Notice.TheVariants.{Death}
+use Rattle.act_types.specs.declared.call.Notice.{Notice}
+use Rattle.act_types.specs.declared.call.Notice.TheVariants.{Death}
 use Rattle.act_rules.specs.declared.history.Submission.{Submission}
 use Rattle.act_rules.specs.declared.script.Step.{Step}
 use Rattle.act_rules.specs.declared.script.Step.TheVariants.{Submit, Copy, Release, Await}
@@ -18,7 +18,7 @@ use Rattle.act_owner.proofs.Life.{step}
 use Rattle.act_mailbox.specs.Passes.{PutterView}
 use Rattle.act_mailbox.specs.Controls.{ControlView}
 use Rattle.act_mailbox.specs.declared.control.Asked.{Asked}
-use Rattle.act_mailbox.specs.declared.endpoint.Endpoint.{Endpoint}
+use Rattle.act_mailbox.specs.declared.thread.Endpoint.{Endpoint}
 use Rattle.act_drive.specs.declared.driver.CallerLines.{CallerLines}
 use Rattle.act_drive.specs.declared.driver.Driver.{Driver}
 use Rattle.act_drive.specs.Driven.{Waits, FollowsSteps, FollowsBy, HasAsked, AreAsked}

@@ -5,9 +5,9 @@ use Rattle.std.specs.List.{AllZip, flat_map, range_with_len}
 use Rattle.std.proofs.lemmas.List.{map-append, set-get_or}
 use Rattle.std.proofs.lemmas.List.Elements.{All-weaker, All-set, Contains-append_left, Contains-push}
 use Rattle.std.proofs.lemmas.Slice.Zip.{all_zipped_more}
-use Rattle.act_types.specs.declared.message.Notice.{Notice}
-use Rattle.act_types.specs.declared.message.Packet.{Packet}
-use Rattle.act_types.specs.declared.message.ReleaseNote.{ReleaseNote}
+use Rattle.act_types.specs.declared.call.Notice.{Notice}
+use Rattle.act_types.specs.declared.call.Packet.{Packet}
+use Rattle.act_types.specs.declared.call.ReleaseNote.{ReleaseNote}
 use Rattle.act_rules.specs.declared.history.RunItem.{RunItem}
 use Rattle.act_rules.specs.declared.script.Step.{Step}
 use Rattle.act_rules.specs.declared.script.Step.TheVariants.{Release, Kill, Await}
@@ -25,7 +25,7 @@ use Rattle.act_mailbox.specs.Controls.{ControlView}
 use Rattle.act_mailbox.specs.declared.control.Asked.{Asked}
 use Rattle.act_mailbox.specs.declared.mail.Letter.{Letter}
 use Rattle.act_mailbox.specs.declared.mail.Letter.TheVariants.{Call, Note}
-use Rattle.act_mailbox.specs.declared.endpoint.Endpoint.{Endpoint}
+use Rattle.act_mailbox.specs.declared.thread.Endpoint.{Endpoint}
 use Rattle.act_drive.specs.declared.driver.CallerLines.{CallerLines}
 use Rattle.act_drive.specs.declared.driver.CallerPasses.{CallerPasses}
 use Rattle.act_drive.specs.declared.driver.Driver.{Driver}

@@ -3,7 +3,7 @@
 ghost use Rattle.std.specs.Prelude.{◌≡◌, ℕ, ◌<◌, length, slice_index_or, true};
 ghost use Rattle.act_mailbox.specs.Passes.{PutterView};
 ghost use Rattle.act_mailbox.specs.declared.control.Asked.{Asked};
-ghost use Rattle.act_mailbox.specs.declared.endpoint.Endpoint.{Endpoint};
+ghost use Rattle.act_mailbox.specs.declared.thread.Endpoint.{Endpoint};
 ghost use Rattle.act_drive.specs.declared.driver.CallerLines.{CallerLines};
 ghost use Rattle.act_drive.specs.Driven.{IsCalling, IsAtKillEndpoint, Stays, IsThrough, HasEndedAt, HaveEnded};
 

@@ -9,19 +9,19 @@ use Rattle.act_rules.specs.History.{ActorSpec, contains}
 use Rattle.act_rules.proofs.Unique.{map-slice_get}
 use Rattle.act_actor.specs.declared.cast.Cast.{Cast}
 use Rattle.act_actor.specs.Casts.{actor_spec}
-use Rattle.act_types.specs.declared.message.Notice.{Notice}
+use Rattle.act_types.specs.declared.call.Notice.{Notice}
 use Rattle.act_mailbox.specs.declared.mail.Letter.{Letter}
 use Rattle.act_mailbox.specs.Lines.{items_from}
 use Rattle.act_mailbox.specs.Passes.{TakerView}
 use Rattle.act_mailbox.specs.Controls.{ControlExecView, starter}
 use Rattle.act_mailbox.specs.Notices.{RepliesView, ReplyExecView, notice_actor}
-use Rattle.act_mailbox.specs.declared.endpoint.Endpoint.{Endpoint}
-use Rattle.act_serve.specs.declared.endpoint.ExecPasses.{ExecPasses}
-use Rattle.act_serve.specs.declared.endpoint.Finished.{Finished}
+use Rattle.act_mailbox.specs.declared.thread.Endpoint.{Endpoint}
+use Rattle.act_serve.specs.declared.turn.ExecPasses.{ExecPasses}
+use Rattle.act_serve.specs.declared.turn.Finished.{Finished}
 use Rattle.act_serve.specs.Served.{end_view, end_id, end_log, IsLogOf, replies_to, deaths, caller_at, endpoint_callers, KillsTaken, HasDrained, IfRetired, HasServed, without_given}
 use Rattle.act_serve.specs.Turns.{IsAtItsEndpoint}
 use Rattle.act_drive.specs.declared.caller.Driven.{Driven}
-use Rattle.act_executor.specs.declared.opened.Lines.{Lines}
+use Rattle.act_executor.specs.declared.open.Lines.{Lines}
 use Rattle.act_executor.specs.Opened.{IsExec}
 use Rattle.act_executor.proofs.Places.{at_other, all_at}
 use Rattle.act_executor.specs.Left.{ServedView, IsServed, NoticesAudited}

@@ -13,13 +13,13 @@ use Rattle.act_mailbox.specs.Passes.{PutterView, TakerView}
 use Rattle.act_mailbox.specs.Mails.{MailView, caller_of}
 use Rattle.act_mailbox.specs.Controls.{ControlView, asker_of}
 use Rattle.act_mailbox.specs.Notices.{RepliesView}
-use Rattle.act_mailbox.specs.declared.endpoint.Endpoint.{Endpoint}
-use Rattle.act_serve.specs.declared.endpoint.Finished.{Finished}
+use Rattle.act_mailbox.specs.declared.thread.Endpoint.{Endpoint}
+use Rattle.act_serve.specs.declared.turn.Finished.{Finished}
 use Rattle.act_drive.specs.declared.driver.CallerPasses.{CallerPasses}
 use Rattle.act_drive.specs.declared.caller.Driven.{Driven}
 use Rattle.act_drive.specs.Driven.{HasPosted, HasAsked, IsFreshEndpoint, IsKillEndpoint, bare_post, bare_ask}
-use Rattle.act_plans.specs.declared.setup.CallerSetup.{CallerSetup}
-use Rattle.act_executor.specs.declared.opened.Lines.{Lines}
+use Rattle.act_plans.specs.declared.rising.CallerSetup.{CallerSetup}
+use Rattle.act_executor.specs.declared.open.Lines.{Lines}
 use Rattle.act_executor.specs.Opened.{IsCaller}
 use Rattle.act_executor.proofs.Places.{at_other, all_at}
 use Rattle.act_executor.specs.Left.{IsDriven, LettersAudited, KillsAudited}

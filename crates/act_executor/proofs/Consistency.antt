@@ -4,7 +4,7 @@ use Rattle.std.specs.Prelude.{Option, ◌==◌, map, filter, take, slice_get, op
 use Rattle.std.specs.List.{AllByRecursion, list_all, range_with_len}
 use Rattle.std.proofs.lemmas.Bool.{eq-eqb, eqb-true}
 use Rattle.std.proofs.lemmas.Option.{slice_get-map}
-use Rattle.act_types.specs.declared.fault.Fault.TheVariants.{ActorDied}
+use Rattle.act_types.specs.declared.call.Fault.TheVariants.{ActorDied}
 use Rattle.act_types.specs.KindState.{KindState}
 use Rattle.act_rules.specs.declared.history.RunItem.{RunItem}
 use Rattle.act_rules.specs.declared.history.Submission.{Submission}

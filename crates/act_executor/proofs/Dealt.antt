@@ -17,15 +17,15 @@ use Rattle.act_mailbox.specs.Controls.{ControlView, starter}
 use Rattle.act_mailbox.specs.Notices.{RepliesView, ReplyExecView, new_exec, IsNoDeath}
 use Rattle.act_mailbox.specs.declared.mail.Letter.{Letter}
 use Rattle.act_mailbox.specs.declared.control.Asked.{Asked}
-use Rattle.act_mailbox.specs.declared.endpoint.Endpoint.{Endpoint}
-use Rattle.act_serve.specs.declared.endpoint.ExecPasses.{ExecPasses}
+use Rattle.act_mailbox.specs.declared.thread.Endpoint.{Endpoint}
+use Rattle.act_serve.specs.declared.turn.ExecPasses.{ExecPasses}
 use Rattle.act_serve.specs.Served.{caller_at, endpoint_callers}
 use Rattle.act_serve.specs.Turns.{IsAtItsEndpoint, EndpointsDiffer}
 use Rattle.act_drive.specs.declared.driver.CallerPasses.{CallerPasses}
 use Rattle.act_drive.specs.Driven.{IsFreshEndpoint, AreDistinct, IsKillEndpoint, AreKillEndpoints}
-use Rattle.act_plans.specs.declared.setup.CallerSetup.{CallerSetup}
+use Rattle.act_plans.specs.declared.rising.CallerSetup.{CallerSetup}
 use Rattle.act_plans.specs.Setups.{AreMatched}
-use Rattle.act_executor.specs.declared.opened.Opened.{Opened}
+use Rattle.act_executor.specs.declared.open.Opened.{Opened}
 use Rattle.act_executor.specs.Groups.{group_of, endpoints_from}
 use Rattle.act_executor.specs.Opened.{IsExec, IsCaller, ArePaired, AreLines, AreAtLines, AreOpened}
 use Rattle.act_executor.proofs.Endpoints.{each_of, has_of, rising_of}

@@ -10,7 +10,7 @@ use Rattle.atomic_table.specs.Seated.{TableId}
 use Rattle.act_rules.specs.History.{contains}
 use Rattle.act_rules.proofs.Unique.{map-slice_get}
 use Rattle.act_actor.specs.Cast.{CallersDiffer}
-use Rattle.act_mailbox.specs.declared.endpoint.Endpoint.{Endpoint}
+use Rattle.act_mailbox.specs.declared.thread.Endpoint.{Endpoint}
 use Rattle.act_executor.specs.Groups.{endpoint_at, group_of, endpoints_from}
 
 -- ---- one line more

@@ -7,8 +7,8 @@ use Rattle.std.proofs.lemmas.Simd.{map-map}
 use Rattle.std.proofs.lemmas.List.{length-map}
 use Rattle.std.proofs.lemmas.List.Elements.{All-map}
 use Rattle.std.proofs.lemmas.List.FromFn.{length-enumerate_from}
-use Rattle.act_types.specs.declared.message.Notice.{Notice}
-use Rattle.act_types.specs.declared.message.ReleaseNote.{ReleaseNote}
+use Rattle.act_types.specs.declared.call.Notice.{Notice}
+use Rattle.act_types.specs.declared.call.ReleaseNote.{ReleaseNote}
 use Rattle.act_rules.specs.declared.history.RunItem.{RunItem}
 use Rattle.act_rules.specs.declared.history.Submission.{Submission}
 use Rattle.act_rules.specs.declared.script.Step.{Step}
@@ -27,7 +27,7 @@ use Rattle.act_mailbox.specs.Notices.{RepliesView}
 use Rattle.act_mailbox.specs.declared.control.Asked.{Asked}
 use Rattle.act_mailbox.specs.declared.mail.Letter.{Letter}
 use Rattle.act_mailbox.specs.declared.mail.Letter.TheVariants.{Call, Note}
-use Rattle.act_serve.specs.declared.endpoint.ExecPasses.{ExecPasses}
+use Rattle.act_serve.specs.declared.turn.ExecPasses.{ExecPasses}
 use Rattle.act_serve.specs.Served.{EndView, Killed, Retired, Starved, end_id, end_log, IfRetired, note_in, first_note, IsTakenAt, KillsOfDead, KillsTaken}
 use Rattle.act_drive.specs.declared.caller.Driven.{Driven}
 use Rattle.act_drive.specs.Driven.{IsSent, AreAsked, HasAsked}

@@ -7,10 +7,10 @@ use denote.RawPtr.{Ptr}
 use Rattle.atomic_table.specs.Seated.{TableId}
 use Rattle.act_types.specs.KindState.{CounterAt}
 use Rattle.act_types.specs.declared.limits.TheConstants.{MAX_ACTORS, MAX_CALLERS}
-use Rattle.act_types.specs.declared.value.Value.TheVariants as value
+use Rattle.act_types.specs.declared.call.Value.TheVariants as value
 use Rattle.act_types.specs.declared.call.Method.TheVariants as method
-use Rattle.act_types.specs.declared.message.Notice.{Notice}
-use Rattle.act_types.specs.declared.message.Notice.TheVariants.{Answered}
+use Rattle.act_types.specs.declared.call.Notice.{Notice}
+use Rattle.act_types.specs.declared.call.Notice.TheVariants.{Answered}
 use Rattle.act_rules.specs.declared.history.RunItem.{RunItem}
 use Rattle.act_rules.specs.declared.history.Submission.{Submission}
 use Rattle.act_rules.specs.declared.script.Step.{Step}
@@ -30,7 +30,7 @@ use Rattle.act_mailbox.specs.Passes.{PutterView}
 use Rattle.act_mailbox.specs.declared.control.Asked.{Asked}
 use Rattle.act_mailbox.specs.declared.mail.Letter.{Letter}
 use Rattle.act_mailbox.specs.declared.mail.Letter.TheVariants.{Call, Note}
-use Rattle.act_mailbox.specs.declared.endpoint.Endpoint.{Endpoint}
+use Rattle.act_mailbox.specs.declared.thread.Endpoint.{Endpoint}
 use Rattle.act_actor.specs.Actor.{packet_of_item}
 use Rattle.act_serve.specs.Served.{Retired, end_id, first_note, replies_to, deaths, caller_at}
 use Rattle.act_drive.specs.declared.caller.Driven.{Driven}

@@ -8,9 +8,9 @@ use Rattle.act_mailbox.specs.Controls.{ControlView, ControlExecView}
 use Rattle.act_mailbox.specs.Notices.{RepliesView, ReplyExecView}
 use Rattle.act_mailbox.specs.Passes.{TakerView}
 use Rattle.act_mailbox.specs.Traces.{clock, steps_in, found_in, IsTimed, AreTakenLater}
-use Rattle.act_mailbox.specs.declared.endpoint.Endpoint.{Endpoint}
+use Rattle.act_mailbox.specs.declared.thread.Endpoint.{Endpoint}
 use Rattle.act_mailbox.specs.declared.mail.Letter.{Letter}
-use Rattle.act_serve.specs.declared.endpoint.ExecPasses.{ExecPasses}
+use Rattle.act_serve.specs.declared.turn.ExecPasses.{ExecPasses}
 use Rattle.act_serve.specs.Served.{EndView, Killed, Retired, Starved, end_id, caller_at, endpoint_callers}
 use Rattle.act_serve.specs.ActorSteps.{ActorStep, letter_taken, kill_taken, ActorMayDoAll}
 use Rattle.act_serve.specs.ActorTraces.{exec_clock, IsGivenAfter, IsActorTrace, IsActorTraced}

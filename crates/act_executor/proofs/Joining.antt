@@ -26,13 +26,13 @@ use Rattle.act_mailbox.specs.Passes.{PutterView}
 use Rattle.act_mailbox.specs.Mails.{MailView}
 use Rattle.act_mailbox.specs.Controls.{ControlView, asker_of, starter}
 use Rattle.act_mailbox.specs.Notices.{RepliesView}
-use Rattle.act_mailbox.specs.declared.endpoint.Endpoint.{Endpoint}
-use Rattle.act_serve.specs.declared.endpoint.Finished.{Finished}
+use Rattle.act_mailbox.specs.declared.thread.Endpoint.{Endpoint}
+use Rattle.act_serve.specs.declared.turn.Finished.{Finished}
 use Rattle.act_serve.specs.Served.{EndView, end_view, end_id, caller_at}
 use Rattle.act_serve.specs.ActorTraces.{IsActorTraced}
 use Rattle.act_drive.specs.declared.caller.Driven.{Driven}
 use Rattle.act_drive.specs.CallerTraces.{IsCallerTraced}
-use Rattle.act_plans.specs.declared.setup.CallerSetup.{CallerSetup}
+use Rattle.act_plans.specs.declared.rising.CallerSetup.{CallerSetup}
 use Rattle.act_plans.specs.declared.rising.Prepared.{Prepared}
 use Rattle.act_drive.specs.Sessions.{SessionView}
 use Rattle.act_plans.specs.Prepared.{by_rising_actor}
@@ -72,7 +72,7 @@ module _ {K : Type 0} (state : K → KindState) (does : ℕ → Doing) (casts : 
   abbrev seen : List ActorSpec
   seen = map (actor_spec state) casts
 
-  abbrev lines : Rattle.act_executor.specs.declared.opened.Lines.Lines
+  abbrev lines : Rattle.act_executor.specs.declared.open.Lines.Lines
   lines = run.opened.lines
 
   abbrev now : List (Cast K)

@@ -8,7 +8,7 @@ use Rattle.act_rules.specs.History.{contains}
 use Rattle.act_rules.proofs.Lists.{All-two}
 use Rattle.act_actor.specs.Cast.{CallersDiffer}
 use Rattle.act_actor.specs.declared.cast.Cast.{Cast}
-use Rattle.act_plans.specs.declared.setup.CallerSetup.{CallerSetup}
+use Rattle.act_plans.specs.declared.rising.CallerSetup.{CallerSetup}
 use Rattle.act_plans.specs.Setups.{AreMatched}
 
 module _ {X : Type 0} (R : X → X → Type 0) where

@@ -8,7 +8,7 @@ use Rattle.act_owner.specs.Owner.{OwnerView, opened_under, opened_with}
 use Rattle.act_drive.specs.declared.driver.CallerLines.{CallerLines}
 use Rattle.act_drive.specs.declared.driver.CallerPasses.{CallerPasses}
 use Rattle.act_drive.specs.Driven.{IsUnusedCaller, IsFreshCaller}
-use Rattle.act_plans.specs.declared.setup.CallerSetup.{CallerSetup}
+use Rattle.act_plans.specs.declared.rising.CallerSetup.{CallerSetup}
 use Rattle.act_plans.specs.Setups.{HasLimits}
 use Rattle.act_plans.proofs.Keys.{pairs_of_map}
 

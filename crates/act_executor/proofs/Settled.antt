@@ -2,7 +2,7 @@
 use Rattle.std.proofs.Common.{◌≡◌, zero, suc, Bool, true, false, ◌||◌, List, [], ◌∷◌, map, sym, ap, ◌∙◌, refl, arith, All}
 use Rattle.std.specs.List.{list_any}
 use Rattle.std.proofs.lemmas.Simd.{map-map}
-use Rattle.act_serve.specs.declared.endpoint.Finished.{Finished}
+use Rattle.act_serve.specs.declared.turn.Finished.{Finished}
 use Rattle.act_executor.specs.Audits.{ActorLeft, left_of}
 
 -- what shows of actors without the place of their lists is the same

@@ -5,14 +5,14 @@ use Rattle.std.proofs.lemmas.List.{length-map}
 use Rattle.act_types.specs.KindState.{KindState}
 use Rattle.act_actor.specs.declared.cast.Cast.{Cast}
 use Rattle.act_tasks.specs.Each.{Each}
-use Rattle.act_mailbox.specs.declared.endpoint.Endpoint.{Endpoint}
-use Rattle.act_serve.specs.declared.endpoint.ExecPasses.{ExecPasses}
-use Rattle.act_serve.specs.declared.endpoint.Finished.{Finished}
+use Rattle.act_mailbox.specs.declared.thread.Endpoint.{Endpoint}
+use Rattle.act_serve.specs.declared.turn.ExecPasses.{ExecPasses}
+use Rattle.act_serve.specs.declared.turn.Finished.{Finished}
 use Rattle.act_serve.specs.Served.{HasServed, end_view}
 use Rattle.act_drive.specs.declared.driver.CallerPasses.{CallerPasses}
 use Rattle.act_drive.specs.declared.caller.Driven.{Driven}
-use Rattle.act_plans.specs.declared.setup.CallerSetup.{CallerSetup}
-use Rattle.act_executor.specs.declared.opened.Lines.{Lines}
+use Rattle.act_plans.specs.declared.rising.CallerSetup.{CallerSetup}
+use Rattle.act_executor.specs.declared.open.Lines.{Lines}
 use Rattle.act_executor.specs.declared.work.Serving.{Serving}
 use Rattle.act_executor.specs.declared.work.Driving.{Driving}
 use Rattle.act_executor.specs.Conducts.{Doing, HasConducted}

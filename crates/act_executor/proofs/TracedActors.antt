@@ -3,20 +3,20 @@ use Rattle.std.proofs.Common.{◌≡◌, ℕ, ◌≤◌, Bool, true, false, List
 use Rattle.std.specs.Prelude.{◌||◌, filter, filter_map, slice_get}
 use Rattle.std.specs.List.{AllZip, list_any}
 use Rattle.std.proofs.lemmas.List.Kept.{AllPairs-filter}
-use Rattle.act_types.specs.declared.message.Notice.{Notice}
-use Rattle.act_types.specs.declared.message.Notice.TheVariants.{Answered, Death}
+use Rattle.act_types.specs.declared.call.Notice.{Notice}
+use Rattle.act_types.specs.declared.call.Notice.TheVariants.{Answered, Death}
 use Rattle.act_rules.specs.declared.history.RunItem.{RunItem}
 use Rattle.act_rules.specs.RunList.{has_terminated}
 use Rattle.act_rules.specs.History.{ActorSpec, contains}
 use Rattle.act_rules.proofs.AsSubmitted.{filter-slice_get}
 use Rattle.act_mailbox.specs.declared.control.Asked.{Asked}
 use Rattle.act_mailbox.specs.declared.mail.Letter.{Letter}
-use Rattle.act_mailbox.specs.declared.endpoint.Endpoint.{Endpoint}
+use Rattle.act_mailbox.specs.declared.thread.Endpoint.{Endpoint}
 use Rattle.act_mailbox.specs.Mails.{caller_of}
 use Rattle.act_mailbox.specs.Controls.{ControlExecView}
 use Rattle.act_mailbox.specs.Notices.{RepliesView, ReplyExecView}
 use Rattle.act_mailbox.specs.Traces.{steps_in, found_in}
-use Rattle.act_serve.specs.declared.endpoint.ExecPasses.{ExecPasses}
+use Rattle.act_serve.specs.declared.turn.ExecPasses.{ExecPasses}
 use Rattle.act_serve.specs.Served.{EndView, Killed, Retired, Starved, end_id, end_log, caller_at, endpoint_callers, KillsOfDead, KillsTaken}
 use Rattle.act_plans.specs.Runs.{cast_at}
 use Rattle.act_serve.specs.ActorSteps.{ActorStep, LetterTaken, CallRun, KillTaken, DeathTold, Retirement, letter_taken, call_run, kill_taken, is_kill_step, is_retirement, log_of_steps, has_died_in, ActorMayDoAll}

@@ -5,7 +5,7 @@ use Rattle.std.specs.List.{AllZip}
 use Rattle.std.proofs.lemmas.List.{map-append}
 use Rattle.std.proofs.lemmas.List.Elements.{All-filter, filter-append}
 use Rattle.std.proofs.lemmas.List.Kept.{AllPairs-filter}
-use Rattle.act_types.specs.declared.message.Notice.{Notice}
+use Rattle.act_types.specs.declared.call.Notice.{Notice}
 use Rattle.act_rules.specs.History.{ActorSpec, actors_naming}
 use Rattle.act_rules.proofs.AsSubmitted.{filter-slice_get}
 use Rattle.act_handles.specs.Handles.{copies_in}
@@ -14,7 +14,7 @@ use Rattle.act_owner.specs.Life.{Sent, Noticed}
 use Rattle.act_mailbox.specs.declared.control.Asked.{Asked}
 use Rattle.act_mailbox.specs.declared.mail.Letter.{Letter}
 use Rattle.act_mailbox.specs.declared.mail.Letter.TheVariants.{Call, Note}
-use Rattle.act_mailbox.specs.declared.endpoint.Endpoint.{Endpoint}
+use Rattle.act_mailbox.specs.declared.thread.Endpoint.{Endpoint}
 use Rattle.act_mailbox.specs.Passes.{PutterView}
 use Rattle.act_mailbox.specs.Controls.{ControlView}
 use Rattle.act_mailbox.specs.Notices.{notice_actor}

@@ -8,11 +8,11 @@ use Rattle.act_mailbox.specs.Passes.{PutterView, TakerView}
 use Rattle.act_mailbox.specs.Mails.{MailView, caller_of}
 use Rattle.act_mailbox.specs.Controls.{ControlView, ControlExecView, asker_of}
 use Rattle.act_mailbox.specs.Notices.{RepliesView, ReplyExecView, notice_actor}
-use Rattle.act_mailbox.specs.declared.endpoint.Endpoint.{Endpoint}
-use Rattle.act_serve.specs.declared.endpoint.Ended.{Ended}
-use Rattle.act_serve.specs.declared.endpoint.Finished.{Finished}
+use Rattle.act_mailbox.specs.declared.thread.Endpoint.{Endpoint}
+use Rattle.act_serve.specs.declared.turn.Ended.{Ended}
+use Rattle.act_serve.specs.declared.turn.Finished.{Finished}
 use Rattle.act_drive.specs.declared.caller.Driven.{Driven}
-use Rattle.act_executor.specs.declared.opened.Lines.{Lines}
+use Rattle.act_executor.specs.declared.open.Lines.{Lines}
 
 -- a pass is of the line at its place
 abbrev pub SitsAtMail : List MailView → Endpoint (PutterView Letter Unit) → Type 0

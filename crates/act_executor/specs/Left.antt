@@ -16,8 +16,8 @@ use Rattle.act_mailbox.specs.Passes.{PutterView}
 use Rattle.act_mailbox.specs.Mails.{MailView, caller_of}
 use Rattle.act_mailbox.specs.Controls.{ControlView, asker_of, starter}
 use Rattle.act_mailbox.specs.Notices.{RepliesView, ReplyExecView, notice_actor}
-use Rattle.act_mailbox.specs.declared.endpoint.Endpoint.{Endpoint}
-use Rattle.act_serve.specs.declared.endpoint.ExecPasses.{ExecPasses}
+use Rattle.act_mailbox.specs.declared.thread.Endpoint.{Endpoint}
+use Rattle.act_serve.specs.declared.turn.ExecPasses.{ExecPasses}
 use Rattle.act_serve.specs.Served.{EndView, end_id, end_log, IsLogOf, replies_to, deaths, caller_at, endpoint_callers, KillsTaken, HasDrained, IfRetired}
 use Rattle.act_drive.specs.declared.caller.Driven.{Driven}
 use Rattle.act_drive.specs.Driven.{HasPosted, HasAsked}

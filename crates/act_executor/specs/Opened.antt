@@ -8,15 +8,15 @@ use Rattle.act_mailbox.specs.Mails.{MailView}
 use Rattle.act_mailbox.specs.Controls.{ControlView, starter}
 use Rattle.act_mailbox.specs.Notices.{RepliesView}
 use Rattle.act_tasks.specs.Each.{Each}
-use Rattle.act_mailbox.specs.declared.endpoint.Endpoint.{Endpoint}
-use Rattle.act_serve.specs.declared.endpoint.ExecPasses.{ExecPasses}
+use Rattle.act_mailbox.specs.declared.thread.Endpoint.{Endpoint}
+use Rattle.act_serve.specs.declared.turn.ExecPasses.{ExecPasses}
 use Rattle.act_serve.specs.Served.{endpoint_callers}
 use Rattle.act_serve.specs.Turns.{PassesFit, IsUnusedExec}
 use Rattle.act_drive.specs.declared.driver.CallerPasses.{CallerPasses}
 use Rattle.act_drive.specs.Driven.{IsUnusedCaller as HasUnused}
-use Rattle.act_plans.specs.declared.setup.CallerSetup.{CallerSetup}
-use Rattle.act_executor.specs.declared.opened.Lines.{Lines}
-use Rattle.act_executor.specs.declared.opened.Opened.{Opened}
+use Rattle.act_plans.specs.declared.rising.CallerSetup.{CallerSetup}
+use Rattle.act_executor.specs.declared.open.Lines.{Lines}
+use Rattle.act_executor.specs.declared.open.Opened.{Opened}
 
 -- an executor's passes are new, of the lines at its place, for the callers of its cast
 pub record IsExec {K : Type 0} (lines : Lines) (cast : Cast K) (endpoint : Endpoint ExecPasses) : Type 0 where

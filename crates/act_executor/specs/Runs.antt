@@ -13,7 +13,7 @@ use Rattle.act_plans.specs.Prepared.{by_rising_actor, callers_named_by, setup_vi
 use Rattle.act_tasks.specs.declared.Refusal.{Refusal}
 use Rattle.act_tasks.specs.declared.Refusal.TheVariants as refusal
 use Rattle.act_plans.specs.declared.rising.Prepared.{Prepared}
-use Rattle.act_executor.specs.declared.opened.Opened.{Opened}
+use Rattle.act_executor.specs.declared.open.Opened.{Opened}
 use Rattle.act_executor.specs.Opened.{AreOpened}
 use Rattle.act_executor.specs.declared.joined.Ends.{Ends}
 use Rattle.act_executor.specs.declared.joined.Joined.{Joined}

@@ -1,7 +1,7 @@
 -- What the threads are given, and what they leave.
 use Rattle.std.specs.Prelude.{◌≡◌, ℕ, ◌<◌, ◌≤◌, List, [], ◌∷◌, ◌++◌, length, slice_index_or, None, All, Result, Ok, Err, Vec, vec_len, vec_capacity}
 use Rattle.std.specs.declared.alloc.Global.{Global}
-use Rattle.act_types.specs.declared.message.KillNote.{KillNote}
+use Rattle.act_types.specs.declared.call.KillNote.{KillNote}
 use Rattle.act_types.specs.KindState.{KindState}
 use Rattle.act_rules.specs.declared.script.Step.{Step}
 use Rattle.act_rules.specs.Plans.{first_bad}
@@ -14,20 +14,20 @@ use Rattle.act_mailbox.specs.Passes.{PutterView, new_putter}
 use Rattle.act_mailbox.specs.Mails.{MailView}
 use Rattle.act_mailbox.specs.Controls.{ControlView, starter, kill_by}
 use Rattle.act_mailbox.specs.Notices.{RepliesView}
-use Rattle.act_mailbox.specs.declared.endpoint.Endpoint.{Endpoint}
-use Rattle.act_serve.specs.declared.endpoint.ExecPasses.{ExecPasses}
-use Rattle.act_serve.specs.declared.endpoint.Finished.{Finished}
+use Rattle.act_mailbox.specs.declared.thread.Endpoint.{Endpoint}
+use Rattle.act_serve.specs.declared.turn.ExecPasses.{ExecPasses}
+use Rattle.act_serve.specs.declared.turn.Finished.{Finished}
 use Rattle.act_serve.specs.Served.{HasServed, end_view}
 use Rattle.act_serve.specs.Turns.{PassesOf, IsFreshExec}
 use Rattle.act_drive.specs.declared.driver.CallerPasses.{CallerPasses}
 use Rattle.act_drive.specs.declared.caller.Driven.{Driven}
 use Rattle.act_drive.specs.Driven.{IsFreshCaller as IsFreshCaller}
-use Rattle.act_plans.specs.declared.setup.CallerSetup.{CallerSetup}
-use Rattle.act_executor.specs.declared.opened.Lines.{Lines}
+use Rattle.act_plans.specs.declared.rising.CallerSetup.{CallerSetup}
+use Rattle.act_executor.specs.declared.open.Lines.{Lines}
 use Rattle.act_tasks.specs.Each.{Each}
 use Rattle.act_executor.specs.Audits.{SitsAtControl}
 use Rattle.act_executor.specs.Conducts.{Doing, HasConducted}
-use Rattle.act_executor.specs.declared.starter.Starter.{Starter}
+use Rattle.act_executor.specs.declared.run.Starter.{Starter}
 use Rattle.act_executor.specs.declared.work.Serving.{Serving}
 use Rattle.act_executor.specs.declared.work.Driving.{Driving}
 

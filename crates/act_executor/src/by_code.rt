@@ -11,9 +11,9 @@ ghost use Rattle.act_executor.specs.Plays.{IsPlayed};
 ghost use Rattle.act_executor.specs.Conducts.{CodesFit};
 ghost use Rattle.act_executor.specs.Runs.{plan_view, IsFault};
 
-use crate::conduct::ByCode;
 use crate::joined::Joined;
 use crate::run::{RunFault, prepare_good, run_prepared};
+use crate::work::ByCode;
 use act_actor::Cast;
 use act_drive::Code;
 use act_kinds::Actor;

@@ -1,17 +1,12 @@
 //! Callers and actors that run, each in a thread of its own.
 #![tactic(auto)]
 
-mod audits;
 mod by_code;
-mod conduct;
 mod fitting;
-mod group;
 mod joined;
 mod laws;
 mod open;
-mod opened;
 mod run;
-mod starter;
 mod work;
 
 pub use act_drive::{
@@ -25,6 +20,5 @@ pub use by_code::run_callers;
 pub use fitting::codes_fit;
 pub use joined::Joined;
 pub use laws::{joined_callers_are_consistent, joined_runs_are_consistent, traced_runs_are_played};
-pub use open::open_lines;
-pub use opened::{Lines, Opened};
+pub use open::{Lines, Opened, open_lines};
 pub use run::{Pages, RunFault, run_plans, run_plans_noting};

@@ -7,21 +7,37 @@ ghost use Rattle.act_mailbox.specs.Controls.{starter};
 ghost use Rattle.act_mailbox.specs.Passes.{new_putter};
 ghost use Rattle.act_mailbox.specs.Notices.{new_exec};
 ghost use Rattle.act_plans.specs.Setups.{AreMatched};
-ghost use Rattle.act_executor.specs.Groups.{items_of_vec, endpoints_from, AreHands};
+ghost use Rattle.act_executor.specs.Groups.{items_of_vec, endpoints_from, AreHands, endpoint_at, AreGrown};
 ghost use Rattle.act_executor.specs.Opened.{AreOpened};
 
-use crate::group::{deal, empty_hands};
-use crate::opened::{Lines, Opened};
 use act_actor::Cast;
 use act_drive::CallerPasses;
 use act_mailbox::{
-    Control, ControlCaller, ControlExec, Endpoint, Mail, MailCaller, MailExec, Replies,
+    Control, ControlCaller, ControlExec, Endpoint, Mail, MailCaller, MailExec, Putter, Replies,
     ReplyCaller, ReplyExec,
 };
 use act_plans::CallerSetup;
 use act_serve::ExecPasses;
 use act_types::NoMemory;
 use std::alloc::Global;
+
+/// The mail and control lines stand by the places of the casts, the reply lines by those of the parts.
+#[derive(Drop)]
+pub struct Lines {
+    pub mails: Vec<Mail>,
+    pub controls: Vec<Control>,
+    pub replies: Vec<Replies>,
+}
+
+/// Lines, with the passes of each executor and of each caller, which stand as their lines do, and
+/// those of the starter.
+#[derive(Drop)]
+pub struct Opened {
+    pub lines: Lines,
+    pub execs: Vec<Endpoint<ExecPasses>>,
+    pub callers: Vec<Endpoint<CallerPasses>>,
+    pub starters: Vec<ControlCaller>,
+}
 
 /// The mail lines, their executors' passes, and the callers' passes by whose they are.
 #[derive(Drop)]
@@ -244,4 +260,65 @@ pub fn open_lines<K>(
         callers,
         starters: controls.starters,
     })
+}
+
+/// What belongs to a number: a caller's, or an actor's.
+pub(crate) trait Numbered {
+    ghost use Rattle.std.specs.Prelude.{◌≡◌, ℕ};
+
+    ghost number: { Self → ℕ };
+
+    fn number(&self) -> u8
+        ensures { result ≡ number self.now };
+}
+
+impl<T, N> Numbered for Putter<T, N> {
+    ghost number = { λ pass. pass.number };
+
+    fn number(&self) -> u8 {
+        Putter::number(self)
+    }
+}
+
+impl Numbered for ReplyExec {
+    ghost number = { λ pass. pass.actor };
+
+    fn number(&self) -> u8 {
+        self.actor().number()
+    }
+}
+
+/// An empty hand for each number.
+pub(crate) fn empty_hands<P: Numbered + Drop>(
+    alloc: Global,
+    numbers: &[u8],
+) -> Result<Vec<Vec<Endpoint<P>>>, NoMemory>
+    ensures { IfOk result (λ hands. AreHands P.number numbers.now [] hands.items) }
+{
+    let mut hands = Vec::new(alloc);
+    for _ in numbers {
+        hands.push(Vec::new(alloc))?;
+    }
+    Ok(hands)
+}
+
+/// Deals the passes of the line at this place: each goes, in order, to the hand of its number.
+pub(crate) fn deal<P: Numbered + Drop>(
+    numbers: &[u8],
+    hands: &mut Vec<Vec<Endpoint<P>>>,
+    place: usize,
+    passes: Vec<P>,
+) -> Result<(), NoMemory>
+    requires differ { AllPairs (λ one other. one ≢ other) numbers.now }
+    requires long { length hands.old.items ≡ length numbers.now }
+    ensures { IfOk result (λ _.
+        AreGrown P.number numbers.now (map (endpoint_at place) passes.items) hands.old.items hands.new.items) }
+{
+    for pass in passes {
+        let number = pass.number();
+        if let Some(owner) = numbers.iter().position(|other| *other == number) {
+            hands[owner].push(Endpoint { place, pass })?;
+        }
+    }
+    Ok(())
 }

@@ -14,23 +14,21 @@ ghost use Rattle.act_executor.specs.Opened.{IsExec, IsCaller};
 ghost use Rattle.act_executor.specs.Joined.{IsJoined};
 ghost use Rattle.act_executor.specs.Plays.{IsPlayed};
 ghost use Rattle.act_executor.specs.Joins.{AreServed, AreDriven, AreStarters};
-ghost use Rattle.act_executor.specs.Work.{CanServe, IsServedBy, CanDrive, IsDrivenTo, CanStop};
+ghost use Rattle.act_executor.specs.Work.{CanServe, IsServedBy, CanDrive, IsDrivenTo, CanStop, IsAsked, HasAskedAll};
 ghost use Rattle.act_executor.specs.Runs.{plan_view, HasRunPlans, IsPrepared, IsFault, IsThreadFault, fault_of};
+ghost use Rattle.act_executor.specs.Audits.{SitsAtControl};
 
-use crate::conduct::{ByPlan, Conduct, Conducts};
 use crate::joined::{Ends, Joined, settle};
-use crate::open::open_lines;
-use crate::opened::{Lines, Opened};
-use crate::starter::{Starter, starter_at};
-use crate::work::{Driving, Serving, drivings, servings};
+use crate::open::{Lines, Opened, open_lines};
+use crate::work::{ByPlan, Conduct, Conducts, Driving, Serving, drivings, servings};
 use act_actor::Cast;
 use act_drive::{CallerPasses, Driven};
 use act_kinds::Actor;
-use act_mailbox::{ControlCaller, Endpoint, NoNotes, Notes};
+use act_mailbox::{Control, ControlCaller, Endpoint, NoNotes, Notes};
 use act_plans::{CallerSetup, Plan, Prepared, first_bad_setup, prepare};
 use act_serve::{ExecPasses, Finished, Gate};
-use act_tasks::{Refusal, run_both};
-use act_types::{CallerId, NoMemory};
+use act_tasks::{Refusal, Stop, run_both};
+use act_types::{CallerId, KillNote, NoMemory};
 use std::alloc::{AllocError, AllocFailed, Global};
 use std::error::Error;
 use std::fmt;
@@ -332,4 +330,77 @@ pub fn run_plans<R: Threads + Wait + Sync, K: Actor + Send, G: Gate>(
     let ran = run_plans_noting::<R, K, G, NoNotes>(rt, alloc, casts, plans, gate)?;
     let (joined, _pages) = ran;
     Ok(joined)
+}
+
+/// What came of a kill that the starter asked: its pass has it, or the line handed it back. Such a
+/// line is full, and has kills enough.
+pub(crate) type Asking = Result<Endpoint<ControlCaller>, KillNote>;
+
+/// The starter's passes on all control lines, and room for what comes of its kills.
+#[derive(Drop)]
+pub(crate) struct Starter<'a> {
+    pub(crate) controls: &'a [Control],
+    pub(crate) endpoints: Vec<Endpoint<ControlCaller>>,
+    pub(crate) asked: Vec<Asking>,
+}
+
+/// Asks for a kill, in the name of the first caller.
+fn ask<R: Wait>(rt: &R, controls: &[Control], endpoint: Endpoint<ControlCaller>) -> Asking
+    requires { SitsAtControl controls.now endpoint }
+    ensures { IsAsked controls.now endpoint result }
+{
+    let Endpoint { place, mut pass } = endpoint;
+    let control = &controls[place];
+    let kill = KillNote {
+        caller: CallerId::new(1).unwrap(),
+        actor: control.actor(),
+    };
+    match control.ask(rt, &mut pass, kill) {
+        Ok(()) => Ok(Endpoint { place, pass }),
+        Err(back) => Err(back),
+    }
+}
+
+impl<'a> Stop for Starter<'a> {
+    type Stopped = Vec<Asking>;
+
+    ghost can_stop = { CanStop };
+
+    ghost has_stopped = { HasAskedAll };
+
+    fn stop<R: Wait>(self, rt: &R) -> Vec<Asking> {
+        let Starter {
+            controls,
+            endpoints,
+            mut asked,
+        } = self;
+        for endpoint in endpoints {
+            asked.push_reserved(ask(rt, controls, endpoint));
+        }
+        asked
+    }
+}
+
+/// The starter at these lines, with room for what comes of its kills.
+pub(crate) fn starter_at(
+    alloc: Global,
+    controls: &[Control],
+    passes: Vec<ControlCaller>,
+) -> Result<Starter, NoMemory>
+    requires { passes.items ≡ map (λ control. new_putter control.line starter) controls.now }
+    ensures controls { IfOk result (λ it. it.controls.now ≡ controls.now) }
+    ensures starters { IfOk result (λ it. AreStarters controls.now it.endpoints.items) }
+    ensures ready { IfOk result CanStop }
+{
+    let mut endpoints = Vec::new(alloc);
+    for pass in passes {
+        let place = endpoints.len();
+        endpoints.push(Endpoint { place, pass })?;
+    }
+    let asked = Vec::with_capacity(alloc, endpoints.len())?;
+    Ok(Starter {
+        controls,
+        endpoints,
+        asked,
+    })
 }

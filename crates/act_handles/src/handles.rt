@@ -1,11 +1,12 @@
 //! Copies of handles, and the numbers of calls.
 
 ghost use Rattle.std.specs.Prelude.{◌≡◌, ◌≢◌, ℕ, ◌+◌, map, AllPairs, position, find, Some, None, MatchOption, IfOk, OnOk, IfErr, OnErr};
-ghost use Rattle.act_rules.specs.Submissions.{copies_held, handle_refusal};
+ghost use Rattle.act_rules.specs.Submissions.{copies_held, handle_refusal, is_earlier};
 ghost use Rattle.act_handles.specs.Handles.{is_of, copies_in, given_of_all, IsAt, new_handle, with_copy, with_number, without_copy, copy_answer, number_answer, release_answer};
+ghost use Rattle.std.specs.List.{list_all};
 
 use act_rules::HandleRefusal;
-use act_types::{ActorId, MAX_CALLS, MAX_COPIES, NoMemory};
+use act_types::{ActorId, Arg, ListOf, MAX_CALLS, MAX_COPIES, NoMemory};
 use std::alloc::Global;
 use std::marker::Model;
 
@@ -161,4 +162,21 @@ impl Handles {
         }
         Ok(Some(handle.given))
     }
+}
+
+/// Whether the argument is a value or one of the first `count` futures.
+fn is_earlier(arg: &Arg, count: u32) -> bool
+    ensures { result ≡ is_earlier count arg.now }
+{
+    match arg {
+        Arg::Plain(_) => true,
+        Arg::Fut(future) => future.number() < count,
+    }
+}
+
+/// Whether each argument is a value or one of the first `count` futures.
+pub fn are_earlier(args: &ListOf<Arg>, count: u32) -> bool
+    ensures { result ≡ list_all (is_earlier count) args.now }
+{
+    args.as_slice().iter().all(|arg| is_earlier(arg, count))
 }

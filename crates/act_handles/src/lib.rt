@@ -2,9 +2,7 @@
 //! Also which futures the arguments of these calls may name.
 #![tactic(auto)]
 
-mod args;
 mod handles;
 
 pub use act_rules::HandleRefusal;
-pub use args::are_earlier;
-pub use handles::{Handle, Handles};
+pub use handles::{Handle, Handles, are_earlier};

@@ -9,7 +9,7 @@ use Rattle.std.proofs.lemmas.Bool.Decides.{eqb_tells, nat_tests}
 use Rattle.std.proofs.lemmas.Bool.{cases_eq}
 use Rattle.std.proofs.lemmas.Option.{slice_get-get_or, slice_get_within, get_or_from_slice_get}
 use Rattle.slab.specs.Slab.{Slab, get, values, Updates}
-use Rattle.act_types.specs.declared.message.Packet.{Packet}
+use Rattle.act_types.specs.declared.call.Packet.{Packet}
 use Rattle.act_inbox.specs.View.{key_of, IsHeld}
 use Rattle.act_inbox.specs.Inbox.{is_packet_of}
 use Rattle.act_inbox.proofs.Packets.{both_equal, is_call_tells}

@@ -12,7 +12,7 @@ use Rattle.std.proofs.lemmas.List.Sums.{sum_by-le}
 use Rattle.std.proofs.lemmas.Map.Keys.{IsDistinct-cons}
 use Rattle.std.proofs.lemmas.Map.Made.{IsDistinct-from_AllPairs}
 use Rattle.std.proofs.lemmas.Map.Steps.{length-le_from_distinct_below}
-use Rattle.act_types.specs.declared.message.Packet.{Packet}
+use Rattle.act_types.specs.declared.call.Packet.{Packet}
 use Rattle.act_rules.specs.History.{contains}
 use Rattle.act_inbox.specs.declared.inbox.Lane.{Lane}
 use Rattle.act_inbox.specs.View.{IsInbox}

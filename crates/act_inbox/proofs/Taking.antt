@@ -6,7 +6,7 @@ use Rattle.std.proofs.lemmas.Bool.{lt-ltb, ltb-true, ltb-false}
 use Rattle.std.proofs.lemmas.Bool.Decides.{eqb_tells}
 use Rattle.std.proofs.lemmas.List.{length-set}
 use Rattle.std.proofs.lemmas.List.Elements.{All-set, All-cons}
-use Rattle.act_types.specs.declared.message.Packet.{Packet}
+use Rattle.act_types.specs.declared.call.Packet.{Packet}
 use Rattle.act_inbox.specs.declared.inbox.Lane.{Lane}
 use Rattle.act_inbox.specs.View.{IsInbox}
 use Rattle.act_inbox.specs.Inbox.{InboxView, is_lane_of, is_packet_of, lane_of, is_listed, handed_of, was_handed, next_of, with_held, IsNextToCome, IsNextTaken}

@@ -4,7 +4,7 @@ use Rattle.std.specs.Ordering.{nat_cmp}
 use Rattle.std.specs.BTreeMap.{BTreeMap, get as get_in_map}
 use Rattle.slab.specs.Slab.{Slab, get}
 use Rattle.act_types.specs.declared.limits.TheConstants.{MAX_CALLERS, MAX_CALLS}
-use Rattle.act_types.specs.declared.message.Packet.{Packet}
+use Rattle.act_types.specs.declared.call.Packet.{Packet}
 use Rattle.act_inbox.specs.declared.inbox.Lane.{Lane}
 
 -- for each caller how many calls were handed out, the packets that came and were not, and at each

@@ -2,7 +2,6 @@
 //! each caller go out in the order in which they were submitted.
 #![tactic(auto)]
 
-mod held;
 mod inbox;
 
 pub use act_rules::Arrival;

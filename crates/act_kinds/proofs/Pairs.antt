@@ -6,7 +6,7 @@ use Rattle.std.specs.List.{AllByRecursion, IsDistinct}
 use Rattle.std.specs.Map.{keys_of, lookup}
 use Rattle.std.specs.Str.{bytes_eq}
 use Rattle.indexmap.specs.IndexMap.{insert_entry, shift_remove_entry}
-use Rattle.act_types.specs.declared.value.Value.{Value}
+use Rattle.act_types.specs.declared.call.Value.{Value}
 use Rattle.act_rules.specs.Kinds.{value_at, with_pair, without_key}
 
 abbrev Pairs : Type 0

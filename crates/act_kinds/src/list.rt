@@ -4,7 +4,7 @@ ghost use Rattle.std.specs.Prelude.{◌≡◌, [], ◌∷◌, Some, IfOk, OnErr,
 ghost use Rattle.act_types.specs.KindState.{ItemsOf};
 ghost use Rattle.act_types.specs.Texts.{state_text};
 ghost use Rattle.act_types.specs.declared.call.Method.TheVariants.{Push, Pop, At};
-ghost use Rattle.act_types.specs.declared.value.Value.TheVariants.{Int};
+ghost use Rattle.act_types.specs.declared.call.Value.TheVariants.{Int};
 ghost use Rattle.act_rules.specs.Kinds.{reply_of};
 ghost use Rattle.act_rules.specs.RunList.{step_of_reply};
 
@@ -26,7 +26,7 @@ pub struct ListKind {
 impl Model for ListKind {
     ghost use Rattle.std.specs.Prelude.{List, length, ◌≤◌};
     ghost use Rattle.act_types.specs.declared.limits.TheConstants.{MAX_ITEMS};
-    ghost use Rattle.act_types.specs.declared.value.Value.{Value as Item};
+    ghost use Rattle.act_types.specs.declared.call.Value.{Value as Item};
 
     ghost Value = { List Item };
 

@@ -4,7 +4,7 @@ ghost use Rattle.std.specs.Prelude.{◌≡◌, [], ◌∷◌, Some, IfOk, OnErr,
 ghost use Rattle.act_types.specs.KindState.{TableOf};
 ghost use Rattle.act_types.specs.Texts.{state_text};
 ghost use Rattle.act_types.specs.declared.call.Method.TheVariants.{Put, Get, Del};
-ghost use Rattle.act_types.specs.declared.value.Value.TheVariants.{Text as TextValue};
+ghost use Rattle.act_types.specs.declared.call.Value.TheVariants.{Text as TextValue};
 ghost use Rattle.act_rules.specs.Kinds.{reply_of};
 ghost use Rattle.act_rules.specs.RunList.{step_of_reply};
 
@@ -29,7 +29,7 @@ impl Model for Table {
     ghost use Rattle.std.specs.Str.{bytes_eq};
     ghost use Rattle.indexmap.specs.IndexMap.{IsUnique};
     ghost use Rattle.act_types.specs.declared.limits.TheConstants.{MAX_KEYS};
-    ghost use Rattle.act_types.specs.declared.value.Value.{Value as Held};
+    ghost use Rattle.act_types.specs.declared.call.Value.{Value as Held};
 
     ghost Value = { List (List ℕ × Held) };
 

@@ -4,8 +4,8 @@ use Rattle.std.proofs.lemmas.Grind.{common_steps}
 use Rattle.std.proofs.lemmas.List.Elements.{All-push, All-weaker}
 use Rattle.act_rules.specs.Consistent.{IsPrefix}
 use Rattle.act_rules.specs.declared.history.RunItem.{RunItem}
-use Rattle.act_types.specs.declared.message.Notice.{Notice}
-use Rattle.act_types.specs.declared.message.Notice.TheVariants.{Answered, Death}
+use Rattle.act_types.specs.declared.call.Notice.{Notice}
+use Rattle.act_types.specs.declared.call.Notice.TheVariants.{Answered, Death}
 use Rattle.act_mailbox.specs.Passes.{PutterView}
 use Rattle.act_mailbox.specs.Notices.{notice_actor, IsNoDeath, NamesPlace, IsGiven}
 

@@ -3,7 +3,7 @@ use Rattle.std.proofs.Common.{◌≡◌, ℕ, ◌==◌, ◌<◌, Bool, true, fal
 use Rattle.std.proofs.lemmas.List.{map-append, length-map}
 use Rattle.crossbeam_queue.specs.Fifo.{Pushes, Pops, Forks, Merges, Learns}
 use Rattle.act_rules.specs.Consistent.{IsPrefix}
-use Rattle.act_mailbox.specs.declared.line.view.View.{View}
+use Rattle.act_mailbox.specs.declared.line.View.{View}
 use Rattle.act_mailbox.specs.Lines.{items_from, items_alone, stamps_alone, putter_of_stamped, taking, after_take, taken_of, putters_of, Lined, LinedByStamps, Took}
 use Rattle.act_mailbox.proofs.Steps.{TookItem, begins}
 

@@ -6,8 +6,8 @@ use lib.ListN.{get_elem?}
 use Rattle.crossbeam_queue.specs.Fifo.{Pushes, Pops, Forks, Merges, Learns}
 use Rattle.crossbeam_queue.proofs.Lists.{at_set, at_snoc}
 use Rattle.act_rules.specs.Consistent.{IsPrefix}
-use Rattle.act_mailbox.specs.declared.line.view.View.{View}
-use Rattle.act_mailbox.specs.declared.line.view.View.TheVariants.{Puts, Takes, Saw, Spent}
+use Rattle.act_mailbox.specs.declared.line.View.{View}
+use Rattle.act_mailbox.specs.declared.line.View.TheVariants.{Puts, Takes, Saw, Spent}
 use Rattle.act_mailbox.specs.Lines.{items_from, putting, taking, role, after_deal, after_put, copied, shown, after_take, put_of, note_of, putters_of, Fits, Lined, Audited}
 
 -- which of its kinds a pass is

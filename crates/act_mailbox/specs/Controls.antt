@@ -1,7 +1,7 @@
 -- What contracts see of a control line and its kills.
 use Rattle.std.specs.Prelude.{◌≡◌, ℕ, ◌+◌, ◌==◌, if◌then◌else◌, List, [], ◌∷◌, ◌++◌, Contains}
 use Rattle.atomic_table.specs.Seated.{TableId}
-use Rattle.act_types.specs.declared.message.KillNote.{KillNote}
+use Rattle.act_types.specs.declared.call.KillNote.{KillNote}
 use Rattle.act_mailbox.specs.declared.control.Asked.{Asked}
 
 -- which line it is, and whose

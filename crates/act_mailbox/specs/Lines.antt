@@ -4,8 +4,8 @@ use Rattle.std.specs.Prelude.{◌≡◌, ℕ, suc, ◌==◌, List, [], ◌∷◌
 use mathlib.Core.Option.{some}
 use lib.ListN.{get_elem?}
 use Rattle.act_rules.specs.Consistent.{IsPrefix}
-use Rattle.act_mailbox.specs.declared.line.view.View.{View}
-use Rattle.act_mailbox.specs.declared.line.view.View.TheVariants.{Puts, Takes, Saw, Spent}
+use Rattle.act_mailbox.specs.declared.line.View.{View}
+use Rattle.act_mailbox.specs.declared.line.View.TheVariants.{Puts, Takes, Saw, Spent}
 
 -- the items of putter c, in order
 abbrev pub items_from : {T : Type 0} → (T → ℕ) → ℕ → List T → List T

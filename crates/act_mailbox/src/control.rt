@@ -1,23 +1,19 @@
 //! The control line of an actor: kills, each with its asker.
 
-ghost use Rattle.std.specs.Prelude.{◌≡◌, ◌≢◌, ℕ, [], ◌∷◌, ◌++◌, length, map, zip, AllPairs, Contains, IfOk, OnOk, IfErr, OnErr, IfSome, IfNone};
+ghost use Rattle.std.specs.Prelude.{◌≡◌, ◌≢◌, ℕ, [], ◌∷◌, ◌++◌, length, map, zip, AllPairs, Contains, IfOk, OnOk, IfErr, OnErr, IfSome, IfNone, ◌<◌, ◌^◌};
 ghost use Rattle.act_actor.specs.StateViews.{live_view};
 ghost use Rattle.act_rules.specs.Consistent.{IsPrefix};
 ghost use Rattle.act_mailbox.specs.Lines.{items_from};
 ghost use Rattle.act_mailbox.specs.Passes.{new_putter};
 ghost use Rattle.act_mailbox.specs.Controls.{asker_of, kill_by, looked_after, starter, HasTakenKill};
 
-use crate::line::{Item, Line, Noted, Putter, Stamped};
+use crate::line::{Item, Line, Noted, Putter, Stamped, Taker};
 use act_actor::Live;
 use act_kinds::Actor;
 use act_types::{ActorId, CallerId, KillNote, NoMemory};
 use std::alloc::Global;
 use std::marker::{Brand, Model};
 use std::sync::Wait;
-
-mod passes;
-
-pub use passes::ControlExec;
 
 /// How many kills a control line holds.
 const CONTROL_CAPACITY: usize = 16;
@@ -191,5 +187,60 @@ impl Control {
             (zip asker.old.put asker.old.stamps) }
     {
         self.line.audit(rt, asker, &mut executor.pass)
+    }
+}
+
+/// It counts the lengths of the log, from 0 on, at which a kill was looked for.
+#[derive(Drop)]
+pub struct ControlExec {
+    pass: Taker<Asked, u64>,
+    actor: ActorId,
+    looked: u64,
+}
+
+impl Model for ControlExec {
+    ghost use Rattle.act_mailbox.specs.Controls.{ControlExecView};
+
+    ghost Value = { ControlExecView };
+
+    ghost view = { λ p. record {
+      line = p.pass.line;
+      actor = p.actor;
+      askers = p.pass.putters;
+      taken = p.pass.taken;
+      stamps = p.pass.stamps;
+      lengths = p.pass.note;
+      looked = p.looked;
+    } };
+}
+
+impl ControlExec {
+    /// The pass of an actor's executor, which looked at no length.
+    fn new(actor: ActorId, pass: Taker<Asked, u64>) -> ControlExec
+        ensures { result ≡ record {
+          line = pass.line;
+          actor = actor;
+          askers = pass.putters;
+          taken = pass.taken;
+          stamps = pass.stamps;
+          lengths = pass.note;
+          looked = 0;
+        } }
+    {
+        ControlExec {
+            pass,
+            actor,
+            looked: 0,
+        }
+    }
+
+    /// A kill is looked for at this length of the log.
+    fn look(&mut self, long: usize)
+        requires long { long < 2 ^ 63 }
+        ensures { self.new ≡ record self.old { looked = looked_after self.old.looked long } }
+    {
+        if self.looked == long as u64 {
+            self.looked += 1;
+        }
     }
 }

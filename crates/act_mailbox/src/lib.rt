@@ -5,17 +5,13 @@
 #![tactic(auto)]
 
 mod control;
-mod endpoint;
-mod idle_backoff;
 mod line;
 mod mail;
-mod notes;
 mod replies;
+mod thread;
 
 pub use control::{Asked, Control, ControlCaller, ControlExec};
-pub use endpoint::Endpoint;
-pub use idle_backoff::{IdleBackoff, SHORT_PAUSES};
 pub use line::{Putter, Stamped, Taker};
 pub use mail::{Letter, Mail, MailCaller, MailExec};
-pub use notes::{Mark, NoNotes, Notes, Page};
 pub use replies::{Replies, ReplyCaller, ReplyExec};
+pub use thread::{Endpoint, IdleBackoff, Mark, NoNotes, Notes, Page, SHORT_PAUSES};

@@ -2,26 +2,19 @@
 //!
 //! What was taken of a putter, and then what the queue holds of it, is what it put, in order.
 
-ghost use Rattle.std.specs.Prelude.{◌≡◌, ◌≢◌, ℕ, ◌≤◌, ◌<◌, [], ◌∷◌, ◌++◌, map, zip, AllPairs, Contains, IfOk, OnOk, IfErr, OnErr, IfSome, IfNone};
+ghost use Rattle.std.specs.Prelude.{◌≡◌, ◌≢◌, ℕ, ◌≤◌, ◌<◌, [], ◌∷◌, ◌++◌, map, zip, AllPairs, Contains, IfOk, OnOk, IfErr, OnErr, IfSome, IfNone, List};
 ghost use Rattle.act_rules.specs.Consistent.{IsPrefix};
-ghost use Rattle.act_mailbox.specs.Lines.{items_from};
+ghost use Rattle.act_mailbox.specs.Lines.{items_from, taking};
 ghost use Rattle.act_mailbox.specs.Passes.{new_putter, new_taker};
+ghost use Rattle.crossbeam_queue.specs.Passes.{view as known};
 
 use act_types::{CallerId, NoMemory};
-use crossbeam_queue::RuledArrayQueue;
+use crossbeam_queue::protocol::{Join, Lesson, Outcome, Protocol, Split};
+use crossbeam_queue::{Pass, RuledArrayQueue};
 use std::alloc::Global;
-use std::marker::{Brand, Model};
+use std::collections::LinkedList;
+use std::marker::{Brand, Model, PhantomData};
 use std::sync::Wait;
-
-mod moves;
-mod passes;
-mod view;
-
-pub use moves::Stamped;
-use moves::{Audits, Copies, Deals, InOrder, Named, Puts, Sees, Takes};
-pub(crate) use moves::{Item, Noted};
-pub use passes::{Putter, Taker};
-use view::View;
 
 /// A queue under the rule of its putters and its taker.
 #[derive(Drop)]
@@ -172,4 +165,222 @@ impl<T: Item, N> Line<T, N> {
         self.queue.absorb::<Sees>(&mut putter.pass, copy);
         self.queue.len_as::<Audits, R>(rt, &mut putter.pass)
     }
+}
+
+/// The pass of one putter.
+#[derive(Drop)]
+pub struct Putter<T, N> {
+    number: u8,
+    pass: Pass<T, View<(T, u64), N>>,
+}
+
+impl<T, N> Model for Putter<T, N> {
+    ghost use Rattle.std.specs.Prelude.{◌≡◌, ℕ, [], List};
+    ghost use Rattle.crossbeam_queue.specs.Passes.{view as known};
+    ghost use Rattle.act_mailbox.specs.Lines.{putting, put_of, note_of, items_alone, stamps_alone};
+    ghost use Rattle.act_mailbox.specs.Passes.{PutterView};
+
+    ghost Value = { PutterView T N };
+
+    ghost view = { λ p. record {
+      line = p.pass.table_id;
+      number = p.number;
+      put = items_alone (put_of (known p.pass));
+      stamps = stamps_alone (put_of (known p.pass));
+      note = note_of (known p.pass);
+    } };
+
+    // It is at rest, and its view is a putter's.
+    ghost invariant = { λ p. (p.pass.me.1 ≡ []) ×
+        ((seen : List (T × ℕ)) ×
+        (known p.pass ≡ putting p.number (put_of (known p.pass)) (note_of (known p.pass)) seen)) };
+}
+
+impl<T, N> Putter<T, N> {
+    /// The putter's number.
+    pub fn number(&self) -> u8
+        ensures { result ≡ self.now.number }
+    {
+        self.number
+    }
+}
+
+/// The pass of the taker.
+#[derive(Drop)]
+pub struct Taker<T, N> {
+    pass: Pass<T, View<(T, u64), N>>,
+}
+
+impl<T, N> Model for Taker<T, N> {
+    ghost use Rattle.std.specs.Prelude.{◌≡◌, []};
+    ghost use Rattle.crossbeam_queue.specs.Passes.{view as known};
+    ghost use Rattle.act_mailbox.specs.Lines.{taking, taken_of, note_of, putters_of, items_alone, stamps_alone};
+    ghost use Rattle.act_mailbox.specs.Passes.{TakerView};
+
+    ghost Value = { TakerView T N };
+
+    ghost view = { λ p. record {
+      line = p.pass.table_id;
+      putters = putters_of (known p.pass);
+      taken = items_alone (taken_of (known p.pass));
+      stamps = stamps_alone (taken_of (known p.pass));
+      note = note_of (known p.pass);
+    } };
+
+    // It is at rest, and its view is the taker's.
+    ghost invariant = { λ p. (p.pass.me.1 ≡ []) ×
+        (known p.pass ≡ taking (putters_of (known p.pass)) (taken_of (known p.pass)) (note_of (known p.pass))) };
+}
+
+impl<T, N> Taker<T, N> {
+    /// The first pass of a line.
+    fn of(pass: Pass<T, View<(T, u64), N>>) -> Taker<T, N>
+        requires first { (pass.me.1 ≡ []) × (known pass ≡ taking [] [] []) }
+        ensures { result ≡ new_taker pass.table_id [] }
+    {
+        Taker { pass }
+    }
+}
+
+/// What a line carries: an item names its putter.
+pub(crate) trait Item {
+    ghost putter: { Self → ℕ };
+}
+
+/// The note of a pass after a step. Each call of a program picks it.
+pub(crate) trait Noted<N> {
+    ghost note: { List N };
+}
+
+impl<N> Noted<N> for Brand {
+    ghost use Rattle.std.specs.Prelude.{[]};
+
+    ghost note = { [] };
+}
+
+/// The stamp of an item: a number that proofs alone speak of. Each call of a program picks it.
+pub trait Stamped {
+    ghost stamp: { ℕ };
+}
+
+impl Stamped for Brand {
+    ghost stamp = { 0 };
+}
+
+/// The number of a putter. Each call of a program picks it.
+trait Named {
+    ghost name: { ℕ };
+}
+
+impl Named for Brand {
+    ghost name = { 0 };
+}
+
+struct InOrder;
+
+impl<T: Item, N> Protocol<T, View<(T, u64), N>> for InOrder {
+    ghost use Rattle.std.specs.Prelude.{[]};
+    ghost use Rattle.act_mailbox.specs.Lines.{LinedByStamps, taking};
+
+    ghost holds = { LinedByStamps T.putter };
+
+    ghost first = { taking [] [] [] };
+}
+
+/// The taker makes the pass of the putter K.
+struct Deals<K>(PhantomData<K>);
+
+impl<T, N, K: Named> Split<View<T, N>> for Deals<K> {
+    ghost use Rattle.std.specs.Prelude.{[]};
+    ghost use Rattle.act_mailbox.specs.Lines.{after_deal, putting};
+
+    ghost left = { after_deal K.name };
+
+    ghost right = { λ v. putting K.name [] [] [] };
+}
+
+/// A copy of what the taker took.
+struct Copies;
+
+impl<T, N> Split<View<T, N>> for Copies {
+    ghost use Rattle.act_mailbox.specs.Lines.{copied};
+
+    ghost left = { λ v. v };
+
+    ghost right = { copied };
+}
+
+/// A putter sees such a copy, which is spent.
+struct Sees;
+
+impl<T, N> Join<View<T, N>> for Sees {
+    ghost use Rattle.act_mailbox.specs.Lines.{shown};
+    ghost use Rattle.act_mailbox.specs.declared.line.View.TheVariants.{Spent};
+
+    ghost both = { shown };
+
+    ghost spent = { Spent };
+}
+
+/// A putter puts an item with the stamp S, and K is its note from then on.
+struct Puts<K, S>(PhantomData<(K, S)>);
+
+impl<T, N, K: Noted<N>, S: Stamped> Outcome<T, View<(T, u64), N>> for Puts<K, S> {
+    ghost use Rattle.std.specs.Prelude.{◌≡◌};
+    ghost use Rattle.act_mailbox.specs.Lines.{after_put};
+
+    ghost then = { λ v x w. w ≡ after_put (x, S.stamp) K.note v };
+}
+
+impl<T, N, K: Noted<N>, S: Stamped> Lesson<T, View<(T, u64), N>> for Puts<K, S> {
+    ghost use Rattle.std.specs.Prelude.{⊤};
+
+    ghost fact = { λ v items. ⊤ };
+}
+
+/// The taker takes an item of a putter that has a pass, with its stamp, and K is its note from then on.
+struct Takes<K>(PhantomData<K>);
+
+impl<T: Item, N, K: Noted<N>> Outcome<T, View<(T, u64), N>> for Takes<K> {
+    ghost use Rattle.act_mailbox.specs.Lines.{Took};
+
+    ghost then = { Took T.putter K.note };
+}
+
+impl<T: Item, N, K: Noted<N>> Lesson<T, View<(T, u64), N>> for Takes<K> {
+    ghost use Rattle.std.specs.Prelude.{⊤};
+
+    ghost fact = { λ v items. ⊤ };
+}
+
+/// What was taken of a putter, with its stamps, begins what it put.
+struct Audits;
+
+impl<T: Item, N> Lesson<T, View<(T, u64), N>> for Audits {
+    ghost use Rattle.act_mailbox.specs.Lines.{Audited};
+
+    ghost fact = { λ v items. Audited (λ x. T.putter x.0) v };
+}
+
+/// A putter's number, what it put, its note, and what it saw taken.
+pub struct Putting<T, N> {
+    pub number: u8,
+    pub put: LinkedList<T>,
+    pub note: LinkedList<N>,
+    pub seen: LinkedList<T>,
+}
+
+/// The putters that have passes, what was taken, and the taker's note.
+pub struct Taking<T, N> {
+    pub putters: LinkedList<u8>,
+    pub taken: LinkedList<T>,
+    pub note: LinkedList<N>,
+}
+
+/// A pass is a putter's, the taker's, a copy of what was taken, or spent.
+pub enum View<T, N> {
+    Puts(Putting<T, N>),
+    Takes(Taking<T, N>),
+    Saw(LinkedList<T>),
+    Spent,
 }

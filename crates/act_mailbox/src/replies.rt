@@ -4,18 +4,14 @@ ghost use Rattle.std.specs.Prelude.{◌≡◌, ◌≢◌, ℕ, [], ◌∷◌, �
 ghost use Rattle.act_rules.specs.Consistent.{IsPrefix};
 ghost use Rattle.act_mailbox.specs.Lines.{items_from};
 ghost use Rattle.act_mailbox.specs.Passes.{new_taker};
-ghost use Rattle.act_mailbox.specs.Notices.{notice_actor, IsNoDeath, NamesPlace, new_exec};
+ghost use Rattle.act_mailbox.specs.Notices.{notice_actor, IsNoDeath, NamesPlace, new_exec, IsGiven};
 
-use crate::line::{Item, Line, Noted, Stamped, Taker};
+use crate::line::{Item, Line, Noted, Putter, Stamped, Taker};
 use act_rules::RunItem;
 use act_types::{ActorId, CallerId, NoMemory, Notice};
 use std::alloc::Global;
 use std::marker::{Brand, Model};
 use std::sync::Wait;
-
-mod passes;
-
-pub use passes::ReplyExec;
 
 /// How many notices a reply line holds.
 const REPLY_CAPACITY: usize = 64;
@@ -203,5 +199,54 @@ impl Replies {
             (zip executor.old.given executor.old.stamps) }
     {
         self.line.audit(rt, &mut executor.pass, caller)
+    }
+}
+
+/// It keeps what was given and the log last shown.
+#[derive(Drop)]
+pub struct ReplyExec {
+    actor: ActorId,
+    pass: Putter<Notice, RunItem>,
+}
+
+impl Model for ReplyExec {
+    ghost use Rattle.std.specs.Prelude.{◌≡◌};
+    ghost use Rattle.act_mailbox.specs.Notices.{ReplyExecView, IsGiven};
+
+    ghost Value = { ReplyExecView };
+
+    ghost view = { λ p. record {
+      line = p.pass.line;
+      actor = p.actor;
+      given = p.pass.put;
+      stamps = p.pass.stamps;
+      seen = p.pass.note;
+    } };
+
+    ghost invariant = { λ p. (p.pass.number ≡ p.actor) × IsGiven p.actor p.pass.note p.pass.put };
+}
+
+impl ReplyExec {
+    /// The pass of an executor that gave nothing.
+    fn new(actor: ActorId, pass: Putter<Notice, RunItem>) -> ReplyExec
+        requires number { pass.number ≡ actor }
+        requires first { (pass.put ≡ []) × (pass.stamps ≡ []) × (pass.note ≡ []) }
+        ensures { result ≡ new_exec pass.line actor }
+    {
+        ReplyExec { actor, pass }
+    }
+
+    /// The actor whose executor's pass it is.
+    pub fn actor(&self) -> ActorId
+        ensures { result ≡ self.now.actor }
+    {
+        self.actor
+    }
+
+    /// Shows that each notice which was given kept the conditions of `Replies::give`.
+    pub fn shows(&self)
+        ensures { IsGiven self.now.actor self.now.seen self.now.given }
+    {
+        let _ = &self.pass;
     }
 }

@@ -5,7 +5,7 @@ use Rattle.std.specs.List.{list_all, list_any}
 use Rattle.std.proofs.lemmas.Bool.{ne_eqb, lt-ltb}
 use Rattle.std.proofs.lemmas.List.{map-set}
 use Rattle.std.proofs.lemmas.List.Sums.{sum_by-cons}
-use Rattle.act_types.specs.declared.fault.Fault.TheVariants.{ActorDied}
+use Rattle.act_types.specs.declared.call.Fault.TheVariants.{ActorDied}
 use Rattle.act_rules.specs.declared.history.Submission.{Submission}
 use Rattle.act_rules.specs.RunList.{Answer}
 use Rattle.act_rules.specs.Submissions.{kept_at}
@@ -14,7 +14,7 @@ use Rattle.act_handles.specs.declared.handles.Handle.{Handle}
 use Rattle.act_replies.specs.declared.table.Row.{Row}
 use Rattle.act_replies.specs.Table.{is_open, row_waits_for as row_waits_for, unanswered_row, row_with_answer, after_keep, after_keep_in, row_after_death, rows_after_death as rows_after_death}
 use Rattle.act_owner.specs.declared.owner.Call.{Call}
-use Rattle.act_types.specs.declared.message.Reply.{Reply}
+use Rattle.act_types.specs.declared.call.Reply.{Reply}
 use Rattle.act_handles.specs.Handles.{copies_in}
 use Rattle.act_owner.specs.declared.owner.Collected.TheVariants.{First, Late, Stray, Died}
 use Rattle.act_owner.specs.Owner.{OwnerView, is_of_call, with_kept_answer as owner_with_answer, after_reply_that, after_reply, with_death, with_sent, collected_death, owner_after_death, submission_of, answers_of, answered_row, call_waits_for, answer_after_death, KnowsAnswers, IsOwner}

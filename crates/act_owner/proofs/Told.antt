@@ -5,10 +5,10 @@ use Rattle.std.specs.List.{enumerate_from}
 use Rattle.std.proofs.lemmas.List.Elements.{Contains-append_left, Contains-push}
 use Rattle.std.proofs.lemmas.Bool.Decides.{eqb_tells}
 use Rattle.std.proofs.lemmas.Bool.{not-true}
-use Rattle.act_types.specs.declared.fault.Fault.TheVariants.{ActorDied}
-use Rattle.act_types.specs.declared.message.Reply.{Reply}
-use Rattle.act_types.specs.declared.message.Notice.{Notice}
-use Rattle.act_types.specs.declared.message.Notice.TheVariants.{Answered, Death}
+use Rattle.act_types.specs.declared.call.Fault.TheVariants.{ActorDied}
+use Rattle.act_types.specs.declared.call.Reply.{Reply}
+use Rattle.act_types.specs.declared.call.Notice.{Notice}
+use Rattle.act_types.specs.declared.call.Notice.TheVariants.{Answered, Death}
 use Rattle.act_rules.specs.declared.history.Submission.{Submission}
 use Rattle.act_rules.specs.RunList.{Answer}
 use Rattle.act_rules.specs.Submissions.{kept_at, calls_to}

@@ -16,7 +16,7 @@ use Rattle.act_handles.specs.declared.handles.Handle.{Handle}
 use Rattle.act_replies.specs.declared.table.Row.{Row}
 use Rattle.act_resolver.specs.Resolver.{Entered, changed_at, new_call, with_told, is_answered, is_marked_sent, is_told, is_next_ready, least_ready}
 use Rattle.act_owner.specs.declared.owner.Call.{Call}
-use Rattle.act_types.specs.declared.message.Packet.{Packet}
+use Rattle.act_types.specs.declared.call.Packet.{Packet}
 use Rattle.act_rules.specs.declared.history.Submission.{Submission}
 use Rattle.act_rules.specs.Submissions.{settle}
 use Rattle.act_owner.specs.Owner.{call_at, numbered_call, packet_at, packet_for, OwnerView, submission_of, answers_of, futures_of_args, entered_call, KnowsAnswers, IsOwner, is_known_call, is_sent as owner_is_sent, is_ready as owner_is_ready, first_ready as owner_first_ready}

@@ -2,9 +2,9 @@
 use Rattle.std.specs.Prelude.{◌≡◌, ℕ, ◌≤◌, ◌++◌, Bool, true, false, List, [], ◌∷◌, slice_get, filter_map, Option, Some, None, Contains, IsTrue}
 use Rattle.act_types.specs.declared.call.Method.{Method}
 use Rattle.act_types.specs.declared.call.Arg.{Arg}
-use Rattle.act_types.specs.declared.message.Notice.{Notice}
-use Rattle.act_types.specs.declared.message.Notice.TheVariants.{Answered, Death}
-use Rattle.act_types.specs.declared.message.Reply.{Reply}
+use Rattle.act_types.specs.declared.call.Notice.{Notice}
+use Rattle.act_types.specs.declared.call.Notice.TheVariants.{Answered, Death}
+use Rattle.act_types.specs.declared.call.Reply.{Reply}
 use Rattle.act_rules.specs.RunList.{Answer}
 use Rattle.act_rules.specs.Submissions.{kept_at}
 use Rattle.act_handles.specs.Handles.{with_copy, without_copy}

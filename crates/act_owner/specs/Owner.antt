@@ -3,16 +3,16 @@ use Rattle.std.specs.Prelude.{◌≡◌, ℕ, ◌≤◌, ◌==◌, Bool, true, f
 use Rattle.std.specs.Option.{option_or}
 use Rattle.std.specs.List.{list_all, range_with_len}
 use Rattle.act_types.specs.declared.limits.TheConstants.{MAX_CALLS}
-use Rattle.act_types.specs.declared.fault.Fault.TheVariants.{ActorDied}
+use Rattle.act_types.specs.declared.call.Fault.TheVariants.{ActorDied}
 use Rattle.act_types.specs.declared.call.Method.{Method}
 use Rattle.act_types.specs.declared.call.Arg.{Arg}
 use Rattle.act_types.specs.declared.call.Arg.TheVariants.{Plain, Fut}
-use Rattle.act_types.specs.declared.message.Packet.{Packet}
-use Rattle.act_types.specs.declared.message.Reply.{Reply}
-use Rattle.act_types.specs.declared.message.ReleaseNote.{ReleaseNote}
-use Rattle.act_types.specs.declared.message.KillNote.{KillNote}
-use Rattle.act_types.specs.declared.message.Notice.{Notice}
-use Rattle.act_types.specs.declared.message.Notice.TheVariants.{Answered, Death}
+use Rattle.act_types.specs.declared.call.Packet.{Packet}
+use Rattle.act_types.specs.declared.call.Reply.{Reply}
+use Rattle.act_types.specs.declared.call.ReleaseNote.{ReleaseNote}
+use Rattle.act_types.specs.declared.call.KillNote.{KillNote}
+use Rattle.act_types.specs.declared.call.Notice.{Notice}
+use Rattle.act_types.specs.declared.call.Notice.TheVariants.{Answered, Death}
 use Rattle.act_rules.specs.declared.history.Submission.{Submission}
 use Rattle.act_rules.specs.declared.outcome.HandleRefusal.{HandleRefusal}
 use Rattle.act_rules.specs.declared.outcome.SubmitRefusal.{SubmitRefusal}

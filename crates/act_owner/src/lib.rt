@@ -1,8 +1,6 @@
 //! One caller: what it submitted, what it sent, and the answers that it keeps.
 #![tactic(auto)]
 
-mod args;
-mod futures;
 mod laws;
 mod owner;
 

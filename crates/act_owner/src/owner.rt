@@ -1,23 +1,22 @@
 //! One caller and its calls.
 
-ghost use Rattle.std.specs.Prelude.{◌≡◌, ◌≢◌, ◌==◌, ℕ, ◌≤◌, map, length, count_by, All, AllPairs, Option, None, Some, Err, IfOk, OnOk, IfErr, OnErr, IfSome, IfNone, IsSome, option_and_then, option_copied, find, position, unwrap_or, is_some, slice_get, zip};
+ghost use Rattle.std.specs.Prelude.{◌≡◌, ◌≢◌, ◌==◌, ℕ, ◌≤◌, map, length, count_by, All, AllPairs, Option, None, Some, Err, IfOk, OnOk, IfErr, OnErr, IfSome, IfNone, IsSome, option_and_then, option_copied, find, position, unwrap_or, is_some, slice_get, zip, ◌<◌, ◌++◌, ◌∷◌, [], true};
 ghost use Rattle.std.specs.List.{list_all, list_any};
 ghost use Rattle.act_rules.specs.declared.outcome.SubmitRefusal.TheVariants.{NoMemory as NoRoom};
 ghost use Rattle.act_rules.specs.declared.outcome.SendRefusal.TheVariants.{NoMemory as NoRoomToSend};
-ghost use Rattle.act_rules.specs.Submissions.{calls_to, copies_held, handle_refusal, limit_refusal, kept_at, settle};
+ghost use Rattle.act_rules.specs.Submissions.{calls_to, copies_held, handle_refusal, limit_refusal, kept_at, settle, is_earlier};
 ghost use Rattle.act_handles.specs.Handles.{copies_in, given_in, copy_answer, with_copy, without_copy};
-ghost use Rattle.act_owner.specs.Owner.{OwnerView, answers_of, open_owner, opened_under, opened_with, owner_limit, pending, with_handles, release_told, kill_told, refusal_to_submit, with_submission, call_at, is_sent, is_known_dead, sending_refusal, packet_at, address_at, with_sent, is_known_call, first_ready, is_to, is_death, is_of_call, collected_reply, after_reply, collected_death, owner_after_death, collect_result, after_collect, call_waits_for, KnowsDeath};
-ghost use Rattle.act_types.specs.declared.message.Notice.TheVariants.{Death};
+ghost use Rattle.act_owner.specs.Owner.{OwnerView, answers_of, open_owner, opened_under, opened_with, owner_limit, pending, with_handles, release_told, kill_told, refusal_to_submit, with_submission, call_at, is_sent, is_known_dead, sending_refusal, packet_at, address_at, with_sent, is_known_call, first_ready, is_to, is_death, is_of_call, collected_reply, after_reply, collected_death, owner_after_death, collect_result, after_collect, call_waits_for, KnowsDeath, futures_of_args, answered_row, entered_call, KnowsAnswers};
+ghost use Rattle.act_types.specs.declared.call.Notice.TheVariants.{Death};
+ghost use Rattle.act_replies.specs.Table.{row_waits_for, rows_after_death};
 
-use crate::args::settle_all;
-use crate::futures::{answer_death, enter, enter_call};
 use act_handles::{HandleRefusal, Handles, are_earlier};
 use act_replies::ReplyTable;
-use act_resolver::Resolver;
+use act_resolver::{Futures, Resolver};
 use act_rules::{SendRefusal, SubmitRefusal};
 use act_types::{
-    ACTOR_NUMBERS, ActorId, Answer, Arg, CallerId, Fault, FutureId, KillNote, ListOf, MAX_ARGS,
-    MAX_CALLS, Method, NoMemory, Notice, Packet, ReleaseNote, Reply,
+    ACTOR_NUMBERS, ActorId, Answer, Arg, CallerId, CopyOf, Fault, FutureId, KillNote, ListOf,
+    MAX_ARGS, MAX_CALLS, Method, NoMemory, Notice, Packet, ReleaseNote, Reply, Settled, SmallList,
 };
 use std::alloc::Global;
 use std::marker::Model;
@@ -640,4 +639,94 @@ impl Owner {
             Notice::Death(a) => self.collect_death(a),
         }
     }
+}
+
+/// The futures among the arguments of a call.
+fn futures_of(args: &ListOf<Arg>) -> Futures
+    requires { length args.now ≤ MAX_ARGS }
+    ensures { result ≡ futures_of_args args.now }
+{
+    let mut futures = Futures::new(&[]);
+    for arg in args.as_slice() {
+        if let Arg::Fut(future) = arg {
+            futures.push(*future);
+        }
+    }
+    futures
+}
+
+/// Enters the next call, which waits for the futures among its arguments. It is told at once where
+/// its actor is dead.
+pub(crate) fn enter_call(resolver: &mut Resolver, k: FutureId, args: &ListOf<Arg>, is_dead: bool)
+    requires room { 1 ≤ resolver.old.spare }
+    requires next { k ≡ length resolver.old.calls }
+    requires few { length args.now ≤ MAX_ARGS }
+    requires earlier { list_all (is_earlier k) args.now ≡ true }
+    ensures { resolver.new.calls ≡ resolver.old.calls ++ entered_call args.now is_dead ∷ [] }
+{
+    let futures = futures_of(args);
+    resolver.enter_reserved(k, futures.as_slice());
+    if is_dead {
+        resolver.told(k);
+    }
+}
+
+/// Adds a future of the actor, which is answered at once where the actor is dead.
+pub(crate) fn enter(table: &mut ReplyTable, a: ActorId, is_dead: bool) -> FutureId
+    requires room { 1 ≤ table.old.spare }
+    requires limit { length table.old.rows < MAX_CALLS }
+    ensures value { result ≡ length table.old.rows }
+    ensures rows { table.new.rows ≡ table.old.rows ++ answered_row a is_dead ∷ [] }
+{
+    let k = table.enter_reserved(a);
+    if is_dead {
+        table.keep(k, Err(Fault::ActorDied));
+    }
+    k
+}
+
+/// Answers each future of the actor that has no answer yet with `ActorDied`, tells the resolver of
+/// it, and gives their number. It passes over no other call.
+pub(crate) fn answer_death(table: &mut ReplyTable, resolver: &mut Resolver, a: ActorId) -> u32
+    requires told { KnowsAnswers resolver.old.calls table.old.rows }
+    ensures value { result ≡ count_by (row_waits_for a) table.old.rows }
+    ensures rows { table.new.rows ≡ rows_after_death a table.old.rows }
+    ensures told { KnowsAnswers resolver.new.calls (rows_after_death a table.old.rows) }
+    ensures futures { map (λ call. call.futures) resolver.new.calls ≡ map (λ call. call.futures) resolver.old.calls }
+    ensures sent { map (λ call. call.sent) resolver.new.calls ≡ map (λ call. call.sent) resolver.old.calls }
+{
+    let count = table.pending(a);
+    while let Some(future) = table.waiting_of(a) {
+        table.keep(future, Err(Fault::ActorDied));
+        resolver.told(future);
+    }
+    count
+}
+
+/// What is sent for an argument that has its answer.
+fn settle_arg(alloc: Global, arg: &Arg, table: &ReplyTable) -> Result<Settled, NoMemory>
+    ensures { IfOk result (λ sent. sent ≡ settle (answers_of table.now.rows) arg.now) }
+{
+    match arg {
+        Arg::Plain(value) => Ok(Settled::Good(value.copy_of(alloc)?)),
+        Arg::Fut(future) => match table.answer(*future) {
+            Some(Ok(value)) => Ok(Settled::Good(value.copy_of(alloc)?)),
+            _ => Ok(Settled::Bad(*future)),
+        },
+    }
+}
+
+/// What is sent for the arguments of a call.
+pub(crate) fn settle_all(
+    alloc: Global,
+    args: &ListOf<Arg>,
+    table: &ReplyTable,
+) -> Result<SmallList<Settled>, NoMemory>
+    ensures { IfOk result (λ sent. sent ≡ map (settle (answers_of table.now.rows)) args.now) }
+{
+    let mut sent = SmallList::with_capacity(alloc, args.len())?;
+    for arg in args.as_slice() {
+        sent.push(settle_arg(alloc, arg, table)?)?;
+    }
+    Ok(sent)
 }

@@ -14,7 +14,7 @@ use Rattle.act_rules.proofs.Lists.{find-map, list_any-map}
 use Rattle.act_actor.specs.declared.cast.Cast.{Cast}
 use Rattle.act_actor.specs.Casts.{actor_spec, actors_that_name, limits_that_name}
 use Rattle.act_actor.proofs.ActorSpecs.{actors_naming-actor_spec}
-use Rattle.act_plans.specs.declared.setup.CallerSetup.{CallerSetup}
+use Rattle.act_plans.specs.declared.rising.CallerSetup.{CallerSetup}
 use Rattle.act_plans.specs.Prepared.{Role, setup_view, setup_of, plan_in, steps_given, bad_of_setup, by_rising_actor, callers_named_by, HasNumbers}
 use Rattle.act_plans.specs.Runs.{limits_naming as limits_view, callers_of_casts, actors_of_casts, cast_at, steps_of_plan, plan_of, bad_step_of, first_bad_plan}
 use Rattle.act_plans.proofs.Keys.{each_first}

@@ -10,7 +10,7 @@ use Rattle.act_rules.specs.Report.{fault_line}
 use Rattle.act_rules.specs.Grammar.{Script, spelled}
 use Rattle.act_replay.specs.declared.run.RecordFault.{RecordFault}
 use Rattle.act_replay.specs.declared.run.RecordFault.TheVariants as records
-use Rattle.act_console.specs.declared.plans.Mark.{Mark}
+use Rattle.act_console.specs.declared.threads.Mark.{Mark}
 use Rattle.act_console.specs.declared.fault.ConsoleFault.TheVariants as faults
 use Rattle.act_console.specs.Plans.{HasLine, Explains}
 use Rattle.act_console.specs.Output.{AppendsPrefix}

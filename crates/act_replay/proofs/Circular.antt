@@ -3,8 +3,8 @@ use Rattle.std.proofs.Common.{◌≡◌, ◌≢◌, ℕ, zero, suc, ◌<◌, ◌
 use Rattle.std.specs.Prelude.{slice_get, map, is_some, Ok, Err, Option, None, pos}
 use Rattle.std.specs.List.{AllByRecursion, enumerate_from}
 use Rattle.act_types.specs.KindState.{KindState}
-use Rattle.act_types.specs.declared.fault.Fault.TheVariants.{ActorDied}
-use Rattle.act_types.specs.declared.value.Value.TheVariants.{Int}
+use Rattle.act_types.specs.declared.call.Fault.TheVariants.{ActorDied}
+use Rattle.act_types.specs.declared.call.Value.TheVariants.{Int}
 use Rattle.act_rules.specs.declared.history.RunItem.{RunItem}
 use Rattle.act_rules.specs.declared.history.Submission.{Submission}
 use Rattle.act_rules.specs.RunList.{Answer, items_of, has_terminated, NothingFollowsAnEnd}

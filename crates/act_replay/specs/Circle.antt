@@ -5,7 +5,7 @@
 -- is what the other 5 is answered by.
 use Rattle.std.specs.Prelude.{ℕ, ◌≡◌, false, true, List, [], ◌∷◌, replicate, Some, None, Ok, pos, All}
 use Rattle.act_types.specs.KindState.{ItemsOf}
-use Rattle.act_types.specs.declared.value.Value.TheVariants.{Int}
+use Rattle.act_types.specs.declared.call.Value.TheVariants.{Int}
 use Rattle.act_types.specs.declared.call.Method.TheVariants.{Push}
 use Rattle.act_types.specs.declared.call.Arg.{Arg}
 use Rattle.act_types.specs.declared.call.Arg.TheVariants.{Plain, Fut}

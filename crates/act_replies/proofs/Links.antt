@@ -3,7 +3,7 @@ use Rattle.std.proofs.Common.{◌≡◌, ◌≢◌, ℕ, ◌<◌, ◌≤◌, Lis
 use Rattle.std.specs.Prelude.{slice_set, IfSome, is_some, not}
 use Rattle.std.proofs.lemmas.List.{get_or-map, get_or_default, length-map, length-set, set-get_or, map-set, map-append, take_all, drop_all, append-nil}
 use Rattle.std.proofs.Math.Seq.{map-set_same}
-use Rattle.act_replies.specs.declared.waiting.Link.{Link}
+use Rattle.act_replies.specs.declared.table.Link.{Link}
 use Rattle.act_replies.specs.Chains.{found_at, with_found, IsLastBelow, IsFirstAbove, linked_actors, before_of, after_of, IsLinked}
 use Rattle.act_replies.proofs.Chains.{within, removed_last, removed_inner, pushed}
 

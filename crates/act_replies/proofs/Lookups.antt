@@ -5,9 +5,9 @@ use Rattle.std.specs.Option.{option_map}
 use Rattle.std.proofs.lemmas.List.{map-set, length-map}
 use Rattle.std.proofs.lemmas.Option.{get_or_from_slice_get, slice_get-map}
 use Rattle.std.proofs.Math.Seq.{map-set_same}
-use Rattle.act_types.specs.declared.value.Value.{Value}
-use Rattle.act_types.specs.declared.fault.Fault.{Fault}
-use Rattle.act_types.specs.declared.fault.Fault.TheVariants.{ActorDied}
+use Rattle.act_types.specs.declared.call.Value.{Value}
+use Rattle.act_types.specs.declared.call.Fault.{Fault}
+use Rattle.act_types.specs.declared.call.Fault.TheVariants.{ActorDied}
 use Rattle.act_replies.specs.declared.table.Kept.TheVariants.{First, Late}
 use Rattle.act_replies.specs.declared.table.Row.{Row}
 use Rattle.act_replies.specs.Table.{is_open, row_waits_for, row_with_answer, unanswered_row, answer_in_table, keep_result, keep_result_in, after_keep, after_keep_in, row_after_death, rows_after_death}

@@ -1,7 +1,7 @@
 -- How the futures that wait for an answer are linked, those of each actor in their order.
 use Rattle.std.specs.Prelude.{◌≡◌, ◌≢◌, ℕ, ◌<◌, ◌≤◌, ◌==◌, Bool, false, List, map, length, get_or, slice_set, count_by, Option, Some, None}
 use Rattle.act_types.specs.declared.limits.TheConstants.{MAX_ACTORS}
-use Rattle.act_replies.specs.declared.waiting.Link.{Link}
+use Rattle.act_replies.specs.declared.table.Link.{Link}
 
 -- the actor that each future waits for, none where it waits no more, and for how many more futures there is room
 pub record WaitingView : Type 0 where

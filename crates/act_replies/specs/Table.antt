@@ -2,9 +2,9 @@
 use Rattle.std.specs.Prelude.{◌≡◌, ℕ, ◌≤◌, ◌==◌, ◌&&◌, Bool, false, not, if◌then◌else◌, List, map, length, slice_get, slice_set, count_by, Option, Some, None, is_some, option_and_then, Result, Err}
 use Rattle.std.specs.Option.{option_map_or}
 use Rattle.act_types.specs.declared.limits.TheConstants.{MAX_CALLS}
-use Rattle.act_types.specs.declared.value.Value.{Value}
-use Rattle.act_types.specs.declared.fault.Fault.{Fault}
-use Rattle.act_types.specs.declared.fault.Fault.TheVariants.{ActorDied}
+use Rattle.act_types.specs.declared.call.Value.{Value}
+use Rattle.act_types.specs.declared.call.Fault.{Fault}
+use Rattle.act_types.specs.declared.call.Fault.TheVariants.{ActorDied}
 use Rattle.act_replies.specs.declared.table.Kept.{Kept}
 use Rattle.act_replies.specs.declared.table.Kept.TheVariants.{First, Late, Stray}
 use Rattle.act_replies.specs.declared.table.Row.{Row}

@@ -2,6 +2,5 @@
 #![tactic(auto)]
 
 mod table;
-mod waiting;
 
 pub use table::{Kept, ReplyTable, Row};

@@ -1,6 +1,6 @@
 -- Which calls wait for which answer.
 use Rattle.std.specs.Prelude.{ℕ, ◌+◌, ◌<◌, Option, Some, None, List, [], ◌∷◌, ◌++◌, map, length, slice_index_or, All, IfSome}
-use Rattle.act_resolver.specs.declared.waiters.Place.{Place}
+use Rattle.act_resolver.specs.declared.resolver.Place.{Place}
 
 -- for each future the calls that wait for it, the latest first, and for how many more futures and places there is room
 pub record WaitersView : Type 0 where

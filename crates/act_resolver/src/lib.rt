@@ -2,11 +2,7 @@
 //! name.
 #![tactic(auto)]
 
-mod futures;
 mod least;
-mod level;
 mod resolver;
-mod waiters;
 
-pub use futures::Futures;
-pub use resolver::Resolver;
+pub use resolver::{Futures, Resolver};

@@ -1,6 +1,6 @@
 -- Further rows, of an end that waits its turn.
 use Rattle.std.specs.Prelude.{◌≡◌, true, List, [], ◌∷◌, pos, None, Ok, codes}
-use Rattle.act_types.specs.declared.value.Value.TheVariants.{Unit as Nothing, Int}
+use Rattle.act_types.specs.declared.call.Value.TheVariants.{Unit as Nothing, Int}
 use Rattle.act_types.specs.declared.call.Arg.TheVariants.{Plain}
 use Rattle.act_types.specs.declared.call.Method.TheVariants.{Add, Terminate}
 use Rattle.act_types.specs.declared.call.Settled.TheVariants.{Good}

@@ -1,9 +1,9 @@
 -- The worked rows of the kinds: what a call answers, and the state that it leaves.
 use Rattle.std.specs.Prelude.{ℕ, ◌≡◌, ℤ, pos, neg_ℤ, List, [], ◌∷◌, ◌++◌, map, replicate, Ok, Err, codes, decimal}
-use Rattle.act_types.specs.declared.value.Value.{Value}
-use Rattle.act_types.specs.declared.value.Value.TheVariants.{Unit as Nothing, Int, Text}
-use Rattle.act_types.specs.declared.fault.Fault.{Fault}
-use Rattle.act_types.specs.declared.fault.Fault.TheVariants.{NoMethod, BadArgs, Overflow, BadAmount, Insufficient, NoItems, NoItem, KindFull}
+use Rattle.act_types.specs.declared.call.Value.{Value}
+use Rattle.act_types.specs.declared.call.Value.TheVariants.{Unit as Nothing, Int, Text}
+use Rattle.act_types.specs.declared.call.Fault.{Fault}
+use Rattle.act_types.specs.declared.call.Fault.TheVariants.{NoMethod, BadArgs, Overflow, BadAmount, Insufficient, NoItems, NoItem, KindFull}
 use Rattle.act_types.specs.declared.call.Method.{Method}
 use Rattle.act_types.specs.declared.call.Method.TheVariants.{Add, Get, Put, Del, Deposit, Withdraw, Push, Pop, At, Terminate}
 use Rattle.act_types.specs.KindState.{KindState, CounterAt, TableOf, AccountAt, ItemsOf}

@@ -1,6 +1,6 @@
 -- Further rows, of a limit on the calls that are pending.
 use Rattle.std.specs.Prelude.{◌≡◌, pos, List, [], ◌∷◌, Some, codes}
-use Rattle.act_types.specs.declared.value.Value.TheVariants.{Int}
+use Rattle.act_types.specs.declared.call.Value.TheVariants.{Int}
 use Rattle.act_types.specs.declared.call.Arg.TheVariants.{Plain}
 use Rattle.act_types.specs.declared.call.Method.TheVariants.{Push}
 use Rattle.act_rules.specs.declared.history.Submission.{Submission}

@@ -1,6 +1,6 @@
 -- The worked rows: what a list of events reports, line by line.
 use Rattle.std.specs.Prelude.{ℕ, ◌≡◌, pos, List, [], ◌∷◌, flat_map, None, codes}
-use Rattle.act_types.specs.declared.value.Value.TheVariants.{Int, Text}
+use Rattle.act_types.specs.declared.call.Value.TheVariants.{Int, Text}
 use Rattle.act_types.specs.declared.call.Arg.{Arg}
 use Rattle.act_types.specs.declared.call.Arg.TheVariants.{Plain, Fut}
 use Rattle.act_types.specs.declared.call.Method.TheVariants.{Add, Get, Put, Size, Push, Deposit, Withdraw}

@@ -3,7 +3,7 @@ use Rattle.std.specs.Prelude.{ℕ, ◌≡◌, ◌<◌, List, [], ◌∷◌, leng
 use Rattle.act_types.specs.declared.limits.TheConstants.{MAX_ACTORS, MAX_CALLERS}
 use Rattle.act_types.specs.declared.call.Arg.TheVariants.{Plain, Fut}
 use Rattle.act_types.specs.declared.call.Method.TheVariants.{Put, Get, Deposit, Withdraw}
-use Rattle.act_types.specs.declared.value.Value.TheVariants.{Int, Text}
+use Rattle.act_types.specs.declared.call.Value.TheVariants.{Int, Text}
 use Rattle.act_rules.specs.declared.script.KindName.TheVariants.{Counter, Table, Account}
 use Rattle.act_rules.specs.declared.script.Step.TheVariants.{Submit, Copy, Kill}
 use Rattle.act_rules.specs.declared.script.Wrong.{Wrong}

@@ -7,8 +7,8 @@ use Rattle.std.specs.Char.{is_ascii_digit}
 use Rattle.std.specs.Str.Parse.{digits_value}
 use Rattle.std.proofs.lemmas.Fmt.{first_decimal, decimal_nonempty}
 use Rattle.std.proofs.lemmas.Bool.Decides.{nat_tests}
-use Rattle.act_types.specs.declared.value.Value.{Value}
-use Rattle.act_types.specs.declared.value.Value.TheVariants as value
+use Rattle.act_types.specs.declared.call.Value.{Value}
+use Rattle.act_types.specs.declared.call.Value.TheVariants as value
 use Rattle.act_types.specs.declared.call.Method.TheVariants as method
 use Rattle.act_types.specs.declared.call.Arg.TheVariants.{Plain, Fut}
 use Rattle.act_types.specs.GoodText.{is_good_text}

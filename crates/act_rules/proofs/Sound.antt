@@ -4,7 +4,7 @@ use Rattle.std.specs.Prelude.{Option, ◌==◌, ◌&&◌, map, filter, filter_ma
 use Rattle.std.specs.List.{AllByRecursion, cons_option}
 use Rattle.std.proofs.lemmas.Bool.{eqb-true, and_parts}
 use Rattle.act_rules.specs.declared.history.RunItem.{RunItem}
-use Rattle.act_types.specs.declared.fault.Fault.TheVariants.{ActorDied}
+use Rattle.act_types.specs.declared.call.Fault.TheVariants.{ActorDied}
 use Rattle.act_rules.specs.declared.event.Event.{Event}
 use Rattle.act_types.specs.KindState.{KindState}
 use Rattle.act_rules.specs.RunList.{Answer, answer_at}

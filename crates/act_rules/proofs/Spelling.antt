@@ -2,8 +2,8 @@
 use Rattle.std.proofs.Common.{◌≡◌, ℕ, ◌==◌, Bool, true, false, cond, nat_lt, List, [], ◌∷◌, slice_index, Result, Ok, Err, ℤ, refl, ap, ◌∙◌}
 use Rattle.std.specs.Prelude.{Some, find, bytes_eq, codes}
 use Rattle.std.specs.Cmp.Lexicographic.{bytes_decides}
-use Rattle.act_types.specs.declared.value.Value.{Value}
-use Rattle.act_types.specs.declared.value.Value.TheVariants as value
+use Rattle.act_types.specs.declared.call.Value.{Value}
+use Rattle.act_types.specs.declared.call.Value.TheVariants as value
 use Rattle.act_types.specs.declared.call.Arg.{Arg}
 use Rattle.act_types.specs.declared.call.Arg.TheVariants.{Plain, Fut}
 use Rattle.act_types.specs.GoodText.{is_good_text}

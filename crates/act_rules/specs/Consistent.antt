@@ -1,7 +1,7 @@
 -- When opening states, submissions, run lists, kept answers and dead actors fit one another.
 use Rattle.std.specs.Prelude.{ℕ, ◌≡◌, ◌≢◌, Bool, List, ◌++◌, map, slice_get, Option, Some, option_and_then, Err, IsTrue}
 use Rattle.std.specs.List.{AllByRecursion, list_all, enumerate_from}
-use Rattle.act_types.specs.declared.fault.Fault.TheVariants.{ActorDied}
+use Rattle.act_types.specs.declared.call.Fault.TheVariants.{ActorDied}
 use Rattle.act_rules.specs.declared.history.RunItem.{RunItem}
 use Rattle.act_types.specs.KindState.{KindState}
 use Rattle.act_rules.specs.RunList.{Answer, answer_at, items_of}

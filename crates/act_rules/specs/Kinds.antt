@@ -4,10 +4,10 @@ use Rattle.act_types.specs.KindState.{KindState, CounterAt, TableOf, AccountAt, 
 use Rattle.act_types.specs.Own.{Ask, Behaviour, after_ask}
 use Rattle.act_types.specs.GoodText.{is_good_text}
 use Rattle.act_types.specs.declared.limits.TheConstants.{MAX_ITEMS, MAX_KEYS}
-use Rattle.act_types.specs.declared.value.Value.{Value}
-use Rattle.act_types.specs.declared.value.Value.TheVariants.{Unit as Nothing, Int, Text}
-use Rattle.act_types.specs.declared.fault.Fault.{Fault}
-use Rattle.act_types.specs.declared.fault.Fault.TheVariants.{NoMethod, BadArgs, Overflow, NoKey, BadAmount, Insufficient, NoItems, NoItem, KindFull, Dependency, ActorDied}
+use Rattle.act_types.specs.declared.call.Value.{Value}
+use Rattle.act_types.specs.declared.call.Value.TheVariants.{Unit as Nothing, Int, Text}
+use Rattle.act_types.specs.declared.call.Fault.{Fault}
+use Rattle.act_types.specs.declared.call.Fault.TheVariants.{NoMethod, BadArgs, Overflow, NoKey, BadAmount, Insufficient, NoItems, NoItem, KindFull, Dependency, ActorDied}
 use Rattle.act_types.specs.declared.call.Method.{Method}
 use Rattle.act_types.specs.declared.call.Method.TheVariants.{Add, Get, Put, Del, Size, Deposit, Withdraw, Balance, Push, Pop, At, Len}
 

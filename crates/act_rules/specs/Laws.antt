@@ -1,8 +1,8 @@
 -- The laws of every run.
 use Rattle.std.specs.Prelude.{ℕ, ◌≡◌, ◌≢◌, ◌≤◌, ◌++◌, ◌^◌, ◌&&◌, Bool, true, false, nat_lt, nat_le, List, map, filter, All, AllPairs, Some, None, Result, Ok, IsTrue, codes, decimal}
 use Rattle.act_types.specs.declared.limits.TheConstants.{MAX_ACTORS, MAX_CALLERS}
-use Rattle.act_types.specs.declared.value.Value.{Value}
-use Rattle.act_types.specs.declared.value.Value.TheVariants as value
+use Rattle.act_types.specs.declared.call.Value.{Value}
+use Rattle.act_types.specs.declared.call.Value.TheVariants as value
 use Rattle.act_types.specs.declared.call.Method.{Method}
 use Rattle.act_types.specs.declared.call.Method.TheVariants as method
 use Rattle.act_types.specs.declared.call.Arg.{Arg}

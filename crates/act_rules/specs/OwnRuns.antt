@@ -1,9 +1,9 @@
 -- What the calls of a run list do at a kind of one's own, in the kind's own states, and what holds after each run list.
 use Rattle.std.specs.Prelude.{◌≡◌, ℕ, List, [], ◌∷◌, ◌++◌, slice_get, Option, Some, None, Result, Ok, Err}
-use Rattle.act_types.specs.declared.value.Value.{Value}
-use Rattle.act_types.specs.declared.value.Value.TheVariants.{Unit as Nothing}
-use Rattle.act_types.specs.declared.fault.Fault.{Fault}
-use Rattle.act_types.specs.declared.fault.Fault.TheVariants.{BadArgs, Dependency}
+use Rattle.act_types.specs.declared.call.Value.{Value}
+use Rattle.act_types.specs.declared.call.Value.TheVariants.{Unit as Nothing}
+use Rattle.act_types.specs.declared.call.Fault.{Fault}
+use Rattle.act_types.specs.declared.call.Fault.TheVariants.{BadArgs, Dependency}
 use Rattle.act_types.specs.declared.call.Method.{Method}
 use Rattle.act_types.specs.declared.call.Method.TheVariants.{Terminate}
 use Rattle.act_types.specs.KindState.{KindState, OwnAt}

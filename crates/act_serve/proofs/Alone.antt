@@ -1,7 +1,7 @@
 -- One endpoint, as it is opened.
 use Rattle.std.proofs.Common.{arith, ◌≡◌, ℕ, zero, suc, ◌<◌, List, [], ◌∷◌, length, get_or, refl, sym, subst}
 use Rattle.act_mailbox.specs.Notices.{RepliesView, ReplyExecView, new_exec}
-use Rattle.act_mailbox.specs.declared.endpoint.Endpoint.{Endpoint}
+use Rattle.act_mailbox.specs.declared.thread.Endpoint.{Endpoint}
 use Rattle.act_serve.specs.Served.{endpoint_callers}
 use Rattle.act_serve.specs.Turns.{IsAtItsEndpoint}
 

@@ -4,8 +4,8 @@ use Rattle.std.specs.Prelude.{◌==◌, Option, map, filter, slice_get}
 use Rattle.std.specs.List.{cons_option, enumerate_from}
 use Rattle.std.proofs.lemmas.List.Elements.{All-cons}
 use Rattle.act_types.specs.KindState.{KindState}
-use Rattle.act_types.specs.declared.message.Notice.{Notice}
-use Rattle.act_types.specs.declared.message.Notice.TheVariants.{Answered}
+use Rattle.act_types.specs.declared.call.Notice.{Notice}
+use Rattle.act_types.specs.declared.call.Notice.TheVariants.{Answered}
 use Rattle.act_rules.specs.declared.history.RunItem.{RunItem}
 use Rattle.act_rules.specs.RunList.{Answer, after_item, answers_from, answer_at}
 use Rattle.act_serve.specs.Served.{replies_to, IsReplyOf, place_of, RepliesAreDue}

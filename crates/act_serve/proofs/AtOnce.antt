@@ -7,9 +7,9 @@ use Rattle.std.proofs.lemmas.List.Elements.{All-set}
 use Rattle.std.proofs.lemmas.List.Quantifiers.{position-Some}
 use Rattle.std.proofs.Math.Seq.{map-set_same}
 use Rattle.act_types.specs.KindState.{KindState}
-use Rattle.act_types.specs.declared.message.Packet.{Packet}
-use Rattle.act_types.specs.declared.message.Reply.{Reply}
-use Rattle.act_types.specs.declared.message.Notice.TheVariants.{Answered}
+use Rattle.act_types.specs.declared.call.Packet.{Packet}
+use Rattle.act_types.specs.declared.call.Reply.{Reply}
+use Rattle.act_types.specs.declared.call.Notice.TheVariants.{Answered}
 use Rattle.act_rules.specs.declared.history.RunItem.{RunItem}
 use Rattle.act_rules.specs.declared.outcome.Arrival.{Arrival}
 use Rattle.act_rules.specs.declared.outcome.Arrival.TheVariants.{New, Stranger}
@@ -22,7 +22,7 @@ use Rattle.act_actor.specs.Actor.{item_of, reply_of_run, with_packet, RunsAtOnce
 use Rattle.act_mailbox.specs.declared.mail.Letter.{Letter}
 use Rattle.act_mailbox.specs.declared.mail.Letter.TheVariants.{Call}
 use Rattle.act_mailbox.specs.Notices.{RepliesView, ReplyExecView}
-use Rattle.act_mailbox.specs.declared.endpoint.Endpoint.{Endpoint}
+use Rattle.act_mailbox.specs.declared.thread.Endpoint.{Endpoint}
 use Rattle.act_serve.specs.Served.{without_given, caller_at}
 use Rattle.act_serve.specs.Turns.{IsFed, IsAtItsEndpoint, IsServing, EndpointsDiffer, HasReplied, ActorGoesOn, has_next, is_endpoint_of, replied_to}
 use Rattle.act_serve.proofs.Logs.{fed_arrive, fed_run}

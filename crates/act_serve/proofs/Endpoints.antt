@@ -2,11 +2,11 @@
 use Rattle.std.proofs.Common.{◌≡◌, ℕ, List, [], ◌∷◌, ◌++◌, ap, sym, ◌∙◌, append-nil, subst, All}
 use Rattle.std.proofs.lemmas.List.Elements.{All-push}
 use Rattle.act_rules.specs.declared.history.RunItem.{RunItem}
-use Rattle.act_types.specs.declared.message.Notice.{Notice}
+use Rattle.act_types.specs.declared.call.Notice.{Notice}
 use Rattle.act_rules.specs.Consistent.{IsPrefix}
 use Rattle.act_rules.proofs.Lists.{front_trans}
 use Rattle.act_mailbox.specs.Notices.{RepliesView, ReplyExecView, IsNoDeath}
-use Rattle.act_mailbox.specs.declared.endpoint.Endpoint.{Endpoint}
+use Rattle.act_mailbox.specs.declared.thread.Endpoint.{Endpoint}
 use Rattle.act_serve.specs.Turns.{IsAtItsEndpoint}
 
 -- an endpoint while the actor goes on

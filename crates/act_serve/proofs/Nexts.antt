@@ -6,8 +6,8 @@ use Rattle.std.proofs.lemmas.List.{get_or_default}
 use Rattle.std.proofs.lemmas.List.Elements.{All-cons}
 use Rattle.std.proofs.lemmas.List.Quantifiers.{position-Some}
 use Rattle.std.proofs.lemmas.List.Sums.{position_or_len_is}
-use Rattle.act_types.specs.declared.message.Reply.{Reply}
-use Rattle.act_types.specs.declared.message.Notice.TheVariants.{Answered}
+use Rattle.act_types.specs.declared.call.Reply.{Reply}
+use Rattle.act_types.specs.declared.call.Notice.TheVariants.{Answered}
 use Rattle.act_rules.specs.declared.history.RunItem.{RunItem}
 use Rattle.act_rules.proofs.Lists.{slice_get_last}
 use Rattle.act_rules.proofs.Finding.{find-None}
@@ -16,7 +16,7 @@ use Rattle.act_actor.specs.Actor.{next_call}
 use Rattle.act_mailbox.specs.declared.mail.Letter.{Letter}
 use Rattle.act_mailbox.specs.Passes.{TakerView}
 use Rattle.act_mailbox.specs.Notices.{RepliesView, ReplyExecView, NamesPlace}
-use Rattle.act_mailbox.specs.declared.endpoint.Endpoint.{Endpoint}
+use Rattle.act_mailbox.specs.declared.thread.Endpoint.{Endpoint}
 use Rattle.act_serve.specs.declared.letter.Received.{Received}
 use Rattle.act_serve.specs.declared.letter.Received.TheVariants.{Nothing, Held, Ran}
 use Rattle.act_serve.specs.Turns.{HasReplied, HasCome, has_next, HasGone}

@@ -8,10 +8,10 @@ use Rattle.std.proofs.lemmas.Grind.{get_or-set_at}
 use Rattle.std.proofs.lemmas.List.Edits.{map_over_more}
 use Rattle.atomic_table.specs.Seated.{TableId}
 use Rattle.act_types.specs.KindState.{KindState}
-use Rattle.act_types.specs.declared.message.Packet.{Packet}
-use Rattle.act_types.specs.declared.message.Reply.{Reply}
-use Rattle.act_types.specs.declared.message.Notice.{Notice}
-use Rattle.act_types.specs.declared.message.Notice.TheVariants.{Answered, Death}
+use Rattle.act_types.specs.declared.call.Packet.{Packet}
+use Rattle.act_types.specs.declared.call.Reply.{Reply}
+use Rattle.act_types.specs.declared.call.Notice.{Notice}
+use Rattle.act_types.specs.declared.call.Notice.TheVariants.{Answered, Death}
 use Rattle.act_rules.specs.declared.history.RunItem.{RunItem}
 use Rattle.act_rules.specs.RunList.{after_item, state_after, items_of, has_terminated, NothingFollowsAnEnd}
 use Rattle.act_rules.proofs.RunLists.{state_after-push}
@@ -23,8 +23,8 @@ use Rattle.act_mailbox.specs.declared.mail.Letter.{Letter}
 use Rattle.act_mailbox.specs.Controls.{ControlExecView, looked_after}
 use Rattle.act_mailbox.specs.Passes.{TakerView}
 use Rattle.act_mailbox.specs.Notices.{RepliesView, ReplyExecView}
-use Rattle.act_serve.specs.declared.endpoint.ExecPasses.{ExecPasses}
-use Rattle.act_mailbox.specs.declared.endpoint.Endpoint.{Endpoint}
+use Rattle.act_serve.specs.declared.turn.ExecPasses.{ExecPasses}
+use Rattle.act_mailbox.specs.declared.thread.Endpoint.{Endpoint}
 use Rattle.act_serve.specs.Served.{Killed, Retired, Starved, IsLogOf, first_note, replies_to, caller_at, endpoint_callers, without_given, IsUntaken, KillsOfDead, ExecPassesStay, HasServed}
 use Rattle.act_serve.specs.ActorTraces.{IsActorTraced}
 use Rattle.act_serve.specs.Turns.{IsTracedSoFar, EndpointsDiffer, IsFreshExec, IsFed, IsServing, HasReplies, HasReplied, IsAtItsEndpoint, PassesFit, with_death_given}

@@ -1,12 +1,12 @@
 -- What an actor's thread did, in order and in time.
 use Rattle.std.specs.Prelude.{◌≡◌, ℕ, ◌≤◌, true, false, List, [], ◌++◌, map, flat_map, slice_get, Some, All, Contains}
 use Rattle.std.specs.List.{list_any, AllZip}
-use Rattle.act_types.specs.declared.message.Notice.{Notice}
-use Rattle.act_types.specs.declared.message.Notice.TheVariants.{Answered, Death}
+use Rattle.act_types.specs.declared.call.Notice.{Notice}
+use Rattle.act_types.specs.declared.call.Notice.TheVariants.{Answered, Death}
 use Rattle.act_rules.specs.declared.history.RunItem.{RunItem}
 use Rattle.act_mailbox.specs.Notices.{RepliesView}
 use Rattle.act_mailbox.specs.Traces.{clock, steps_in, found_in, IsTimed, AreTakenLater}
-use Rattle.act_serve.specs.declared.endpoint.ExecPasses.{ExecPasses}
+use Rattle.act_serve.specs.declared.turn.ExecPasses.{ExecPasses}
 use Rattle.act_serve.specs.Ends.{EndView, Killed, Retired, Starved, caller_at, endpoint_callers}
 use Rattle.act_serve.specs.ActorSteps.{ActorStep, DeathTold, letter_taken, call_run, kill_taken, is_retirement, ActorMayDoAll}
 

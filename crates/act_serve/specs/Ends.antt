@@ -5,9 +5,9 @@ use Rattle.act_rules.specs.declared.history.RunItem.{RunItem}
 use Rattle.act_actor.specs.View.{DeadView, RetiredView}
 use Rattle.act_actor.specs.StateViews.{retired_view}
 use Rattle.act_mailbox.specs.Notices.{RepliesView, ReplyExecView}
-use Rattle.act_mailbox.specs.declared.endpoint.Endpoint.{Endpoint}
-use Rattle.act_serve.specs.declared.endpoint.Ended.{Ended}
-use Rattle.act_serve.specs.declared.endpoint.Ended.TheVariants as ended
+use Rattle.act_mailbox.specs.declared.thread.Endpoint.{Endpoint}
+use Rattle.act_serve.specs.declared.turn.Ended.{Ended}
+use Rattle.act_serve.specs.declared.turn.Ended.TheVariants as ended
 
 pub data EndView : Type 0 where
   Killed : (dead : DeadView) → EndView

@@ -3,9 +3,9 @@ use Rattle.std.specs.Prelude.{◌≡◌, ℕ, ◌≤◌, ◌==◌, ◌&&◌, Boo
 use Rattle.std.specs.Option.{option_or}
 use Rattle.std.specs.List.{enumerate_from, range_with_len}
 use Rattle.act_types.specs.KindState.{KindState}
-use Rattle.act_types.specs.declared.message.Notice.{Notice}
-use Rattle.act_types.specs.declared.message.Reply.{Reply}
-use Rattle.act_types.specs.declared.message.Notice.TheVariants.{Answered, Death}
+use Rattle.act_types.specs.declared.call.Notice.{Notice}
+use Rattle.act_types.specs.declared.call.Reply.{Reply}
+use Rattle.act_types.specs.declared.call.Notice.TheVariants.{Answered, Death}
 use Rattle.act_rules.specs.declared.history.RunItem.{RunItem}
 use Rattle.act_rules.specs.RunList.{Answer, state_after, answer_at, answers_from, items_of, has_terminated, NothingFollowsAnEnd}
 use Rattle.act_rules.specs.History.{contains}
@@ -16,8 +16,8 @@ use Rattle.act_mailbox.specs.declared.mail.Letter.{Letter}
 use Rattle.act_mailbox.specs.declared.mail.Letter.TheVariants.{Call, Note}
 use Rattle.act_mailbox.specs.Controls.{ControlExecView}
 use Rattle.act_mailbox.specs.Notices.{RepliesView, ReplyExecView}
-use Rattle.act_mailbox.specs.declared.endpoint.Endpoint.{Endpoint}
-use Rattle.act_serve.specs.declared.endpoint.ExecPasses.{ExecPasses}
+use Rattle.act_mailbox.specs.declared.thread.Endpoint.{Endpoint}
+use Rattle.act_serve.specs.declared.turn.ExecPasses.{ExecPasses}
 pub use Rattle.act_serve.specs.Ends.{EndView, Killed, Retired, Starved, end_view, end_id, end_log, caller_at, endpoint_callers}
 use Rattle.act_serve.specs.ActorTraces.{IsActorTraced}
 

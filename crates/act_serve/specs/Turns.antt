@@ -3,9 +3,9 @@ use Rattle.std.specs.Prelude.{◌≡◌, ◌≢◌, ℕ, ◌+◌, ◌<◌, ◌�
 use Rattle.std.specs.List.{list_any}
 use Rattle.atomic_table.specs.Seated.{TableId}
 use Rattle.act_types.specs.KindState.{KindState}
-use Rattle.act_types.specs.declared.message.Packet.{Packet}
-use Rattle.act_types.specs.declared.message.Reply.{Reply}
-use Rattle.act_types.specs.declared.message.Notice.TheVariants.{Answered, Death}
+use Rattle.act_types.specs.declared.call.Packet.{Packet}
+use Rattle.act_types.specs.declared.call.Reply.{Reply}
+use Rattle.act_types.specs.declared.call.Notice.TheVariants.{Answered, Death}
 use Rattle.act_rules.specs.declared.history.RunItem.{RunItem}
 use Rattle.act_rules.specs.RunList.{after_item, items_of, has_terminated, NothingFollowsAnEnd}
 use Rattle.act_rules.specs.History.{contains}
@@ -18,11 +18,11 @@ use Rattle.act_rules.specs.Consistent.{IsPrefix}
 use Rattle.act_mailbox.specs.Controls.{ControlExecView, looked_after}
 use Rattle.act_mailbox.specs.Notices.{RepliesView, ReplyExecView, IsNoDeath}
 use Rattle.act_mailbox.specs.Traces.{steps_in}
-use Rattle.act_mailbox.specs.declared.endpoint.Endpoint.{Endpoint}
+use Rattle.act_mailbox.specs.declared.thread.Endpoint.{Endpoint}
 use Rattle.act_serve.specs.declared.letter.Received.{Received}
 use Rattle.act_serve.specs.declared.letter.Received.TheVariants.{Nothing, Held, Ran}
-use Rattle.act_serve.specs.declared.endpoint.ExecLines.{ExecLines}
-use Rattle.act_serve.specs.declared.endpoint.ExecPasses.{ExecPasses}
+use Rattle.act_serve.specs.declared.turn.ExecLines.{ExecLines}
+use Rattle.act_serve.specs.declared.turn.ExecPasses.{ExecPasses}
 use Rattle.act_serve.specs.ActorSteps.{ActorStep, is_kill_step, is_retirement}
 use Rattle.act_serve.specs.ActorTraces.{IsActorTrace}
 use Rattle.act_serve.specs.Served.{IsLogOf, first_note, replies_to, caller_at, endpoint_callers, KillsOfDead, without_given}

@@ -10,9 +10,7 @@ ghost use Rattle.act_actor.specs.StateViews.{live_view};
 ghost use Rattle.act_serve.specs.Turns.{EndpointsFit, EndpointsStay, TakesLetters, HasReplied, ActorGoesOn, IsFed, IsIn, IsServing, KeepsServing, HasCome, KeepsTrace, TracesTurn, is_endpoint_of};
 ghost use Rattle.act_serve.specs.declared.letter.Received.TheVariants.{Nothing};
 
-use crate::endpoint::{ExecLines, ExecPasses};
-use crate::gate::{Passed, pass_gate};
-use crate::turn::give_reply;
+use crate::turn::{ExecLines, ExecPasses, Passed, give_reply, pass_gate};
 use act_actor::Live;
 use act_kinds::Actor;
 use act_mailbox::{Endpoint, Letter, Mark, Notes, Replies, ReplyExec};

@@ -7,20 +7,19 @@ ghost use Rattle.act_actor.specs.Actor.{next_call};
 ghost use Rattle.act_actor.specs.StateViews.{live_view};
 ghost use Rattle.act_rules.specs.Consistent.{IsPrefix};
 ghost use Rattle.act_rules.specs.RunList.{has_terminated};
-ghost use Rattle.act_types.specs.declared.message.Notice.TheVariants.{Answered};
+ghost use Rattle.act_types.specs.declared.call.Notice.TheVariants.{Answered};
 ghost use Rattle.act_mailbox.specs.Notices.{ReplyExecView, notice_actor, IsNoDeath, NamesPlace};
-ghost use Rattle.act_mailbox.specs.declared.endpoint.Endpoint.{Endpoint};
+ghost use Rattle.act_mailbox.specs.declared.thread.Endpoint.{Endpoint};
 ghost use Rattle.act_serve.specs.Turns.{IsAtItsEndpoint, EndpointsFit, EndpointsStay, TakesLetters, PassesOf, HasReplied, ActorGoesOn, IsServing, KeepsServing, IsFreshExec, has_next, HasGone, RanFirst, HasLooked, KeepsTrace, TracesTurn, replied_to, with_death_given};
 ghost use Rattle.act_serve.specs.declared.turn.Turn.TheVariants.{Moved, Idle, Starved};
 ghost use Rattle.act_serve.specs.Served.{end_view, IsUntaken, HasServed};
 
-use crate::endpoint::{Ended, ExecLines, ExecPasses, Finished};
-use crate::gate::{Gate, Passed, pass_gate};
 use crate::letter::{Received, take_letter};
-use act_actor::{Dead, Live, RunItem};
-use act_kinds::Actor;
+use act_actor::{Dead, Live, Retired, RunItem};
+use act_kinds::{Actor, Boxed};
 use act_mailbox::{
-    Control, ControlExec, Endpoint, IdleBackoff, Mark, NoNotes, Notes, Replies, ReplyExec, Stamped,
+    Control, ControlExec, Endpoint, IdleBackoff, Mail, MailExec, Mark, NoNotes, Notes, Replies,
+    ReplyExec, Stamped,
 };
 use act_types::{ActorId, CallerId, NoMemory, Notice, Reply};
 use std::marker::Brand;
@@ -351,4 +350,65 @@ pub fn serve<R: Wait, K: Actor, G: Gate>(
         &|actor, place| gate.pass(actor, place),
         &mut NoNotes,
     )
+}
+
+/// What an executor passes before it runs a call at a place of its log.
+pub trait Gate: Sync {
+    fn pass(&self, actor: ActorId, place: u32);
+}
+
+/// Lets everything through.
+#[derive(Drop)]
+pub struct NoGate;
+
+impl Gate for NoGate {
+    fn pass(&self, _actor: ActorId, _place: u32) {}
+}
+
+/// That the gate was passed for the run at a place of the log. A run takes one of its place, which
+/// `pass_gate` alone can make.
+#[derive(Drop)]
+pub(crate) struct Passed {
+    place: usize,
+}
+
+/// Passes the gate for the next run.
+pub(crate) fn pass_gate<K: Actor, F: Fn(ActorId, u32)>(live: &Live<K>, pass: &F) -> Passed
+    requires { F.IsAlwaysCallable pass.now }
+    ensures { result.place ≡ length (live_view K.state live.now).log }
+{
+    let place = live.log().len();
+    pass(live.id(), place as u32);
+    Passed { place }
+}
+
+/// The lines of one executor. Its callers' lines are found by the places of its endpoints.
+#[derive(Clone, Copy)]
+pub struct ExecLines<'a> {
+    pub mail: &'a Mail,
+    pub control: &'a Control,
+    pub replies: &'a [Replies],
+}
+
+/// An executor's passes on its lines.
+#[derive(Drop)]
+pub struct ExecPasses {
+    pub letters: MailExec,
+    pub kills: ControlExec,
+    pub notices: Vec<Endpoint<ReplyExec>>,
+}
+
+/// How an actor ended.
+#[derive(Drop)]
+pub enum Ended<K = Boxed> {
+    Killed(Dead),
+    Retired(Retired<K>),
+    Starved(Dead),
+}
+
+/// What an executor leaves.
+#[derive(Drop)]
+pub struct Finished<K = Boxed> {
+    pub ended: Ended<K>,
+    pub passes: ExecPasses,
 }

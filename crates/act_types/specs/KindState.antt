@@ -1,6 +1,6 @@
 -- What contracts see of an actor's kind: which kind it is, and what it holds.
 use Rattle.std.specs.Prelude.{ℕ, List, ℤ}
-use Rattle.act_types.specs.declared.value.Value.{Value}
+use Rattle.act_types.specs.declared.call.Value.{Value}
 use Rattle.act_types.specs.Own.{Behaviour}
 
 pub data KindState : Type 0 where

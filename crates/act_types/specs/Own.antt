@@ -1,8 +1,8 @@
 -- What a kind of one's own means: what it answers after any calls, and how its state is then written.
 use Rattle.std.specs.Prelude.{ℕ, List, [], ◌∷◌, Result, Ok, Err}
-use Rattle.act_types.specs.declared.value.Value.{Value}
-use Rattle.act_types.specs.declared.fault.Fault.{Fault}
-use Rattle.act_types.specs.declared.fault.Fault.TheVariants.{BadArgs}
+use Rattle.act_types.specs.declared.call.Value.{Value}
+use Rattle.act_types.specs.declared.call.Fault.{Fault}
+use Rattle.act_types.specs.declared.call.Fault.TheVariants.{BadArgs}
 use Rattle.act_types.specs.declared.call.Method.{Method}
 
 -- a call of a kind, by its method and its values

@@ -1,10 +1,10 @@
 -- How ids, methods, values, faults, answers and the states of kinds are written.
 use Rattle.std.specs.Prelude.{ℕ, List, [], ◌++◌, ◌&&◌, if◌then◌else◌, nat_le, map, flat_map, Result, Ok, Err, codes, decimal}
 use Rattle.std.specs.Fmt.{signed_decimal}
-use Rattle.act_types.specs.declared.value.Value.{Value}
-use Rattle.act_types.specs.declared.value.Value.TheVariants.{Unit as Nothing, Int, Text}
-use Rattle.act_types.specs.declared.fault.Fault.{Fault}
-use Rattle.act_types.specs.declared.fault.Fault.TheVariants as fault
+use Rattle.act_types.specs.declared.call.Value.{Value}
+use Rattle.act_types.specs.declared.call.Value.TheVariants.{Unit as Nothing, Int, Text}
+use Rattle.act_types.specs.declared.call.Fault.{Fault}
+use Rattle.act_types.specs.declared.call.Fault.TheVariants as fault
 use Rattle.act_types.specs.declared.call.Method.{Method}
 use Rattle.act_types.specs.declared.call.Method.TheVariants as method
 use Rattle.act_types.specs.declared.call.Settled.{Settled}

@@ -7,7 +7,7 @@ use Rattle.std.proofs.lemmas.Bool.Decides.{eqb_tells}
 use Rattle.std.proofs.lemmas.List.{get_or-set_same, get_or-set_other}
 use Rattle.std.proofs.lemmas.List.Folds.{list_any-append}
 use Rattle.std.proofs.lemmas.Option.{unwrap_or-slice_get}
-use Rattle.act_types.specs.declared.message.KillNote.{KillNote}
+use Rattle.act_types.specs.declared.call.KillNote.{KillNote}
 use Rattle.act_rules.specs.declared.event.Event.TheVariants.{AskKill}
 use Rattle.act_rules.specs.declared.outcome.Did.TheVariants.{Asked}
 use Rattle.act_rules.specs.declared.outcome.HandleRefusal.{HandleRefusal}

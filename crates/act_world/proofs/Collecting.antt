@@ -3,9 +3,9 @@ use Rattle.std.proofs.Common.{◌≡◌, ◌≢◌, ℕ, ◌<◌, Bool, true, fa
 use Rattle.std.specs.Prelude.{Option, zip, count_by, slice_get, slice_set, position, option_map, option_and_then, is_some, is_none}
 use Rattle.std.proofs.lemmas.List.Quantifiers.{position-Some}
 use Rattle.std.proofs.lemmas.Option.{slice_get-get_or}
-use Rattle.act_types.specs.declared.message.Notice.{Notice}
-use Rattle.act_types.specs.declared.message.Reply.{Reply}
-use Rattle.act_types.specs.declared.message.Notice.TheVariants.{Answered, Death}
+use Rattle.act_types.specs.declared.call.Notice.{Notice}
+use Rattle.act_types.specs.declared.call.Reply.{Reply}
+use Rattle.act_types.specs.declared.call.Notice.TheVariants.{Answered, Death}
 use Rattle.act_rules.specs.declared.event.Event.TheVariants.{Collect}
 use Rattle.act_rules.specs.declared.history.RunItem.{RunItem}
 use Rattle.act_rules.specs.declared.history.Post.{Post}

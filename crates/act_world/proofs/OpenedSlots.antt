@@ -6,7 +6,7 @@ use Rattle.std.proofs.lemmas.Bool.{eq-eqb, ne_eqb}
 use Rattle.std.proofs.lemmas.Bool.Decides.{eqb_tells}
 use Rattle.std.proofs.lemmas.List.Elements.{All-tail}
 use Rattle.act_types.specs.KindState.{KindState}
-use Rattle.act_types.specs.declared.message.Packet.{Packet}
+use Rattle.act_types.specs.declared.call.Packet.{Packet}
 use Rattle.act_rules.specs.History.{ActorSpec, History, opening, cast_of, names}
 use Rattle.act_inbox.specs.Inbox.{IsOpened}
 use Rattle.act_actor.specs.declared.cast.Cast.{Cast}

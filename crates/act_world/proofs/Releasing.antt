@@ -6,7 +6,7 @@ use Rattle.std.proofs.lemmas.Bool.{eq-eqb}
 use Rattle.std.proofs.lemmas.Bool.Decides.{eqb_tells}
 use Rattle.std.proofs.lemmas.List.{get_or-set_same}
 use Rattle.std.proofs.lemmas.List.Quantifiers.{position-Some}
-use Rattle.act_types.specs.declared.message.ReleaseNote.{ReleaseNote}
+use Rattle.act_types.specs.declared.call.ReleaseNote.{ReleaseNote}
 use Rattle.act_rules.specs.declared.history.Letter.{Letter}
 use Rattle.act_rules.specs.declared.history.Letter.TheVariants.{Call as CallLetter, Note as NoteLetter}
 use Rattle.act_rules.specs.declared.event.Event.TheVariants.{Release}

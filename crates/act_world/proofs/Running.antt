@@ -3,9 +3,9 @@ use Rattle.std.proofs.Common.{◌≡◌, ℕ, ◌+◌, ◌<◌, Bool, true, fals
 use Rattle.std.specs.Prelude.{Option, Result, Ok, Err, IfSome, IsSome, find, not, slice_get, slice_set, option_map, is_some}
 use Rattle.std.proofs.lemmas.Option.{get_or_from_slice_get}
 use Rattle.std.proofs.lemmas.List.{map-set}
-use Rattle.act_types.specs.declared.message.Packet.{Packet}
-use Rattle.act_types.specs.declared.message.Reply.{Reply}
-use Rattle.act_types.specs.declared.message.Notice.TheVariants.{Answered}
+use Rattle.act_types.specs.declared.call.Packet.{Packet}
+use Rattle.act_types.specs.declared.call.Reply.{Reply}
+use Rattle.act_types.specs.declared.call.Notice.TheVariants.{Answered}
 use Rattle.act_rules.specs.declared.history.RunItem.{RunItem}
 use Rattle.act_rules.specs.declared.history.Post.TheVariants.{Reply as ReplyPost}
 use Rattle.act_rules.specs.declared.event.Event.TheVariants.{Run}

@@ -1,8 +1,8 @@
 -- What contracts see of the callers, and of what is on its way.
 use Rattle.std.specs.Prelude.{ℕ, ◌==◌, Bool, List, find, Option, Some, None, is_some, option_and_then, Ok, Err}
-use Rattle.act_types.specs.declared.message.Notice.{Notice}
-use Rattle.act_types.specs.declared.message.Notice.TheVariants.{Answered, Death}
-use Rattle.act_types.specs.declared.message.Packet.{Packet}
+use Rattle.act_types.specs.declared.call.Notice.{Notice}
+use Rattle.act_types.specs.declared.call.Notice.TheVariants.{Answered, Death}
+use Rattle.act_types.specs.declared.call.Packet.{Packet}
 use Rattle.act_rules.specs.declared.outcome.Did.TheVariants.{Kept, Late as DidLate, Died as DidDie}
 use Rattle.act_rules.specs.declared.outcome.HandleRefusal.TheVariants.{NoActor}
 use Rattle.act_rules.specs.declared.outcome.WorldRefusal.{WorldRefusal}

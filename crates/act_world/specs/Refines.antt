@@ -2,9 +2,9 @@
 use Rattle.std.specs.Prelude.{◌≡◌, ℕ, ◌==◌, ◌&&◌, Bool, true, false, length, map, find, slice_get, nat_lt, Option, Some, None, option_map, option_and_then, unwrap_or, if◌then◌else◌}
 use Rattle.std.specs.Option.{option_map_or}
 use Rattle.std.specs.List.{list_any}
-use Rattle.act_types.specs.declared.message.Packet.{Packet}
-use Rattle.act_types.specs.declared.message.Reply.{Reply}
-use Rattle.act_types.specs.declared.message.Notice.TheVariants.{Answered, Death}
+use Rattle.act_types.specs.declared.call.Packet.{Packet}
+use Rattle.act_types.specs.declared.call.Reply.{Reply}
+use Rattle.act_types.specs.declared.call.Notice.TheVariants.{Answered, Death}
 use Rattle.act_rules.specs.declared.history.RunItem.{RunItem}
 use Rattle.act_rules.specs.declared.history.Letter.{Letter}
 use Rattle.act_rules.specs.declared.history.Letter.TheVariants.{Call as CallLetter, Note as NoteLetter}

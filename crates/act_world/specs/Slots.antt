@@ -1,12 +1,12 @@
 -- What happens to an actor in its slot.
 use Rattle.std.specs.Prelude.{◌≡◌, ℕ, List, slice_index_or, slice_set, Bool, true, false, if◌then◌else◌, Option, Some, option_map, is_some, IfNone, IfSome, Result, Ok, Err}
-use Rattle.act_types.specs.declared.message.Packet.{Packet}
-use Rattle.act_types.specs.declared.message.ReleaseNote.{ReleaseNote}
+use Rattle.act_types.specs.declared.call.Packet.{Packet}
+use Rattle.act_types.specs.declared.call.ReleaseNote.{ReleaseNote}
 use Rattle.act_owner.specs.Owner.{OwnerView}
 use Rattle.act_world.specs.declared.network.CallKey.{CallKey}
 use Rattle.act_world.specs.declared.network.MailEntry.{MailEntry}
 use Rattle.act_world.specs.declared.network.MailEntry.TheVariants.{Call as CallEntry, Note as NoteEntry}
-use Rattle.act_types.specs.declared.message.Reply.{Reply}
+use Rattle.act_types.specs.declared.call.Reply.{Reply}
 use Rattle.act_rules.specs.declared.outcome.Arrival.{Arrival}
 use Rattle.act_rules.specs.declared.outcome.Arrival.TheVariants.{New}
 use Rattle.act_rules.specs.declared.outcome.Did.TheVariants.{Arrived, Dead, Retired}

@@ -1,10 +1,8 @@
 //! A world of callers and actors: events, what each of them tells, and what stands after them.
 #![tactic(auto)]
 
-mod callers;
 pub mod laws;
 mod network;
-mod opening;
 mod slot;
 mod world;
 

@@ -3,28 +3,35 @@
 //! `K` is the kind, mostly a box. A clause names what is seen of a world by `world_view` at the
 //! kind's state.
 
-ghost use Rattle.std.specs.Prelude.{◌≡◌, ◌↔◌, ◌<◌, ◌++◌, ◌∷◌, [], ℕ, List, Option, Some, None, Err, ◌≤◌, ◌+◌, IfOk, IfErr, OnOk, OnErr, true, false, length, take, find, option_copied, vec_len, vec_capacity, IsTrue};
+ghost use Rattle.std.specs.Prelude.{◌≡◌, ◌↔◌, ◌<◌, ◌++◌, ◌∷◌, [], ℕ, List, Option, Some, None, Err, ◌≤◌, ◌+◌, IfOk, IfErr, OnOk, OnErr, true, false, length, take, find, option_copied, vec_len, vec_capacity, IsTrue, ◌≢◌, AllPairs, map, replicate, slice_get, ◌==◌, if◌then◌else◌};
 ghost use Rattle.std.specs.Option.{option_map};
 ghost use Rattle.act_rules.specs.declared.event.Event.{Event as Happening};
-ghost use Rattle.act_rules.specs.declared.event.Event.TheVariants as event;
-ghost use Rattle.act_rules.specs.History.{ActorSpec};
+ghost use Rattle.act_rules.specs.History.{ActorSpec, opening};
 ghost use Rattle.act_rules.specs.Laws.{history};
 ghost use Rattle.act_rules.specs.Rules.{outcome_of, refusal_of};
-ghost use Rattle.act_world.specs.View.{world_view, stage_view, is_owner, stage_in};
+ghost use Rattle.act_world.specs.View.{world_view, stage_view, is_owner, stage_in, Runs, Vacant, slot_view};
 ghost use Rattle.act_world.specs.Refines.{IsOwnerAt, IsStage};
 ghost use Rattle.act_world.specs.Headline.{IsConsistent};
 ghost use Rattle.act_world.specs.Memory.{takes_memory, TakesMemory, TakesMemoryAt};
 ghost use Rattle.act_world.specs.IsReachedBy.{IsReachedBy, is_memory, HasRoom, IsGrown, IsGrownBy, FollowsRules, IsUnrefused, IsUnrefusedAt, HasPlayed};
+ghost use Rattle.act_actor.specs.Cast.{IsFitting};
+ghost use Rattle.act_actor.specs.Casts.{actor_spec, callers_named, limits_that_name};
+ghost use Rattle.act_actor.specs.StateViews.{live_view};
+ghost use Rattle.act_owner.specs.Owner.{opened_with};
+ghost use Rattle.act_world.specs.Openings.{HasOwners};
+ghost use Rattle.act_rules.specs.declared.event.Event.TheVariants as event;
 
-use crate::network::{Network, Posted};
+use crate::network::{Network, Posted, place_of};
 use crate::slot::{
     Slot, Stage, bring, has_next_in, is_dead_in, is_live_in, kill_in, retire_in, run_at, slot_at,
     slot_of,
 };
+use act_actor::{Cast, Live, limits_of};
 use act_kinds::{Actor, Boxed};
 use act_owner::Owner;
 use act_rules::{Did, Event, Outcome, WorldRefusal};
 use act_types::{ACTOR_NUMBERS, ActorId, CallerId, CopyOf, NoMemory, Notice};
+use std::alloc::Global;
 
 /// A world of callers and actors.
 #[derive(Drop)]
@@ -334,5 +341,136 @@ impl<K: Actor> World<K> {
             IsStage (history casts events) a (option_map (stage_view K.state) result) }
     {
         slot_at(&self.slots, a).stage()
+    }
+}
+
+/// A caller with its first handles, and with the limits of its actors.
+fn new_owner<K>(alloc: Global, casts: &[Cast<K>], c: CallerId) -> Result<Owner, NoMemory>
+    requires fit { IsFitting casts.now }
+    ensures { IfOk result (λ owner. owner ≡ opened_with c (limits_that_name c casts.now)) }
+{
+    let limits = limits_of(alloc, casts, c)?;
+    Owner::open_with(alloc, c, limits.as_slice())
+}
+
+/// Adds a caller that isn't there yet.
+fn add_owner<K>(
+    alloc: Global,
+    owners: &mut Vec<Owner>,
+    casts: &[Cast<K>],
+    c: CallerId,
+) -> Result<(), NoMemory>
+    requires fit { IsFitting casts.now }
+    ensures { OnOk result ((callers : List ℕ) → HasOwners casts.now callers owners.old.items →
+        HasOwners casts.now (callers ++ c ∷ []) owners.new.items) }
+{
+    if place_of(owners.as_slice(), c).is_some() {
+        return Ok(());
+    }
+    let owner = new_owner(alloc, casts, c)?;
+    owners.push(owner)?;
+    Ok(())
+}
+
+/// Adds those of these callers that aren't there yet.
+fn add_owners<K>(
+    alloc: Global,
+    owners: &mut Vec<Owner>,
+    casts: &[Cast<K>],
+    these: &[CallerId],
+) -> Result<(), NoMemory>
+    requires fit { IsFitting casts.now }
+    ensures { OnOk result ((callers : List ℕ) → HasOwners casts.now callers owners.old.items →
+        HasOwners casts.now (callers ++ these.now) owners.new.items) }
+{
+    for c in these {
+        add_owner(alloc, owners, casts, *c)?;
+    }
+    Ok(())
+}
+
+/// The callers that the casts name.
+fn owners_of<K>(alloc: Global, casts: &[Cast<K>]) -> Result<Vec<Owner>, NoMemory>
+    requires fit { IsFitting casts.now }
+    ensures { IfOk result (λ owners. HasOwners casts.now (callers_named casts.now) owners.items) }
+{
+    let mut owners = Vec::new(alloc);
+    for cast in casts {
+        add_owners(alloc, &mut owners, casts, cast.callers.as_slice())?;
+    }
+    Ok(owners)
+}
+
+/// Slots with no actors.
+fn vacant_slots<K: Actor>() -> [Slot<K>; ACTOR_NUMBERS]
+    ensures { map (slot_view K.state) result ≡ replicate ACTOR_NUMBERS Vacant }
+{
+    [
+        Slot::Vacant,
+        Slot::Vacant,
+        Slot::Vacant,
+        Slot::Vacant,
+        Slot::Vacant,
+        Slot::Vacant,
+        Slot::Vacant,
+        Slot::Vacant,
+        Slot::Vacant,
+    ]
+}
+
+/// Puts an actor in its slot.
+fn fill_slot<K: Actor>(slots: &mut [Slot<K>; ACTOR_NUMBERS], a: ActorId, live: Live<K>)
+    ensures { (b : ℕ) → slice_get (map (slot_view K.state) slots.new) b ≡
+        (if a == b then Some (Runs (live_view K.state live)) else slice_get (map (slot_view K.state) slots.old) b) }
+{
+    slots[slot_of(a)] = Slot::Live(live);
+}
+
+/// The actors, each in its opening state.
+fn slots_of<K: Actor>(
+    alloc: Global,
+    casts: Vec<Cast<K>>,
+) -> Result<[Slot<K>; ACTOR_NUMBERS], NoMemory>
+    requires fit { IsFitting casts.items }
+    ensures { IfOk result (λ slots.
+        (a : ℕ) → IsStage (opening (map (actor_spec K.state) casts.items)) a
+        (slice_get (map (slot_view K.state) slots) a)) }
+{
+    let mut slots = vacant_slots();
+    for cast in casts {
+        let Cast {
+            actor,
+            callers,
+            kind,
+            pending: _,
+        } = cast;
+        let live = Live::open(alloc, actor, callers.as_slice(), kind)?;
+        fill_slot(&mut slots, actor, live);
+    }
+    Ok(slots)
+}
+
+impl<K: Actor> World<K> {
+    /// A world of these actors, each in its opening state, and of the callers that they name, each
+    /// with one copy of the handle of every actor that names it, and with each one's limit.
+    pub fn open(alloc: Global, casts: Vec<Cast<K>>) -> Result<World<K>, NoMemory>
+        requires fit { IsFitting casts.items }
+        ensures reached { IfOk result (λ world.
+            IsReachedBy (map (actor_spec K.state) casts.items) [] (world_view K.state world)) }
+        // The room that events ask for is there.
+        ensures empty { IfOk result (λ world.
+            length (world_view K.state world).network.mail + length (world_view K.state world).network.replies ≡ 0) }
+    {
+        let owners = owners_of(alloc, casts.as_slice())?;
+        let slots = slots_of(alloc, casts)?;
+        Ok(World {
+            network: Network {
+                owners,
+                mail: Vec::new(alloc),
+                replies: Vec::new(alloc),
+                asked: [false; ACTOR_NUMBERS],
+            },
+            slots,
+        })
     }
 }

@@ -4,16 +4,16 @@
 -- path behind `pub use` tells where a word is defined.
 
 -- values, calls, messages
-pub use Rattle.act_types.specs.declared.value.Value
+pub use Rattle.act_types.specs.declared.call.Value
 pub use Rattle.act_types.specs.declared.call.Method
 pub use Rattle.act_types.specs.declared.call.Arg
 pub use Rattle.act_types.specs.declared.call.Settled
-pub use Rattle.act_types.specs.declared.fault.Fault
-pub use Rattle.act_types.specs.declared.message.Packet
-pub use Rattle.act_types.specs.declared.message.ReleaseNote
-pub use Rattle.act_types.specs.declared.message.KillNote
-pub use Rattle.act_types.specs.declared.message.Reply
-pub use Rattle.act_types.specs.declared.message.Notice
+pub use Rattle.act_types.specs.declared.call.Fault
+pub use Rattle.act_types.specs.declared.call.Packet
+pub use Rattle.act_types.specs.declared.call.ReleaseNote
+pub use Rattle.act_types.specs.declared.call.KillNote
+pub use Rattle.act_types.specs.declared.call.Reply
+pub use Rattle.act_types.specs.declared.call.Notice
 -- events and steps, and what is told of them
 pub use Rattle.act_rules.specs.declared.event.Event
 pub use Rattle.act_rules.specs.declared.script.Step
@@ -29,7 +29,7 @@ pub use Rattle.act_owner.specs.declared.owner.Collected
 -- actors, and how they end
 pub use Rattle.act_actor.specs.declared.cast.Cast
 pub use Rattle.act_world.specs.declared.slot.Stage
-pub use Rattle.act_serve.specs.declared.endpoint.Ended
+pub use Rattle.act_serve.specs.declared.turn.Ended
 -- errors of runs in threads, and of callers that are code
 pub use Rattle.act_executor.specs.declared.run.RunFault
 pub use Rattle.act_drive.specs.declared.refusals.WaitRefusal

@@ -1,6 +1,6 @@
 -- What a measured run does, and at which actors.
 use Rattle.std.specs.Prelude.{ℕ, zero, suc, ◌+◌, ◌-◌, ◌%◌, ◌==◌, Bool, true, List, [], ◌∷◌, ◌++◌, filter, pos}
-use Rattle.act_types.specs.declared.value.Value.TheVariants.{Int}
+use Rattle.act_types.specs.declared.call.Value.TheVariants.{Int}
 use Rattle.act_types.specs.declared.call.Arg.{Arg}
 use Rattle.act_types.specs.declared.call.Arg.TheVariants.{Plain}
 use Rattle.act_rules.specs.Report.{one_to}

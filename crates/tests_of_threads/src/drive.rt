@@ -2,7 +2,7 @@
 
 ghost use Rattle.std.specs.Prelude.{◌≡◌, [], ◌∷◌, None, IfOk, pos};
 ghost use Rattle.std.specs.Thread.{IsSync};
-ghost use Rattle.act_types.specs.declared.value.Value.TheVariants.{Int};
+ghost use Rattle.act_types.specs.declared.call.Value.TheVariants.{Int};
 ghost use Rattle.act_types.specs.declared.call.Arg.TheVariants.{Plain};
 ghost use Rattle.act_types.specs.declared.call.Method.TheVariants.{Add};
 ghost use Rattle.act_rules.specs.declared.script.Step.TheVariants.{Submit};

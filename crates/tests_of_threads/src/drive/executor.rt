@@ -1,7 +1,7 @@
 //! The executors of the tests.
 
 ghost use Rattle.std.specs.Prelude.{◌≡◌, [], All, IfOk, IfSome};
-ghost use Rattle.act_types.specs.declared.message.Notice.TheVariants.{Answered};
+ghost use Rattle.act_types.specs.declared.call.Notice.TheVariants.{Answered};
 ghost use Rattle.act_rules.specs.Consistent.{IsPrefix};
 ghost use Rattle.act_actor.specs.StateViews.{live_view};
 ghost use Rattle.act_mailbox.specs.Notices.{new_exec, IsNoDeath, NamesPlace};

@@ -4,7 +4,7 @@ use Rattle.act_types.specs.Texts.{space, actor_text}
 use Rattle.act_rules.specs.declared.history.RunItem.{RunItem}
 use Rattle.act_rules.specs.Report.{line, numbered_lines, item_line}
 use Rattle.act_serve.specs.Served.{end_view}
-use Rattle.act_serve.specs.declared.endpoint.Finished.{Finished}
+use Rattle.act_serve.specs.declared.turn.Finished.{Finished}
 use Rattle.act_console.specs.Threads.{end_text}
 use Rattle.act_console.proofs.Joined.{no_end, one_end, two_parts}
 use Rattle.act_console.proofs.summary.push_ended.Goals as goal

@@ -1,7 +1,7 @@
 use Rattle.std.proofs.Common.{◌≡◌, ◌++◌, map, string_bytes}
 use Rattle.std.specs.List.{flat_map}
 use Rattle.act_serve.specs.Served.{end_view}
-use Rattle.act_serve.specs.declared.endpoint.Finished.{Finished}
+use Rattle.act_serve.specs.declared.turn.Finished.{Finished}
 use Rattle.act_rules.specs.Report.{one_to}
 use Rattle.act_console.specs.Threads.{end_lines_in}
 use Rattle.act_console.proofs.summary.push_ends.Given as goal

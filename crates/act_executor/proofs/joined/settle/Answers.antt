@@ -1,6 +1,6 @@
 use Rattle.std.proofs.Common.{rules, List, map, All, ap, sym, ◌∙◌, subst}
 use Rattle.act_mailbox.specs.Controls.{ControlView}
-use Rattle.act_serve.specs.declared.endpoint.Finished.{Finished}
+use Rattle.act_serve.specs.declared.turn.Finished.{Finished}
 use Rattle.act_drive.specs.declared.caller.Driven.{Driven}
 use Rattle.act_executor.specs.Audits.{HasEndpoints, KillTold, CallerTold, ActorLeft, left_of}
 use Rattle.act_serve.specs.Served.{end_view}

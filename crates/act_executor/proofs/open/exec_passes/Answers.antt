@@ -1,7 +1,7 @@
 use Rattle.std.proofs.Common.{rules, length, map, inl, inr, refl, ap, sym, ◌∙◌, arith}
 use Rattle.std.specs.Vec.Iter.{into_iter_items}
-use Rattle.act_mailbox.specs.declared.endpoint.Endpoint.{Endpoint}
-use Rattle.act_serve.specs.declared.endpoint.ExecPasses.{ExecPasses}
+use Rattle.act_mailbox.specs.declared.thread.Endpoint.{Endpoint}
+use Rattle.act_serve.specs.declared.turn.ExecPasses.{ExecPasses}
 use Rattle.act_executor.specs.Groups.{items_of_vec}
 use Rattle.act_executor.proofs.Pairs.{one_done, all_done, used_up, placed}
 use Rattle.act_executor.proofs.open.exec_passes.Goals as goal

@@ -1,7 +1,7 @@
 use Rattle.std.proofs.Common.{◌≡◌, List, map, slice_get, sym, ap, ◌∙◌}
 use Rattle.std.specs.Prelude.{filter_map}
 use Rattle.act_actor.specs.Casts.{actor_spec}
-use Rattle.act_plans.specs.declared.setup.CallerSetup.{CallerSetup}
+use Rattle.act_plans.specs.declared.rising.CallerSetup.{CallerSetup}
 use Rattle.act_plans.specs.Prepared.{bad_of_setup}
 use Rattle.act_plans.proofs.ActorSpecs.{bad_view}
 use Rattle.act_executor.specs.declared.run.RunFault.{RunFault}

@@ -1,6 +1,6 @@
 use Rattle.std.proofs.Common.{◌≡◌, List, sym, subst}
 use Rattle.act_tasks.specs.Each.{Each}
-use Rattle.act_serve.specs.declared.endpoint.Finished.{Finished}
+use Rattle.act_serve.specs.declared.turn.Finished.{Finished}
 use Rattle.act_drive.specs.declared.caller.Driven.{Driven}
 use Rattle.act_executor.specs.Work.{IsServedBy, IsDrivenTo}
 use Rattle.act_executor.specs.declared.run.RunFault.{RunFault}

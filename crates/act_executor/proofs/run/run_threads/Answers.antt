@@ -2,7 +2,7 @@ use Rattle.std.proofs.Common.{ℕ, List, map, sym, ap, ◌∙◌, subst}
 use Rattle.act_mailbox.specs.declared.control.Asked.{Asked}
 use Rattle.act_mailbox.specs.Passes.{PutterView, new_putter}
 use Rattle.act_mailbox.specs.Controls.{ControlView, starter}
-use Rattle.act_mailbox.specs.declared.endpoint.Endpoint.{Endpoint}
+use Rattle.act_mailbox.specs.declared.thread.Endpoint.{Endpoint}
 use Rattle.act_executor.specs.Joins.{AreStarters}
 use Rattle.act_executor.proofs.Tasks.{all_served, all_driven}
 use Rattle.act_executor.proofs.run.run_threads.Goals as goal

@@ -3,11 +3,11 @@ use Rattle.std.specs.Vec.Iter.{into_iter_items}
 use Rattle.std.proofs.lemmas.List.{append-nil}
 use Rattle.std.proofs.lemmas.List.Elements.{All-push}
 use Rattle.act_rules.specs.Plans.{first_bad}
-use Rattle.act_mailbox.specs.declared.endpoint.Endpoint.{Endpoint}
+use Rattle.act_mailbox.specs.declared.thread.Endpoint.{Endpoint}
 use Rattle.act_drive.specs.declared.driver.CallerPasses.{CallerPasses}
 use Rattle.act_actor.specs.Cast.{CallersDiffer}
 use Rattle.act_tasks.specs.Each.{Each}
-use Rattle.act_plans.specs.declared.setup.CallerSetup.{CallerSetup}
+use Rattle.act_plans.specs.declared.rising.CallerSetup.{CallerSetup}
 use Rattle.act_plans.specs.Setups.{HasLimits}
 use Rattle.act_executor.specs.Opened.{IsCaller}
 use Rattle.act_executor.specs.Work.{CanDrive, driving_start, setup_start}

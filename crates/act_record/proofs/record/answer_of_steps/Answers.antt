@@ -14,8 +14,8 @@ use Rattle.act_replay.specs.declared.run.RecordFault.{RecordFault}
 use Rattle.act_replay.specs.declared.run.RecordFault.TheVariants.{Run, Unplayed}
 use Rattle.act_replay.specs.Faults.{IsRecordFault}
 use Rattle.act_executor.specs.Plays.{IsPlayOf}
-use Rattle.act_console.specs.declared.plans.Mark.{Mark}
-use Rattle.act_console.specs.declared.plans.Sorted.{Sorted}
+use Rattle.act_console.specs.declared.threads.Mark.{Mark}
+use Rattle.act_console.specs.declared.threads.Sorted.{Sorted}
 use Rattle.act_console.specs.Plans.{AreSorted, plan_from, script_of, mark_view, step_view, first_stranger}
 use Rattle.act_console.specs.Threads.{plans_in}
 use Rattle.act_console.proofs.Roles.{casts_fit}

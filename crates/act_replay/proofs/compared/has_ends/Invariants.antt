@@ -3,7 +3,7 @@ use Rattle.std.specs.Prelude.{All}
 use Rattle.act_rules.specs.declared.event.Event.{Event}
 use Rattle.act_rules.specs.History.{ActorSpec}
 use Rattle.act_rules.specs.Laws.{history}
-use Rattle.act_serve.specs.declared.endpoint.Finished.{Finished}
+use Rattle.act_serve.specs.declared.turn.Finished.{Finished}
 use Rattle.act_serve.specs.Served.{end_view}
 use Rattle.act_world.specs.IsReachedBy.{IsReachedBy}
 use Rattle.act_world.specs.View.{world_view}

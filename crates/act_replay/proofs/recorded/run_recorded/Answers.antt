@@ -1,7 +1,7 @@
 use Rattle.std.proofs.Common.{◌≡◌, List, map, sym, subst}
 use Rattle.act_rules.specs.History.{ActorSpec}
 use Rattle.act_actor.specs.Casts.{actor_spec}
-use Rattle.act_serve.specs.declared.endpoint.Finished.{Finished}
+use Rattle.act_serve.specs.declared.turn.Finished.{Finished}
 use Rattle.act_serve.specs.Served.{end_view}
 use Rattle.act_executor.specs.Runs.{plan_view}
 use Rattle.act_executor.proofs.Faults.{err_only}

@@ -3,7 +3,7 @@ use Rattle.act_actor.specs.Actor.{with_packet}
 use Rattle.act_actor.specs.StateViews.{live_view}
 use Rattle.act_mailbox.specs.declared.mail.Letter.TheVariants.{Call}
 use Rattle.act_mailbox.specs.Notices.{ReplyExecView}
-use Rattle.act_mailbox.specs.declared.endpoint.Endpoint.{Endpoint}
+use Rattle.act_mailbox.specs.declared.thread.Endpoint.{Endpoint}
 use Rattle.act_serve.specs.ActorTraces.{exec_clock}
 use Rattle.act_serve.specs.Served.{without_given}
 use Rattle.act_serve.specs.Turns.{IsAtItsEndpoint, IsServing}

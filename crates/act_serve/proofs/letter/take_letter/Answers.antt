@@ -3,7 +3,7 @@ use Rattle.act_actor.specs.StateViews.{live_view}
 use Rattle.act_actor.specs.View.{ActorView}
 use Rattle.act_mailbox.specs.declared.mail.Letter.{Letter}
 use Rattle.act_mailbox.specs.declared.mail.Letter.TheVariants.{Call, Note}
-use Rattle.act_serve.specs.declared.endpoint.ExecPasses.{ExecPasses}
+use Rattle.act_serve.specs.declared.turn.ExecPasses.{ExecPasses}
 use Rattle.act_serve.specs.Turns.{IsFed, IsServing, IsTracedSoFar, HasCome}
 use Rattle.act_serve.proofs.Logs.{fed_note}
 use Rattle.act_serve.proofs.Nexts.{came_some}

@@ -4,7 +4,7 @@ use Rattle.std.proofs.lemmas.List.{get_or_default}
 use Rattle.act_actor.specs.Actor.{next_call}
 use Rattle.act_actor.specs.StateViews.{live_view}
 use Rattle.act_mailbox.specs.Notices.{ReplyExecView}
-use Rattle.act_mailbox.specs.declared.endpoint.Endpoint.{Endpoint}
+use Rattle.act_mailbox.specs.declared.thread.Endpoint.{Endpoint}
 use Rattle.act_serve.specs.ActorTraces.{exec_clock}
 use Rattle.act_serve.specs.Served.{without_given, caller_at}
 use Rattle.act_serve.specs.Turns.{IsAtItsEndpoint, IsServing, HasReplied, has_next}

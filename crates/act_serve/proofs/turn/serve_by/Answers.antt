@@ -6,7 +6,7 @@ use Rattle.act_actor.specs.StateViews.{live_view, retired_view}
 use Rattle.act_mailbox.specs.declared.mail.Letter.{Letter}
 use Rattle.act_mailbox.specs.Controls.{ControlExecView}
 use Rattle.act_mailbox.specs.Passes.{TakerView}
-use Rattle.act_serve.specs.declared.endpoint.ExecPasses.{ExecPasses}
+use Rattle.act_serve.specs.declared.turn.ExecPasses.{ExecPasses}
 use Rattle.act_serve.specs.ActorTraces.{exec_clock}
 use Rattle.act_serve.specs.Served.{endpoint_callers, without_given, KillsOfDead}
 use Rattle.act_serve.specs.Turns.{PassesFit, IsServing, IsTracedSoFar, HasLooked, with_death_given}

@@ -3,7 +3,7 @@ use Rattle.act_owner.specs.Owner.{OwnerView, with_handles, release_told}
 use Rattle.act_rules.specs.declared.script.Step.TheVariants.{Release}
 use Rattle.act_owner.specs.Life.{Released}
 use Rattle.act_handles.specs.Handles.{copies_in, without_copy}
-use Rattle.act_types.specs.declared.message.ReleaseNote.{ReleaseNote}
+use Rattle.act_types.specs.declared.call.ReleaseNote.{ReleaseNote}
 use Rattle.act_mailbox.specs.declared.mail.Letter.TheVariants.{Note}
 use Rattle.act_drive.proofs.OwnChanges.{calling_step, ended_released}
 use Rattle.act_drive.proofs.PlanSteps.{release_follows}

@@ -1,5 +1,5 @@
 use Rattle.std.proofs.Common.{List, All, subst, sym, ap, ◌∙◌}
-use Rattle.act_types.specs.declared.message.Notice.{Notice}
+use Rattle.act_types.specs.declared.call.Notice.{Notice}
 use Rattle.act_rules.specs.Consistent.{IsPrefix}
 use Rattle.act_rules.specs.declared.history.RunItem.{RunItem}
 use Rattle.act_mailbox.specs.Notices.{IsNoDeath, NamesPlace}

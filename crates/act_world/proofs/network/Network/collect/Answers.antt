@@ -1,6 +1,6 @@
 use Rattle.std.proofs.Common.{◌≡◌, ◌≢◌, ℕ, Some, None, ap, sym, ◌∙◌, subst, slice_set, get_or}
 use Rattle.std.specs.Prelude.{slice_get, position}
-use Rattle.act_types.specs.declared.message.Notice.{Notice}
+use Rattle.act_types.specs.declared.call.Notice.{Notice}
 use Rattle.act_rules.specs.declared.event.Event.TheVariants as event
 use Rattle.act_rules.specs.Laws.{history}
 use Rattle.act_rules.specs.Rules.{outcome_of, after}

@@ -3,7 +3,7 @@ use Rattle.std.specs.Prelude.{slice_index_or}
 use Rattle.std.proofs.lemmas.List.Elements.{All-nil}
 use Rattle.act_rules.proofs.Lists.{All-two}
 use Rattle.act_mailbox.specs.Notices.{RepliesView, ReplyExecView, IsNoDeath, new_exec}
-use Rattle.act_mailbox.specs.declared.endpoint.Endpoint.{Endpoint}
+use Rattle.act_mailbox.specs.declared.thread.Endpoint.{Endpoint}
 use Rattle.act_plans.proofs.Matching.{numbers_differ}
 use Rattle.act_serve.specs.Served.{caller_at}
 use Rattle.act_serve.specs.Turns.{IsAtItsEndpoint}

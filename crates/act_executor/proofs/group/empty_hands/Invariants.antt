@@ -1,6 +1,0 @@
-use Rattle.std.proofs.Common.{[], take}
-use Rattle.act_executor.specs.Groups.{AreHands}
-use Rattle.act_executor.proofs.group.empty_hands.Given as goal
-
-abbrev pub invariant-loop : goal.invariant-loop
-invariant-loop g l = AreHands g.P.Numbered.number (take l.index l.numbers) [] l.hands.items

@@ -1,0 +1,11 @@
+use Rattle.std.proofs.Common.{◌≡◌, ℕ, ◌<◌, map, get_or, All}
+use Rattle.act_serve.specs.declared.turn.Finished.{Finished}
+use Rattle.act_executor.specs.Audits.{NoticeTold, left_of}
+use Rattle.act_executor.proofs.joined.audit_actors.Given as goal
+
+abbrev pub invariant-loop-at : goal.invariant-loop-at
+invariant-loop-at g l = record {
+  same_actors : map left_of l.actors.items ≡ map left_of l.fn.actors.items;
+  same : l.callers.items ≡ l.fn.callers.items;
+  told : (k : ℕ) (d : Finished g.row.K.Denot) → k < l.at → All (NoticeTold l.fn.callers.items) (get_or l.fn.actors.items k d).passes.notices.items;
+}

@@ -1,5 +1,0 @@
-use Rattle.std.proofs.Common.{◌≡◌, [], length, All}
-use Rattle.act_inbox.proofs.held.no_keys.Given as goal
-
-abbrev pub invariant-loop : goal.invariant-loop
-invariant-loop l = (length l.keys.items ≡ l.counter) × All (λ index. index.entries ≡ []) l.keys.items

@@ -1,0 +1,8 @@
+use Rattle.std.proofs.Common.{◌≡◌, map, take}
+use Rattle.act_rules.specs.Submissions.{settle}
+use Rattle.act_owner.specs.Owner.{answers_of}
+use Rattle.act_owner.proofs.owner.settle_all.Given as goal
+
+-- the arguments so far are settled
+abbrev pub invariant-loop-arg : goal.invariant-loop-arg
+invariant-loop-arg l = l.sent ≡ map (settle (answers_of l.table.rows)) (take l.arg-index l.arg-items)

@@ -1,6 +1,0 @@
-use Rattle.std.proofs.Common.{◌≡◌, take}
-use Rattle.act_types.proofs.small_list.SmallListCopyOf.copy_of.Given as goal
-
--- the copies are the items so far
-abbrev pub invariant-loop-item : goal.invariant-loop-item
-invariant-loop-item g l = l.copies ≡ take l.item-index l.item-items

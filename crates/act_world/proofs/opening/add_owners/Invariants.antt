@@ -1,7 +1,0 @@
-use Rattle.std.proofs.Common.{ℕ, List, ◌++◌, take}
-use Rattle.act_world.specs.Openings.{HasOwners}
-use Rattle.act_world.proofs.opening.add_owners.Given as goal
-
--- those so far are there
-abbrev pub invariant-loop-c : goal.invariant-loop-c
-invariant-loop-c g l = (callers : List ℕ) → HasOwners l.casts callers l.initial.owners.items → HasOwners l.casts (callers ++ take l.c-index l.these) l.owners.items

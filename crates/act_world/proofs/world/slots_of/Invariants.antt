@@ -1,0 +1,17 @@
+use Rattle.std.proofs.Common.{◌≡◌, length, map}
+use Rattle.std.specs.List.{AllByRecursion}
+use Rattle.std.specs.Vec.Iter.{into_iter_items, into_iter_len}
+use Rattle.act_rules.specs.History.{opening}
+use Rattle.act_world.specs.View.{slot_view}
+use Rattle.act_actor.specs.Casts.{actor_spec}
+use Rattle.act_world.proofs.OpenedSlots.{IsToOpen, AreOpened}
+use Rattle.act_world.proofs.world.slots_of.Given as goal
+
+-- each actor of the casts so far is in its slot, and the other casts are still to be opened
+abbrev pub invariant-loop-cast : goal.invariant-loop-cast
+invariant-loop-cast g l =
+    let state = g.K.Actor.state in
+    let h = opening (map (actor_spec state) l.fn.casts.items) in
+    (into_iter_len l.cast-iterator ≡ length (into_iter_items l.cast-iterator))
+    × AllByRecursion (IsToOpen state h) (into_iter_items l.cast-iterator)
+    × AreOpened state h (into_iter_items l.cast-iterator) (map (slot_view state) l.slots)
