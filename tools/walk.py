@@ -4,9 +4,8 @@
     tools/walk.py [--names] [MODE ..]
 
 The program runs a script of one call, `add 5`, from the script's bytes to the report's, under the debugger gdb: as
-a play, and in threads. A function counts once it is entered. Closures and what lets values go count with the
-function that has them. It takes the unproved program, whose functions aren't merged into one another, and builds
-that where none is kept. With --names each file's functions are listed. Needs gdb with Python, nm and strip.
+a play, and in threads. A function counts once it is entered; closures, and what lets values go, aren't counted. It
+takes the unproved program, whose functions aren't merged into one another, and builds that where none is kept. With --names each file's functions are listed. Needs gdb with Python, nm and strip.
 """
 import argparse
 import collections
