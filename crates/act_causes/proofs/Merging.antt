@@ -23,11 +23,11 @@ under-append {A = A} t xs ys = ap (map (λ (p : ℕ × A). p.1)) (filter-append 
 abbrev more_by : {A : Type 0} → Bool → ℕ → ℕ × A → List (ℕ × A) → List A
 more_by here t x xs = map (λ p. p.1) (cond here (x ∷ filter (λ p. p.0 == t) xs) (filter (λ p. p.0 == t) xs))
 
-under-here : {A : Type 0} (t : ℕ) (x : ℕ × A) (xs : List (ℕ × A)) → (x.0 == t) ≡ true → under t (x ∷ xs) ≡ x.1 ∷ under t xs
-under-here t x xs e = ap (λ (b : Bool). more_by b t x xs) e
+pub under_here : {A : Type 0} (t : ℕ) (x : ℕ × A) (xs : List (ℕ × A)) → (x.0 == t) ≡ true → under t (x ∷ xs) ≡ x.1 ∷ under t xs
+under_here t x xs e = ap (λ (b : Bool). more_by b t x xs) e
 
-under-other : {A : Type 0} (t : ℕ) (x : ℕ × A) (xs : List (ℕ × A)) → (x.0 == t) ≡ false → under t (x ∷ xs) ≡ under t xs
-under-other t x xs e = ap (λ (b : Bool). more_by b t x xs) e
+pub under_other : {A : Type 0} (t : ℕ) (x : ℕ × A) (xs : List (ℕ × A)) → (x.0 == t) ≡ false → under t (x ∷ xs) ≡ under t xs
+under_other t x xs e = ap (λ (b : Bool). more_by b t x xs) e
 
 -- either of the two
 here_or_not : (m n : ℕ) (P : Type 0) → ((m == n) ≡ true → P) → ((m == n) ≡ false → P) → P
@@ -52,29 +52,29 @@ abbrev IsLeast : {A : Type 0} → ℕ → List (ℕ × A) → Type 0
 IsLeast m deeds = AllByRecursion (λ deed. m ≤ deed.0) deeds
 
 put-other : {A : Type 0} (t : ℕ) (x : Deed A) (xs : List (Deed A)) → (x.0 == t) ≡ false → under t (put x xs) ≡ under t xs
-put-other t x [] e = under-other t x [] e
+put-other t x [] e = under_other t x [] e
 put-other {A = A} t x (y ∷ ys) e = go (nat_le x.1.0 y.1.0) (put-other t x ys e)
   where
     later : (z : Bool) → (y.0 == t) ≡ z → under t (put x ys) ≡ under t ys → under t (y ∷ put x ys) ≡ under t (y ∷ ys)
-    later true f rest = under-here t y (put x ys) f ∙ ap (λ (l : List (ℕ × A)). y.1 ∷ l) rest ∙ sym (under-here t y ys f)
-    later false f rest = under-other t y (put x ys) f ∙ rest ∙ sym (under-other t y ys f)
+    later true f rest = under_here t y (put x ys) f ∙ ap (λ (l : List (ℕ × A)). y.1 ∷ l) rest ∙ sym (under_here t y ys f)
+    later false f rest = under_other t y (put x ys) f ∙ rest ∙ sym (under_other t y ys f)
 
     go : (b : Bool) → under t (put x ys) ≡ under t ys → under t (cond b (x ∷ y ∷ ys) (y ∷ put x ys)) ≡ under t (y ∷ ys)
-    go true rest = under-other t x (y ∷ ys) e
+    go true rest = under_other t x (y ∷ ys) e
     go false rest = later (y.0 == t) refl rest
 
 put-here : {A : Type 0} (t : ℕ) (x : Deed A) (xs : List (Deed A)) → (x.0 == t) ≡ true → IsLeast x.1.0 (under t xs) → under t (put x xs) ≡ x.1 ∷ under t xs
-put-here t x [] e least = under-here t x [] e
+put-here t x [] e least = under_here t x [] e
 put-here {A = A} t x (y ∷ ys) e least = go (nat_le x.1.0 y.1.0) refl (put-here t x ys e)
   where
     later : (z : Bool) → (y.0 == t) ≡ z → y.1.0 < x.1.0 → (IsLeast x.1.0 (under t ys) → under t (put x ys) ≡ x.1 ∷ under t ys) → under t (y ∷ put x ys) ≡ x.1 ∷ under t (y ∷ ys)
-    later true f below rest = let l : IsLeast x.1.0 (y.1 ∷ under t ys) = subst (IsLeast x.1.0) (under-here t y ys f) least in absurd (omega (arith, below, l.0))
+    later true f below rest = let l : IsLeast x.1.0 (y.1 ∷ under t ys) = subst (IsLeast x.1.0) (under_here t y ys f) least in absurd (omega (arith, below, l.0))
     later false f below rest =
-        let l : IsLeast x.1.0 (under t ys) = subst (IsLeast x.1.0) (under-other t y ys f) least in
-        under-other t y (put x ys) f ∙ rest l ∙ ap (λ (l : List (ℕ × A)). x.1 ∷ l) (sym (under-other t y ys f))
+        let l : IsLeast x.1.0 (under t ys) = subst (IsLeast x.1.0) (under_other t y ys f) least in
+        under_other t y (put x ys) f ∙ rest l ∙ ap (λ (l : List (ℕ × A)). x.1 ∷ l) (sym (under_other t y ys f))
 
     go : (b : Bool) → nat_le x.1.0 y.1.0 ≡ b → (IsLeast x.1.0 (under t ys) → under t (put x ys) ≡ x.1 ∷ under t ys) → under t (cond b (x ∷ y ∷ ys) (y ∷ put x ys)) ≡ x.1 ∷ under t (y ∷ ys)
-    go true f rest = under-here t x (y ∷ ys) e
+    go true f rest = under_here t x (y ∷ ys) e
     go false f rest = later (y.0 == t) refl (leb-false x.1.0 y.1.0 f) rest
 
 -- stamps that never fall
@@ -88,14 +88,14 @@ under-ordered {A = A} t (x ∷ xs) rises = here_or_not x.0 t (under t (put x (or
   where
     here : (Rises (under t xs) → under t (ordered xs) ≡ under t xs) → (x.0 == t) ≡ true → under t (put x (ordered xs)) ≡ under t (x ∷ xs)
     here rest e =
-        let r : Rises (x.1 ∷ under t xs) = subst Rises (under-here t x xs e) rises in
+        let r : Rises (x.1 ∷ under t xs) = subst Rises (under_here t x xs e) rises in
         let same : under t (ordered xs) ≡ under t xs = rest r.1 in
-        put-here t x (ordered xs) e (subst (IsLeast x.1.0) (sym same) r.0) ∙ ap (λ (l : List (ℕ × A)). x.1 ∷ l) same ∙ sym (under-here t x xs e)
+        put-here t x (ordered xs) e (subst (IsLeast x.1.0) (sym same) r.0) ∙ ap (λ (l : List (ℕ × A)). x.1 ∷ l) same ∙ sym (under_here t x xs e)
 
     other : (Rises (under t xs) → under t (ordered xs) ≡ under t xs) → (x.0 == t) ≡ false → under t (put x (ordered xs)) ≡ under t (x ∷ xs)
     other rest e =
-        let r : Rises (under t xs) = subst Rises (under-other t x xs e) rises in
-        put-other t x (ordered xs) e ∙ rest r ∙ sym (under-other t x xs e)
+        let r : Rises (under t xs) = subst Rises (under_other t x xs e) rises in
+        put-other t x (ordered xs) e ∙ rest r ∙ sym (under_other t x xs e)
 
 -- ---- the order of stamps
 
@@ -149,8 +149,8 @@ from_split (y ∷ before) later x order = from_split before later x order.1
 under-from : {A : Type 0} (t m : ℕ) (xs : List (Deed A)) → AreFrom m xs → IsLeast m (under t xs)
 under-from t m [] from = tt
 under-from t m (x ∷ xs) from = here_or_not x.0 t (IsLeast m (under t (x ∷ xs)))
-    (λ e. subst (IsLeast m) (sym (under-here t x xs e)) (from.0, under-from t m xs from.1))
-    (λ e. subst (IsLeast m) (sym (under-other t x xs e)) (under-from t m xs from.1))
+    (λ e. subst (IsLeast m) (sym (under_here t x xs e)) (from.0, under-from t m xs from.1))
+    (λ e. subst (IsLeast m) (sym (under_other t x xs e)) (under-from t m xs from.1))
 
 -- ---- places
 
@@ -178,10 +178,10 @@ in_list {A = A} t (x ∷ xs) k d at = here_or_not x.0 t (Contains (x ∷ xs) (t,
     step (suc k) rest e at = contains-more xs x (t, d) (rest k at)
 
     here : ((k : ℕ) → slice_get (under t xs) k ≡ Some d → Contains xs (t, d)) → (x.0 == t) ≡ true → Contains (x ∷ xs) (t, d)
-    here rest e = step k rest (eqb-true x.0 t e) (subst (λ (l : List A). slice_get l k ≡ Some d) (under-here t x xs e) at)
+    here rest e = step k rest (eqb-true x.0 t e) (subst (λ (l : List A). slice_get l k ≡ Some d) (under_here t x xs e) at)
 
     other : (slice_get (under t xs) k ≡ Some d → Contains xs (t, d)) → (x.0 == t) ≡ false → Contains (x ∷ xs) (t, d)
-    other rest e = contains-more xs x (t, d) (rest (subst (λ (l : List A). slice_get l k ≡ Some d) (under-other t x xs e) at))
+    other rest e = contains-more xs x (t, d) (rest (subst (λ (l : List A). slice_get l k ≡ Some d) (under_other t x xs e) at))
 
 -- ---- the deeds of all threads, one thread after another
 
@@ -194,11 +194,11 @@ all_of (thread ∷ threads) = marked thread.number thread.deeds ++ all_of thread
 
 marked-here : {A : Type 0} (s t : ℕ) (deeds : List (ℕ × A)) → (s == t) ≡ true → under t (marked s deeds) ≡ deeds
 marked-here s t [] e = refl
-marked-here {A = A} s t (deed ∷ deeds) e = under-here t (s, deed) (marked s deeds) e ∙ ap (λ (l : List (ℕ × A)). deed ∷ l) (marked-here s t deeds e)
+marked-here {A = A} s t (deed ∷ deeds) e = under_here t (s, deed) (marked s deeds) e ∙ ap (λ (l : List (ℕ × A)). deed ∷ l) (marked-here s t deeds e)
 
 marked-other : {A : Type 0} (s t : ℕ) (deeds : List (ℕ × A)) → (s == t) ≡ false → under t (marked s deeds) ≡ []
 marked-other s t [] e = refl
-marked-other s t (deed ∷ deeds) e = under-other t (s, deed) (marked s deeds) e ∙ marked-other s t deeds e
+marked-other s t (deed ∷ deeds) e = under_other t (s, deed) (marked s deeds) e ∙ marked-other s t deeds e
 
 -- each of these has another number
 abbrev IsNoneOf : {A : Type 0} → ℕ → List (Thread A) → Type 0
@@ -270,7 +270,7 @@ module _ {A : Type 0} (threads : List (Thread A)) (merged : List (Deed A)) (each
       in_list t before place.0 (n, x) (places before later u m y e t place.0 n x place.1 lt)
 
   own : (before later : List (Deed A)) (u m : ℕ) (y : A) → merged ≡ before ++ (u, (m, y)) ∷ later → (rest : List (ℕ × A)) × (under u before ++ (m, y) ∷ rest ≡ deeds_of u threads)
-  own before later u m y e = (under u later, ap (λ (l : List (ℕ × A)). under u before ++ l) (sym (under-here u (u, (m, y)) later (eq-eqb u u refl))) ∙ split before ((u, (m, y)) ∷ later) u e)
+  own before later u m y e = (under u later, ap (λ (l : List (ℕ × A)). under u before ++ l) (sym (under_here u (u, (m, y)) later (eq-eqb u u refl))) ∙ split before ((u, (m, y)) ∷ later) u e)
 
   is_merge : IsMergeOf threads merged
   is_merge = record {

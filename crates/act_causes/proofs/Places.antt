@@ -1,7 +1,7 @@
 -- Where something stands in a list, once it was found there.
 use Rattle.std.proofs.Common.{◌≡◌, ◌≢◌, ℕ, zero, suc, ◌<◌, Bool, true, false, List, [], ◌∷◌, length, Option, Some, None, refl, ap, sym, ◌∙◌, get_or}
 use Rattle.std.specs.Prelude.{◌||◌, find, position, slice_get, slice_set}
-use Rattle.std.proofs.lemmas.Bool.{eqb-true, eq-eqb, ne_eqb}
+use Rattle.std.proofs.lemmas.Bool.{eqb-true, eq-eqb}
 use Rattle.std.proofs.lemmas.List.Folds.{find-set, find_past}
 use Rattle.std.proofs.lemmas.List.Quantifiers.{position-Some}
 use Rattle.act_rules.specs.declared.history.Letter.{Letter}
@@ -10,6 +10,7 @@ use Rattle.act_rules.proofs.Finding.{find-Some, find-None, position_or_len-Some}
 use Rattle.act_rules.proofs.Letters.{letter_is}
 use Rattle.act_owner.specs.Owner.{OwnerView}
 use Rattle.act_world.specs.Network.{is_owner}
+use Rattle.act_world.proofs.Frames.{not_owner}
 
 -- what is found stands at its place
 pub record IsFoundAt {X : Type 0} (p : X → Bool) (xs : List X) (x : X) : Type 0 where
@@ -40,9 +41,6 @@ letter_place letter (x ∷ letters) e = go (is_letter letter x) refl (letter_pla
     go false is rest e = let there = rest e in (suc there.0, there.1)
 
 -- ---- a caller is written at its place
-
-not_owner : (c d : ℕ) (owner : OwnerView) → c ≢ d → owner.id ≡ c → is_owner d owner ≡ false
-not_owner c d owner apart id = ne_eqb owner.id d (λ same. apart (sym id ∙ same))
 
 module _ (owners : List OwnerView) (c : ℕ) (old new : OwnerView) (there : IsFoundAt (is_owner c) owners old) (id : new.id ≡ c) where
   pub written_here : find (is_owner c) (slice_set owners there.place new) ≡ Some new

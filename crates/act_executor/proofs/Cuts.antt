@@ -1,13 +1,15 @@
 -- Lists that are cut: where what was found, contained or mapped stands in a front.
-use Rattle.std.proofs.Common.{◌≡◌, ◌≢◌, ℕ, zero, suc, ◌≤◌, ◌<◌, ◌==◌, Bool, true, false, cond, List, [], ◌∷◌, ◌++◌, Option, Some, None, All, inl, inr, refl, ap, sym, ◌∙◌, subst, arith, Contains}
-use Rattle.std.specs.Prelude.{◌⊎◌, map, filter, filter_map, slice_get, nat_le, AllPairs}
+use Rattle.std.proofs.Common.{◌≡◌, ◌≢◌, ℕ, zero, suc, ◌≤◌, ◌<◌, ◌==◌, Bool, true, false, List, [], ◌∷◌, ◌++◌, Option, Some, None, All, inl, inr, refl, ap, sym, ◌∙◌, subst, arith, Contains}
+use Rattle.std.specs.Prelude.{◌⊎◌, map, filter_map, slice_get, nat_le, AllPairs}
 use Rattle.std.specs.List.{AllByRecursion, cons_option}
 use Rattle.std.proofs.lemmas.Bool.{eq-eqb, leb-true, leb-false}
 use Rattle.std.proofs.lemmas.Bool.Decides.{eqb_tells}
+use Rattle.std.proofs.lemmas.List.{length-map, get_or-map}
 use Rattle.std.proofs.lemmas.List.Elements.{All-append, All-head, All-tail, Contains-append_right}
 use Rattle.std.proofs.lemmas.List.Kept.{AllPairs-cons}
 use Rattle.act_rules.specs.Consistent.{IsPrefix}
 use Rattle.act_rules.specs.History.{under}
+use Rattle.act_causes.proofs.Merging.{under_here, under_other}
 
 -- ---- what is contained
 
@@ -22,9 +24,7 @@ pub contains_mid : {A : Type 0} (xs ys : List A) (x : A) → Contains (xs ++ x �
 contains_mid xs ys x = Contains-append_right xs (x ∷ ys) x (contains_head ys x)
 
 pub contains_map : {A B : Type 0} (f : A → B) (xs : List A) (x : A) → Contains xs x → Contains (map f xs) (f x)
-contains_map f [] x has = absurd (let below = has.1 in omega arith)
-contains_map f (y ∷ xs) x (zero, below, is) = (0, omega arith, ap f is)
-contains_map f (y ∷ xs) x (suc k, below, is) = contains_more (map f xs) (f y) (f x) (contains_map f xs x (k, omega arith, is))
+contains_map f xs x has = let lt = has.1 in let long = length-map xs f in (has.0, omega arith, get_or-map f xs has.0 x (f x) has.1 ∙ ap f has.2)
 
 pub contains_filter_map : {A B : Type 0} (f : A → Option B) (xs : List A) (x : A) (y : B) → f x ≡ Some y → Contains xs x → Contains (filter_map f xs) y
 contains_filter_map f [] x y is has = absurd (let below = has.1 in omega arith)
@@ -137,12 +137,6 @@ shorter_front {A = A} m (x ∷ xs) rest (y ∷ front) later e below from = more 
     more first same = (first.0, ap (λ (z : ℕ × A). z ∷ (xs ++ first.0)) same ∙ ap (λ (l : List (ℕ × A)). y ∷ l) first.1)
 
 -- ---- what stands under a number
-
-pub under_here : {A : Type 0} (t : ℕ) (x : ℕ × A) (xs : List (ℕ × A)) → (x.0 == t) ≡ true → under t (x ∷ xs) ≡ x.1 ∷ under t xs
-under_here t x xs e = ap (λ (b : Bool). map (λ p. p.1) (cond b (x ∷ filter (λ p. p.0 == t) xs) (filter (λ p. p.0 == t) xs))) e
-
-pub under_other : {A : Type 0} (t : ℕ) (x : ℕ × A) (xs : List (ℕ × A)) → (x.0 == t) ≡ false → under t (x ∷ xs) ≡ under t xs
-under_other t x xs e = ap (λ (b : Bool). map (λ p. p.1) (cond b (x ∷ filter (λ p. p.0 == t) xs) (filter (λ p. p.0 == t) xs))) e
 
 -- what holds of all under each number holds of all
 pub all_from_under : {A : Type 0} (P : ℕ → A → Type 0) (xs : List (ℕ × A)) → ((t : ℕ) → AllByRecursion (P t) (under t xs)) → AllByRecursion (λ x. P x.0 x.1) xs

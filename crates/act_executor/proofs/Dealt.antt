@@ -28,6 +28,7 @@ use Rattle.act_plans.specs.Setups.{AreMatched}
 use Rattle.act_executor.specs.declared.open.Opened.{Opened}
 use Rattle.act_executor.specs.Groups.{group_of, endpoints_from}
 use Rattle.act_executor.specs.Opened.{IsExec, IsCaller, ArePaired, AreLines, AreAtLines, AreOpened}
+use Rattle.act_executor.proofs.Cuts.{contains_map}
 use Rattle.act_executor.proofs.Endpoints.{each_of, has_of, rising_of}
 use Rattle.act_executor.proofs.Places.{at_both, at_other, as_long, each_at, all_at, map_apart, pairs_weaker, apart_at, has_contains, contains_name, all_names, both_or_neither, only_cast}
 
@@ -67,9 +68,6 @@ pub record AreDealt {K : Type 0} (casts : List (Cast K)) (setups : List CallerSe
   pub kills : map (λ caller. caller.pass.kills.items) opened.callers.items ≡ map (λ setup. kills_of casts opened.lines.controls.items setup.caller) setups
 
 -- ---- an executor's notices
-
-has_map : {X Y : Type 0} (f : X → Y) (xs : List X) (x : X) → Contains xs x → Contains (map f xs) (f x)
-has_map f xs x has = let lt = has.1 in let long = length-map xs f in (has.0, omega arith, get_or-map f xs has.0 x (f x) has.1 ∙ ap f has.2)
 
 module _ {K : Type 0} (casts : List (Cast K)) (setups : List CallerSetup) (matched : AreMatched casts setups) (replies : List RepliesView) (callers : map (λ (line : RepliesView). line.caller) replies ≡ map (λ (setup : CallerSetup). setup.caller) setups) where
   each_notice : (a : ℕ) (Q : Endpoint ReplyExecView → Type 0) → ((i : ℕ) (r : RepliesView) (setup : CallerSetup) → slice_get replies i ≡ Some r → slice_get setups i ≡ Some setup → contains a setup.actors.items ≡ true → Q (record { place = i; pass = new_exec r.line a })) → All Q (notices_of setups replies a)
@@ -161,7 +159,7 @@ module _ {K : Type 0} (casts : List (Cast K)) (setups : List CallerSetup) (match
     has_letter j c cast at named =
         let mail = at_other (λ (mail : MailView). mail.actor) (λ (cast : Cast K). cast.actor) mails casts actors j cast at in
         let has = has_of new_putter (λ (pass : PutterView Letter Unit). pass.number) (λ line d. refl) line_of_mail callers_in mails casts matched.callers_differ c j mail.0 cast mail.1 at named in
-        has_map (λ (endpoint : Endpoint (PutterView Letter Unit)). endpoint.place) (letters_of casts mails c) (record { place = j; pass = new_putter mail.0.line c }) has
+        contains_map (λ (endpoint : Endpoint (PutterView Letter Unit)). endpoint.place) (letters_of casts mails c) (record { place = j; pass = new_putter mail.0.line c }) has
 
   module _ (controls : List ControlView) (actors : map (λ (control : ControlView). control.actor) controls ≡ map (λ (cast : Cast K). cast.actor) casts) where
     each_kill : (c : ℕ) (Q : Endpoint (PutterView Asked ℕ) → Type 0) → ((i : ℕ) (control : ControlView) (cast : Cast K) → slice_get controls i ≡ Some control → slice_get casts i ≡ Some cast → contains c cast.callers ≡ true → Q (record { place = i; pass = new_putter control.line c })) → All Q (kills_of casts controls c)

@@ -12,7 +12,7 @@ use Rattle.act_rules.specs.declared.history.RunItem.{RunItem}
 use Rattle.act_causes.specs.Deeds.{Deed, Changed, AskedKill, TookCall, TookNote, Ran, TookKill, ToldDeath, Retired, change_of, changes_by, item_of_deed, log_by, is_kill_taken, is_end_of, is_dead_by, is_retired_by}
 use Rattle.act_serve.specs.ActorSteps.{ActorStep, LetterTaken, CallRun, KillTaken, DeathTold, Retirement, call_run, is_kill_step, is_retirement, log_of_steps, has_died_in}
 use Rattle.act_drive.specs.CallerSteps.{CallerStep, ChangeMade, KillAsked, change_made, changes_made}
-use Rattle.act_executor.proofs.Cuts.{under_here, under_other}
+use Rattle.act_causes.proofs.Merging.{under_here, under_other}
 use Rattle.act_executor.proofs.Threads.{caller_key, actor_key, key_of, deed_of_caller, deed_of_actor, as_deeds}
 
 -- all deeds in their order

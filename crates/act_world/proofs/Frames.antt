@@ -89,7 +89,7 @@ owner_here h owners c place d all at = subst (IsOwnerAt h c) (find-Some (is_owne
 pub owner_absent : (h : History) (owners : List OwnerView) (c : ℕ) → ((c : ℕ) → IsOwnerAt h c (find (is_owner c) owners)) → position (is_owner c) owners ≡ None → is_caller c h ≡ false
 owner_absent h owners c all at = subst (IsOwnerAt h c) (find-None (is_owner c) owners at) (all c)
 
-not_owner : (c d : ℕ) (owner : OwnerView) → c ≢ d → owner.id ≡ c → is_owner d owner ≡ false
+pub not_owner : (c d : ℕ) (owner : OwnerView) → c ≢ d → owner.id ≡ c → is_owner d owner ≡ false
 not_owner c d owner apart id = ne_eqb owner.id d (λ same. apart (sym id ∙ same))
 
 -- one caller changes, and nothing of the others

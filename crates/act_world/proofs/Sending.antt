@@ -1,6 +1,6 @@
 -- A call that its caller sends.
 use Rattle.std.proofs.Common.{◌≡◌, ◌≢◌, ℕ, ◌+◌, ◌<◌, Bool, true, false, List, [], ◌∷◌, ◌++◌, length, Some, None, inl, inr, refl, ap, sym, ◌∙◌, subst, arith, Ok, Err, length-append, length-set, get_or}
-use Rattle.std.specs.Prelude.{Option, ◌==◌, ◌||◌, slice_get, slice_set, position, option_map, unwrap_or}
+use Rattle.std.specs.Prelude.{Option, Result, IfOk, OnErr, ◌==◌, ◌||◌, slice_get, slice_set, position, option_map, unwrap_or}
 use Rattle.std.proofs.Math.Bool.{or-true, or-false}
 use Rattle.std.proofs.lemmas.Bool.{eq-eqb, ne_eqb}
 use Rattle.std.proofs.lemmas.Bool.Decides.{eqb_tells}
@@ -15,7 +15,8 @@ use Rattle.act_rules.specs.declared.outcome.WorldRefusal.TheVariants.{NoCaller, 
 use Rattle.act_rules.specs.RunList.{Answer}
 use Rattle.act_rules.specs.Submissions.{calls_to, number_of, send_refusal}
 use Rattle.act_rules.specs.History.{History, is_caller, calls_of, kept_of, has_letter, is_letter}
-use Rattle.act_rules.specs.Rules.{did, refusal_of, outcome_of, add_event, after, and_also, call_letter, was_sent}
+use Rattle.act_rules.specs.Laws.{history}
+use Rattle.act_rules.specs.Rules.{Outcome, did, refusal_of, outcome_of, add_event, after, and_also, call_letter, was_sent}
 use Rattle.act_rules.proofs.Growth.{Grows, added_grows}
 use Rattle.act_rules.proofs.Letters.{calls_to-number, letter_is}
 use Rattle.act_rules.proofs.Table.{kept_of-same}
@@ -26,8 +27,11 @@ use Rattle.act_world.specs.declared.network.MailEntry.{MailEntry}
 use Rattle.act_world.specs.declared.network.MailEntry.TheVariants.{Call as CallEntry}
 use Rattle.act_world.specs.Network.{NetworkView, is_owner}
 use Rattle.act_world.specs.View.{SlotView, WorldView}
+use Rattle.act_world.specs.IsReachedBy.{FollowsThere, IsUnrefusedThere}
 use Rattle.act_world.specs.Refines.{IsOwnerOf, mail_entry, Refines}
+use Rattle.act_types.specs.declared.memory.NoMemory.{NoMemory}
 use Rattle.act_world.proofs.Changes.{refused_follows, accepted_follows}
+use Rattle.act_world.proofs.OneCaller.{written_back}
 use Rattle.act_world.proofs.Lists.{get_set-same, get_set-other}
 use Rattle.act_world.proofs.Lawful.{IsLawful, has_letter-last, is_letter-same}
 use Rattle.act_world.proofs.Frames.{SameCaller, owners_change, owner_here, owner_absent, mail_stays, replies_stay, go_together, stages_stay}
@@ -69,6 +73,26 @@ pub send_unrefused : (h : History) (network : NetworkView) (slots : List SlotVie
 send_unrefused h network slots c k place owner refines sees e =
     let here = seen_owner h network slots c place owner refines sees in
     send_refuses h c k owner here.0 here.1 ∙ ap (λ (o : Option SendRefusal). option_map Sending o) e
+
+-- the caller refuses, and is written back at its place
+pub send_refused_follows : (h : History) (network : NetworkView) (slots : List SlotView) (c k place : ℕ) (owner new : OwnerView) (refusal : SendRefusal) → Refines h (record { network = network; slots = slots }) → SeesOwner network c place owner
+    → sending_refusal owner k ≡ Some refusal → new ≡ owner
+    → (Err (Sending refusal) ≡ outcome_of h (Send c k)) × Refines (after h (Send c k)) (record { network = record network { owners = slice_set network.owners place new }; slots = slots })
+send_refused_follows h network slots c k place owner new refusal refines sees e new_is =
+    let here = seen_owner h network slots c place owner refines sees in
+    refused_follows h (Send c k) (Sending refusal) _ (send_refuses h c k owner here.0 here.1 ∙ ap (λ (o : Option SendRefusal). option_map Sending o) e) (written_back h network slots place owner new sees.owner_is new_is refines)
+
+-- there is no room for the letter, and the caller says why it isn't sent
+pub unsent_follows : (network : NetworkView) (c k place : ℕ) (owner : OwnerView) (asked : Result Outcome NoMemory) → SeesOwner network c place owner
+    → IfOk asked (λ told. (refusal : SendRefusal) × (told ≡ Err (Sending refusal)) × (sending_refusal owner k ≡ Some refusal)) → IfOk asked (FollowsThere (Send c k) network network)
+unsent_follows network c k place owner (Ok told) sees refused = λ slots casts before reached.
+    rw refused.1 (send_refused (history casts before) network slots c k place owner refused.0 reached sees refused.2)
+unsent_follows network c k place owner (Err error) sees refused = tt
+
+pub unsent_unrefused : (network : NetworkView) (c k place : ℕ) (owner : OwnerView) (asked : Result Outcome NoMemory) → SeesOwner network c place owner
+    → OnErr asked (sending_refusal owner k ≡ None) → OnErr asked (IsUnrefusedThere (Send c k) network)
+unsent_unrefused network c k place owner (Ok told) sees unrefused = tt
+unsent_unrefused network c k place owner (Err error) sees unrefused = λ slots casts before reached. send_unrefused (history casts before) network slots c k place owner reached sees unrefused
 
 -- ---- one letter more
 

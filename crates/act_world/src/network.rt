@@ -6,7 +6,9 @@ ghost use Rattle.act_world.specs.Network.{is_owner, naming_refusal, entry_actor,
 ghost use Rattle.act_world.specs.IsReachedBy.{is_memory, HasRoom, FollowsThere, IsGrown, IsUnrefusedThere};
 ghost use Rattle.act_types.specs.declared.call.Method.{Method};
 ghost use Rattle.act_rules.specs.declared.outcome.SubmitRefusal.TheVariants.{NoMemory as NoRoom};
-ghost use Rattle.act_rules.specs.declared.outcome.WorldRefusal.TheVariants.{Submit};
+ghost use Rattle.act_rules.specs.declared.outcome.SendRefusal.{SendRefusal};
+ghost use Rattle.act_rules.specs.declared.outcome.WorldRefusal.TheVariants.{Submit, Sending};
+ghost use Rattle.act_owner.specs.Owner.{sending_refusal};
 ghost use Rattle.act_world.specs.Memory.{TakesMemoryThere};
 ghost use Rattle.act_rules.specs.declared.event.Event.TheVariants as event;
 
@@ -225,6 +227,18 @@ fn told_refused(refusal: SubmitRefusal) -> Result<Outcome, NoMemory>
     }
 }
 
+/// Why a call isn't sent where its letter has no room: what refuses it comes before want of memory.
+fn why_unsent(owner: &Owner, k: FutureId) -> Result<Outcome, NoMemory>
+    ensures refused { IfOk result (λ told.
+        (refusal : SendRefusal) × (told ≡ Err (Sending refusal)) × (sending_refusal owner.now k ≡ Some refusal)) }
+    ensures memory { OnErr result (sending_refusal owner.now k ≡ None) }
+{
+    match owner.sending_refusal(k) {
+        Some(refusal) => Ok(Err(WorldRefusal::Sending(refusal))),
+        None => Err(NoMemory),
+    }
+}
+
 impl Network {
     /// Why a submission of the caller would be refused, memory apart.
     fn submission_refusal(
@@ -352,11 +366,13 @@ impl Network {
         let Some(place) = place_of(&self.owners, c) else {
             return Ok(Err(WorldRefusal::NoCaller));
         };
-        if let Some(refusal) = self.owners[place].sending_refusal(k) {
-            return Ok(Err(WorldRefusal::Sending(refusal)));
+        if self.mail.reserve(1).is_err() {
+            return why_unsent(&self.owners[place], k);
         }
-        self.mail.reserve(1)?;
-        let (actor, number) = self.owners[place].send(k).unwrap();
+        let (actor, number) = match self.owners[place].send(k) {
+            Ok(address) => address,
+            Err(refusal) => return Ok(Err(WorldRefusal::Sending(refusal))),
+        };
         let i = self.mail.len() as u32;
         let call = CallKey {
             caller: c,

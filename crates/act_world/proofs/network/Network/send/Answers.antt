@@ -1,20 +1,20 @@
-use Rattle.std.proofs.Common.{◌≡◌, ◌++◌, ◌∷◌, [], List, length, None, Some, ap, sym, ◌∙◌, subst, arith, slice_set, get_or, Ok}
-use Rattle.std.specs.Prelude.{position}
+use Rattle.std.proofs.Common.{◌≡◌, ◌++◌, ◌∷◌, [], List, length, None, Some, ap, sym, ◌∙◌, subst, arith, slice_set, get_or, Ok, Err}
+use Rattle.std.specs.Prelude.{position, IfOk}
 use Rattle.std.proofs.lemmas.Grind.{common_steps}
 use Rattle.act_rules.specs.declared.event.Event.TheVariants as event
 use Rattle.act_rules.specs.declared.outcome.Did.TheVariants as did
+use Rattle.act_rules.specs.declared.outcome.WorldRefusal.TheVariants.{Sending}
 use Rattle.act_rules.specs.Laws.{history}
 use Rattle.act_rules.specs.Rules.{outcome_of, after}
-use Rattle.act_owner.specs.Owner.{OwnerView, sending_refusal, address_at, with_sent}
+use Rattle.act_owner.specs.Owner.{OwnerView}
 use Rattle.act_world.specs.declared.network.CallKey.{CallKey}
 use Rattle.act_world.specs.declared.network.MailEntry.{MailEntry}
 use Rattle.act_world.specs.declared.network.MailEntry.TheVariants.{Call as CallEntry}
 use Rattle.act_world.specs.Network.{NetworkView, is_owner}
-use Rattle.act_world.specs.IsReachedBy.{IsUnrefusedThere}
+use Rattle.act_world.specs.IsReachedBy.{FollowsThere}
 use Rattle.act_world.specs.Refines.{Refines}
-use Rattle.act_world.proofs.Changes.{on_err}
 use Rattle.act_world.proofs.Lawful.{world_lawful}
-use Rattle.act_world.proofs.Sending.{SeesOwner, send_no_caller, send_refused, send_unrefused, send_follows}
+use Rattle.act_world.proofs.Sending.{SeesOwner, send_no_caller, send_refused_follows, unsent_follows, unsent_unrefused, send_follows}
 use Rattle.act_world.proofs.network.Network.send.Goals as goal
 
 pub returns-in_default-clause-ok : goal.returns-in_default-clause-ok
@@ -23,26 +23,38 @@ returns-in_default-clause-ok c slots casts before reached =
     let none : None ≡ position (is_owner c.args.c) c.args.self.now.owners = c.in_default.ensures ∙ ap (position (is_owner c.args.c)) owners in
     send_no_caller (history casts before) c.args.self.now slots c.args.c c.args.k reached (sym none)
 
-pub returns-in-Some-sending_refusal-clause-ok : goal.returns-in-Some-sending_refusal-clause-ok
-returns-in-Some-sending_refusal-clause-ok c slots casts before reached =
+pub returns-then-is_err-clause-ok : goal.returns-then-is_err-clause-ok
+returns-then-is_err-clause-ok c =
     let owner : OwnerView = c.index.result.now in
     let owners : c.deref.result.now ≡ c.args.self.now.owners = c.deref.ensures.value ∙ ap (λ (network : NetworkView). network.owners) c.self.view_is in
     let sees : SeesOwner c.args.self.now c.args.c c.in-Some.place owner = record {
       place_is = sym (c.in-Some.ensures ∙ ap (position (is_owner c.args.c)) owners);
       owner_is = c.index.ensures ∙ ap (λ (network : NetworkView). get_or network.owners c.in-Some.place owner) c.self.view_is;
     } in
-    send_refused (history casts before) c.args.self.now slots c.args.c c.args.k c.in-Some.place owner c.in-Some-sending_refusal.refusal reached sees (sym c.in-Some-sending_refusal.ensures)
+    let same : record { owners = c.self.inside.owners.items; mail = c.reserve.new.self.items; replies = c.self.inside.replies.items; asked = c.self.inside.asked } ≡ c.args.self.now = rw c.reserve.ensures.items c.self.view_is in
+    subst (λ (network : NetworkView). IfOk c.why_unsent.result (FollowsThere (event.Send c.args.c c.args.k) c.args.self.now network)) (sym same) (unsent_follows c.args.self.now c.args.c c.args.k c.in-Some.place owner c.why_unsent.result sees c.why_unsent.ensures.refused)
 
-pub returns-in_err-reserve-clause-memory_last : goal.returns-in_err-reserve-clause-memory_last
-returns-in_err-reserve-clause-memory_last c =
+pub returns-then-is_err-clause-memory_last : goal.returns-then-is_err-clause-memory_last
+returns-then-is_err-clause-memory_last c =
     let owner : OwnerView = c.index.result.now in
     let owners : c.deref.result.now ≡ c.args.self.now.owners = c.deref.ensures.value ∙ ap (λ (network : NetworkView). network.owners) c.self.view_is in
     let sees : SeesOwner c.args.self.now c.args.c c.in-Some.place owner = record {
       place_is = sym (c.in-Some.ensures ∙ ap (position (is_owner c.args.c)) owners);
       owner_is = c.index.ensures ∙ ap (λ (network : NetworkView). get_or network.owners c.in-Some.place owner) c.self.view_is;
     } in
-    let last : IsUnrefusedThere (event.Send c.args.c c.args.k) c.args.self.now = λ slots casts before reached. send_unrefused (history casts before) c.args.self.now slots c.args.c c.args.k c.in-Some.place owner reached sees (sym c.in_default-sending_refusal.ensures) in
-    on_err c.from_residual.result last
+    unsent_unrefused c.args.self.now c.args.c c.args.k c.in-Some.place owner c.why_unsent.result sees c.why_unsent.ensures.memory
+
+pub returns-in-Err-clause-ok : goal.returns-in-Err-clause-ok
+returns-in-Err-clause-ok c slots casts before reached =
+    let owner : OwnerView = c.index_mut.result.now in
+    let owners : c.deref.result.now ≡ c.args.self.now.owners = c.deref.ensures.value ∙ ap (λ (network : NetworkView). network.owners) c.self.view_is in
+    let sees : SeesOwner c.args.self.now c.args.c c.in-Some.place owner = record {
+      place_is = sym (c.in-Some.ensures ∙ ap (position (is_owner c.args.c)) owners);
+      owner_is = c.index_mut.ensures.value ∙ ap (λ (network : NetworkView). get_or network.owners c.in-Some.place owner) c.self.view_is;
+    } in
+    let same : record { owners = c.self.inside.owners.items; mail = c.reserve.new.self.items; replies = c.self.inside.replies.items; asked = c.self.inside.asked } ≡ c.args.self.now = rw c.reserve.ensures.items c.self.view_is in
+    subst (λ (network : NetworkView). (Err (Sending c.in-Err.refusal) ≡ outcome_of (history casts before) (event.Send c.args.c c.args.k)) × Refines (after (history casts before) (event.Send c.args.c c.args.k)) (record { network = record network { owners = slice_set network.owners c.in-Some.place c.send.new.self }; slots = slots })) (sym same)
+    (send_refused_follows (history casts before) c.args.self.now slots c.args.c c.args.k c.in-Some.place owner c.send.new.self c.in-Err.refusal reached sees c.in-Err.ensures.refusal c.in-Err.ensures.err)
 
 pub returns-clause-ok : goal.returns-clause-ok
 returns-clause-ok c slots casts before reached =
@@ -52,17 +64,13 @@ returns-clause-ok c slots casts before reached =
       place_is = sym (c.in-Some.ensures ∙ ap (position (is_owner c.args.c)) owners);
       owner_is = c.index_mut.ensures.value ∙ ap (λ (network : NetworkView). get_or network.owners c.in-Some.place owner) c.self.view_is;
     } in
-    let mailed_there : c.reserve.new.self.items ≡ c.args.self.now.mail = c.in_ok-reserve.ensures.items ∙ ap (λ (network : NetworkView). network.mail) c.self.view_is in
-    let address = c.unwrap-actor.result in
+    let mailed_there : c.reserve.new.self.items ≡ c.args.self.now.mail = c.reserve.ensures.items ∙ ap (λ (network : NetworkView). network.mail) c.self.view_is in
+    let address = c.in-Ok.address in
     let call : CallKey = record { caller = c.args.c; actor = address.0; number = address.1; future = c.args.k } in
     let mail : c.push_reserved.new.self.items ≡ c.args.self.now.mail ++ CallEntry call ∷ [] = c.push_reserved.ensures.items ∙ ap (λ (items : List MailEntry). items ++ CallEntry call ∷ []) mailed_there in
-    let sent : c.send.result ≡ Ok address = c.unwrap-actor.ensures in
-    let value : address_at owner.calls c.args.k ≡ Some address = rw sent at c.send.ensures.value in
-    let free : sending_refusal owner c.args.k ≡ None = rw sent at c.send.ensures.accepted in
-    let marked : c.send.new.self ≡ with_sent owner c.args.k = rw sent at c.send.ensures.ok in
     let count : c.len-i.result ≡ length c.reserve.new.self.items = grind (arith, common_steps) in
     let counted : c.len-i.result ≡ length c.args.self.now.mail = count ∙ ap (λ (items : List MailEntry). length items) mailed_there in
     let h = history casts before in
     subst (λ (network : NetworkView). (Ok (did.Mail c.len-i.result) ≡ outcome_of h (event.Send c.args.c c.args.k)) × Refines (after h (event.Send c.args.c c.args.k)) (record { network = record network { owners = slice_set network.owners c.in-Some.place c.send.new.self; mail = c.push_reserved.new.self.items }; slots = slots })) (sym c.self.view_is)
     (send_follows h c.args.self.now slots c.args.c c.args.k c.in-Some.place c.len-i.result owner c.send.new.self address c.push_reserved.new.self.items (world_lawful casts before) reached sees
-    free value marked counted mail)
+    c.in-Ok.ensures.accepted c.in-Ok.ensures.value c.in-Ok.ensures.ok counted mail)
