@@ -197,7 +197,7 @@ module _ {K : Type 0} (casts : List (Cast K)) (setups : List CallerSetup) (match
     has_kill j c cast at named =
         let control = at_other (λ (control : ControlView). control.actor) (λ (cast : Cast K). cast.actor) controls casts actors j cast at in
         let has = has_of new_putter (λ (pass : PutterView Asked ℕ). pass.number) (λ line d. refl) line_of_control callers_in controls casts matched.callers_differ c j control.0 cast control.1 at named in
-        has_map {Y = ℕ × ℕ} (λ (endpoint : Endpoint (PutterView Asked ℕ)). (endpoint.place, endpoint.pass.number)) (kills_of casts controls c) (record { place = j; pass = new_putter control.0.line c }) has
+        contains_map {B = ℕ × ℕ} (λ (endpoint : Endpoint (PutterView Asked ℕ)). (endpoint.place, endpoint.pass.number)) (kills_of casts controls c) (record { place = j; pass = new_putter control.0.line c }) has
 
 -- ---- all together
 
@@ -284,7 +284,7 @@ module _ {K : Type 0} (casts : List (Cast K)) (setups : List CallerSetup) (match
       record {
         letters = subst (λ (l : List (Endpoint (PutterView Letter Unit))). Contains (map (λ (endpoint : Endpoint (PutterView Letter Unit)). endpoint.place) l) j) (sym letters) (has_letter casts setups matched mails dealt.lines.mails j setup.caller cast at named);
         kills = subst (λ (l : List (Endpoint (PutterView Asked ℕ))). Contains {X = ℕ × ℕ} (map (λ (endpoint : Endpoint (PutterView Asked ℕ)). (endpoint.place, endpoint.pass.number)) l) (j, setup.caller)) (sym kills) (has_kill casts setups matched controls dealt.lines.controls j setup.caller cast at named);
-        notices = subst (λ (l : List (Endpoint ReplyExecView)). Contains (map (λ (endpoint : Endpoint ReplyExecView). endpoint.place) l) i) (sym notices) (has_map (λ (endpoint : Endpoint ReplyExecView). endpoint.place) (notices_of setups replies cast.actor) (record { place = i; pass = new_exec r.0.line cast.actor }) notice);
+        notices = subst (λ (l : List (Endpoint ReplyExecView)). Contains (map (λ (endpoint : Endpoint ReplyExecView). endpoint.place) l) i) (sym notices) (contains_map (λ (endpoint : Endpoint ReplyExecView). endpoint.place) (notices_of setups replies cast.actor) (record { place = i; pass = new_exec r.0.line cast.actor }) notice);
       }
 
   pub are_opened : AreOpened casts setups opened
