@@ -8,7 +8,7 @@ ghost use Rattle.act_drive.specs.Driven.{IsCalling, FollowsSteps, Stays, OnlyRel
 ghost use Rattle.act_drive.specs.Tracing.{OnlyWaits, TracesClosing, TracesPlan, TracesWhole};
 
 use crate::driver::{CallerLines, CallerPasses, Driver};
-use act_mailbox::{NoNotes, Notes};
+use act_mailbox::{IdleBackoff, NoNotes, Notes};
 use act_owner::Owner;
 use act_rules::{Plan, Step};
 use act_types::{ACTOR_NUMBERS, ActorId, NoMemory};
@@ -79,8 +79,9 @@ impl Driver {
         ensures traced { OnOk result (TracesPlan lines.now plan.items self.old self.new) }
     {
         let mut since = 0;
+        let mut idle_backoff = IdleBackoff::new();
         for step in plan {
-            self.step(rt, alloc, lines, step, notes)?;
+            self.step(rt, alloc, lines, step, &mut idle_backoff, notes)?;
             self.turn_after(rt, alloc, lines, &mut since, notes)?;
         }
         Ok(())

@@ -12,7 +12,7 @@ use crate::caller::Driven;
 use crate::code::Code;
 use crate::driver::{CallerLines, CallerPasses, Driver};
 use crate::lent::{Lent, Opening};
-use act_mailbox::NoNotes;
+use act_mailbox::{IdleBackoff, NoNotes};
 use act_owner::Owner;
 use act_types::{ACTOR_NUMBERS, MAX_CALLS, NoMemory};
 use std::alloc::Global;
@@ -94,6 +94,7 @@ fn work<R: Wait, O: Opening, C: Code>(
         lines,
         driver,
         since: 0,
+        idle_backoff: IdleBackoff::new(),
         kills: [0; ACTOR_NUMBERS],
         of: PhantomData,
     };

@@ -290,6 +290,7 @@ impl Driver {
         alloc: Global,
         lines: &CallerLines,
         k: FutureId,
+        idle_backoff: &mut IdleBackoff,
         notes: &mut N,
     ) -> Result<(), NoMemory>
         requires calling { IsCalling lines.now self.old }
@@ -297,12 +298,12 @@ impl Driver {
         ensures answered { OnOk result (is_some (kept_at self.new.owner.kept k) ≡ true) }
         ensures kept { is_some (kept_at self.old.owner.kept k) ≡ true → result ≡ Ok tt }
     {
-        let mut idle_backoff = IdleBackoff::new();
+        idle_backoff.reset();
         for _ in rt.forever() {
             if self.owner.answer(k).is_some() {
                 return Ok(());
             }
-            self.wait_turn(rt, alloc, lines, &mut idle_backoff, notes)?;
+            self.wait_turn(rt, alloc, lines, idle_backoff, notes)?;
         }
         unreachable!()
     }

@@ -8,7 +8,7 @@ use crate::driver::{CallerLines, Driver};
 use crate::refusals::{KillRefusal, WaitRefusal};
 use crate::session::{MAX_KILLS, Session};
 use act_handles::HandleRefusal;
-use act_mailbox::NoNotes;
+use act_mailbox::{IdleBackoff, NoNotes};
 use act_rules::SubmitRefusal;
 use act_types::{ACTOR_NUMBERS, ActorId, Answer, Arg, FutureId, ListOf, Method};
 use std::alloc::Global;
@@ -35,6 +35,7 @@ pub(crate) struct Lent<'a, R, O: Opening> {
     pub(crate) lines: &'a CallerLines<'a>,
     pub(crate) driver: Driver,
     pub(crate) since: u32,
+    pub(crate) idle_backoff: IdleBackoff,
     pub(crate) kills: [u32; ACTOR_NUMBERS],
     pub(crate) of: PhantomData<O>,
 }
@@ -106,9 +107,10 @@ impl<'a, R: Wait, O: Opening> Session for Lent<'a, R, O> {
         if k.number() >= self.driver.owner.count() {
             return Err(WaitRefusal::NoFuture);
         }
+        let idle = &mut self.idle_backoff;
         match self
             .driver
-            .wait_for(self.rt, self.alloc, self.lines, k, &mut NoNotes)
+            .wait_for(self.rt, self.alloc, self.lines, k, idle, &mut NoNotes)
         {
             Ok(()) => Ok(()),
             Err(_) => Err(WaitRefusal::NoMemory),

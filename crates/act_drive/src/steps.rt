@@ -148,6 +148,7 @@ impl Driver {
         alloc: Global,
         lines: &Lines,
         k: FutureId,
+        idle_backoff: &mut IdleBackoff,
         notes: &mut N,
     ) -> Result<(), NoMemory>
         requires calling { IsCalling lines.now self.old }
@@ -158,7 +159,7 @@ impl Driver {
         ensures traced { OnOk result (TracesStep lines.now (Await k) self.old self.new) }
         ensures on_refusal { OnErr result (Traces lines.now self.old self.new) }
     {
-        self.wait_for(rt, alloc, lines, k, notes)?;
+        self.wait_for(rt, alloc, lines, k, idle_backoff, notes)?;
         Ok(())
     }
 
@@ -275,6 +276,7 @@ impl Driver {
         alloc: Global,
         lines: &Lines,
         step: Step,
+        idle_backoff: &mut IdleBackoff,
         notes: &mut N,
     ) -> Result<(), NoMemory>
         requires calling { IsCalling lines.now self.old }
@@ -290,7 +292,7 @@ impl Driver {
             Step::Copy(a) => self.copy(a, notes),
             Step::Release(a) => self.release(rt, lines, a, notes),
             Step::Kill(a) => self.kill(rt, alloc, lines, a, notes),
-            Step::Await(k) => self.wait_step(rt, alloc, lines, k, notes),
+            Step::Await(k) => self.wait_step(rt, alloc, lines, k, idle_backoff, notes),
         }
     }
 }

@@ -6,6 +6,7 @@ use act_types::{ActorId, CallerId, FutureId};
 use crossbeam_utils::Backoff;
 use std::alloc::Global;
 use std::marker::Model;
+use std::thread;
 
 /// A pass on the line at a place of a list of lines.
 #[derive(Drop)]
@@ -14,14 +15,62 @@ pub struct Endpoint<P> {
     pub pass: P,
 }
 
-/// So many pauses are short, from the last time on that something was done.
-pub const SHORT_PAUSES: u32 = 64;
+/// So many pauses are short, from the last time on that something was done, where short ones helped
+/// before. That is longer than most waits for a thread that runs.
+pub const SHORT_PAUSES: u32 = 48;
 
-/// Pauses that are short at first, and give the processor away in the end.
+/// The most trust in short pauses.
+const MAX_TRUST: u32 = 8;
+
+/// After so many waits without trust, short pauses are tried again.
+const WAITS_BETWEEN_TRIALS: u32 = 16;
+
+/// How earlier waits went. Where threads share a processor, short pauses keep it from the thread that
+/// is waited for, so waits outlast them.
+#[derive(Clone, Copy)]
+struct Habit {
+    trust: u32,
+    waits: u32,
+}
+
+impl Habit {
+    fn new() -> Habit {
+        Habit {
+            trust: MAX_TRUST,
+            waits: 0,
+        }
+    }
+
+    /// Whether the next wait begins with short pauses.
+    fn spins(&self) -> bool {
+        self.trust > 0 || self.waits == 0
+    }
+
+    /// The trust after a wait, which short pauses may have been enough for.
+    fn trust_after(&self, was_short: bool) -> u32 {
+        if !self.spins() {
+            self.trust
+        } else if was_short {
+            self.trust.saturating_add(1).min(MAX_TRUST)
+        } else {
+            self.trust.saturating_sub(2)
+        }
+    }
+
+    fn after(&self, was_short: bool) -> Habit {
+        Habit {
+            trust: self.trust_after(was_short),
+            waits: self.waits.wrapping_add(1) % WAITS_BETWEEN_TRIALS,
+        }
+    }
+}
+
+/// Pauses that are short at first, where that helped before, and then give the processor away.
 #[derive(Drop)]
 pub struct IdleBackoff {
     backoff: Backoff,
     pauses: u32,
+    habit: Habit,
 }
 
 impl Model for IdleBackoff {
@@ -43,6 +92,7 @@ impl IdleBackoff {
         IdleBackoff {
             backoff: Backoff::new(),
             pauses: 0,
+            habit: Habit::new(),
         }
     }
 
@@ -50,20 +100,31 @@ impl IdleBackoff {
     pub fn reset(&mut self)
         ensures { self.new ≡ 0 }
     {
-        self.backoff.reset();
+        if self.pauses > 0 {
+            self.habit = self.habit.after(self.pauses < SHORT_PAUSES);
+        }
         self.pauses = 0;
+    }
+
+    /// One short pause.
+    fn spin(&self) {
+        self.backoff.spin();
+        self.backoff.reset();
     }
 
     /// Nothing was done.
     pub fn pause(&mut self)
         ensures { self.new ≡ min (self.old + 1) SHORT_PAUSES }
     {
-        if self.pauses < SHORT_PAUSES {
-            self.pauses += 1;
-            self.backoff.spin();
-            self.backoff.reset();
+        if self.pauses == SHORT_PAUSES {
+            thread::yield_now();
+            return;
+        }
+        self.pauses += 1;
+        if self.habit.spins() {
+            self.spin();
         } else {
-            self.backoff.snooze();
+            thread::yield_now();
         }
     }
 }
