@@ -248,15 +248,21 @@ class Measured:
         return self.memory / size if size >= LEAST_FOR_MEMORY else None
 
 
+def build_timed(folder):
+    """The program that runs another one, and tells its time and the most memory that it held."""
+    timed = pathlib.Path(folder, "timed")
+    subprocess.run(["cc", "-O2", "-o", timed, TOP / "tools/timed.c"], check=True)
+    return timed
+
+
 class Runner:
     """Runs the program, with files of its own in the folder."""
 
     def __init__(self, folder, program):
-        self.timed = pathlib.Path(folder, "timed")
+        self.timed = build_timed(folder)
         self.given = pathlib.Path(folder, "script")
         self.report = pathlib.Path(folder, "report")
         self.program = program
-        subprocess.run(["cc", "-O2", "-o", self.timed, TOP / "tools/timed.c"], check=True)
 
     def run(self, chosen, through=()):
         """Seconds and bytes of memory of one run, through another program if one is given."""

@@ -148,15 +148,24 @@ class Contender:
     def __str__(self):
         return "{} ({} x {})".format(self.name, *self.crew)
 
+    def words(self, style, each, turns):
+        """The command that takes these turns, each with so many calls of each caller."""
+        return [*self.command, *map(str, self.crew), str(each), *STYLES[style], str(turns)]
+
     def rates(self, style, calls, turns):
         """How many thousand calls a second each turn had."""
-        callers, actors = self.crew
+        callers, _ = self.crew
         each = calls_of_each(callers, calls)
-        words = [str(callers), str(actors), str(each), *STYLES[style], str(turns)]
-        micros = [int(figure) for figure in FIGURE.findall(run([*self.command, *words]))]
-        if len(micros) != turns:
-            raise Failed(f"{len(micros)} figures for {turns} turns")
-        return [callers * each * 1_000 / max(took, 1) for took in micros]
+        micros = micros_in(run(self.words(style, each, turns)), turns)
+        return [callers * each * 1_000 / took for took in micros]
+
+
+def micros_in(told, turns):
+    """The microseconds that a program told of each of its turns."""
+    micros = [max(int(figure), 1) for figure in FIGURE.findall(told)]
+    if len(micros) != turns:
+        raise Failed(f"{len(micros)} figures for {turns} turns")
+    return micros
 
 
 def calls_of_each(callers, calls):
@@ -185,8 +194,8 @@ def measure(contenders, calls, turns, rounds):
 # What is told.
 
 
-def show_table(headings, rows):
-    cells = [["Style", *headings], ["---", *["---:"] * len(headings)], *rows]
+def show_table(headings, rows, first="Style"):
+    cells = [[first, *headings], ["---", *["---:"] * len(headings)], *rows]
     print("".join(f"| {' | '.join(row)} |\n" for row in cells))
 
 

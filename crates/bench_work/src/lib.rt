@@ -10,7 +10,7 @@ mod work;
 
 pub use command::{Order, read_order};
 pub use prepared::Prepared;
-pub use served::are_served;
+pub use served::{are_served, is_served};
 pub use stop::{Stop, exit_code};
 pub use told::print_turn;
 pub use work::{Reach, Style, Work, casts_of, one_more};

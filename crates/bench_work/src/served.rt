@@ -6,7 +6,7 @@ ghost use Rattle.std.specs.List.{list_all};
 use act_owner::Owner;
 
 /// Whether a caller made so many calls, and each was answered.
-fn is_served(owner: &Owner, calls: u32) -> bool
+pub fn is_served(owner: &Owner, calls: u32) -> bool
     ensures { result ≡ (length owner.now.calls == calls) && list_all is_some owner.now.kept }
 {
     owner.count() == calls && owner.all_answered()

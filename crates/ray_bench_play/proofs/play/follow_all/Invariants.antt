@@ -1,0 +1,12 @@
+use Rattle.std.proofs.Common.{◌*◌}
+use Rattle.act_world.specs.View.{world_view}
+use Rattle.act_world.specs.IsReachedBy.{IsGrownBy}
+use Rattle.ray_bench_play.specs.Plays.{StandsAfter, ways}
+use Rattle.ray_bench_play.proofs.play.follow_all.Given as goal
+
+-- the world stands after the events so far, and no more places are taken than there were events
+abbrev pub invariant-loop-number : goal.invariant-loop-number
+invariant-loop-number g l = record {
+  after : StandsAfter (ways l.work l.number) (world_view g.K.Actor.state l.fn.world) (world_view g.K.Actor.state l.world);
+  grown : IsGrownBy (5 * l.number) (world_view g.K.Actor.state l.fn.world).network (world_view g.K.Actor.state l.world).network;
+}

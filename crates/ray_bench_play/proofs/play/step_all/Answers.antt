@@ -1,0 +1,25 @@
+use Rattle.std.proofs.Common.{rules, ◌∷◌, [], subst, arith}
+use Rattle.act_world.specs.View.{world_view}
+use Rattle.ray_bench_play.specs.declared.calls.Call.{Call}
+use Rattle.ray_bench_play.specs.Plays.{StandsAfter, call_at, event_of}
+use Rattle.ray_bench_play.proofs.Standing.{stands_still, each_next}
+use Rattle.ray_bench_play.proofs.play.step_all.Goals as goal
+
+pub loop-number-init : goal.loop-number-init
+loop-number-init g c = record {
+  after = stands_still (world_view g.K.Actor.state c.args.world.now);
+  grown = omega arith;
+}
+
+pub loop-number-preserved : goal.loop-number-preserved
+loop-number-preserved g c = record {
+  after =
+      let mid = world_view g.K.Actor.state c.loop-number.world in
+      let new = world_view g.K.Actor.state c.step.new.world in
+      each_next (λ number. event_of c.args.leg (call_at c.args.work.now number)) c.loop-number.number (world_view g.K.Actor.state c.args.world.now) mid new c.loop-number.invariant.after
+      (subst (λ (call : Call). StandsAfter (event_of c.args.leg call ∷ []) mid new) c.call_at.ensures c.in_ok-step.ensures.after);
+  grown =
+      let before = c.loop-number.invariant.grown in
+      let more = c.in_ok-step.ensures.grown in
+      omega arith;
+}

@@ -1,0 +1,28 @@
+use Rattle.std.proofs.Common.{rules, List, ◌∷◌, [], subst, arith}
+use Rattle.act_types.specs.declared.call.Arg.{Arg}
+use Rattle.act_world.specs.View.{world_view}
+use Rattle.bench_work.specs.Work.{one_more}
+use Rattle.ray_bench_play.specs.declared.calls.Call.{Call}
+use Rattle.ray_bench_play.specs.Plays.{StandsAfter, call_at, submission_of}
+use Rattle.ray_bench_play.proofs.Standing.{stands_still, each_next}
+use Rattle.ray_bench_play.proofs.play.submit_all.Goals as goal
+
+pub loop-number-init : goal.loop-number-init
+loop-number-init g c = record {
+  after = stands_still (world_view g.K.Actor.state c.args.world.now);
+  grown = omega arith;
+}
+
+pub loop-number-preserved : goal.loop-number-preserved
+loop-number-preserved g c = record {
+  after =
+      let mid = world_view g.K.Actor.state c.loop-number.world in
+      let new = world_view g.K.Actor.state c.submit.new.world in
+      each_next (λ number. submission_of (call_at c.args.work.now number) one_more) c.loop-number.number (world_view g.K.Actor.state c.args.world.now) mid new c.loop-number.invariant.after
+      (subst (λ (call : Call). StandsAfter (submission_of call one_more ∷ []) mid new) c.call_at.ensures
+      (subst (λ (args : List Arg). StandsAfter (submission_of c.call_at.result args ∷ []) mid new) c.in_ok-take.ensures c.in_ok-submit.ensures.after));
+  grown =
+      let before = c.loop-number.invariant.grown in
+      let more = c.in_ok-submit.ensures.grown in
+      omega arith;
+}

@@ -1,0 +1,210 @@
+#!/usr/bin/env python3
+"""Measures long runs: what a million calls cost in time and memory, in play, in threads and by other actor systems.
+
+    tools/long_runs.py [--small] [--may-miss] [--turns N] [--sizes N,N,..]
+
+Sixteen callers call eight counters in turns, up to 62,500 times each; a caller's most is 65,536. Three proved programs
+are ours: ray_bench_play plays the calls as events of a world, in one thread; the callers of ray_bench have plans, and
+those of ray_bench_code have code. The peers are those of tools/peers.py. Each turn is a process of its own, so that
+the most memory that it held is that turn's. All programs run by turns.
+
+A rate is the median of a program's turns, by its own clock, and a memory the most of them, by the system's count.
+Bytes a call are what the largest run took beyond one of a call for each caller. What grows is told as the ratio of a
+size to the one before it. Ours keep each call and its answer to the end, since all of it is looked at then. A peer that
+awaits each answer keeps none.
+
+It fails where one of ours or a peer that was built does, or where a doubling of ours costs more than tools/measure.py
+allows, in time or in memory. Where no peer can be built it ends with status 2, and with --may-miss that is no failure.
+With --small each runs once, with 1,600 calls, to see that all works. Figures need a machine that does nothing else.
+"""
+import argparse
+import itertools
+import math
+import os
+import pathlib
+import shutil
+import statistics
+import subprocess
+import sys
+import tempfile
+from dataclasses import dataclass
+
+from measure import MAX_FOR_DOUBLING, NOISE, build_timed
+from peers import CODE, MAX_SECONDS, NO_SETUP, PROGRAM, Contender, Failed, build_peers, load, micros_in, show_table, shown
+from program import TOP, proved
+
+OURS = {"Play": TOP / "crates/ray_bench_play/out/ray_bench_play", "Plans": PROGRAM, "Code": CODE}
+CREW = (16, 8)  # callers and actors
+CALLERS, _ = CREW
+MOST_OF_A_CALLER = 65_536
+LONG_STYLES = ["all sent, all actors", "each awaited, all actors"]
+SIZES = [250_000, 500_000, 1_000_000]  # calls of all callers
+SMALL_SIZES = [1_600]
+TURNS = 3
+NOISE_BYTES = 1_000_000
+
+
+@dataclass(frozen=True)
+class Turn:
+    """What a run of so many calls took."""
+
+    calls: int
+    seconds: float
+    memory: int  # bytes
+
+
+@dataclass(frozen=True)
+class Size:
+    """What the runs of one size took: the median of the seconds, and the most bytes."""
+
+    calls: int
+    seconds: float
+    memory: int
+
+    @classmethod
+    def of(cls, turns):
+        seconds = statistics.median(turn.seconds for turn in turns)
+        return cls(turns[0].calls, seconds, max(turn.memory for turn in turns))
+
+
+# The runs.
+
+
+class Runner:
+    """Runs programs one at a time, with files of its own in the folder."""
+
+    def __init__(self, folder):
+        self.timed = build_timed(folder)
+        self.told = pathlib.Path(folder, "told")
+
+    def run(self, contender, style, calls):
+        """One turn of so many calls, in a process of its own."""
+        program, *words = contender.words(style, calls // CALLERS, 1)
+        found = shutil.which(program)
+        if found is None:
+            raise Failed(f"{program} is not there")
+        timed = [self.timed, str(MAX_SECONDS), os.devnull, self.told, found, *words]
+        done = subprocess.run(timed, capture_output=True, text=True, check=True)
+        status, nanoseconds, memory = map(int, done.stdout.split())
+        if status:
+            why = done.stderr.strip().partition("\n")[0]
+            raise Failed(f"status {status} after {nanoseconds / 1e9:.1f} seconds{': ' + why if why else ''}")
+        (micros,) = micros_in(self.told.read_text(), 1)
+        return Turn(calls, micros / 1e6, memory)
+
+
+def measure(runner, contenders, sizes, turns):
+    """The turns of each contender in each style, by size, and what went wrong. What failed isn't run again in that style."""
+    taken, wrong = {}, {}
+    for _, style, calls, contender in itertools.product(range(turns), LONG_STYLES, [CALLERS, *sizes], contenders):
+        if (contender, style) in wrong:
+            continue
+        try:
+            taken.setdefault((contender, style), {}).setdefault(calls, []).append(runner.run(contender, style, calls))
+        except Failed as failed:
+            wrong[contender, style] = f"{contender}, {style}, {calls:,} calls: {failed}"
+    return taken, list(wrong.values())
+
+
+# The verdict.
+
+
+def growth(before, size, cost, noise):
+    """How much of a cost a doubling of calls takes, between two sizes. Less than the noise is taken for so much."""
+    doublings = math.log2(size.calls / before.calls)
+    return (max(cost(size), noise) / max(cost(before), noise)) ** (1 / doublings)
+
+
+def growth_of_time(before, size):
+    return growth(before, size, lambda each: each.seconds, NOISE)
+
+
+def growth_of_memory(before, size):
+    return growth(before, size, lambda each: each.memory, NOISE_BYTES)
+
+
+def complaints(name, sizes):
+    """Which doublings of a series cost too much."""
+    for before, size in zip(sizes, sizes[1:]):
+        for what, ratio in [("time", growth_of_time(before, size)), ("memory", growth_of_memory(before, size))]:
+            if ratio > MAX_FOR_DOUBLING:
+                yield f"{name}: a doubling costs {ratio:.2f} times the {what}, from {before.calls:,} to {size.calls:,} calls"
+
+
+# What is told.
+
+
+def bytes_a_call(smallest, largest):
+    """What a call of the largest run took, beyond a run of a call for each caller."""
+    return max(largest.memory - smallest.memory, 0) / largest.calls
+
+
+def ratios(sizes, growth_of):
+    return ", ".join(f"{growth_of(*pair):.2f}" for pair in zip(sizes, sizes[1:])) or "-"
+
+
+def row_of(contender, by_calls, chosen_sizes):
+    """A program's cells, where all of its runs came to their end."""
+    if any(calls not in by_calls for calls in [CALLERS, *chosen_sizes]):
+        return [contender.name, *["-"] * (2 * len(chosen_sizes) + 3)]
+    smallest, *sizes = (Size.of(by_calls[calls]) for calls in [CALLERS, *chosen_sizes])
+    rates = [shown(size.calls / size.seconds / 1_000) for size in sizes]
+    memory = [f"{size.memory / 1e6:,.0f}" for size in sizes]
+    grows = [ratios(sizes, growth_of_time), ratios(sizes, growth_of_memory)]
+    return [contender.name, *rates, *memory, f"{bytes_a_call(smallest, sizes[-1]):,.0f}", *grows]
+
+
+def show(taken, contenders, chosen, load_before):
+    print(f"{CREW[0]} callers and {CREW[1]} actors, {chosen.turns} turns of each program at each size, on {os.cpu_count()} cores.")
+    print(f"The load average was {load_before} before the first turn and {load()} after the last one. K/s are thousands")
+    print("of calls a second; what grows is told for each doubling.\n")
+    sizes = [f"{calls:,}" for calls in chosen.sizes]
+    headings = [*(f"K/s, {size}" for size in sizes), *(f"MB, {size}" for size in sizes), "Bytes a call", "Time grows", "Memory grows"]
+    for style in LONG_STYLES:
+        print(f"{style.capitalize()}:\n")
+        show_table(headings, [row_of(each, taken.get((each, style), {}), chosen.sizes) for each in contenders], "Program")
+        print()
+
+
+def sizes_of(words):
+    """The sizes that these words name, each a number of calls of all callers."""
+    sizes = sorted(int(word) for word in words.split(","))
+    if any(not CALLERS < calls <= CALLERS * MOST_OF_A_CALLER or calls % CALLERS for calls in sizes):
+        raise ValueError(words)
+    return sizes
+
+
+def chosen_options():
+    options = argparse.ArgumentParser(description=__doc__.splitlines()[0])
+    options.add_argument("--small", action="store_true", help="one turn of each, with few calls")
+    options.add_argument("--may-miss", action="store_true", help="no failure where no peer can be built")
+    options.add_argument("--turns", type=int, default=TURNS, help="turns of each program, each a process")
+    options.add_argument("--sizes", type=sizes_of, default=SIZES, help=f"calls of all callers, multiples of {CALLERS}")
+    chosen = options.parse_args()
+    if chosen.small:
+        chosen.sizes, chosen.turns = SMALL_SIZES, 1
+    if chosen.turns < 1:
+        options.error("turns are 1 or more")
+    return chosen
+
+
+def main():
+    chosen = chosen_options()
+    ours = {name: [proved("long_runs", path)] for name, path in OURS.items()}
+    with tempfile.TemporaryDirectory(prefix="long-runs-") as folder:
+        peers, missing = build_peers(folder)
+        contenders = [Contender(name, CREW, tuple(command)) for name, command in {**ours, **peers}.items()]
+        load_before = load()
+        taken, wrong = measure(Runner(folder), contenders, chosen.sizes, chosen.turns)
+        show(taken, contenders, chosen, load_before)
+    for contender, style in itertools.product(contenders[: len(OURS)], LONG_STYLES):
+        by_calls = taken.get((contender, style), {})
+        wrong += complaints(f"{contender}, {style}", [Size.of(by_calls[calls]) for calls in chosen.sizes if calls in by_calls])
+    print("".join(f"Not built: {name}: {failed}\n" for name, failed in missing.items()), end="")
+    print("".join(f"{each}\n" for each in wrong), end="")
+    print(f"long_runs: {len(contenders) - len(peers)} of ours and {len(peers)} peers measured, {len(missing)} not built, {len(wrong)} failures")
+    sys.exit(1 if wrong else NO_SETUP if not peers and not chosen.may_miss else 0)
+
+
+if __name__ == "__main__":
+    main()
