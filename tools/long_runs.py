@@ -18,6 +18,7 @@ allows, in time or in memory. Where no peer can be built it ends with status 2, 
 With --small each runs once, with 1,600 calls, to see that all works. Figures need a machine that does nothing else.
 """
 import argparse
+import collections
 import itertools
 import math
 import os
@@ -87,20 +88,19 @@ class Runner:
         done = subprocess.run(timed, capture_output=True, text=True, check=True)
         status, nanoseconds, memory = map(int, done.stdout.split())
         if status:
-            why = done.stderr.strip().partition("\n")[0]
-            raise Failed(f"status {status} after {nanoseconds / 1e9:.1f} seconds{': ' + why if why else ''}")
+            raise Failed(f"status {status} after {nanoseconds / 1e9:.1f} seconds and {memory / 1e6:,.0f} MB")
         (micros,) = micros_in(self.told.read_text(), 1)
         return Turn(calls, micros / 1e6, memory)
 
 
 def measure(runner, contenders, sizes, turns):
     """The turns of each contender in each style, by size, and what went wrong. What failed isn't run again in that style."""
-    taken, wrong = {}, {}
+    taken, wrong = collections.defaultdict(lambda: collections.defaultdict(list)), {}
     for _, style, calls, contender in itertools.product(range(turns), LONG_STYLES, [CALLERS, *sizes], contenders):
         if (contender, style) in wrong:
             continue
         try:
-            taken.setdefault((contender, style), {}).setdefault(calls, []).append(runner.run(contender, style, calls))
+            taken[contender, style][calls].append(runner.run(contender, style, calls))
         except Failed as failed:
             wrong[contender, style] = f"{contender}, {style}, {calls:,} calls: {failed}"
     return taken, list(wrong.values())
@@ -134,36 +134,48 @@ def complaints(name, sizes):
 # What is told.
 
 
-def bytes_a_call(smallest, largest):
+def series_of(taken, contender, style, sizes):
+    """The sizes at which a program came to its end, with what its runs took."""
+    by_calls = taken[contender, style]
+    return [Size.of(by_calls[calls]) for calls in sizes if by_calls[calls]]
+
+
+def bytes_a_call(smallest, sizes):
     """What a call of the largest run took, beyond a run of a call for each caller."""
-    return max(largest.memory - smallest.memory, 0) / largest.calls
+    return f"{max(sizes[-1].memory - smallest.memory, 0) / sizes[-1].calls:,.0f}" if sizes else "-"
 
 
 def ratios(sizes, growth_of):
     return ", ".join(f"{growth_of(*pair):.2f}" for pair in zip(sizes, sizes[1:])) or "-"
 
 
-def row_of(contender, by_calls, chosen_sizes):
-    """A program's cells, where all of its runs came to their end."""
-    if any(calls not in by_calls for calls in [CALLERS, *chosen_sizes]):
-        return [contender.name, *["-"] * (2 * len(chosen_sizes) + 3)]
-    smallest, *sizes = (Size.of(by_calls[calls]) for calls in [CALLERS, *chosen_sizes])
-    rates = [shown(size.calls / size.seconds / 1_000) for size in sizes]
-    memory = [f"{size.memory / 1e6:,.0f}" for size in sizes]
+def row_of(name, smallest, sizes, asked):
+    """A program's cells, with a dash for a size at which it failed."""
+    by_calls = {size.calls: size for size in sizes}
+    there = [by_calls.get(calls) for calls in asked]
+    rates = [size and shown(size.calls / size.seconds / 1_000) for size in there]
+    memory = [size and f"{size.memory / 1e6:,.0f}" for size in there]
     grows = [ratios(sizes, growth_of_time), ratios(sizes, growth_of_memory)]
-    return [contender.name, *rates, *memory, f"{bytes_a_call(smallest, sizes[-1]):,.0f}", *grows]
+    return [name, *(cell or "-" for cell in [*rates, *memory]), bytes_a_call(smallest, sizes), *grows]
+
+
+def show_style(taken, contenders, style, asked):
+    rows = []
+    for contender in contenders:
+        smallest = series_of(taken, contender, style, [CALLERS])
+        rows.append(row_of(contender.name, *smallest or [None], series_of(taken, contender, style, asked), asked))
+    sizes = [f"{calls:,}" for calls in asked]
+    headings = [*(f"K/s, {size}" for size in sizes), *(f"MB, {size}" for size in sizes)]
+    print(f"{style.capitalize()}:\n")
+    show_table([*headings, "Bytes a call", "Time grows", "Memory grows"], rows, "Program")
 
 
 def show(taken, contenders, chosen, load_before):
-    print(f"{CREW[0]} callers and {CREW[1]} actors, {chosen.turns} turns of each program at each size, on {os.cpu_count()} cores.")
+    print(f"Turns of each program at each size: {chosen.turns}, each of {CREW[0]} callers and {CREW[1]} actors, on {os.cpu_count()} cores.")
     print(f"The load average was {load_before} before the first turn and {load()} after the last one. K/s are thousands")
     print("of calls a second; what grows is told for each doubling.\n")
-    sizes = [f"{calls:,}" for calls in chosen.sizes]
-    headings = [*(f"K/s, {size}" for size in sizes), *(f"MB, {size}" for size in sizes), "Bytes a call", "Time grows", "Memory grows"]
     for style in LONG_STYLES:
-        print(f"{style.capitalize()}:\n")
-        show_table(headings, [row_of(each, taken.get((each, style), {}), chosen.sizes) for each in contenders], "Program")
-        print()
+        show_style(taken, contenders, style, chosen.sizes)
 
 
 def sizes_of(words):
@@ -198,8 +210,7 @@ def main():
         taken, wrong = measure(Runner(folder), contenders, chosen.sizes, chosen.turns)
         show(taken, contenders, chosen, load_before)
     for contender, style in itertools.product(contenders[: len(OURS)], LONG_STYLES):
-        by_calls = taken.get((contender, style), {})
-        wrong += complaints(f"{contender}, {style}", [Size.of(by_calls[calls]) for calls in chosen.sizes if calls in by_calls])
+        wrong += complaints(f"{contender}, {style}", series_of(taken, contender, style, chosen.sizes))
     print("".join(f"Not built: {name}: {failed}\n" for name, failed in missing.items()), end="")
     print("".join(f"{each}\n" for each in wrong), end="")
     print(f"long_runs: {len(contenders) - len(peers)} of ours and {len(peers)} peers measured, {len(missing)} not built, {len(wrong)} failures")

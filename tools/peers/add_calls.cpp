@@ -35,6 +35,24 @@ int64_t answer_of(Future&& future) {
   return answer;
 }
 
+void gather(scoped_actor& self, const actor& counter, size_t calls) {
+  std::vector<decltype(add_one(self, counter))> futures;
+  futures.reserve(calls);
+  for (size_t place = 0; place < calls; ++place)
+    futures.push_back(add_one(self, counter));
+  for (auto& future : futures)
+    answer_of(future);
+}
+
+// Answers of more counters are taken as they come, as Erlang's are: one that is asked for by its call is sought behind
+// all that came before it, which makes the time grow as the square of the calls. Which call each is of isn't told.
+void gather_any(scoped_actor& self, const std::vector<actor>& counters, size_t calls) {
+  for (size_t place = 0; place < calls; ++place)
+    self->send(counters[place % counters.size()], add_atom::value, int64_t{1});
+  size_t taken = 0;
+  self->receive_while([&] { return taken < calls; })([&](int64_t) { ++taken; });
+}
+
 // Calls the counters in turns.
 void call(actor_system& system, const std::vector<actor>& counters, size_t calls, bool waits) {
   scoped_actor self{system};
@@ -43,12 +61,10 @@ void call(actor_system& system, const std::vector<actor>& counters, size_t calls
       answer_of(add_one(self, counters[place % counters.size()]));
     return;
   }
-  std::vector<decltype(add_one(self, counters[0]))> futures;
-  futures.reserve(calls);
-  for (size_t place = 0; place < calls; ++place)
-    futures.push_back(add_one(self, counters[place % counters.size()]));
-  for (auto& future : futures)
-    answer_of(future);
+  if (counters.size() == 1)
+    gather(self, counters[0], calls);
+  else
+    gather_any(self, counters, calls);
 }
 
 int64_t total_of(actor_system& system, const actor& counter) {
