@@ -42,28 +42,19 @@ LONG_STYLES = ["all sent, all actors", "each awaited, all actors"]
 SIZES = [250_000, 500_000, 1_000_000]  # calls of all callers
 SMALL_SIZES = [1_600]
 TURNS = 3
-NOISE_BYTES = 1_000_000
 
 
 @dataclass(frozen=True)
-class Turn:
-    """What a run of so many calls took."""
+class Cost:
+    """What so many calls took: in one turn, or in the turns of one size."""
 
     calls: int
     seconds: float
     memory: int  # bytes
 
-
-@dataclass(frozen=True)
-class Size:
-    """What the runs of one size took: the median of the seconds, and the most bytes."""
-
-    calls: int
-    seconds: float
-    memory: int
-
     @classmethod
     def of(cls, turns):
+        """The median of their seconds, and the most of their memory."""
         seconds = statistics.median(turn.seconds for turn in turns)
         return cls(turns[0].calls, seconds, max(turn.memory for turn in turns))
 
@@ -90,7 +81,7 @@ class Runner:
         if status:
             raise Failed(f"status {status} after {nanoseconds / 1e9:.1f} seconds and {memory / 1e6:,.0f} MB")
         (micros,) = micros_in(self.told.read_text(), 1)
-        return Turn(calls, micros / 1e6, memory)
+        return Cost(calls, micros / 1e6, memory)
 
 
 def measure(runner, contenders, sizes, turns):
@@ -109,63 +100,55 @@ def measure(runner, contenders, sizes, turns):
 # The verdict.
 
 
-def growth(before, size, cost, noise):
-    """How much of a cost a doubling of calls takes, between two sizes. Less than the noise is taken for so much."""
-    doublings = math.log2(size.calls / before.calls)
-    return (max(cost(size), noise) / max(cost(before), noise)) ** (1 / doublings)
+def growth(before, cost):
+    """How many times its time and its memory a doubling of the calls takes. Short times are taken for noise."""
+    doublings = math.log2(cost.calls / before.calls)
+    time = max(cost.seconds, NOISE) / max(before.seconds, NOISE)
+    memory = cost.memory / before.memory
+    return {"time": time ** (1 / doublings), "memory": memory ** (1 / doublings)}
 
 
-def growth_of_time(before, size):
-    return growth(before, size, lambda each: each.seconds, NOISE)
-
-
-def growth_of_memory(before, size):
-    return growth(before, size, lambda each: each.memory, NOISE_BYTES)
-
-
-def complaints(name, sizes):
+def complaints(name, costs):
     """Which doublings of a series cost too much."""
-    for before, size in zip(sizes, sizes[1:]):
-        for what, ratio in [("time", growth_of_time(before, size)), ("memory", growth_of_memory(before, size))]:
-            if ratio > MAX_FOR_DOUBLING:
-                yield f"{name}: a doubling costs {ratio:.2f} times the {what}, from {before.calls:,} to {size.calls:,} calls"
+    for before, cost in zip(costs, costs[1:]):
+        for what, times in growth(before, cost).items():
+            if times > MAX_FOR_DOUBLING:
+                yield f"{name}: from {before.calls:,} to {cost.calls:,} calls a doubling takes {times:.2f} times the {what}"
 
 
 # What is told.
 
 
 def series_of(taken, contender, style, sizes):
-    """The sizes at which a program came to its end, with what its runs took."""
+    """What the runs took at each size at which the program came to its end."""
     by_calls = taken[contender, style]
-    return [Size.of(by_calls[calls]) for calls in sizes if by_calls[calls]]
+    return [Cost.of(by_calls[calls]) for calls in sizes if by_calls[calls]]
 
 
-def bytes_a_call(smallest, sizes):
+def bytes_a_call(smallest, costs):
     """What a call of the largest run took, beyond a run of a call for each caller."""
-    return f"{max(sizes[-1].memory - smallest.memory, 0) / sizes[-1].calls:,.0f}" if sizes else "-"
+    return f"{max(costs[-1].memory - smallest.memory, 0) / costs[-1].calls:,.0f}" if costs else "-"
 
 
-def ratios(sizes, growth_of):
-    return ", ".join(f"{growth_of(*pair):.2f}" for pair in zip(sizes, sizes[1:])) or "-"
+def grown(costs, what):
+    return ", ".join(f"{growth(*pair)[what]:.2f}" for pair in zip(costs, costs[1:])) or "-"
 
 
-def row_of(name, smallest, sizes, asked):
+def row_of(name, smallest, costs, sizes):
     """A program's cells, with a dash for a size at which it failed."""
-    by_calls = {size.calls: size for size in sizes}
-    there = [by_calls.get(calls) for calls in asked]
-    rates = [size and shown(size.calls / size.seconds / 1_000) for size in there]
-    memory = [size and f"{size.memory / 1e6:,.0f}" for size in there]
-    grows = [ratios(sizes, growth_of_time), ratios(sizes, growth_of_memory)]
-    return [name, *(cell or "-" for cell in [*rates, *memory]), bytes_a_call(smallest, sizes), *grows]
+    by_calls = {cost.calls: cost for cost in costs}
+    there = [by_calls.get(calls) for calls in sizes]
+    rates = [shown(cost.calls / cost.seconds / 1_000) if cost else "-" for cost in there]
+    memory = [f"{cost.memory / 1e6:,.0f}" if cost else "-" for cost in there]
+    return [name, *rates, *memory, bytes_a_call(smallest, costs), grown(costs, "time"), grown(costs, "memory")]
 
 
-def show_style(taken, contenders, style, asked):
+def show_style(taken, contenders, style, sizes):
     rows = []
     for contender in contenders:
-        smallest = series_of(taken, contender, style, [CALLERS])
-        rows.append(row_of(contender.name, *smallest or [None], series_of(taken, contender, style, asked), asked))
-    sizes = [f"{calls:,}" for calls in asked]
-    headings = [*(f"K/s, {size}" for size in sizes), *(f"MB, {size}" for size in sizes)]
+        smallest, *_ = [*series_of(taken, contender, style, [CALLERS]), None]
+        rows.append(row_of(contender.name, smallest, series_of(taken, contender, style, sizes), sizes))
+    headings = [f"{unit}, {calls:,}" for unit in ["K/s", "MB"] for calls in sizes]
     print(f"{style.capitalize()}:\n")
     show_table([*headings, "Bytes a call", "Time grows", "Memory grows"], rows, "Program")
 
