@@ -1,8 +1,7 @@
-use Rattle.std.proofs.Common.{rules, ◌∷◌, [], subst, arith}
-use Rattle.act_types.specs.declared.call.Arg.{Arg}
+use Rattle.std.proofs.Common.{◌≡◌, ℕ, subst, arith}
 use Rattle.act_world.specs.View.{world_view}
 use Rattle.ray_bench_play.specs.declared.calls.Call.{Call}
-use Rattle.ray_bench_play.specs.Plays.{StandsAfter, call_at, way_of}
+use Rattle.ray_bench_play.specs.Plays.{StandsAfter, call_at, way_of, ways}
 use Rattle.ray_bench_play.proofs.Standing.{stands_still, several_next}
 use Rattle.ray_bench_play.proofs.play.follow_all.Goals as goal
 
@@ -24,3 +23,14 @@ loop-number-preserved g c = record {
       let more = c.in_ok-follow.ensures.grown in
       omega arith;
 }
+
+pub returns : goal.returns
+returns g c = record {
+  after = subst (λ (n : ℕ). StandsAfter (ways c.args.work.now n) (world_view g.K.Actor.state c.args.world.now) (world_view g.K.Actor.state c.loop-number.world)) ended c.loop-number.invariant.after;
+}
+  where
+    ended : c.loop-number.number ≡ c.args.calls
+    ended =
+        let within = c.loop-number.auto.number-end in
+        let out = c.loop-number-test.false in
+        omega arith

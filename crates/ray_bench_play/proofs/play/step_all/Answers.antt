@@ -1,7 +1,7 @@
-use Rattle.std.proofs.Common.{rules, ◌∷◌, [], subst, arith}
+use Rattle.std.proofs.Common.{◌≡◌, ℕ, ◌∷◌, [], subst, arith}
 use Rattle.act_world.specs.View.{world_view}
 use Rattle.ray_bench_play.specs.declared.calls.Call.{Call}
-use Rattle.ray_bench_play.specs.Plays.{StandsAfter, call_at, event_of}
+use Rattle.ray_bench_play.specs.Plays.{StandsAfter, call_at, event_of, legs}
 use Rattle.ray_bench_play.proofs.Standing.{stands_still, each_next}
 use Rattle.ray_bench_play.proofs.play.step_all.Goals as goal
 
@@ -23,3 +23,12 @@ loop-number-preserved g c = record {
       let more = c.in_ok-step.ensures.grown in
       omega arith;
 }
+
+pub returns-clause-after : goal.returns-clause-after
+returns-clause-after g c = subst (λ (n : ℕ). StandsAfter (legs c.args.leg c.args.work.now n) (world_view g.K.Actor.state c.args.world.now) (world_view g.K.Actor.state c.loop-number.world)) ended c.loop-number.invariant.after
+  where
+    ended : c.loop-number.number ≡ c.args.calls
+    ended =
+        let within = c.loop-number.auto.number-end in
+        let out = c.loop-number-test.false in
+        omega arith

@@ -1,9 +1,9 @@
-use Rattle.std.proofs.Common.{rules, List, ◌∷◌, [], subst, arith}
+use Rattle.std.proofs.Common.{◌≡◌, ℕ, List, ◌∷◌, [], subst, arith}
 use Rattle.act_types.specs.declared.call.Arg.{Arg}
 use Rattle.act_world.specs.View.{world_view}
 use Rattle.bench_work.specs.Work.{one_more}
 use Rattle.ray_bench_play.specs.declared.calls.Call.{Call}
-use Rattle.ray_bench_play.specs.Plays.{StandsAfter, call_at, submission_of}
+use Rattle.ray_bench_play.specs.Plays.{StandsAfter, call_at, submission_of, submissions}
 use Rattle.ray_bench_play.proofs.Standing.{stands_still, each_next}
 use Rattle.ray_bench_play.proofs.play.submit_all.Goals as goal
 
@@ -26,3 +26,12 @@ loop-number-preserved g c = record {
       let more = c.in_ok-submit.ensures.grown in
       omega arith;
 }
+
+pub returns-clause-after : goal.returns-clause-after
+returns-clause-after g c = subst (λ (n : ℕ). StandsAfter (submissions c.args.work.now n) (world_view g.K.Actor.state c.args.world.now) (world_view g.K.Actor.state c.loop-number.world)) ended c.loop-number.invariant.after
+  where
+    ended : c.loop-number.number ≡ c.args.calls
+    ended =
+        let within = c.loop-number.auto.number-end in
+        let out = c.loop-number-test.false in
+        omega arith

@@ -1,0 +1,14 @@
+use Rattle.std.proofs.Common.{ℕ, [], map, subst}
+use Rattle.act_actor.specs.Casts.{actor_spec}
+use Rattle.act_world.specs.IsReachedBy.{IsReachedBy}
+use Rattle.act_world.specs.View.{world_view}
+use Rattle.ray_bench_play.specs.Plays.{events_in}
+use Rattle.ray_bench_play.proofs.turn.play_measured.Goals as goal
+
+pub returns : goal.returns
+returns g c =
+    let casts = map (actor_spec g.K.Actor.state) c.args.casts.items in
+    let work = c.args.work.now in
+    let new = world_view g.K.Actor.state c.play_all.new.world in
+    subst (λ (n : ℕ). IsReachedBy casts (events_in work.style work n) new) c.requires.calls
+    (c.in_ok-play_all.ensures.after casts [] c.in_ok-world.ensures.reached)
