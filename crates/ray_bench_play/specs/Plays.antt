@@ -9,7 +9,6 @@ use Rattle.act_rules.specs.declared.event.Event.{Event}
 use Rattle.act_rules.specs.declared.event.Event.TheVariants as event
 use Rattle.act_world.specs.IsReachedBy.{IsReachedBy}
 use Rattle.act_world.specs.View.{WorldView, NetworkView, is_owner}
-use Rattle.act_owner.specs.Owner.{OwnerView}
 use Rattle.bench_work.specs.Work.{actor_at, one_more, places}
 use Rattle.bench_work.specs.declared.work.Style.{Style}
 use Rattle.bench_work.specs.declared.work.Style.TheVariants.{Wait, Future}
