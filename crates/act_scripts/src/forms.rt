@@ -335,16 +335,17 @@ fn event_form_of(alloc: Global, words: &[&str]) -> Result<Line, LineFault>
     let [head, words @ ..] = words else {
         return Err(BAD_LINE);
     };
+    // Those that most lines of a play have come first.
     match *head {
-        "actor" => Ok(Line::Role(role_of(alloc, words)?)),
         "submit" => submit_of(alloc, words),
-        "copy" => copy_of(words),
-        "release" => release_of(words),
-        "kill" => kill_of(words),
         "send" => send_of(words),
         "deliver" => deliver_of(words),
         "run" => run_of(words),
         "collect" => collect_of(words),
+        "actor" => Ok(Line::Role(role_of(alloc, words)?)),
+        "copy" => copy_of(words),
+        "release" => release_of(words),
+        "kill" => kill_of(words),
         "take" => take_of(words),
         "tell" => tell_of(words),
         "retire" => retire_of(words),

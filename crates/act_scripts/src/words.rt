@@ -33,21 +33,33 @@ pub fn kind_of(word: &str) -> Result<KindName, LineFault>
 pub fn method_of(word: &str) -> Result<Method, LineFault>
     ensures { Gives (λ x. x) result (method_at word.now) }
 {
-    match word {
-        "add" => Ok(Method::Add),
-        "get" => Ok(Method::Get),
-        "put" => Ok(Method::Put),
-        "del" => Ok(Method::Del),
-        "size" => Ok(Method::Size),
-        "deposit" => Ok(Method::Deposit),
-        "withdraw" => Ok(Method::Withdraw),
-        "balance" => Ok(Method::Balance),
-        "push" => Ok(Method::Push),
-        "pop" => Ok(Method::Pop),
-        "at" => Ok(Method::At),
-        "len" => Ok(Method::Len),
-        "terminate" => Ok(Method::Terminate),
-        _ => Err(BAD_LINE),
+    // The first letter leaves few methods to compare with.
+    match word.as_bytes() {
+        [b'a', ..] => match word {
+            "add" => Ok(Method::Add),
+            "at" => Ok(Method::At),
+            _ => Err(BAD_LINE),
+        },
+        [b'd', ..] => match word {
+            "del" => Ok(Method::Del),
+            "deposit" => Ok(Method::Deposit),
+            _ => Err(BAD_LINE),
+        },
+        [b'p', ..] => match word {
+            "put" => Ok(Method::Put),
+            "push" => Ok(Method::Push),
+            "pop" => Ok(Method::Pop),
+            _ => Err(BAD_LINE),
+        },
+        _ => match word {
+            "get" => Ok(Method::Get),
+            "len" => Ok(Method::Len),
+            "size" => Ok(Method::Size),
+            "withdraw" => Ok(Method::Withdraw),
+            "balance" => Ok(Method::Balance),
+            "terminate" => Ok(Method::Terminate),
+            _ => Err(BAD_LINE),
+        },
     }
 }
 
