@@ -7,6 +7,7 @@ mod fault;
 mod report;
 mod streams;
 mod summary;
+mod tail;
 mod threads;
 
 pub use act_executor::{Gate, NoGate};

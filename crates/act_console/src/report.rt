@@ -1,6 +1,6 @@
 //! The text of a report.
 
-ghost use Rattle.std.specs.Prelude.{◌≡◌, ◌≤◌, ◌++◌, List, [], OnOk, OnErr, IfOk, string_bytes, length, option_copied, codes, decimal};
+ghost use Rattle.std.specs.Prelude.{◌≡◌, ◌≤◌, ◌+◌, ◌++◌, List, [], OnOk, OnErr, IfOk, string_bytes, length, option_copied, codes, decimal};
 ghost use Rattle.std.specs.List.{flat_map};
 ghost use Rattle.std.specs.Vec.{vec_len};
 ghost use Rattle.act_types.specs.Texts.{space, actor_text, settled_text, value_text};
@@ -11,7 +11,9 @@ ghost use Rattle.act_world.specs.Headline.{slot_log, IsConsistent};
 ghost use Rattle.act_world.specs.IsReachedBy.{IsReachedBy, HasRoom};
 ghost use Rattle.act_console.specs.Parts.{item_head, owner_line, owner_lines, standing_text, caller_lines, stage_lines, world_report, AreTold};
 ghost use Rattle.std.specs.Fmt.{signed_decimal};
+ghost use Rattle.std.specs.Str.{IsAscii};
 
+use crate::tail::Tail;
 use act_kinds::Actor;
 use act_owner::Owner;
 use act_rules::{Did, Event, Outcome, RunItem};
@@ -42,13 +44,17 @@ fn give_back(left: &mut Vec<Event>, place: usize)
 fn push_outcome(text: &mut String, place: usize, outcome: &Outcome) -> Result<(), AllocError>
     ensures { OnOk result (string_bytes text.new ≡ string_bytes text.old ++ outcome_line place outcome.now) }
 {
-    push_number(text, place as u64)?;
-    text.push_str(": ")?;
     match outcome {
-        Ok(did) => push_did(text, did)?,
-        Err(refusal) => write!(text, "refused {refusal}")?,
+        Ok(did) => {
+            let mut line = Tail::new();
+            line.put(b'\n');
+            put_did(&mut line, did);
+            line.put_word(": ");
+            line.put_number(place as u64);
+            text.push_str(line.as_str())
+        }
+        Err(refusal) => writeln!(text, "{place}: refused {refusal}"),
     }
-    text.push('\n')
 }
 
 /// Adds a line for each outcome.
@@ -89,9 +95,11 @@ fn push_line(
         string_bytes text.old ++ line
         (future_text caller k ++ space ++ actor_text actor ++ kept_text (option_copied kept.entry))) }
 {
-    push_future_name(text, caller, k)?;
-    text.push(' ')?;
-    push_actor_name(text, actor)?;
+    let mut line = Tail::new();
+    line.put_actor(actor);
+    line.put(b' ');
+    line.put_future(caller, k);
+    text.push_str(line.as_str())?;
     push_kept(text, kept)
 }
 
@@ -143,11 +151,14 @@ fn push_head(
 ) -> Result<(), AllocError>
     ensures { OnOk result (string_bytes text.new ≡ string_bytes text.old ++ item_head actor place item.now) }
 {
-    push_actor_name(text, actor)?;
-    push_numbered(text, ".", place as u64)?;
-    text.push_str(" ")?;
-    push_future_name(text, item.caller, item.future)?;
-    text.push_str(" ")?;
+    let mut line = Tail::new();
+    line.put(b' ');
+    line.put_future(item.caller, item.future);
+    line.put(b' ');
+    line.put_number(place as u64);
+    line.put(b'.');
+    line.put_actor(actor);
+    text.push_str(line.as_str())?;
     text.push_str(item.method.word())
 }
 
@@ -360,73 +371,12 @@ pub(crate) fn play_and_report<K: Actor>(
     Ok(text)
 }
 
-/// Adds a number.
-pub(crate) fn push_number(text: &mut String, number: u64) -> Result<(), AllocError>
-    ensures { OnOk result (string_bytes text.new ≡ string_bytes text.old ++ decimal number) }
-{
-    let mut buffer = Buffer::new();
-    text.push_str(buffer.format(number))
-}
-
 /// Adds a signed number.
 fn push_int(text: &mut String, number: i64) -> Result<(), AllocError>
     ensures { OnOk result (string_bytes text.new ≡ string_bytes text.old ++ signed_decimal number) }
 {
     let mut buffer = Buffer::new();
     text.push_str(buffer.format(number))
-}
-
-/// Adds the number of a caller or an actor. Most have one digit, which wants no buffer.
-#[tactic(auto, using(std::proofs::lemmas::Fmt::decimal_digit))]
-fn push_small(text: &mut String, number: u8) -> Result<(), AllocError>
-    ensures { OnOk result (string_bytes text.new ≡ string_bytes text.old ++ decimal number) }
-{
-    match number {
-        0..=9 => text.push((b'0' + number) as char),
-        _ => push_number(text, number as u64),
-    }
-}
-
-/// Adds a word and the number after it.
-pub(crate) fn push_numbered(text: &mut String, word: &str, number: u64) -> Result<(), AllocError>
-    ensures { OnOk result (string_bytes text.new ≡ string_bytes text.old ++ word.now ++ decimal number) }
-{
-    text.push_str(word)?;
-    push_number(text, number)
-}
-
-/// Adds a caller's future.
-pub(crate) fn push_future_name(
-    text: &mut String,
-    caller: CallerId,
-    k: FutureId,
-) -> Result<(), AllocError>
-    ensures { OnOk result (string_bytes text.new ≡ string_bytes text.old ++ future_text caller k) }
-{
-    text.push('c')?;
-    push_small(text, caller.number())?;
-    push_numbered(text, ".", k.number() as u64)
-}
-
-/// Adds a word and the caller's future after it.
-fn push_named(
-    text: &mut String,
-    word: &str,
-    caller: CallerId,
-    k: FutureId,
-) -> Result<(), AllocError>
-    ensures { OnOk result (string_bytes text.new ≡ string_bytes text.old ++ word.now ++ future_text caller k) }
-{
-    text.push_str(word)?;
-    push_future_name(text, caller, k)
-}
-
-/// Adds an actor.
-pub(crate) fn push_actor_name(text: &mut String, actor: ActorId) -> Result<(), AllocError>
-    ensures { OnOk result (string_bytes text.new ≡ string_bytes text.old ++ actor_text actor) }
-{
-    text.push('a')?;
-    push_small(text, actor.number())
 }
 
 /// Adds a value.
@@ -450,30 +400,60 @@ pub(crate) fn push_settled(text: &mut String, arg: &Settled) -> Result<(), Alloc
 {
     match arg {
         Settled::Good(value) => push_value(text, value),
-        Settled::Bad(future) => push_numbered(text, "!", future.number() as u64),
+        Settled::Bad(future) => {
+            let mut buffer = Buffer::new();
+            text.push('!')?;
+            text.push_str(buffer.format(future.number()))
+        }
     }
 }
 
-/// Adds what an event did.
-pub(crate) fn push_did(text: &mut String, did: &Did) -> Result<(), AllocError>
-    ensures { OnOk result (string_bytes text.new ≡ string_bytes text.old ++ did_text did.now) }
+/// Puts what an event did before the end of its line.
+fn put_did(line: &mut Tail, did: &Did)
+    requires room { length line.old ≤ 4 }
+    ensures text { line.new ≡ did_text did.now ++ line.old }
+    ensures short { length line.new ≤ length line.old + 60 }
 {
     match *did {
-        Did::Future(caller, future) => push_named(text, "future ", caller, future),
-        Did::Copies(copies) => push_numbered(text, "copies ", copies as u64),
-        Did::Mail(place) => push_numbered(text, "mail ", place as u64),
-        Did::Arrived(arrival) => text.push_str(arrival.word()),
+        Did::Future(caller, future) => put_named(line, "future ", caller, future),
+        Did::Copies(copies) => put_numbered(line, "copies ", copies as u64),
+        Did::Mail(place) => put_numbered(line, "mail ", place as u64),
+        Did::Arrived(arrival) => line.put_word(arrival.word()),
         Did::Ran(place, reply) => {
-            push_numbered(text, "place ", place as u64)?;
-            push_numbered(text, " reply ", reply as u64)
+            put_numbered(line, " reply ", reply as u64);
+            put_numbered(line, "place ", place as u64);
         }
-        Did::Gap => text.push_str("gap"),
-        Did::Kept(caller, future) => push_named(text, "kept ", caller, future),
-        Did::Late(caller, future) => push_named(text, "late ", caller, future),
-        Did::Died(answered) => push_numbered(text, "died ", answered as u64),
-        Did::Asked => text.push_str("asked"),
-        Did::Dead => text.push_str("dead"),
-        Did::Told(reply) => push_numbered(text, "reply ", reply as u64),
-        Did::Retired => text.push_str("retired"),
+        Did::Gap => line.put_word("gap"),
+        Did::Kept(caller, future) => put_named(line, "kept ", caller, future),
+        Did::Late(caller, future) => put_named(line, "late ", caller, future),
+        Did::Died(answered) => put_numbered(line, "died ", answered as u64),
+        Did::Asked => line.put_word("asked"),
+        Did::Dead => line.put_word("dead"),
+        Did::Told(reply) => put_numbered(line, "reply ", reply as u64),
+        Did::Retired => line.put_word("retired"),
     }
+}
+
+/// Puts a word and the number after it before the end of a line.
+#[inline(always)]
+fn put_numbered(line: &mut Tail, word: &str, number: u64)
+    requires ascii { IsAscii word.now }
+    requires room { length word.now + length line.old + 20 ≤ 128 }
+    ensures text { line.new ≡ word.now ++ decimal number ++ line.old }
+    ensures short { length line.new ≤ length line.old + length word.now + 20 }
+{
+    line.put_number(number);
+    line.put_word(word);
+}
+
+/// Puts a word and the caller's future after it before the end of a line.
+#[inline(always)]
+fn put_named(line: &mut Tail, word: &str, caller: CallerId, k: FutureId)
+    requires ascii { IsAscii word.now }
+    requires room { length word.now + length line.old + 42 ≤ 128 }
+    ensures text { line.new ≡ word.now ++ future_text caller k ++ line.old }
+    ensures short { length line.new ≤ length line.old + length word.now + 42 }
+{
+    line.put_future(caller, k);
+    line.put_word(word);
 }
