@@ -1,6 +1,6 @@
 //! The end of a line of the report, as it is made.
 
-ghost use Rattle.std.specs.Prelude.{◌≡◌, ◌+◌, ◌≤◌, ◌<◌, ℕ, List, [], ◌∷◌, ◌++◌, length, drop, codes, decimal};
+ghost use Rattle.std.specs.Prelude.{◌≡◌, ◌+◌, ◌≤◌, ◌<◌, ℕ, List, [], ◌∷◌, ◌++◌, length, drop, decimal};
 ghost use Rattle.std.specs.Str.{IsAscii};
 ghost use Rattle.act_types.specs.Texts.{actor_text};
 ghost use Rattle.act_rules.specs.Report.{future_text};
