@@ -37,7 +37,7 @@ from program import TOP, proved
 OURS = {"Play": TOP / "crates/ray_bench_play/out/ray_bench_play", "Plans": PROGRAM, "Code": CODE}
 CREW = (16, 8)  # callers and actors
 CALLERS, _ = CREW
-MOST_OF_A_CALLER = 65_536
+MAX_OF_A_CALLER = 65_536
 LONG_STYLES = ["all sent, all actors", "each awaited, all actors"]
 SIZES = [250_000, 500_000, 1_000_000]  # calls of all callers
 SMALL_SIZES = [1_600]
@@ -164,7 +164,7 @@ def show(taken, contenders, chosen, load_before):
 def sizes_of(words):
     """The sizes that these words name, each a number of calls of all callers."""
     sizes = sorted(int(word) for word in words.split(","))
-    if any(not CALLERS < calls <= CALLERS * MOST_OF_A_CALLER or calls % CALLERS for calls in sizes):
+    if any(not CALLERS < calls <= CALLERS * MAX_OF_A_CALLER or calls % CALLERS for calls in sizes):
         raise ValueError(words)
     return sizes
 
