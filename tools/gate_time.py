@@ -1,35 +1,63 @@
 #!/usr/bin/env python3
 """Tells where the gate's minutes go: the processor time of each crate's proof, tests and edits.
 
-    tools/gate_time.py [--every SECONDS] [COMMAND ..]
+    tools/gate_time.py [--every SECONDS] [--edits N] [COMMAND ..]
 
-Runs the command (`rt ci`, where none is given) and looks at the prover's processes meanwhile, a few times a second.
-A process counts for the crate that it checks: as an edit where it works on a copy that the gate makes of the crate,
-as tests where it checks these, and else as the proof. What it did after the last look at it is missed, so the row
-`else` has that, the compilers, the linker and the tests as they run. The table comes on standard output when the
-command ends, and the status is the command's. Figures need a machine that does nothing else.
+Runs the command (`rt ci`, where none is given) at the top of a checkout and looks at the prover's processes meanwhile,
+about once a second. A process counts for the crate that it checks. It is an edit's where it works on a changed copy of
+the crate, and `again` where that copy is the crate as it stands, which the gate proves once more for its edits. It is
+the tests' where it checks these, and else the proof's. What a process did after the last look at it is missed, so the
+row `else` has that, the compilers, the linker and the tests as they run. With --edits the N dearest edits are told, too.
+The table comes on standard output when the command ends, or when this is interrupted, and the status is the command's.
+Figures need a machine that does nothing else.
 """
 import argparse
 import collections
 import os
 import resource
+import signal
 import subprocess
 import sys
 import time
+from pathlib import Path
 
-KINDS = ("proof", "tests", "edits")
+from edits import GATE, PARTS, TOP, BadEdit, edits_in
+
+KINDS = ("proof", "tests", "again", "edits")
 # A crate from nothing is built; an edit of one, and its tests, are checked.
 WORKS = ("build", "check")
 OF_AN_EDIT = "/rt-edit-"
 TICKS = os.sysconf("SC_CLK_TCK")
+HEADINGS = "| Crate | Proof | Tests | Again, for edits | Edits | All, processor minutes |"
+
+
+def is_as_it_stands(crate, room):
+    """Whether a copy of the crate is the crate as it stands."""
+    files = [file for part in PARTS for file in Path(crate, part).rglob("*") if file.is_file()]
+    return all(Path(room, file.relative_to(crate)).read_bytes() == file.read_bytes() for file in files)
+
+
+def edit_in(crate, room):
+    """The name of the edit that was made in a copy of the crate."""
+    for edit in edits_in(GATE, [crate]):
+        try:
+            if all(Path(room, file).read_text() == text for file, text in edit.applied({}).items()):
+                return edit.name
+        except BadEdit:
+            continue
+    return f"{crate}/?"
 
 
 def crate_and_kind(words, folder):
-    """Which crate a process of the prover checks, and as what, or None."""
+    """Which crate a process of the prover checks, as what, and which edit, or None."""
     if len(words) < 2 or not words[0].endswith("/rattle") or words[1] not in WORKS or "--crate-name" not in words:
         return None
     crate = words[words.index("--crate-name") + 1]
-    return crate, "edits" if OF_AN_EDIT in folder else "tests" if "--test" in words else "proof"
+    if OF_AN_EDIT not in folder:
+        return crate, "tests" if "--test" in words else "proof", ""
+    if is_as_it_stands(TOP / "crates" / crate, folder):
+        return crate, "again", ""
+    return crate, "edits", edit_in(crate, folder)
 
 
 def stat_of(process):
@@ -39,49 +67,92 @@ def stat_of(process):
     return int(fields[3]), fields[19], (int(fields[11]) + int(fields[12])) / TICKS
 
 
-def look(seen, session):
-    """Notes how long each of the session's processes of the prover has worked by now."""
-    for process in filter(str.isdigit, os.listdir("/proc")):
-        try:
-            with open(f"/proc/{process}/cmdline", "rb") as line:
-                words = line.read().decode(errors="replace").split("\0")
+class Watch:
+    """What the processes of the prover worked, of those that a command begins."""
+
+    def __init__(self, session):
+        self.session, self.kinds, self.seconds = session, {}, {}
+
+    def look(self):
+        """Notes how long each process has worked by now."""
+        for process in filter(str.isdigit, os.listdir("/proc")):
+            try:
+                self.note(process)
+            except OSError:
+                continue  # it has ended meanwhile
+
+    def note(self, process):
+        session, start, seconds = stat_of(process)
+        if session != self.session:
+            return
+        one = process, start
+        if one not in self.kinds:
+            words = Path(f"/proc/{process}/cmdline").read_bytes().decode(errors="replace").split("\0")
             found = crate_and_kind(words, os.readlink(f"/proc/{process}/cwd"))
-            of, start, seconds = stat_of(process)
-            if found and of == session:
-                seen[process, start, found] = seconds
-        except OSError:
-            continue  # it has ended meanwhile
+            # A process is first its parent's copy, and becomes the prover then.
+            if not found:
+                return
+            self.kinds[one] = found
+        self.seconds[one] = seconds
+
+    def spent(self):
+        """The seconds of each crate and kind, and those of each edit."""
+        crates, edits = collections.Counter(), collections.Counter()
+        for one, (crate, kind, edit) in self.kinds.items():
+            crates[crate, kind] += self.seconds[one]
+            edits[edit] += self.seconds[one]
+        del edits[""]
+        return crates, edits
 
 
 def table(spent, whole, elapsed):
     """The lines of the table, the dearest crate first."""
-    yield "| Crate | Proof | Tests | Edits | All, processor minutes |"
-    yield "| --- | ---: | ---: | ---: | ---: |"
+    yield HEADINGS
+    yield "| --- | ---: | ---: | ---: | ---: | ---: |"
     crates = sorted({crate for crate, _ in spent}, key=lambda crate: -sum(spent[crate, kind] for kind in KINDS))
     for crate in crates:
         figures = [spent[crate, kind] for kind in KINDS]
         yield f"| {crate} | " + " | ".join(f"{each / 60:.1f}" for each in [*figures, sum(figures)]) + " |"
     sums = [sum(spent[crate, kind] for crate in crates) for kind in KINDS]
-    yield f"| else | | | | {(whole - sum(sums)) / 60:.1f} |"
+    yield f"| else | | | | | {(whole - sum(sums)) / 60:.1f} |"
     yield "| all | " + " | ".join(f"{each / 60:.1f}" for each in [*sums, whole]) + " |"
     yield f"\n{elapsed / 60:.1f} minutes in all, on {os.cpu_count()} processors."
+
+
+def dearest(edits, count):
+    """The lines that tell the dearest edits, and what one takes in the mean."""
+    mean = sum(edits.values()) / max(1, len(edits))
+    yield f"\n{len(edits)} edits were tried, each in {mean:.0f} seconds of a processor in the mean."
+    for edit, seconds in edits.most_common(count):
+        yield f"- {edit}: {seconds:.0f} s"
+
+
+def interrupt(_signal, _frame):
+    raise KeyboardInterrupt
 
 
 def main():
     parser = argparse.ArgumentParser(description=__doc__, formatter_class=argparse.RawDescriptionHelpFormatter)
     parser.add_argument("--every", type=float, default=0.5, metavar="SECONDS")
+    parser.add_argument("--edits", type=int, default=0, metavar="N")
     parser.add_argument("command", nargs=argparse.REMAINDER)
     arguments = parser.parse_args()
-    seen, began = {}, time.monotonic()
+    began = time.monotonic()
+    signal.signal(signal.SIGTERM, interrupt)
     with subprocess.Popen(arguments.command or ["rt", "ci"], start_new_session=True) as ran:
-        while ran.poll() is None:
-            look(seen, ran.pid)
-            time.sleep(arguments.every)
-    spent = collections.Counter()
-    for (_, _, found), seconds in seen.items():
-        spent[found] += seconds
+        watch = Watch(ran.pid)
+        try:
+            while ran.poll() is None:
+                watch.look()
+                time.sleep(arguments.every)
+        except KeyboardInterrupt:
+            print("interrupted: the table has what was done until then", file=sys.stderr)
+            os.killpg(ran.pid, signal.SIGTERM)
+    crates, edits = watch.spent()
     used = resource.getrusage(resource.RUSAGE_CHILDREN)
-    print("\n".join(table(spent, used.ru_utime + used.ru_stime, time.monotonic() - began)), flush=True)
+    print("\n".join(table(crates, used.ru_utime + used.ru_stime, time.monotonic() - began)), flush=True)
+    if arguments.edits:
+        print("\n".join(dearest(edits, arguments.edits)), flush=True)
     return ran.returncode
 
 

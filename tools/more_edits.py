@@ -20,6 +20,7 @@ themselves such a one is a failure.
 import argparse
 import hashlib
 import math
+import os
 import re
 import shutil
 import signal
@@ -29,12 +30,15 @@ import textwrap
 import time
 from concurrent.futures import ThreadPoolExecutor
 from contextlib import contextmanager
+from pathlib import Path
 
 from edits import GATE, MORE, TOP, edits_in, fault_of, strangers
 from trying import REFUSED_BY_THE_GATE, Tried, kit, try_crate
 
 PAGE = TOP / "docs/edits.md"
 SHARE = 20
+# What ./test --help asks for each core.
+MEMORY_OF_A_CHECK = 4 << 30
 OF_THE_GATE = re.compile(r"(?:rt: )?must-fail (\w+/\S+\.edit): (.*)")
 HEAD = """# Further wrong bodies
 
@@ -97,10 +101,25 @@ def lent(edits):
             folder.rmdir()
 
 
+def free_memory():
+    """The bytes that are free, under the limit of the control group where it has one."""
+    available = 1024 * int(re.search(r"MemAvailable:\s+(\d+)", Path("/proc/meminfo").read_text())[1])
+    limit = Path("/sys/fs/cgroup/memory.max")
+    told = limit.read_text().strip() if limit.exists() else "max"
+    return min(available, int(told)) if told.isdigit() else available
+
+
+def jobs_of_the_gate(processors, free):
+    """As many checks side by side as there are processors, where each has its memory. Else `rt` decides: it reckons
+    with more memory for a check than one takes, and leaves processors idle."""
+    return {"RT_JOBS": str(processors)} if free >= processors * MEMORY_OF_A_CHECK else {}
+
+
 def run_gate():
     """Runs `rt ci`, shows what it says, and returns its status and its lines."""
     lines = []
-    with subprocess.Popen(["rt", "ci"], cwd=TOP, stdout=subprocess.PIPE, text=True, errors="replace") as ran:
+    environment = {**jobs_of_the_gate(len(os.sched_getaffinity(0)), free_memory()), **os.environ}
+    with subprocess.Popen(["rt", "ci"], cwd=TOP, env=environment, stdout=subprocess.PIPE, text=True, errors="replace") as ran:
         for line in ran.stdout:
             print(line, end="", flush=True)
             lines.append(line.rstrip("\n"))

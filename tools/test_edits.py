@@ -181,5 +181,10 @@ class Share(Scratch):
         self.assertFalse((self.crate / GATE).exists())
 
 
+class Jobs(unittest.TestCase):
+    def test_all_processors_where_each_check_has_its_memory(self):
+        self.assertEqual(more_edits.jobs_of_the_gate(4, 16 << 30), {"RT_JOBS": "4"})
+        self.assertEqual(more_edits.jobs_of_the_gate(4, (16 << 30) - 1), {})
+
 if __name__ == "__main__":
     unittest.main()
