@@ -122,19 +122,27 @@ fn take_in<K: Actor>(
     Ok(arrival)
 }
 
+/// Puts an actor into its slot, and lets what stood there go.
+pub(crate) fn put<K: Actor>(slot: &mut Slot<K>, actor: Slot<K>)
+    ensures { slot.new ≡ actor }
+{
+    drop(mem::replace(slot, actor));
+}
+
 /// Where the actor's last call was a `terminate` that ended it, it is dead. This takes no memory.
 fn bury<K: Actor>(slot: &mut Slot<K>)
     ensures { slot_view K.state slot.new ≡ bury_ended (slot_view K.state slot.old) }
 {
     match mem::replace(slot, Slot::Vacant) {
         Slot::Live(live) => {
-            *slot = if live.terminated() {
+            let actor = if live.terminated() {
                 Slot::Dead(live.kill())
             } else {
                 Slot::Live(live)
             };
+            put(slot, actor);
         }
-        ended => *slot = ended,
+        ended => put(slot, ended),
     }
 }
 
@@ -182,15 +190,15 @@ pub(crate) fn kill_in<K: Actor>(slot: &mut Slot<K>, asked: bool) -> Outcome
     match mem::replace(slot, Slot::Vacant) {
         Slot::Live(live) => {
             if !asked {
-                *slot = Slot::Live(live);
+                put(slot, Slot::Live(live));
                 return Err(WorldRefusal::NoKill);
             }
-            *slot = Slot::Dead(live.kill());
+            put(slot, Slot::Dead(live.kill()));
             Ok(Did::Dead)
         }
         Slot::Vacant => Err(WorldRefusal::Handle(HandleRefusal::NoActor)),
         ended => {
-            *slot = ended;
+            put(slot, ended);
             Err(WorldRefusal::ActorEnded)
         }
     }
@@ -229,17 +237,17 @@ pub(crate) fn retire_in<K: Actor>(slot: &mut Slot<K>) -> Outcome
     match mem::replace(slot, Slot::Vacant) {
         Slot::Live(live) => match live.retire() {
             Ok(retired) => {
-                *slot = Slot::Retired(retired);
+                put(slot, Slot::Retired(retired));
                 Ok(Did::Retired)
             }
             Err(live) => {
-                *slot = Slot::Live(live);
+                put(slot, Slot::Live(live));
                 Err(WorldRefusal::NotDrained)
             }
         },
         Slot::Vacant => Err(WorldRefusal::Handle(HandleRefusal::NoActor)),
         ended => {
-            *slot = ended;
+            put(slot, ended);
             Err(WorldRefusal::ActorEnded)
         }
     }

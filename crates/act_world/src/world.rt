@@ -23,8 +23,8 @@ ghost use Rattle.act_rules.specs.declared.event.Event.TheVariants as event;
 
 use crate::network::{Network, Posted, place_of};
 use crate::slot::{
-    Slot, Stage, bring, has_next_in, is_dead_in, is_live_in, kill_in, retire_in, run_at, slot_at,
-    slot_of,
+    Slot, Stage, bring, has_next_in, is_dead_in, is_live_in, kill_in, put, retire_in, run_at,
+    slot_at, slot_of,
 };
 use act_actor::{Cast, Live, limits_of};
 use act_kinds::{Actor, Boxed};
@@ -423,7 +423,7 @@ fn fill_slot<K: Actor>(slots: &mut [Slot<K>; ACTOR_NUMBERS], a: ActorId, live: L
     ensures { (b : ℕ) → slice_get (map (slot_view K.state) slots.new) b ≡
         (if a == b then Some (Runs (live_view K.state live)) else slice_get (map (slot_view K.state) slots.old) b) }
 {
-    slots[slot_of(a)] = Slot::Live(live);
+    put(&mut slots[slot_of(a)], Slot::Live(live));
 }
 
 /// The actors, each in its opening state.
