@@ -7,9 +7,9 @@ pub returns-in-Some-clause-calling : goal.returns-in-Some-clause-calling
 returns-in-Some-clause-calling g c lines calling =
     let packet = c.in-Some.packet in
     let empty : c.args.self.now.outbox ≡ None = search rules in
-    calling_taken lines c.args.self.now _ packet.future packet (search rules) (search rules) empty (search rules) refl refl refl calling
+    calling_taken lines c.args.self.now _ packet.future packet (search rules) (search rules) empty (search rules) refl c.put.ensures refl calling
 
 pub returns-in-Some-clause-traced : goal.returns-in-Some-clause-traced
 returns-in-Some-clause-traced g c lines =
     let packet = c.in-Some.packet in
-    traces_taken lines c.args.self.now _ packet (ready_sends c.args.self.now.owner packet.future (search rules)) (search rules) refl refl
+    traces_taken lines c.args.self.now _ packet (ready_sends c.args.self.now.owner packet.future (search rules)) (search rules) refl c.put.ensures
