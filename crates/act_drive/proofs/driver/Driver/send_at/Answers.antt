@@ -1,5 +1,5 @@
 use Rattle.std.proofs.Common.{refl, rules, ◌≡◌, [], ◌∷◌, ◌++◌, Some, All, true, inl, inr}
-use Rattle.act_drive.proofs.Drivers.{calling_dropped, calling_posted, posted_waits}
+use Rattle.act_drive.proofs.Drivers.{calling_dropped, calling_posted, posted_waits, stays_same}
 use Rattle.act_drive.proofs.Tracing.{traces_dropped, traces_back, traces_posted}
 use Rattle.act_owner.specs.Owner.{is_known_dead}
 use Rattle.act_drive.specs.Driven.{actor_of_letter, IsApart}
@@ -45,3 +45,12 @@ returns-in-Ok-clause-traced g c =
     let endpoint = c.index_mut-endpoint.result.now in
     let outbox : c.args.self.now.outbox ≡ Some c.in-Some.letter = search rules in
     traces_posted c.args.lines.now c.args.self.now _ c.in-Some.letter c.in-Some-letter_endpoint.at endpoint c.post_at.new.pass g.K.Stamped.stamp c.requires.stamp outbox (search rules) (search rules) (search rules) refl (search rules) refl refl (search rules)
+
+pub returns-then-is_dead-clause-waits : goal.returns-then-is_dead-clause-waits
+returns-then-is_dead-clause-waits g c = record { stay = stays_same c.args.self.now _ refl refl refl refl; calls = refl; handles = refl; kills = refl; heard = λ notice has. has }
+
+pub returns-in_default-letter_endpoint-clause-waits : goal.returns-in_default-letter_endpoint-clause-waits
+returns-in_default-letter_endpoint-clause-waits g c = record { stay = stays_same c.args.self.now _ refl refl refl refl; calls = refl; handles = refl; kills = refl; heard = λ notice has. has }
+
+pub returns-in_default-clause-waits : goal.returns-in_default-clause-waits
+returns-in_default-clause-waits g c = record { stay = stays_same c.args.self.now _ refl refl refl refl; calls = refl; handles = refl; kills = refl; heard = λ notice has. has }
