@@ -202,7 +202,13 @@ pub fn drive_noting<R: Wait, N: Notes>(
         noted: [false; ACTOR_NUMBERS],
     };
     let starved = driver.run(rt, alloc, lines, plan, notes);
-    let Driver { owner, passes, .. } = driver;
+    let Driver {
+        owner,
+        passes,
+        outbox,
+        ..
+    } = driver;
+    drop(outbox);
     Driven {
         owner,
         starved,

@@ -102,7 +102,13 @@ fn work<R: Wait, O: Opening, C: Code>(
     let has_given_up = code.run(&mut lent).is_err();
     let Lent { mut driver, .. } = lent;
     let starved = driver.end_code(rt, alloc, lines, has_given_up);
-    let Driver { owner, passes, .. } = driver;
+    let Driver {
+        owner,
+        passes,
+        outbox,
+        ..
+    } = driver;
+    drop(outbox);
     Driven {
         owner,
         starved,

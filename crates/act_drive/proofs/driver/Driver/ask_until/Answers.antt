@@ -60,7 +60,7 @@ pub returns-then-ask-clause-calling : goal.returns-then-ask-clause-calling
 returns-then-ask-clause-calling g c = c.ask.ensures.calling
 
 pub returns-then-ask-clause-hears : goal.returns-then-ask-clause-hears
-returns-then-ask-clause-hears g c = 
+returns-then-ask-clause-hears g c =
     let same = (c.ask.ensures.asked c.if-ask.true).owner in
     record {
       calls = ap (λ (o : OwnerView). o.calls) same ∙ c.loop.invariant.waits.calls;
@@ -72,10 +72,10 @@ pub returns-in_err-wait_turn-clause-calling : goal.returns-in_err-wait_turn-clau
 returns-in_err-wait_turn-clause-calling g c = c.in_err-wait_turn.ensures.only_waits.calling
 
 pub returns-in_err-wait_turn-clause-stays : goal.returns-in_err-wait_turn-clause-stays
-returns-in_err-wait_turn-clause-stays g c = 
+returns-in_err-wait_turn-clause-stays g c =
     stays_trans _ _ _ (stays_trans _ _ _ c.loop.invariant.waits.stay c.ask.ensures.stays) c.in_err-wait_turn.ensures.only_waits.waits.stay
 
 pub returns-in_err-wait_turn-clause-hears : goal.returns-in_err-wait_turn-clause-hears
-returns-in_err-wait_turn-clause-hears g c = 
+returns-in_err-wait_turn-clause-hears g c =
     let waits = waits_trans _ _ _ (waits_trans _ _ _ c.loop.invariant.waits (c.ask.ensures.refused c.if-ask.false)) c.in_err-wait_turn.ensures.only_waits.waits in
     record { calls = waits.calls; handles = waits.handles; kills = refl }

@@ -22,7 +22,7 @@ pub returns-in_err-wait_turn-clause-only_waits : goal.returns-in_err-wait_turn-c
 returns-in_err-wait_turn-clause-only_waits g c = only_waits_trans _ _ _ _ c.loop.invariant c.in_err-wait_turn.ensures.only_waits
 
 pub returns-in_err-wait_turn-clause-kept : goal.returns-in_err-wait_turn-clause-kept
-returns-in_err-wait_turn-clause-kept g c has = 
+returns-in_err-wait_turn-clause-kept g c has =
     let none : is_some (kept_at c.loop.self.owner.kept c.args.k) ≡ false = search rules in
     let some = kept_still _ _ c.args.k c.loop.invariant.waits.stay.kept has in
     absurd (cc (none, some))
