@@ -14,6 +14,7 @@ use Rattle.act_drive.specs.Tracing.{Traces, TracesStep}
 use Rattle.act_drive.proofs.Drivers.{stays_trans, waits_same}
 use Rattle.act_rules.specs.Plans.{kills_to}
 use Rattle.act_drive.proofs.PlanSteps.{follows_waits, kills_more}
+use Rattle.act_drive.specs.Sessions.{SessionView, IsLater, OnlyHears}
 
 all_same : (x n a : ℕ) → get_or (replicate n x) a x ≡ x
 all_same x n a = elim (leb_tells (suc a) n) [
@@ -77,3 +78,10 @@ work_waits actors began lines old new kills was calling waits traced = record {
   follows = follows_waits lines actors was.steps old new waits was.follows;
   asked = was.asked;
 }
+
+-- what is seen of a caller before its code's call
+pub later_seen : (old seen new : SessionView) → old ≡ seen → IsLater old new → IsLater seen new
+later_seen old seen new is later = subst (λ (s : SessionView). IsLater s new) is later
+
+pub hears_seen : (old seen new : SessionView) → old ≡ seen → OnlyHears old new → OnlyHears seen new
+hears_seen old seen new is hears = subst (λ (s : SessionView). OnlyHears s new) is hears

@@ -22,7 +22,7 @@ use Rattle.act_drive.specs.declared.driver.CallerLines.{CallerLines}
 use Rattle.act_drive.specs.declared.driver.Driver.{Driver}
 use Rattle.act_drive.specs.declared.driver.CallerPasses.{CallerPasses}
 use Rattle.act_drive.specs.Driven.{bare_post, bare_ask, Stays, Waits, FollowsBy}
-use Rattle.act_drive.specs.Sessions.{SessionView, session_view, call_refusal, use_refusal, OnlyHears, Submits}
+use Rattle.act_drive.specs.Sessions.{SessionView, session_view, call_refusal, use_refusal, IsLater, OnlyHears, Submits}
 use Rattle.act_drive.specs.Lent.{Does}
 use Rattle.act_drive.proofs.PlanSteps.{follows_waits, submit_follows, copy_follows}
 
@@ -40,6 +40,12 @@ submits_hears call old mid new submits hears = record {
   calls = hears.calls ∙ submits.calls;
   copies = λ a. ap (λ (h : List Handle). copies_in a h) hears.handles ∙ submits.copies a;
   kills = hears.kills ∙ submits.kills;
+}
+
+pub later_trans : (old mid new : SessionView) → IsLater old mid → IsLater mid new → IsLater old new
+later_trans old mid new before after = record {
+  limits = after.limits ∙ before.limits;
+  kept = λ k answer has. after.kept k answer (before.kept k answer has);
 }
 
 pub stays_submitted : (old new : Driver) (a : ℕ) (method : Method) (args : List Arg) → new.owner ≡ with_submission old.owner a method args → new.passes ≡ old.passes → Stays old new

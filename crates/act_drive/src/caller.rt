@@ -142,12 +142,13 @@ impl Driver {
         ensures done { OnOk result (DoesWhole lines.now plan.items self.old self.new) }
         ensures traced { OnOk result (TracesWhole lines.now plan.items self.old self.new) }
     {
-        self.reserve(plan.as_slice())?;
+        let reserved = self.reserve(plan.as_slice());
+        if reserved.is_err() {
+            drop(plan);
+            return reserved;
+        }
         self.steps(rt, alloc, lines, plan, notes)?;
-        // What is ready is posted before the notes of the last handles.
-        self.turn(rt, alloc, lines, notes)?;
-        self.close(rt, lines, notes)?;
-        self.finish(rt, alloc, lines, notes)?;
+        self.wind_up(rt, alloc, lines, notes)?;
         Ok(())
     }
 
@@ -201,7 +202,13 @@ pub fn drive_noting<R: Wait, N: Notes>(
         noted: [false; ACTOR_NUMBERS],
     };
     let starved = driver.run(rt, alloc, lines, plan, notes);
-    let Driver { owner, passes, .. } = driver;
+    let Driver {
+        owner,
+        passes,
+        outbox,
+        ..
+    } = driver;
+    drop(outbox);
     Driven {
         owner,
         starved,

@@ -12,7 +12,7 @@ use crate::caller::Driven;
 use crate::code::Code;
 use crate::driver::{CallerLines, CallerPasses, Driver};
 use crate::lent::{Lent, Opening};
-use act_mailbox::{IdleBackoff, NoNotes};
+use act_mailbox::{IdleBackoff, NoNotes, Notes};
 use act_owner::Owner;
 use act_types::{ACTOR_NUMBERS, MAX_CALLS, NoMemory};
 use std::alloc::Global;
@@ -27,11 +27,12 @@ impl Opening for Brand {
 
 impl Driver {
     /// Lets all handles go, and goes on until all is answered.
-    fn wind_up<R: Wait>(
+    pub(crate) fn wind_up<R: Wait, N: Notes>(
         &mut self,
         rt: &R,
         alloc: Global,
         lines: &CallerLines,
+        notes: &mut N,
     ) -> Result<(), NoMemory>
         requires calling { IsCalling lines.now self.old }
         ensures calling { IsCalling lines.now self.new }
@@ -41,9 +42,9 @@ impl Driver {
         ensures traced { OnOk result (TracesClosing lines.now self.old self.new) }
     {
         // What is ready is posted before the notes of the last handles.
-        self.turn(rt, alloc, lines, &mut NoNotes)?;
-        self.close(rt, lines, &mut NoNotes)?;
-        self.finish(rt, alloc, lines, &mut NoNotes)?;
+        self.turn(rt, alloc, lines, notes)?;
+        self.close(rt, lines, notes)?;
+        self.finish(rt, alloc, lines, notes)?;
         Ok(())
     }
 
@@ -65,7 +66,7 @@ impl Driver {
         ensures ended { result ≡ true → HaveEnded lines.now self.new.owner self.new.passes }
         ensures traced { result ≡ false → TracesClosing lines.now self.old self.new }
     {
-        if !has_given_up && self.wind_up(rt, alloc, lines).is_ok() {
+        if !has_given_up && self.wind_up(rt, alloc, lines, &mut NoNotes).is_ok() {
             return false;
         }
         self.starve(rt, lines, &mut NoNotes);
@@ -101,7 +102,13 @@ fn work<R: Wait, O: Opening, C: Code>(
     let has_given_up = code.run(&mut lent).is_err();
     let Lent { mut driver, .. } = lent;
     let starved = driver.end_code(rt, alloc, lines, has_given_up);
-    let Driver { owner, passes, .. } = driver;
+    let Driver {
+        owner,
+        passes,
+        outbox,
+        ..
+    } = driver;
+    drop(outbox);
     Driven {
         owner,
         starved,

@@ -84,6 +84,13 @@ fn mark(noted: &mut [bool; ACTOR_NUMBERS], actor: ActorId, is_note: bool)
     }
 }
 
+/// Puts a letter in an outbox.
+pub(crate) fn put(outbox: &mut Option<Letter>, letter: Letter)
+    ensures { outbox.new ≡ Some letter }
+{
+    drop(outbox.replace(letter));
+}
+
 /// The place in the list of the first endpoint at the actor's mail line.
 fn letter_endpoint(
     mails: &[Mail],
@@ -139,7 +146,7 @@ impl Driver {
         }
         if let Some(packet) = self.owner.next_packet(alloc)? {
             notes.note(Mark::Send(packet.future));
-            self.outbox = Some(Letter::Call(packet));
+            put(&mut self.outbox, Letter::Call(packet));
         }
         Ok(())
     }
@@ -165,23 +172,26 @@ impl Driver {
         };
         let actor = actor_of(&letter);
         if self.owner.is_dead(actor) {
+            drop(letter);
             return true;
         }
         let Some(at) = letter_endpoint(lines.mails, self.passes.letters.as_slice(), actor) else {
+            drop(letter);
             return true;
         };
         let is_note = is_note(&letter);
         let endpoint = &mut self.passes.letters[at];
-        if let Err(back) = lines.mails[endpoint.place].post_at::<K, R>(
-            rt,
-            &mut endpoint.pass,
-            letter,
-        ) {
-            self.outbox = Some(back);
-            return false;
+        let mail = &lines.mails[endpoint.place];
+        match mail.post_at::<K, R>(rt, &mut endpoint.pass, letter) {
+            Ok(()) => {
+                mark(&mut self.noted, actor, is_note);
+                true
+            }
+            Err(back) => {
+                put(&mut self.outbox, back);
+                false
+            }
         }
-        mark(&mut self.noted, actor, is_note);
-        true
     }
 
     /// Takes the letter of the next ready call in the outbox, if the outbox is empty, and posts what is in

@@ -14,7 +14,7 @@ ghost use Rattle.act_drive.specs.CallerTraces.{caller_clock};
 ghost use Rattle.act_drive.specs.Tracing.{Traces, TracesStep};
 ghost use Rattle.act_drive.specs.Sessions.{session_view, use_refusal, OnlyHears};
 
-use crate::driver::{CallerLines as Lines, Driver};
+use crate::driver::{CallerLines as Lines, Driver, put};
 use act_mailbox::{Control, ControlCaller, Endpoint, IdleBackoff, Letter, Mark, Notes, Stamped};
 use act_rules::Step;
 use act_types::{ActorId, Arg, FutureId, KillNote, ListOf, Method, NoMemory};
@@ -130,7 +130,7 @@ impl Driver {
         match self.owner.release(a) {
             Ok(Some(note)) => {
                 notes.note(Mark::LastRelease(a));
-                self.outbox = Some(Letter::Note(note));
+                put(&mut self.outbox, Letter::Note(note));
                 Ok(())
             }
             Ok(None) => {

@@ -1,7 +1,10 @@
-use Rattle.std.proofs.Common.{refl, rules, ◌≡◌, ℕ, ◌∙◌, ap, sym, subst, get_or, length}
+use Rattle.std.proofs.Common.{refl, rules, ◌≡◌, ℕ, ◌∙◌, ap, sym, subst, get_or, length, List, All}
 use Rattle.std.proofs.lemmas.List.{length_push}
 use Rattle.act_mailbox.specs.Controls.{ControlView}
-use Rattle.act_drive.specs.Driven.{bare_ask, HasNamed}
+use Rattle.act_mailbox.specs.Passes.{PutterView}
+use Rattle.act_mailbox.specs.declared.control.Asked.{Asked}
+use Rattle.act_mailbox.specs.declared.thread.Endpoint.{Endpoint}
+use Rattle.act_drive.specs.Driven.{AreKillEndpoints, bare_ask, HasNamed}
 use Rattle.act_drive.proofs.Kills.{kills_asked, ask_refused, asked_stays, calling_asked, named_more}
 use Rattle.act_drive.proofs.Tracing.{traces_asked, traces_kept}
 use Rattle.act_drive.proofs.driver.Driver.ask_at.Goals as goal
@@ -69,3 +72,24 @@ returns-in-Err-clause-on_refusal g c _ =
     let items = c.args.self.now.passes.kills.items in
     let here : endpoint ≡ get_or items c.args.at endpoint = search rules in
     traces_kept c.args.lines.now c.args.self.now _ refl refl (ask_refused items c.args.at endpoint c.ask_at.new.pass here c.in-Err.ensures.err) refl (λ letter has. has)
+
+pub returns-in-Err-clause-calling : goal.returns-in-Err-clause-calling
+returns-in-Err-clause-calling g c =
+    let endpoint = c.index_mut-endpoint.result.now in
+    let items = c.args.self.now.passes.kills.items in
+    let here : endpoint ≡ get_or items c.args.at endpoint = search rules in
+    let controls = c.args.lines.now.controls.now in
+    let same = sym (ask_refused items c.args.at endpoint c.ask_at.new.pass here c.in-Err.ensures.err) in
+    let calling = c.requires.calling in
+    record {
+      places = calling.places;
+      flags = calling.flags;
+      hears = calling.hears;
+      collects = calling.collects;
+      held = calling.held;
+      letters = calling.letters;
+      kills = subst (λ (l : List (Endpoint (PutterView Asked ℕ))). AreKillEndpoints controls l) same calling.kills;
+      keeps = calling.keeps;
+      names = subst (λ (l : List (Endpoint (PutterView Asked ℕ))). All (HasNamed controls c.args.self.now.owner.id) l) same calling.names;
+      noted = calling.noted;
+    }

@@ -2,7 +2,7 @@ use Rattle.std.proofs.Common.{refl, rules, ◌≡◌, ◌∙◌, ap, true, List}
 use Rattle.act_rules.specs.Submissions.{handle_refusal}
 use Rattle.act_handles.specs.Handles.{copies_in}
 use Rattle.act_handles.specs.declared.handles.Handle.{Handle}
-use Rattle.act_owner.specs.Owner.{is_known_dead}
+use Rattle.act_owner.specs.Owner.{OwnerView, is_known_dead}
 use Rattle.act_drive.proofs.Drivers.{stays_trans, waits_trans}
 use Rattle.act_drive.proofs.Kills.{kill_follows, kills_dead}
 use Rattle.act_drive.proofs.CodeSteps.{on_err}
@@ -46,3 +46,36 @@ returns-then-ask-clause-traced g c none start done is =
 pub returns-in_err-wait_turn-clause-on_refusal : goal.returns-in_err-wait_turn-clause-on_refusal
 returns-in_err-wait_turn-clause-on_refusal g c =
     on_err c.from_residual.result _ (λ start done is. c.in_err-wait_turn.ensures.only_waits.traced start done (c.ask.ensures.on_refusal c.if-ask.false start done (c.loop.invariant.traced start done is)))
+
+pub returns-then-is_dead-clause-calling : goal.returns-then-is_dead-clause-calling
+returns-then-is_dead-clause-calling g c = c.loop.invariant.calling
+
+pub returns-then-is_dead-clause-stays : goal.returns-then-is_dead-clause-stays
+returns-then-is_dead-clause-stays g c = c.loop.invariant.waits.stay
+
+pub returns-then-is_dead-clause-hears : goal.returns-then-is_dead-clause-hears
+returns-then-is_dead-clause-hears g c = record { calls = c.loop.invariant.waits.calls; handles = c.loop.invariant.waits.handles; kills = refl }
+
+pub returns-then-ask-clause-calling : goal.returns-then-ask-clause-calling
+returns-then-ask-clause-calling g c = c.ask.ensures.calling
+
+pub returns-then-ask-clause-hears : goal.returns-then-ask-clause-hears
+returns-then-ask-clause-hears g c =
+    let same = (c.ask.ensures.asked c.if-ask.true).owner in
+    record {
+      calls = ap (λ (o : OwnerView). o.calls) same ∙ c.loop.invariant.waits.calls;
+      handles = ap (λ (o : OwnerView). o.handles) same ∙ c.loop.invariant.waits.handles;
+      kills = refl;
+    }
+
+pub returns-in_err-wait_turn-clause-calling : goal.returns-in_err-wait_turn-clause-calling
+returns-in_err-wait_turn-clause-calling g c = c.in_err-wait_turn.ensures.only_waits.calling
+
+pub returns-in_err-wait_turn-clause-stays : goal.returns-in_err-wait_turn-clause-stays
+returns-in_err-wait_turn-clause-stays g c =
+    stays_trans _ _ _ (stays_trans _ _ _ c.loop.invariant.waits.stay c.ask.ensures.stays) c.in_err-wait_turn.ensures.only_waits.waits.stay
+
+pub returns-in_err-wait_turn-clause-hears : goal.returns-in_err-wait_turn-clause-hears
+returns-in_err-wait_turn-clause-hears g c =
+    let waits = waits_trans _ _ _ (waits_trans _ _ _ c.loop.invariant.waits (c.ask.ensures.refused c.if-ask.false)) c.in_err-wait_turn.ensures.only_waits.waits in
+    record { calls = waits.calls; handles = waits.handles; kills = refl }

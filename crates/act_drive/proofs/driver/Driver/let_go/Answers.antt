@@ -19,3 +19,18 @@ loop-gone-preserved g c =
       traced = closing_trans c.args.lines.now _ _ _ c.loop-gone.invariant.traced (closing_step c.args.lines.now _ _ c.args.a c.in_ok-release.ensures.traced);
       left = omega (arith, less, below, left);
     }
+
+pub returns-in_err-release-clause-calling : goal.returns-in_err-release-clause-calling
+returns-in_err-release-clause-calling g c = c.in_err-release.ensures.calling
+
+pub returns-in_err-release-clause-only_releases : goal.returns-in_err-release-clause-only_releases
+returns-in_err-release-clause-only_releases g c = winds_trans _ _ _ c.loop-gone.invariant.only_releases c.in_err-release.ensures.only_releases
+
+pub returns-clause-calling : goal.returns-clause-calling
+returns-clause-calling g c = c.loop-gone.invariant.calling
+
+pub returns-clause-only_releases : goal.returns-clause-only_releases
+returns-clause-only_releases g c = c.loop-gone.invariant.only_releases
+
+pub returns-clause-traced : goal.returns-clause-traced
+returns-clause-traced g c = c.loop-gone.invariant.traced

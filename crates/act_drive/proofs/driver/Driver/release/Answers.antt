@@ -20,7 +20,7 @@ returns-in-Ok-Some-clause-calling g c =
     let told : Ok (Some c.in-Ok-Some.note) ≡ release_told between.owner c.args.a = rw c.in-Ok-Some.field-0-is at c.in-Ok-Some.ensures.value in
     let last = last_of _ _ _ _ told in
     let is : c.release.new.self ≡ with_handles between.owner (without_copy c.args.a between.owner.handles) = c.in-Ok-Some.ensures.ok in
-    calling_noted c.args.lines.now between _ c.args.a c.in-Ok-Some.note is refl c.clear.ensures.empty refl refl last.1 c.release.ensures.given last.0 c.clear.ensures.only_waits.calling
+    calling_noted c.args.lines.now between _ c.args.a c.in-Ok-Some.note is refl c.clear.ensures.empty c.put.ensures refl last.1 c.release.ensures.given last.0 c.clear.ensures.only_waits.calling
 
 pub returns-in-Ok-Some-clause-follows : goal.returns-in-Ok-Some-clause-follows
 returns-in-Ok-Some-clause-follows g c = release_follows c.args.lines.now c.args.self.now c.clear.new.self _ c.args.a c.clear.ensures.only_waits.waits c.in-Ok-Some.ensures.ok refl
@@ -45,7 +45,7 @@ returns-in-Ok-Some-clause-noted g c one =
     let between = c.clear.new.self in
     let told : Ok (Some c.in-Ok-Some.note) ≡ release_told between.owner c.args.a = rw c.in-Ok-Some.field-0-is at c.in-Ok-Some.ensures.value in
     let last = last_of _ _ _ _ told in
-    ap (λ (n : ReleaseNote). Some (Note n)) (last.1 ∙ note_stays c.args.self.now between c.args.a c.clear.ensures.only_waits.waits)
+    c.put.ensures ∙ ap (λ (n : ReleaseNote). Some (Note n)) (last.1 ∙ note_stays c.args.self.now between c.args.a c.clear.ensures.only_waits.waits)
 
 pub returns-in-Ok-None-clause-noted : goal.returns-in-Ok-None-clause-noted
 returns-in-Ok-None-clause-noted g c one =
@@ -64,7 +64,7 @@ returns-in-Ok-Some-clause-traced g c start done is =
     let between = c.clear.new.self in
     let told : Ok (Some c.in-Ok-Some.note) ≡ release_told between.owner c.args.a = rw c.in-Ok-Some.field-0-is at c.in-Ok-Some.ensures.value in
     let last = last_of _ _ _ _ told in
-    traces_noted c.args.lines.now between _ c.args.a c.in-Ok-Some.note (ok_of _ _ _ told) last.0 (ap (λ (n : ReleaseNote). n.actor) last.1) c.in-Ok-Some.ensures.ok refl refl start done (c.clear.ensures.only_waits.traced start done is)
+    traces_noted c.args.lines.now between _ c.args.a c.in-Ok-Some.note (ok_of _ _ _ told) last.0 (ap (λ (n : ReleaseNote). n.actor) last.1) c.in-Ok-Some.ensures.ok refl c.put.ensures start done (c.clear.ensures.only_waits.traced start done is)
 
 pub returns-in-Ok-None-clause-traced : goal.returns-in-Ok-None-clause-traced
 returns-in-Ok-None-clause-traced g c start done is =

@@ -1,5 +1,5 @@
 use Rattle.std.proofs.Common.{refl, rules, ◌≡◌, [], ◌∷◌, ◌++◌, Some, All, true, inl, inr}
-use Rattle.act_drive.proofs.Drivers.{calling_dropped, calling_posted, posted_waits}
+use Rattle.act_drive.proofs.Drivers.{calling_dropped, calling_posted, posted_waits, stays_same}
 use Rattle.act_drive.proofs.Tracing.{traces_dropped, traces_back, traces_posted}
 use Rattle.act_owner.specs.Owner.{is_known_dead}
 use Rattle.act_drive.specs.Driven.{actor_of_letter, IsApart}
@@ -17,14 +17,14 @@ returns-in_default-letter_endpoint-clause-calling g c =
     let apart : All (IsApart c.args.lines.now.mails.now (actor_of_letter c.in-Some.letter)) c.args.self.now.passes.letters.items = search rules in
     calling_dropped c.args.lines.now c.args.self.now _ c.in-Some.letter outbox (inr apart) refl refl (search rules) refl c.requires.calling
 
-pub returns-clause-calling : goal.returns-clause-calling
-returns-clause-calling g c =
+pub returns-in-Ok-clause-calling : goal.returns-in-Ok-clause-calling
+returns-in-Ok-clause-calling g c =
     let endpoint = c.index_mut-endpoint.result.now in
     let outbox : c.args.self.now.outbox ≡ Some c.in-Some.letter = search rules in
     calling_posted c.args.lines.now c.args.self.now _ c.in-Some.letter c.in-Some-letter_endpoint.at endpoint c.post_at.new.pass (endpoint.pass.stamps ++ g.K.Stamped.stamp ∷ []) outbox (search rules) (search rules) (λ d. search rules) (search rules) refl (search rules) refl refl (search rules) (search rules) c.requires.calling
 
-pub returns-clause-waits : goal.returns-clause-waits
-returns-clause-waits g c =
+pub returns-in-Ok-clause-waits : goal.returns-in-Ok-clause-waits
+returns-in-Ok-clause-waits g c =
     let endpoint = c.index_mut-endpoint.result.now in
     posted_waits c.args.self.now _ c.in-Some-letter_endpoint.at endpoint c.post_at.new.pass (search rules) (search rules) refl refl refl refl
 
@@ -38,10 +38,19 @@ pub returns-in-Err-clause-traced : goal.returns-in-Err-clause-traced
 returns-in-Err-clause-traced g c =
     let endpoint = c.index_mut-endpoint.result.now in
     let outbox : c.args.self.now.outbox ≡ Some c.in-Some.letter = search rules in
-    traces_back c.args.lines.now c.args.self.now _ c.in-Some.letter c.in-Err.back c.in-Some-letter_endpoint.at endpoint c.post_at.new.pass outbox (search rules) (search rules) refl (search rules) refl refl refl (search rules)
+    traces_back c.args.lines.now c.args.self.now _ c.in-Some.letter c.in-Err.back c.in-Some-letter_endpoint.at endpoint c.post_at.new.pass outbox (search rules) (search rules) refl (search rules) refl refl c.put.ensures (search rules)
 
-pub returns-clause-traced : goal.returns-clause-traced
-returns-clause-traced g c =
+pub returns-in-Ok-clause-traced : goal.returns-in-Ok-clause-traced
+returns-in-Ok-clause-traced g c =
     let endpoint = c.index_mut-endpoint.result.now in
     let outbox : c.args.self.now.outbox ≡ Some c.in-Some.letter = search rules in
     traces_posted c.args.lines.now c.args.self.now _ c.in-Some.letter c.in-Some-letter_endpoint.at endpoint c.post_at.new.pass g.K.Stamped.stamp c.requires.stamp outbox (search rules) (search rules) (search rules) refl (search rules) refl refl (search rules)
+
+pub returns-then-is_dead-clause-waits : goal.returns-then-is_dead-clause-waits
+returns-then-is_dead-clause-waits g c = record { stay = stays_same c.args.self.now _ refl refl refl refl; calls = refl; handles = refl; kills = refl; heard = λ notice has. has }
+
+pub returns-in_default-letter_endpoint-clause-waits : goal.returns-in_default-letter_endpoint-clause-waits
+returns-in_default-letter_endpoint-clause-waits g c = record { stay = stays_same c.args.self.now _ refl refl refl refl; calls = refl; handles = refl; kills = refl; heard = λ notice has. has }
+
+pub returns-in_default-clause-waits : goal.returns-in_default-clause-waits
+returns-in_default-clause-waits g c = record { stay = stays_same c.args.self.now _ refl refl refl refl; calls = refl; handles = refl; kills = refl; heard = λ notice has. has }

@@ -23,3 +23,21 @@ loop-step-preserved g c =
         λ start is. c.in_ok-turn_after.ensures.only_waits.traced start (before.0 ++ step ∷ []) (c.in_ok-step.ensures.traced start before.0 (before.3 start is)),
       );
     }
+
+pub returns-in_err-step-clause-calling : goal.returns-in_err-step-clause-calling
+returns-in_err-step-clause-calling g c = c.in_err-step.ensures.calling
+
+pub returns-in_err-step-clause-stays : goal.returns-in_err-step-clause-stays
+returns-in_err-step-clause-stays g c = stays_trans _ _ _ c.loop-step.invariant.stay c.in_err-step.ensures.stays
+
+pub returns-in_err-turn_after-clause-calling : goal.returns-in_err-turn_after-clause-calling
+returns-in_err-turn_after-clause-calling g c = c.in_err-turn_after.ensures.only_waits.calling
+
+pub returns-in_err-turn_after-clause-stays : goal.returns-in_err-turn_after-clause-stays
+returns-in_err-turn_after-clause-stays g c = stays_trans _ _ _ (stays_trans _ _ _ c.loop-step.invariant.stay c.in_ok-step.ensures.stays) c.in_err-turn_after.ensures.only_waits.waits.stay
+
+pub returns-clause-calling : goal.returns-clause-calling
+returns-clause-calling g c = c.loop-step.invariant.calling
+
+pub returns-clause-stays : goal.returns-clause-stays
+returns-clause-stays g c = c.loop-step.invariant.stay

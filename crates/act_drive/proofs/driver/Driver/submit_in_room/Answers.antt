@@ -7,6 +7,7 @@ use Rattle.act_drive.proofs.Notes.{submit_flags}
 use Rattle.act_drive.proofs.Keeps.{submit_returns}
 use Rattle.act_drive.specs.CallerSteps.{ChangeMade}
 use Rattle.act_drive.proofs.Tracing.{traces_step}
+use Rattle.act_drive.proofs.CodeSteps.{stays_submitted}
 use Rattle.act_drive.proofs.driver.Driver.submit_in_room.Goals as goal
 
 pub returns-in-Ok-clause-calling : goal.returns-in-Ok-clause-calling
@@ -19,3 +20,6 @@ returns-in-Ok-clause-follows g c lines = submit_follows lines c.args.self.now _ 
 
 pub returns-in-Ok-clause-traced : goal.returns-in-Ok-clause-traced
 returns-in-Ok-clause-traced g c lines = traces_step lines c.args.self.now _ (Submit c.args.a c.args.method c.args.args) (ChangeMade (Submitted c.args.a c.args.method c.args.args)) (λ _ _. refl) refl c.in-Ok.ensures.accepted c.in-Ok.ensures.ok refl refl
+
+pub returns-in-Ok-clause-stays : goal.returns-in-Ok-clause-stays
+returns-in-Ok-clause-stays g c = stays_submitted c.args.self.now _ c.args.a c.args.method c.args.args c.in-Ok.ensures.ok refl

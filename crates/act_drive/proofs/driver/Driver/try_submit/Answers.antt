@@ -4,7 +4,7 @@ use Rattle.act_rules.specs.declared.outcome.SubmitRefusal.{SubmitRefusal}
 use Rattle.act_rules.specs.declared.outcome.SubmitRefusal.TheVariants.{NoMemory}
 use Rattle.act_drive.specs.Sessions.{session_view, call_refusal}
 use Rattle.act_drive.proofs.Drivers.{stays_trans}
-use Rattle.act_drive.proofs.CodeSteps.{refusal_in_room, accepted_before, refused_same, handed_on, does_submit, submits_waited}
+use Rattle.act_drive.proofs.CodeSteps.{refusal_in_room, accepted_before, refused_same, handed_on, does_submit, submits_waited, on_err}
 use Rattle.act_drive.proofs.driver.Driver.try_submit.Goals as goal
 
 pub returns-in_err-k-clause-refusal : goal.returns-in_err-k-clause-refusal
@@ -38,3 +38,24 @@ returns-clause-submits g c = submits_waited c.args.self.now c.wait_if_full.new.s
 
 pub returns-clause-traced : goal.returns-clause-traced
 returns-clause-traced g c start done is = c.in_ok-k.ensures.traced c.args.lines.now start done (c.in_ok-wait_if_full.ensures.only_waits.traced start done is)
+
+pub returns-in_err-wait_if_full-clause-calling : goal.returns-in_err-wait_if_full-clause-calling
+returns-in_err-wait_if_full-clause-calling g c = c.in_err-wait_if_full.ensures.only_waits.calling
+
+pub returns-in_err-wait_if_full-clause-stays : goal.returns-in_err-wait_if_full-clause-stays
+returns-in_err-wait_if_full-clause-stays g c = c.in_err-wait_if_full.ensures.only_waits.waits.stay
+
+pub returns-in_err-wait_if_full-clause-waits : goal.returns-in_err-wait_if_full-clause-waits
+returns-in_err-wait_if_full-clause-waits g c = on_err c.from_residual.result _ c.in_err-wait_if_full.ensures.only_waits.waits
+
+pub returns-in_err-wait_if_full-clause-on_refusal : goal.returns-in_err-wait_if_full-clause-on_refusal
+returns-in_err-wait_if_full-clause-on_refusal g c = on_err c.from_residual.result _ c.in_err-wait_if_full.ensures.only_waits.traced
+
+pub returns-in_err-k-clause-calling : goal.returns-in_err-k-clause-calling
+returns-in_err-k-clause-calling g c = c.in_err-k.ensures.calling c.args.lines.now c.in_ok-wait_if_full.ensures.only_waits.calling
+
+pub returns-in_err-k-clause-stays : goal.returns-in_err-k-clause-stays
+returns-in_err-k-clause-stays g c = stays_trans _ _ _ c.in_ok-wait_if_full.ensures.only_waits.waits.stay c.in_err-k.ensures.stays
+
+pub returns-clause-calling : goal.returns-clause-calling
+returns-clause-calling g c = c.in_ok-k.ensures.calling c.args.lines.now c.in_ok-wait_if_full.ensures.only_waits.calling

@@ -1,5 +1,28 @@
 use Rattle.act_drive.proofs.Drivers.{only_waits_trans}
+use Rattle.std.proofs.Common.{rules, ◌≡◌, Option, Some, None, is_some, refl, true, false, List, ℕ, ap}
+use Rattle.act_rules.specs.RunList.{Answer}
+use Rattle.act_rules.specs.Submissions.{kept_at}
+use Rattle.act_drive.specs.Driven.{KeptOn}
 use Rattle.act_drive.proofs.driver.Driver.wait_for.Goals as goal
+
+kept_still : (before later : List (Option Answer)) (k : ℕ) → KeptOn before later → is_some (kept_at before k) ≡ true → is_some (kept_at later k) ≡ true
+kept_still before later k on = go (kept_at before k) (λ answer at. on k answer at)
+  where
+    go : (o : Option Answer) → ((answer : Answer) → o ≡ Some answer → kept_at later k ≡ Some answer) → is_some o ≡ true → is_some (kept_at later k) ≡ true
+    go (Some answer) at has = ap is_some (at answer refl)
+    go None at has = absurd (cc has)
 
 pub loop-preserved : goal.loop-preserved
 loop-preserved g c = only_waits_trans _ _ _ _ c.loop.invariant c.in_ok-wait_turn.ensures.only_waits
+
+pub returns-then-is_some-clause-only_waits : goal.returns-then-is_some-clause-only_waits
+returns-then-is_some-clause-only_waits g c = c.loop.invariant
+
+pub returns-in_err-wait_turn-clause-only_waits : goal.returns-in_err-wait_turn-clause-only_waits
+returns-in_err-wait_turn-clause-only_waits g c = only_waits_trans _ _ _ _ c.loop.invariant c.in_err-wait_turn.ensures.only_waits
+
+pub returns-in_err-wait_turn-clause-kept : goal.returns-in_err-wait_turn-clause-kept
+returns-in_err-wait_turn-clause-kept g c has =
+    let none : is_some (kept_at c.loop.self.owner.kept c.args.k) ≡ false = search rules in
+    let some = kept_still _ _ c.args.k c.loop.invariant.waits.stay.kept has in
+    absurd (cc (none, some))

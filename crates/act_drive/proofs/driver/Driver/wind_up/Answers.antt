@@ -1,3 +1,5 @@
+use Rattle.std.proofs.Common.{◌∙◌}
+use Rattle.act_drive.proofs.Drivers.{stays_trans}
 use Rattle.act_drive.proofs.PlanSteps.{follows_waits}
 use Rattle.act_drive.proofs.Done.{done_of}
 use Rattle.act_drive.proofs.driver.Driver.wind_up.Goals as goal
@@ -10,3 +12,32 @@ pub returns-clause-traced : goal.returns-clause-traced
 returns-clause-traced g c start done is =
     let closed = c.in_ok-close.ensures.traced start done (c.in_ok-turn.ensures.only_waits.traced start done is) in
     (closed.0, c.in_ok-finish.ensures.only_waits.traced start _ closed.1)
+
+pub returns-in_err-turn-clause-calling : goal.returns-in_err-turn-clause-calling
+returns-in_err-turn-clause-calling g c = c.in_err-turn.ensures.only_waits.calling
+
+pub returns-in_err-turn-clause-stays : goal.returns-in_err-turn-clause-stays
+returns-in_err-turn-clause-stays g c = c.in_err-turn.ensures.only_waits.waits.stay
+
+pub returns-in_err-close-clause-calling : goal.returns-in_err-close-clause-calling
+returns-in_err-close-clause-calling g c = c.in_err-close.ensures.calling
+
+pub returns-in_err-close-clause-stays : goal.returns-in_err-close-clause-stays
+returns-in_err-close-clause-stays g c = stays_trans _ _ _ c.in_ok-turn.ensures.only_waits.waits.stay c.in_err-close.ensures.only_releases.stay
+
+pub returns-in_err-finish-clause-calling : goal.returns-in_err-finish-clause-calling
+returns-in_err-finish-clause-calling g c = c.in_err-finish.ensures.only_waits.calling
+
+pub returns-in_err-finish-clause-stays : goal.returns-in_err-finish-clause-stays
+returns-in_err-finish-clause-stays g c =
+    stays_trans _ _ _ (stays_trans _ _ _ c.in_ok-turn.ensures.only_waits.waits.stay c.in_ok-close.ensures.only_releases.stay) c.in_err-finish.ensures.only_waits.waits.stay
+
+pub returns-clause-calling : goal.returns-clause-calling
+returns-clause-calling g c = c.in_ok-finish.ensures.only_waits.calling
+
+pub returns-clause-stays : goal.returns-clause-stays
+returns-clause-stays g c =
+    stays_trans _ _ _ (stays_trans _ _ _ c.in_ok-turn.ensures.only_waits.waits.stay c.in_ok-close.ensures.only_releases.stay) c.in_ok-finish.ensures.only_waits.waits.stay
+
+pub returns-clause-calls : goal.returns-clause-calls
+returns-clause-calls g c = c.in_ok-finish.ensures.only_waits.waits.calls ∙ c.in_ok-close.ensures.only_releases.calls ∙ c.in_ok-turn.ensures.only_waits.waits.calls

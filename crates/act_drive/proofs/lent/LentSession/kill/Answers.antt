@@ -1,6 +1,6 @@
-use Rattle.std.proofs.Common.{rules, ◌≡◌, ◌<◌, length, None}
+use Rattle.std.proofs.Common.{refl, rules, ◌≡◌, ◌<◌, length, None}
 use Rattle.act_drive.specs.Sessions.{session_view, use_refusal}
-use Rattle.act_drive.proofs.AtWork.{work_kill, work_waits}
+use Rattle.act_drive.proofs.AtWork.{work_kill, work_waits, later_seen, hears_seen}
 use Rattle.act_drive.proofs.CodeSteps.{does_kill}
 use Rattle.act_drive.proofs.lent.LentSession.kill.Goals as goal
 
@@ -14,3 +14,12 @@ invariant_of-self g c =
 
 pub invariant_of-self-in-Err : goal.invariant_of-self-in-Err
 invariant_of-self-in-Err g c = work_waits _ _ _ _ _ _ c.self.invariant c.kill.ensures.calling c.in-Err.ensures.waits c.in-Err.ensures.on_refusal
+
+pub returns-in-Ok-clause-on : goal.returns-in-Ok-clause-on
+returns-in-Ok-clause-on g c = later_seen _ _ _ c.self.view_is (record { limits = c.kill.ensures.stays.limits; kept = c.kill.ensures.stays.kept })
+
+pub returns-in-Err-clause-on : goal.returns-in-Err-clause-on
+returns-in-Err-clause-on g c = later_seen _ _ _ c.self.view_is (record { limits = c.kill.ensures.stays.limits; kept = c.kill.ensures.stays.kept })
+
+pub returns-in-Err-clause-hears : goal.returns-in-Err-clause-hears
+returns-in-Err-clause-hears g c = hears_seen _ _ _ c.self.view_is (record { calls = c.kill.ensures.hears.calls; handles = c.kill.ensures.hears.handles; kills = refl })
