@@ -312,6 +312,7 @@ pub(crate) fn prepare_good<K: Actor>(
 {
     let prepared = prepare(alloc, casts, plans)?;
     if let Some(bad) = first_bad_setup(alloc, prepared.setups.as_slice())? {
+        drop(prepared);
         return Err(RunFault::BadPlan(bad.0, bad.1));
     }
     Ok(prepared)
@@ -365,7 +366,8 @@ pub fn run_plans<R: Threads + Wait + Sync, K: Actor + Send, G: Gate>(
     ensures fault { IfErr result (IsFault (map (actor_spec K.state) casts.items) (map plan_view plans.items)) }
 {
     let ran = run_plans_noting::<R, K, G, NoNotes>(rt, alloc, casts, plans, gate)?;
-    let (joined, _pages) = ran;
+    let (joined, pages) = ran;
+    drop(pages);
     Ok(joined)
 }
 

@@ -120,6 +120,7 @@ fn one_serving<'a, K: Actor, G, N: Notes + Drop>(
     } = cast;
     let Endpoint { place, pass } = exec;
     let live = Live::open(alloc, actor, callers.as_slice(), kind)?;
+    drop(callers);
     let lines = ExecLines {
         mail: &lines.mails[place],
         control: &lines.controls[place],
