@@ -1,5 +1,6 @@
 pub mod Opened
 pub mod Groups
+pub mod SoFar
 pub mod Joined
 pub mod Left
 pub mod ByCode

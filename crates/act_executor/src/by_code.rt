@@ -53,6 +53,7 @@ pub fn run_callers<R: Threads + Wait + Sync, K: Actor + Send, C: Code + Send, G:
     let prepared = prepare_good(alloc, casts, plans)?;
     let codes = ByCode { codes };
     let ran = run_prepared::<R, K, ByCode<C>, G, NoNotes>(rt, alloc, prepared, codes, gate)?;
-    let (joined, _pages) = ran;
+    let (joined, pages) = ran;
+    drop(pages);
     Ok(joined)
 }

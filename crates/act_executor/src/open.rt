@@ -1,6 +1,6 @@
 //! Opens the lines of a run, and gives each thread its passes.
 
-ghost use Rattle.std.specs.Prelude.{◌≡◌, ◌≢◌, [], ◌∷◌, length, map, All, AllPairs, IfOk};
+ghost use Rattle.std.specs.Prelude.{◌≡◌, ◌≢◌, ◌+◌, ◌<◌, [], ◌∷◌, length, map, take, All, AllPairs, IfOk};
 ghost use Rattle.std.specs.List.{range_with_len};
 ghost use Rattle.act_actor.specs.Cast.{CallersDiffer};
 ghost use Rattle.act_mailbox.specs.Controls.{starter};
@@ -9,6 +9,7 @@ ghost use Rattle.act_mailbox.specs.Notices.{new_exec};
 ghost use Rattle.act_plans.specs.Setups.{AreMatched};
 ghost use Rattle.act_executor.specs.Groups.{items_of_vec, endpoints_from, AreHands, endpoint_at, AreGrown};
 ghost use Rattle.act_executor.specs.Opened.{AreOpened};
+ghost use Rattle.act_executor.specs.SoFar.{AreMails, AreControls, AreReplies};
 
 use act_actor::Cast;
 use act_drive::CallerPasses;
@@ -78,20 +79,37 @@ fn open_mails<K>(alloc: Global, casts: &[Cast<K>], callers: &[u8]) -> Result<Mai
         (endpoints_from new_putter 0 (map (λ mail. mail.line) opened.lines.items)
         (map (λ cast. cast.callers) casts.now)) opened.callers.items) }
 {
-    let mut lines = Vec::new(alloc);
-    let mut execs = Vec::new(alloc);
-    let mut hands = empty_hands(alloc, callers)?;
-    for (place, cast) in casts.iter().enumerate() {
-        let (line, passes, exec) = Mail::open(alloc, cast.actor, cast.callers.as_slice())?;
-        lines.push(line)?;
-        execs.push(exec)?;
-        deal(callers, &mut hands, place, passes)?;
-    }
-    Ok(Mails {
-        lines,
-        execs,
+    let hands = empty_hands(alloc, callers)?;
+    let mut mails = Mails {
+        lines: Vec::new(alloc),
+        execs: Vec::new(alloc),
         callers: hands,
-    })
+    };
+    for place in 0..casts.len() {
+        open_mail(alloc, casts, place, callers, &mut mails)?;
+    }
+    Ok(mails)
+}
+
+/// Opens the mail line of the cast at this place, after those before it.
+fn open_mail<K>(
+    alloc: Global,
+    casts: &[Cast<K>],
+    place: usize,
+    callers: &[u8],
+    mails: &mut Mails,
+) -> Result<(), NoMemory>
+    requires place { place < length casts.now }
+    requires differ { All (λ cast. CallersDiffer cast.callers) casts.now }
+    requires callers { AllPairs (λ one other. one ≢ other) callers.now }
+    requires before { AreMails (take place casts.now) callers.now mails.old }
+    ensures { IfOk result (λ _. AreMails (take (place + 1) casts.now) callers.now mails.new) }
+{
+    let cast = &casts[place];
+    let (line, passes, exec) = Mail::open(alloc, cast.actor, cast.callers.as_slice())?;
+    mails.lines.push(line)?;
+    mails.execs.push(exec)?;
+    deal(callers, &mut mails.callers, place, passes)
 }
 
 /// Opens a control line for each cast, and deals its callers' passes.
@@ -115,27 +133,39 @@ fn open_controls<K>(alloc: Global, casts: &[Cast<K>], callers: &[u8]) -> Result<
         (endpoints_from new_putter 0 (map (λ control. control.line) opened.lines.items)
         (map (λ cast. cast.callers) casts.now)) opened.callers.items) }
 {
-    let mut lines = Vec::new(alloc);
-    let mut execs = Vec::new(alloc);
-    let mut hands = empty_hands(alloc, callers)?;
-    let mut starters = Vec::new(alloc);
-    for (place, cast) in casts.iter().enumerate() {
-        let (line, passes, starter, exec) = Control::open(
-            alloc,
-            cast.actor,
-            cast.callers.as_slice(),
-        )?;
-        lines.push(line)?;
-        execs.push(exec)?;
-        starters.push(starter)?;
-        deal(callers, &mut hands, place, passes)?;
-    }
-    Ok(Controls {
-        lines,
-        execs,
+    let hands = empty_hands(alloc, callers)?;
+    let mut controls = Controls {
+        lines: Vec::new(alloc),
+        execs: Vec::new(alloc),
         callers: hands,
-        starters,
-    })
+        starters: Vec::new(alloc),
+    };
+    for place in 0..casts.len() {
+        open_control(alloc, casts, place, callers, &mut controls)?;
+    }
+    Ok(controls)
+}
+
+/// Opens the control line of the cast at this place, after those before it.
+fn open_control<K>(
+    alloc: Global,
+    casts: &[Cast<K>],
+    place: usize,
+    callers: &[u8],
+    controls: &mut Controls,
+) -> Result<(), NoMemory>
+    requires place { place < length casts.now }
+    requires differ { All (λ cast. CallersDiffer cast.callers) casts.now }
+    requires callers { AllPairs (λ one other. one ≢ other) callers.now }
+    requires before { AreControls (take place casts.now) callers.now controls.old }
+    ensures { IfOk result (λ _. AreControls (take (place + 1) casts.now) callers.now controls.new) }
+{
+    let cast = &casts[place];
+    let (line, passes, starter, exec) = Control::open(alloc, cast.actor, cast.callers.as_slice())?;
+    controls.starters.push(starter)?;
+    controls.lines.push(line)?;
+    controls.execs.push(exec)?;
+    deal(callers, &mut controls.callers, place, passes)
 }
 
 /// Opens a reply line for each part, and deals its executors' passes.
@@ -157,20 +187,37 @@ fn open_replies(
         (endpoints_from new_exec 0 (map (λ line. line.line) opened.lines.items)
         (map (λ setup. setup.actors.items) setups.now)) opened.execs.items) }
 {
-    let mut lines = Vec::new(alloc);
-    let mut callers = Vec::new(alloc);
-    let mut hands = empty_hands(alloc, actors)?;
-    for (place, setup) in setups.iter().enumerate() {
-        let (line, passes, caller) = Replies::open(alloc, setup.caller, setup.actors.as_slice())?;
-        lines.push(line)?;
-        callers.push(caller)?;
-        deal(actors, &mut hands, place, passes)?;
-    }
-    Ok(AllReplies {
-        lines,
-        callers,
+    let hands = empty_hands(alloc, actors)?;
+    let mut replies = AllReplies {
+        lines: Vec::new(alloc),
+        callers: Vec::new(alloc),
         execs: hands,
-    })
+    };
+    for place in 0..setups.len() {
+        open_reply(alloc, setups, place, actors, &mut replies)?;
+    }
+    Ok(replies)
+}
+
+/// Opens the reply line of the part at this place, after those before it.
+fn open_reply(
+    alloc: Global,
+    setups: &[CallerSetup],
+    place: usize,
+    actors: &[u8],
+    replies: &mut AllReplies,
+) -> Result<(), NoMemory>
+    requires place { place < length setups.now }
+    requires differ { All (λ setup. CallersDiffer setup.actors.items) setups.now }
+    requires actors { AllPairs (λ one other. one ≢ other) actors.now }
+    requires before { AreReplies (take place setups.now) actors.now replies.old }
+    ensures { IfOk result (λ _. AreReplies (take (place + 1) setups.now) actors.now replies.new) }
+{
+    let setup = &setups[place];
+    let (line, passes, caller) = Replies::open(alloc, setup.caller, setup.actors.as_slice())?;
+    replies.lines.push(line)?;
+    replies.callers.push(caller)?;
+    deal(actors, &mut replies.execs, place, passes)
 }
 
 /// The executors' passes, one by one.

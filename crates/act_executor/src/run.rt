@@ -10,7 +10,7 @@ ghost use Rattle.act_tasks.specs.Each.{Each, EachReady};
 ghost use Rattle.act_serve.specs.Served.{end_view};
 ghost use Rattle.act_plans.specs.Setups.{PlansFit, AreMatched, HasLimits};
 ghost use Rattle.act_plans.specs.Runs.{first_bad_plan};
-ghost use Rattle.act_executor.specs.Opened.{IsExec, IsCaller};
+ghost use Rattle.act_executor.specs.Opened.{IsExec, IsCaller, AreOpened};
 ghost use Rattle.act_executor.specs.Joined.{IsJoined};
 ghost use Rattle.act_executor.specs.Plays.{IsPlayed};
 ghost use Rattle.act_executor.specs.Joins.{AreServed, AreDriven, AreStarters};
@@ -162,7 +162,12 @@ fn run_tasks<
     ensures fault { IfErr result IsThreadFault }
 {
     let (served, driven, starter) = run_both(rt, alloc, servings, drivings, starter)?;
-    let Starter { endpoints, .. } = starter;
+    let Starter {
+        endpoints,
+        asked,
+        ..
+    } = starter;
+    drop(asked);
     let (actors, of_actors) = unzip(alloc, served)?;
     let (callers, of_callers) = unzip(alloc, driven)?;
     let ends = Ends {
@@ -220,8 +225,41 @@ fn run_threads<
     let servings = servings(alloc, casts, lines, execs, gate)?;
     let drivings = drivings(alloc, setups, conducts, lines, callers)?;
     let starter = starter_at(alloc, lines.controls.as_slice(), starters)?;
-    let ran = run_tasks(rt, alloc, servings, drivings, starter)?;
-    Ok(ran)
+    run_tasks(rt, alloc, servings, drivings, starter)
+}
+
+/// Runs all threads at lines that were opened for them, and compares what they left.
+fn run_opened<
+    R: Threads + Wait + Sync,
+    K: Actor + Send,
+    D: Conducts,
+    G: Gate,
+    N: Notes + Send + Drop,
+>(
+    rt: &R,
+    alloc: Global,
+    prepared: Prepared<K>,
+    conducts: D,
+    lines: &Lines,
+    passes: Passes,
+    gate: &G,
+) -> Result<(Joined<K>, Pages<N>), RunFault>
+    requires matched { AreMatched prepared.casts.items prepared.setups.items }
+    requires limits { All HasLimits prepared.setups.items }
+    requires fits { All (λ setup. first_bad setup.actors.items setup.plan.items ≡ None) prepared.setups.items }
+    requires opening { AreOpened prepared.casts.items prepared.setups.items (record {
+      lines = lines.now;
+      execs = passes.execs;
+      callers = passes.callers;
+      starters = passes.starters;
+    }) }
+    ensures joined { IfOk result (λ ran. HasRunPlans K.state (λ c. D.One.does (D.of conducts c)) prepared ran.0) }
+    ensures fault { IfErr result IsThreadFault }
+{
+    let ran = run_threads(rt, alloc, prepared, conducts, lines, passes, gate)?;
+    let (ends, pages) = ran;
+    let joined = settle(rt, alloc, lines, ends)?;
+    Ok((joined, pages))
 }
 
 /// Opens all lines, runs all threads, and compares what they left.
@@ -256,10 +294,9 @@ pub(crate) fn run_prepared<
         callers,
         starters,
     };
-    let ran = run_threads(rt, alloc, prepared, conducts, &lines, passes, gate)?;
-    let (ends, pages) = ran;
-    let joined = settle(rt, alloc, &lines, ends)?;
-    Ok((joined, pages))
+    let ran = run_opened(rt, alloc, prepared, conducts, &lines, passes, gate);
+    drop(lines);
+    ran
 }
 
 /// What is prepared of the casts and the plans, where no step of a plan would be refused.
@@ -275,6 +312,7 @@ pub(crate) fn prepare_good<K: Actor>(
 {
     let prepared = prepare(alloc, casts, plans)?;
     if let Some(bad) = first_bad_setup(alloc, prepared.setups.as_slice())? {
+        drop(prepared);
         return Err(RunFault::BadPlan(bad.0, bad.1));
     }
     Ok(prepared)
@@ -328,7 +366,8 @@ pub fn run_plans<R: Threads + Wait + Sync, K: Actor + Send, G: Gate>(
     ensures fault { IfErr result (IsFault (map (actor_spec K.state) casts.items) (map plan_view plans.items)) }
 {
     let ran = run_plans_noting::<R, K, G, NoNotes>(rt, alloc, casts, plans, gate)?;
-    let (joined, _pages) = ran;
+    let (joined, pages) = ran;
+    drop(pages);
     Ok(joined)
 }
 

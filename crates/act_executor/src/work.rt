@@ -1,6 +1,6 @@
 //! What the threads are given.
 
-ghost use Rattle.std.specs.Prelude.{◌≡◌, ◌≢◌, ◌<◌, length, map, zip, All, AllPairs, None, IfOk, ◌==◌, ℕ, Option, position};
+ghost use Rattle.std.specs.Prelude.{◌≡◌, ◌≢◌, ◌<◌, [], ◌∷◌, ◌++◌, length, map, zip, All, AllPairs, None, IfOk, ◌==◌, ℕ, Option, position};
 ghost use Rattle.act_rules.specs.Plans.{first_bad};
 ghost use Rattle.act_actor.specs.Cast.{CallersDiffer};
 ghost use Rattle.act_tasks.specs.Each.{Each, EachReady};
@@ -120,6 +120,7 @@ fn one_serving<'a, K: Actor, G, N: Notes + Drop>(
     } = cast;
     let Endpoint { place, pass } = exec;
     let live = Live::open(alloc, actor, callers.as_slice(), kind)?;
+    drop(callers);
     let lines = ExecLines {
         mail: &lines.mails[place],
         control: &lines.controls[place],
@@ -153,10 +154,32 @@ pub(crate) fn servings<'a, K: Actor, G, N: Notes + Drop>(
 {
     let mut servings = Vec::new(alloc);
     for (cast, exec) in casts.into_iter().zip(execs) {
-        let notes = N::open(alloc);
-        servings.push(one_serving(alloc, cast, lines, exec, gate, notes)?)?;
+        add_serving(alloc, cast, lines, exec, gate, &mut servings)?;
     }
     Ok(servings)
+}
+
+/// What one more actor's thread is given.
+fn add_serving<'a, K: Actor, G, N: Notes + Drop>(
+    alloc: Global,
+    cast: Cast<K>,
+    lines: &'a Lines,
+    exec: Endpoint<ExecPasses>,
+    gate: &'a G,
+    servings: &mut Vec<Serving<'a, K, G, N>>,
+) -> Result<(), NoMemory>
+    requires callers { CallersDiffer cast.callers }
+    requires place { (exec.place < length lines.now.mails.items) × (exec.place < length lines.now.controls.items) }
+    requires exec { IsExec lines.now cast exec }
+    requires ready { All (CanServe K.state) servings.old.items }
+    ensures ready { IfOk result (λ _. All (CanServe K.state) servings.new.items) }
+    ensures starts { IfOk result (λ _.
+        map (serving_start K.state) servings.new.items ≡
+        map (serving_start K.state) servings.old.items ++ cast_start K.state lines.now.replies.items (cast, exec) ∷ []) }
+{
+    let notes = N::open(alloc);
+    servings.push(one_serving(alloc, cast, lines, exec, gate, notes)?)?;
+    Ok(())
 }
 
 /// What one caller's thread is given.
@@ -224,10 +247,34 @@ pub(crate) fn drivings<'a, D: Conducts, N: Notes + Drop>(
     let mut drivings = Vec::new(alloc);
     for (setup, caller) in setups.into_iter().zip(callers) {
         let conduct = conducts.take(setup.caller);
-        let notes = N::open(alloc);
-        drivings.push(one_driving(alloc, setup, conduct, lines, caller, notes)?)?;
+        add_driving(alloc, setup, conduct, lines, caller, &mut drivings)?;
     }
     Ok(drivings)
+}
+
+/// What one more caller's thread is given.
+fn add_driving<'a, D: Conduct, N: Notes + Drop>(
+    alloc: Global,
+    setup: CallerSetup,
+    conduct: D,
+    lines: &'a Lines,
+    caller: Endpoint<CallerPasses>,
+    drivings: &mut Vec<Driving<'a, D, N>>,
+) -> Result<(), NoMemory>
+    requires actors { CallersDiffer setup.actors.items }
+    requires limits { HasLimits setup }
+    requires place { caller.place < length lines.now.replies.items }
+    requires caller { IsCaller lines.now setup caller }
+    requires fits { first_bad setup.actors.items setup.plan.items ≡ None }
+    requires ready { All CanDrive drivings.old.items }
+    ensures ready { IfOk result (λ _. All CanDrive drivings.new.items) }
+    ensures starts { IfOk result (λ _.
+        map driving_start drivings.new.items
+        ≡ map driving_start drivings.old.items ++ setup_start lines.now (λ _. conduct) (setup, caller) ∷ []) }
+{
+    let notes = N::open(alloc);
+    drivings.push(one_driving(alloc, setup, conduct, lines, caller, notes)?)?;
+    Ok(())
 }
 
 /// What one caller's thread goes by, beside its plan. What its own code does is not noted.

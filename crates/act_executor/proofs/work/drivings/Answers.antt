@@ -1,7 +1,6 @@
 use Rattle.std.proofs.Common.{rules, ◌≡◌, ◌≢◌, suc, ◌<◌, ◌++◌, ◌∷◌, List, length, map, zip, get_or, All, AllPairs, None, ◌⊎◌, inl, inr, ap, sym, ◌∙◌, subst, refl, arith}
 use Rattle.std.specs.Vec.Iter.{into_iter_items}
 use Rattle.std.proofs.lemmas.List.{append-nil}
-use Rattle.std.proofs.lemmas.List.Elements.{All-push}
 use Rattle.act_rules.specs.Plans.{first_bad}
 use Rattle.act_mailbox.specs.declared.thread.Endpoint.{Endpoint}
 use Rattle.act_drive.specs.declared.driver.CallerPasses.{CallerPasses}
@@ -10,8 +9,8 @@ use Rattle.act_tasks.specs.Each.{Each}
 use Rattle.act_plans.specs.declared.rising.CallerSetup.{CallerSetup}
 use Rattle.act_plans.specs.Setups.{HasLimits}
 use Rattle.act_executor.specs.Opened.{IsCaller}
-use Rattle.act_executor.specs.Work.{CanDrive, driving_start, setup_start}
-use Rattle.act_executor.proofs.Lists.{all_head, all_tail, each_pop, map_over, nothing_zips}
+use Rattle.act_executor.specs.Work.{driving_start, setup_start}
+use Rattle.act_executor.proofs.Lists.{all_head, all_tail, each_pop, append_over, nothing_zips}
 use Rattle.act_executor.proofs.work.drivings.Goals as goal
 
 pub loop-setup-init : goal.loop-setup-init
@@ -35,14 +34,14 @@ loop-setup-init g c =
       starts = search (rules, first, second);
     }
 
-pub one_driving-requires-clause-caller : goal.one_driving-requires-clause-caller
-one_driving-requires-clause-caller g c = (each_pop (IsCaller c.args.lines.now) _ _ _ _ _ _ c.in-Some.ensures.steps.0.0 c.in-Some.ensures.steps.1.0 c.loop-setup.invariant.callers).0
+pub add_driving-requires-clause-caller : goal.add_driving-requires-clause-caller
+add_driving-requires-clause-caller g c = (each_pop (IsCaller c.args.lines.now) _ _ _ _ _ _ c.in-Some.ensures.steps.0.0 c.in-Some.ensures.steps.1.0 c.loop-setup.invariant.callers).0
 
-pub one_driving-requires-clause-actors : goal.one_driving-requires-clause-actors
-one_driving-requires-clause-actors g c = all_head (λ (setup : CallerSetup). CallersDiffer setup.actors.items) _ _ (subst (λ (l : List CallerSetup). All (λ (setup : CallerSetup). CallersDiffer setup.actors.items) l) c.in-Some.ensures.steps.0.0 c.loop-setup.invariant.actors)
+pub add_driving-requires-clause-actors : goal.add_driving-requires-clause-actors
+add_driving-requires-clause-actors g c = all_head (λ (setup : CallerSetup). CallersDiffer setup.actors.items) _ _ (subst (λ (l : List CallerSetup). All (λ (setup : CallerSetup). CallersDiffer setup.actors.items) l) c.in-Some.ensures.steps.0.0 c.loop-setup.invariant.actors)
 
-pub one_driving-requires-clause-limits : goal.one_driving-requires-clause-limits
-one_driving-requires-clause-limits g c = all_head HasLimits _ _ (subst (λ (l : List CallerSetup). All HasLimits l) c.in-Some.ensures.steps.0.0 c.loop-setup.invariant.limits)
+pub add_driving-requires-clause-limits : goal.add_driving-requires-clause-limits
+add_driving-requires-clause-limits g c = all_head HasLimits _ _ (subst (λ (l : List CallerSetup). All HasLimits l) c.in-Some.ensures.steps.0.0 c.loop-setup.invariant.limits)
 
 pub loop-setup-preserved : goal.loop-setup-preserved
 loop-setup-preserved g c =
@@ -51,7 +50,6 @@ loop-setup-preserved g c =
     let before = c.loop-setup.drivings.items in
     let setups = into_iter_items c.next.new.self.a in
     let callers = into_iter_items c.next.new.self.b in
-    let one = c.in_ok-one_driving.field-0 in
     let first : into_iter_items c.loop-setup.setup-iterator.a ≡ c.in-Some.setup ∷ setups = c.in-Some.ensures.steps.0.0 in
     let second : into_iter_items c.loop-setup.setup-iterator.b ≡ c.in-Some.caller ∷ callers = c.in-Some.ensures.steps.1.0 in
     let P : Endpoint CallerPasses → Type 0 = λ caller. caller.place < length lines.replies.items in
@@ -75,9 +73,9 @@ loop-setup-preserved g c =
       differ = λ i j d lt below. differ (suc i) (suc j) d (omega (arith, lt)) (omega (arith, below));
       left = λ k d below. c.take-conduct.ensures.others (get_or setups k d).caller (λ same. differ 0 (suc k) d (omega arith) (omega (arith, below)) (sym same)) ∙ all_tail L _ _ left k d below;
       fits = all_tail F _ _ (subst (λ (l : List CallerSetup). All F l) first inv.fits);
-      ready = subst (λ l. All CanDrive l) (sym c.in_ok-push.ensures.items) (All-push CanDrive before one inv.ready c.in_ok-one_driving.ensures.ready);
-      starts = ap (λ l. map driving_start l ++ rest) c.in_ok-push.ensures.items ∙ map_over driving_start before one rest
-          ∙ ap (λ x. map driving_start before ++ x ∷ rest) (c.in_ok-one_driving.ensures.start ∙ ap (λ x. setup_start lines (λ _. x) (c.in-Some.setup, c.in-Some.caller)) mine)
+      ready = c.in_ok-add_driving.ensures.ready;
+      starts = ap (λ l. l ++ rest) c.in_ok-add_driving.ensures.starts ∙ append_over (map driving_start before) (setup_start lines (λ _. c.take-conduct.result) (c.in-Some.setup, c.in-Some.caller)) rest
+          ∙ ap (λ x. map driving_start before ++ setup_start lines (λ _. x) (c.in-Some.setup, c.in-Some.caller) ∷ rest) mine
           ∙ (λ i. map driving_start before ++ map (setup_start lines all) (zip (sym first i) (sym second i))) ∙ inv.starts;
     }
 
@@ -90,10 +88,10 @@ returns-clause-starts g c =
     let ends : (length setups ≡ 0) ⊎ (length callers ≡ 0) = elim c.in-None.ensures.steps [ inl s ↦ inl (sym inv.first_long ∙ s.1.0) | inr s ↦ inr (sym inv.second_long ∙ s.1.0) ] in
     sym (append-nil (map driving_start c.loop-setup.drivings.items)) ∙ ap (λ l. map driving_start c.loop-setup.drivings.items ++ map (setup_start lines (g.D.Conducts.of c.args.conducts)) l) (sym (nothing_zips setups callers ends)) ∙ inv.starts
 
-pub one_driving-requires-clause-fits : goal.one_driving-requires-clause-fits
-one_driving-requires-clause-fits g c = all_head (λ (setup : CallerSetup). first_bad setup.actors.items setup.plan.items ≡ None) _ _ (subst (λ (l : List CallerSetup). All (λ (setup : CallerSetup). first_bad setup.actors.items setup.plan.items ≡ None) l) c.in-Some.ensures.steps.0.0 c.loop-setup.invariant.fits)
+pub add_driving-requires-clause-fits : goal.add_driving-requires-clause-fits
+add_driving-requires-clause-fits g c = all_head (λ (setup : CallerSetup). first_bad setup.actors.items setup.plan.items ≡ None) _ _ (subst (λ (l : List CallerSetup). All (λ (setup : CallerSetup). first_bad setup.actors.items setup.plan.items ≡ None) l) c.in-Some.ensures.steps.0.0 c.loop-setup.invariant.fits)
 
-pub one_driving-requires-clause-place : goal.one_driving-requires-clause-place
-one_driving-requires-clause-place g c =
+pub add_driving-requires-clause-place : goal.add_driving-requires-clause-place
+add_driving-requires-clause-place g c =
     let P : Endpoint CallerPasses → Type 0 = λ caller. caller.place < length c.args.lines.now.replies.items in
     all_head P _ _ (subst (λ (l : List (Endpoint CallerPasses)). All P l) c.in-Some.ensures.steps.1.0 c.loop-setup.invariant.places)

@@ -1,15 +1,14 @@
 use Rattle.std.proofs.Common.{rules, ◌≡◌, ◌<◌, ◌++◌, ◌∷◌, List, length, map, zip, All, ◌⊎◌, inl, inr, ap, sym, ◌∙◌, subst}
 use Rattle.std.specs.Vec.Iter.{into_iter_items}
 use Rattle.std.proofs.lemmas.List.{append-nil}
-use Rattle.std.proofs.lemmas.List.Elements.{All-push}
 use Rattle.act_mailbox.specs.declared.thread.Endpoint.{Endpoint}
 use Rattle.act_serve.specs.declared.turn.ExecPasses.{ExecPasses}
 use Rattle.act_actor.specs.declared.cast.Cast.{Cast}
 use Rattle.act_actor.specs.Cast.{CallersDiffer}
 use Rattle.act_tasks.specs.Each.{Each}
 use Rattle.act_executor.specs.Opened.{IsExec}
-use Rattle.act_executor.specs.Work.{CanServe, serving_start, cast_start}
-use Rattle.act_executor.proofs.Lists.{all_head, all_tail, each_pop, map_over, nothing_zips}
+use Rattle.act_executor.specs.Work.{serving_start, cast_start}
+use Rattle.act_executor.proofs.Lists.{all_head, all_tail, each_pop, append_over, nothing_zips}
 use Rattle.act_executor.proofs.work.servings.Goals as goal
 
 pub loop-cast-init : goal.loop-cast-init
@@ -29,16 +28,16 @@ loop-cast-init g c =
       starts = search (rules, first, second);
     }
 
-pub one_serving-requires-clause-callers : goal.one_serving-requires-clause-callers
-one_serving-requires-clause-callers g c = all_head (λ (cast : Cast _). CallersDiffer cast.callers) _ _ (subst (λ (l : List (Cast _)). All (λ (cast : Cast _). CallersDiffer cast.callers) l) c.in-Some.ensures.steps.0.0 c.loop-cast.invariant.callers)
+pub add_serving-requires-clause-callers : goal.add_serving-requires-clause-callers
+add_serving-requires-clause-callers g c = all_head (λ (cast : Cast _). CallersDiffer cast.callers) _ _ (subst (λ (l : List (Cast _)). All (λ (cast : Cast _). CallersDiffer cast.callers) l) c.in-Some.ensures.steps.0.0 c.loop-cast.invariant.callers)
 
-pub one_serving-requires-clause-place : goal.one_serving-requires-clause-place
-one_serving-requires-clause-place g c =
+pub add_serving-requires-clause-place : goal.add_serving-requires-clause-place
+add_serving-requires-clause-place g c =
     let P : Endpoint ExecPasses → Type 0 = λ exec. (exec.place < length c.args.lines.now.mails.items) × (exec.place < length c.args.lines.now.controls.items) in
     all_head P _ _ (subst (λ (l : List (Endpoint ExecPasses)). All P l) c.in-Some.ensures.steps.1.0 c.loop-cast.invariant.places)
 
-pub one_serving-requires-clause-exec : goal.one_serving-requires-clause-exec
-one_serving-requires-clause-exec g c = (each_pop (IsExec c.args.lines.now) _ _ _ _ _ _ c.in-Some.ensures.steps.0.0 c.in-Some.ensures.steps.1.0 c.loop-cast.invariant.execs).0
+pub add_serving-requires-clause-exec : goal.add_serving-requires-clause-exec
+add_serving-requires-clause-exec g c = (each_pop (IsExec c.args.lines.now) _ _ _ _ _ _ c.in-Some.ensures.steps.0.0 c.in-Some.ensures.steps.1.0 c.loop-cast.invariant.execs).0
 
 pub loop-cast-preserved : goal.loop-cast-preserved
 loop-cast-preserved g c =
@@ -48,7 +47,6 @@ loop-cast-preserved g c =
     let before = c.loop-cast.servings.items in
     let casts = into_iter_items c.next.new.self.a in
     let execs = into_iter_items c.next.new.self.b in
-    let one = c.in_ok-one_serving.field-0 in
     let first : into_iter_items c.loop-cast.cast-iterator.a ≡ c.in-Some.cast ∷ casts = c.in-Some.ensures.steps.0.0 in
     let second : into_iter_items c.loop-cast.cast-iterator.b ≡ c.in-Some.exec ∷ execs = c.in-Some.ensures.steps.1.0 in
     let P : Endpoint ExecPasses → Type 0 = λ exec. (exec.place < length c.args.lines.now.mails.items) × (exec.place < length c.args.lines.now.controls.items) in
@@ -60,9 +58,8 @@ loop-cast-preserved g c =
       callers = all_tail Q _ _ (subst (λ (l : List (Cast _)). All Q l) first inv.callers);
       places = all_tail P _ _ (subst (λ (l : List (Endpoint ExecPasses)). All P l) second inv.places);
       execs = (each_pop (IsExec c.args.lines.now) _ _ _ _ _ _ first second inv.execs).1;
-      ready = subst (λ l. All (CanServe state) l) (sym c.in_ok-push.ensures.items) (All-push (CanServe state) before one inv.ready c.in_ok-one_serving.ensures.ready);
-      starts = ap (λ l. map (serving_start state) l ++ rest) c.in_ok-push.ensures.items ∙ map_over (serving_start state) before one rest
-          ∙ ap (λ x. map (serving_start state) before ++ x ∷ rest) c.in_ok-one_serving.ensures.start
+      ready = c.in_ok-add_serving.ensures.ready;
+      starts = ap (λ l. l ++ rest) c.in_ok-add_serving.ensures.starts ∙ append_over (map (serving_start state) before) (cast_start state replies (c.in-Some.cast, c.in-Some.exec)) rest
           ∙ (λ i. map (serving_start state) before ++ map (cast_start state replies) (zip (sym first i) (sym second i))) ∙ inv.starts;
     }
 
