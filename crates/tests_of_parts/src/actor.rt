@@ -2,7 +2,7 @@
 
 ghost use Rattle.act_actor.specs.Cast.{CallersDiffer};
 
-use act_actor::{Arrival, Cast, Live, actors_of, cast_fits, limits_of};
+use act_actor::{Arrival, Cast, Live, Retired, actors_of, cast_fits, limits_of};
 use act_kinds::{Actor, Boxed, Counter, ListKind, Table};
 use act_types::{
     ActorId, CallerId, Fault, FutureId, ListOf, Method, NoMemory, Packet, ReleaseNote, Reply,
@@ -64,6 +64,22 @@ fn opened_counter(alloc: Global) -> Result<Live<Counter>, NoMemory> {
     Live::open(alloc, ActorId::new(1).unwrap(), &callers, Counter::open())
 }
 
+/// Brings a call, of which this is told.
+fn assert_arrives<K: Actor>(rt: &impl Abort, live: &mut Live<K>, packet: Packet, arrival: Arrival) {
+    let arrived = live.arrive(packet);
+    let wanted = Ok(arrival);
+    assert_eq!(rt; arrived, wanted);
+    drop(arrived);
+    drop(wanted);
+}
+
+/// What a call was answered, and what it is to be answered.
+fn assert_reply(rt: &impl Abort, ran: Option<Reply>, wanted: Option<Reply>) {
+    assert_eq!(rt; ran, wanted);
+    drop(ran);
+    drop(wanted);
+}
+
 /// Brings a call, which hasn't come before.
 fn arrive_new<K: Actor>(
     rt: &impl Abort,
@@ -72,14 +88,14 @@ fn arrive_new<K: Actor>(
     row: &Row,
 ) -> Result<(), NoMemory> {
     let packet = packet_of(alloc, row)?;
-    assert_eq!(rt; live.arrive(packet), Ok(Arrival::New));
+    assert_arrives(rt, live, packet, Arrival::New);
     Ok(())
 }
 
 /// Runs the call that comes next, which is this one.
 fn assert_runs<K: Actor>(rt: &impl Abort, live: &mut Live<K>, row: &Row) -> Result<(), NoMemory> {
     let ran = live.run(CallerId::new(1).unwrap())?;
-    assert_eq!(rt; ran, Some(reply_of(row)));
+    assert_reply(rt, ran, Some(reply_of(row)));
     Ok(())
 }
 
@@ -101,9 +117,10 @@ fn run_if_next<K: Actor>(rt: &impl Abort, live: &mut Live<K>, row: &Row) -> Resu
     let caller = CallerId::new(1).unwrap();
     let (number, _, _, _) = *row;
     let next = live.log().len();
-    let wanted = (number as usize == next).then(|| reply_of(row));
-    assert_eq!(rt; live.has_next(caller), wanted.is_some());
-    assert_eq!(rt; live.run(caller)?, wanted);
+    let is_next = number as usize == next;
+    assert_eq!(rt; live.has_next(caller), is_next);
+    let ran = live.run(caller)?;
+    assert_reply(rt, ran, is_next.then(|| reply_of(row)));
     Ok(())
 }
 
@@ -129,6 +146,7 @@ fn run_at_once<K: Actor>(
 ) -> Result<Option<Reply>, NoMemory> {
     let packet = packet_of(alloc, row)?;
     if !live.runs_at_once(&packet) {
+        drop(packet);
         return Ok(None);
     }
     let reply = live.run_now(packet)?;
@@ -157,8 +175,8 @@ fn run_in_both<K: Actor>(
     row: &Row,
     runs: bool,
 ) -> Result<(), NoMemory> {
-    let wanted = runs.then(|| reply_of(row));
-    assert_eq!(rt; run_at_once(alloc, live, row)?, wanted);
+    let ran = run_at_once(alloc, live, row)?;
+    assert_reply(rt, ran, runs.then(|| reply_of(row)));
     if runs {
         arrive_new(rt, alloc, other, row)?;
         assert_runs(rt, other, row)?;
@@ -176,7 +194,9 @@ fn not_at_once_before<K: Actor>(
 ) -> Result<(), NoMemory> {
     arrive_new(rt, alloc, live, held)?;
     assert!(rt; !live.holds_none());
-    assert!(rt; run_at_once(alloc, live, next)?.is_none());
+    let ran = run_at_once(alloc, live, next)?;
+    assert!(rt; ran.is_none());
+    drop(ran);
     arrive_new(rt, alloc, live, next)?;
     assert_runs(rt, live, next)
 }
@@ -210,8 +230,17 @@ fn run_each_in_both<K: Actor>(
 #[test]
 fn at_once_as_arrived_and_run(rt: HostRuntime) -> Result<(), Fail> {
     let mut live = opened_counter(rt.alloc())?;
-    let mut other = opened_counter(rt.alloc())?;
-    run_each_in_both(&rt, rt.alloc(), &mut live, &mut other)?;
+    let mut other = match opened_counter(rt.alloc()) {
+        Ok(other) => other,
+        Err(refused) => {
+            drop(live);
+            return Err(refused.into());
+        }
+    };
+    let done = run_each_in_both(&rt, rt.alloc(), &mut live, &mut other);
+    drop(live);
+    drop(other);
+    done?;
     Ok(())
 }
 
@@ -221,8 +250,11 @@ fn not_at_once_elsewhere(rt: HostRuntime) -> Result<(), Fail> {
     let alloc = rt.alloc();
     let c1 = CallerId::new(1).unwrap();
     let mut live = Live::open(alloc, ActorId::new(2).unwrap(), &[c1], Counter::open())?;
-    let ran = run_at_once(alloc, &mut live, &(0, Method::Get, &[], Ok(0)))?;
+    let ran = run_at_once(alloc, &mut live, &(0, Method::Get, &[], Ok(0)));
+    drop(live);
+    let ran = ran?;
     assert!(rt; ran.is_none());
+    drop(ran);
     Ok(())
 }
 
@@ -234,15 +266,19 @@ fn end_at_once<K: Actor>(
 ) -> Result<(), NoMemory> {
     let end = run_at_once(alloc, live, &(0, Method::Terminate, &[], Ok(0)))?;
     assert!(rt; end.is_some() && live.terminated());
+    drop(end);
     let after = run_at_once(alloc, live, &(1, Method::Get, &[], Ok(0)))?;
     assert!(rt; after.is_none());
+    drop(after);
     Ok(())
 }
 
 #[test]
 fn not_at_once_after_a_terminate(rt: HostRuntime) -> Result<(), Fail> {
     let mut live = opened_counter(rt.alloc())?;
-    end_at_once(&rt, rt.alloc(), &mut live)?;
+    let done = end_at_once(&rt, rt.alloc(), &mut live);
+    drop(live);
+    done?;
     Ok(())
 }
 
@@ -268,14 +304,16 @@ fn failed_arguments(rt: HostRuntime) -> Result<(), Fail> {
         ),
         (3, Method::Size, &[], Ok(0)),
     ];
-    play(&rt, alloc, &mut live, &rows)?;
+    let done = play(&rt, alloc, &mut live, &rows);
+    drop(live);
+    done?;
     Ok(())
 }
 
 /// A counter that was asked to add 5.
 fn counted() -> Result<Counter, NoMemory> {
     let mut counter = Counter::open();
-    let _ = counter.ask(&Method::Add, &[Value::Int(5)])?;
+    drop(counter.ask(&Method::Add, &[Value::Int(5)])?);
     Ok(counter)
 }
 
@@ -284,6 +322,21 @@ fn assert_killed<K: Actor>(rt: &impl Abort, live: Live<K>, ran: usize) {
     let id = live.id();
     let dead = live.kill();
     assert_eq!(rt; (dead.id(), dead.log().len()), (id, ran));
+    drop(dead);
+}
+
+/// Once what came before is done, the actor is killed.
+fn assert_killed_if<K: Actor>(
+    rt: &impl Abort,
+    live: Live<K>,
+    done: Result<(), NoMemory>,
+    ran: usize,
+) -> Result<(), NoMemory> {
+    match done {
+        Ok(()) => assert_killed(rt, live, ran),
+        Err(_) => drop(live),
+    }
+    done
 }
 
 /// Plays a counter that was at 5 when its actor was opened.
@@ -308,8 +361,8 @@ fn opened_later(rt: HostRuntime) -> Result<(), Fail> {
     let alloc = rt.alloc();
     let callers = [CallerId::new(1).unwrap()];
     let mut live = Live::open(alloc, ActorId::new(1).unwrap(), &callers, counted()?)?;
-    play_from_five(&rt, alloc, &mut live)?;
-    assert_killed(&rt, live, 2);
+    let done = play_from_five(&rt, alloc, &mut live);
+    assert_killed_if(&rt, live, done, 2)?;
     Ok(())
 }
 
@@ -348,14 +401,28 @@ fn noted(rt: &impl Abort, alloc: Global, callers: &[CallerId]) -> Result<Live<Co
     Ok(live)
 }
 
+/// Adds the text of the state that actor 1 retired with, after one call.
+fn tell_retired(
+    rt: &impl Abort,
+    retired: &Retired<Counter>,
+    text: &mut String,
+) -> Result<(), NoMemory> {
+    retired.state_text(text)?;
+    let seen = (retired.id(), retired.log().len());
+    assert_eq!(rt; seen, (ActorId::new(1).unwrap(), 1));
+    Ok(())
+}
+
 /// The text of the state that the actor retired with, or none where it didn't retire.
 fn retired_text(rt: &impl Abort, alloc: Global, live: Live<Counter>) -> Result<String, NoMemory> {
     let mut text = String::new(alloc);
-    if let Ok(retired) = live.retire() {
-        retired.state_text(&mut text)?;
-        let seen = (retired.id(), retired.log().len());
-        assert_eq!(rt; seen, (ActorId::new(1).unwrap(), 1));
-    }
+    let ended = live.retire();
+    let told = match &ended {
+        Ok(retired) => tell_retired(rt, retired, &mut text),
+        Err(_) => Ok(()),
+    };
+    drop(ended);
+    told?;
     Ok(text)
 }
 
@@ -382,8 +449,13 @@ fn text_at_the_end(
     requires { CallersDiffer callers.now }
 {
     let mut live = noted(rt, alloc, callers)?;
-    add_two(rt, alloc, &mut live, drained)?;
-    retired_text(rt, alloc, live)
+    match add_two(rt, alloc, &mut live, drained) {
+        Ok(()) => retired_text(rt, alloc, live),
+        Err(refused) => {
+            drop(live);
+            Err(refused)
+        }
+    }
 }
 
 #[test]
@@ -404,12 +476,16 @@ fn run_the_end(rt: &impl Abort, live: &mut Live<Counter>) -> Result<(), NoMemory
     let Some(reply) = live.run(c1)? else {
         panic!(rt; "held back after its turn came");
     };
-    assert_eq!(rt; (reply.place, reply.answer), (2, Ok(Value::Unit)));
+    let wanted = Ok(Value::Unit);
+    assert_eq!(rt; (reply.place, &reply.answer), (2, &wanted));
+    drop(reply);
+    drop(wanted);
     assert_eq!(rt;
         (live.terminated(), live.has_next(c1), live.drained()),
         (true, false, false)
     );
-    assert_eq!(rt; live.run(c1)?, None);
+    let after = live.run(c1)?;
+    assert_reply(rt, after, None);
     Ok(())
 }
 
@@ -442,14 +518,23 @@ fn play_to_the_end(
     run_the_end(rt, live)
 }
 
-#[test]
-fn ended_in_its_turn(rt: HostRuntime) -> Result<(), Fail> {
-    let mut live = opened_counter(rt.alloc())?;
-    play_to_the_end(&rt, rt.alloc(), &mut live)?;
+/// An actor that ran its `terminate` doesn't retire, and keeps its log.
+fn assert_ended(rt: &impl Abort, live: Live<Counter>) {
     let Err(live) = live.retire() else {
         panic!(rt; "retired after its end");
     };
-    assert_killed(&rt, live, 3);
+    assert_killed(rt, live, 3);
+}
+
+#[test]
+fn ended_in_its_turn(rt: HostRuntime) -> Result<(), Fail> {
+    let mut live = opened_counter(rt.alloc())?;
+    let done = play_to_the_end(&rt, rt.alloc(), &mut live);
+    match done {
+        Ok(()) => assert_ended(&rt, live),
+        Err(_) => drop(live),
+    }
+    done?;
     Ok(())
 }
 
@@ -471,8 +556,8 @@ fn play_to_a_gap<K: Actor>(
 #[test]
 fn killed_with_calls_held(rt: HostRuntime) -> Result<(), Fail> {
     let mut live = opened_counter(rt.alloc())?;
-    play_to_a_gap(&rt, rt.alloc(), &mut live)?;
-    assert_killed(&rt, live, 1);
+    let done = play_to_a_gap(&rt, rt.alloc(), &mut live);
+    assert_killed_if(&rt, live, done, 1)?;
     Ok(())
 }
 
@@ -573,7 +658,30 @@ fn bring_again<K: Actor>(rt: &impl Abort, live: &mut Live<K>, back: Packet, befo
     assert_eq!(rt; live.has_next(CallerId::new(1).unwrap()), before);
     let arrival = live.arrival(back.actor, back.caller, back.number);
     assert_eq!(rt; arrival, Arrival::New);
-    assert_eq!(rt; live.arrive(back), Ok(Arrival::New));
+    assert_arrives(rt, live, back, Arrival::New);
+}
+
+/// Brings a call that came back as it went.
+fn bring_back<K: Actor>(
+    rt: &impl Abort,
+    alloc: Global,
+    live: &mut Live<K>,
+    row: &Row,
+    back: Packet,
+    before: bool,
+) -> Result<(), NoMemory> {
+    match packet_of(alloc, row) {
+        Ok(wanted) => {
+            assert_eq!(rt; back, wanted);
+            drop(wanted);
+            bring_again(rt, live, back, before);
+            Ok(())
+        }
+        Err(refused) => {
+            drop(back);
+            Err(refused)
+        }
+    }
 }
 
 /// Brings a new call, and what came back of it where memory is refused.
@@ -584,11 +692,10 @@ fn bring_at_last<K: Actor>(
     row: &Row,
 ) -> Result<(), NoMemory> {
     let before = live.has_next(CallerId::new(1).unwrap());
-    if let Err(back) = live.arrive(packet_of(alloc, row)?) {
-        assert_eq!(rt; back, packet_of(alloc, row)?);
-        bring_again(rt, live, back, before);
+    match live.arrive(packet_of(alloc, row)?) {
+        Ok(_) => Ok(()),
+        Err(back) => bring_back(rt, alloc, live, row, back, before),
     }
-    Ok(())
 }
 
 /// Brings a call twice.
@@ -599,7 +706,7 @@ fn bring<K: Actor>(
     row: &Row,
 ) -> Result<(), NoMemory> {
     bring_at_last(rt, alloc, live, row)?;
-    assert_eq!(rt; live.arrive(packet_of(alloc, row)?), Ok(Arrival::Repeat));
+    assert_arrives(rt, live, packet_of(alloc, row)?, Arrival::Repeat);
     Ok(())
 }
 
@@ -612,26 +719,32 @@ fn run_next<K: Actor>(
     let caller = CallerId::new(1).unwrap();
     let before = text_of(rt, alloc, live)?;
     let place = live.log().len();
-    let mut ran = live.run(caller);
-    if ran.is_err() {
-        assert_eq!(rt; (live.has_next(caller), live.log().len()), (true, place));
-        assert_eq!(rt; text_of(rt, alloc, live)?, before);
-        ran = live.run(caller);
-        assert!(rt; ran.is_ok());
+    let ran = live.run(caller);
+    if ran.is_ok() {
+        drop(before);
+        return ran;
     }
-    ran
+    drop(ran);
+    assert_eq!(rt; (live.has_next(caller), live.log().len()), (true, place));
+    assert_eq!(rt; text_of(rt, alloc, live)?, before);
+    drop(before);
+    let again = live.run(caller);
+    assert!(rt; again.is_ok());
+    again
 }
 
 /// Opens an actor with a list, and once more where memory is refused.
 fn opened_list(rt: &impl Abort, alloc: Global) -> Result<Live<ListKind>, NoMemory> {
     let a1 = ActorId::new(1).unwrap();
     let callers = [CallerId::new(1).unwrap()];
-    let mut opened = Live::open(alloc, a1, &callers, ListKind::open(alloc));
-    if opened.is_err() {
-        opened = Live::open(alloc, a1, &callers, ListKind::open(alloc));
-        assert!(rt; opened.is_ok());
+    let opened = Live::open(alloc, a1, &callers, ListKind::open(alloc));
+    if opened.is_ok() {
+        return opened;
     }
-    opened
+    drop(opened);
+    let again = Live::open(alloc, a1, &callers, ListKind::open(alloc));
+    assert!(rt; again.is_ok());
+    again
 }
 
 /// Runs the calls in turn.
@@ -642,7 +755,8 @@ fn run_each<K: Actor>(
     rows: &[Row],
 ) -> Result<(), NoMemory> {
     for row in rows {
-        assert_eq!(rt; run_next(rt, alloc, live)?, Some(reply_of(row)));
+        let ran = run_next(rt, alloc, live)?;
+        assert_reply(rt, ran, Some(reply_of(row)));
     }
     Ok(())
 }
@@ -682,6 +796,8 @@ fn play_list<K: Actor>(rt: &impl Abort, alloc: Global, live: &mut Live<K>) -> Re
 #[test]
 fn refused_memory_changes_nothing(rt: HostRuntime) -> Result<(), Fail> {
     let mut live = opened_list(&rt, rt.alloc())?;
-    play_list(&rt, rt.alloc(), &mut live)?;
+    let done = play_list(&rt, rt.alloc(), &mut live);
+    drop(live);
+    done?;
     Ok(())
 }

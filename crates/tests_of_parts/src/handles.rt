@@ -46,6 +46,7 @@ fn from_the_opening_to_the_last_release(rt: HostRuntime) -> Result<(), Fail> {
     for (actor, want) in [(a1, HandleRefusal::NoHandle), (a2, HandleRefusal::NoActor)] {
         assert_eq!(rt; handles.refusal(actor), Some(want));
     }
+    drop(handles);
     Ok(())
 }
 
@@ -62,6 +63,7 @@ fn the_most_copies(rt: HostRuntime) -> Result<(), Fail> {
     }
     assert_eq!(rt; last, 65_535);
     assert_eq!(rt; handles.copy(a1), Err(HandleRefusal::TooManyCopies));
+    drop(handles);
     Ok(())
 }
 
@@ -69,12 +71,14 @@ fn the_most_copies(rt: HostRuntime) -> Result<(), Fail> {
 fn opened_again(rt: &impl Abort, alloc: Global, actors: &[ActorId]) -> Result<Handles, NoMemory>
     requires { AllPairs (λ one other. one ≢ other) actors.now }
 {
-    let mut handles = Handles::open(alloc, actors);
-    if handles.is_err() {
-        handles = Handles::open(alloc, actors);
-        assert!(rt; handles.is_ok());
+    let handles = Handles::open(alloc, actors);
+    if handles.is_ok() {
+        return handles;
     }
-    handles
+    drop(handles);
+    let again = Handles::open(alloc, actors);
+    assert!(rt; again.is_ok());
+    again
 }
 
 /// Memory is refused from outside, at most once.
@@ -86,5 +90,6 @@ fn refused_memory_changes_nothing(rt: HostRuntime) -> Result<(), Fail> {
     for actor in [a1, a8] {
         assert_eq!(rt; (handles.holds(actor), handles.number(actor)), (1, Ok(0)));
     }
+    drop(handles);
     Ok(())
 }

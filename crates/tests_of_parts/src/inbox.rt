@@ -35,7 +35,11 @@ fn call_of(alloc: Global, number: u32) -> Result<Packet, NoMemory> {
 }
 
 fn arrive(rt: &impl Abort, inbox: &mut Inbox, packet: Packet, arrival: Arrival) {
-    assert_eq!(rt; inbox.arrive(packet), Ok(arrival));
+    let arrived = inbox.arrive(packet);
+    let wanted = Ok(arrival);
+    assert_eq!(rt; arrived, wanted);
+    drop(arrived);
+    drop(wanted);
 }
 
 /// Brings caller 1's call of this number.
@@ -51,10 +55,22 @@ fn bring(
     Ok(())
 }
 
+fn number_of(packet: Packet) -> u32 {
+    let number = packet.number;
+    drop(packet);
+    number
+}
+
+fn method_of(packet: Packet) -> Method {
+    let method = packet.method;
+    drop(packet);
+    method
+}
+
 /// Takes out the call of caller 1 that is next, if it came.
 fn take(rt: &impl Abort, inbox: &mut Inbox, wanted: Option<u32>) {
     let taken = inbox.next(CallerId::new(1).unwrap());
-    assert_eq!(rt; taken.map(|packet| packet.number), wanted);
+    assert_eq!(rt; taken.map(number_of), wanted);
 }
 
 /// Brings calls of caller 1 and of a stranger.
@@ -101,7 +117,7 @@ fn show_and_take(rt: &impl Abort, inbox: &mut Inbox) {
     let c1 = CallerId::new(1).unwrap();
     for wanted in [Some(Method::Get), None] {
         let shown = inbox.peek(c1).map(|packet| packet.method);
-        let taken = inbox.next(c1).map(|packet| packet.method);
+        let taken = inbox.next(c1).map(method_of);
         assert_eq!(rt; shown, wanted);
         assert_eq!(rt; taken, wanted);
         assert_eq!(rt; inbox.handed(c1), 1);
@@ -111,9 +127,13 @@ fn show_and_take(rt: &impl Abort, inbox: &mut Inbox) {
 #[test]
 fn first_arrivals_in_order(rt: HostRuntime) -> Result<(), Fail> {
     let mut inbox = Inbox::open(rt.alloc(), &[CallerId::new(1).unwrap()])?;
-    bring_each(&rt, rt.alloc(), &mut inbox)?;
-    show_and_take(&rt, &mut inbox);
-    note_each(&rt, &mut inbox);
+    let done = bring_each(&rt, rt.alloc(), &mut inbox);
+    if done.is_ok() {
+        show_and_take(&rt, &mut inbox);
+        note_each(&rt, &mut inbox);
+    }
+    drop(inbox);
+    done?;
     Ok(())
 }
 
@@ -137,26 +157,35 @@ fn take_ascending(rt: &impl Abort, inbox: &mut Inbox) {
     }
 }
 
+fn descend_and_ascend(rt: &impl Abort, alloc: Global, inbox: &mut Inbox) -> Result<(), NoMemory> {
+    bring_descending(rt, alloc, inbox, Arrival::New)?;
+    take_ascending(rt, inbox);
+    bring_descending(rt, alloc, inbox, Arrival::Repeat)?;
+    bring(rt, alloc, inbox, 1000, Arrival::New)?;
+    take(rt, inbox, Some(1000));
+    Ok(())
+}
+
 #[test]
 fn descending_numbers_go_out_ascending(rt: HostRuntime) -> Result<(), Fail> {
     let mut inbox = Inbox::open(rt.alloc(), &[CallerId::new(1).unwrap()])?;
-    bring_descending(&rt, rt.alloc(), &mut inbox, Arrival::New)?;
-    take_ascending(&rt, &mut inbox);
-    bring_descending(&rt, rt.alloc(), &mut inbox, Arrival::Repeat)?;
-    bring(&rt, rt.alloc(), &mut inbox, 1000, Arrival::New)?;
-    take(&rt, &mut inbox, Some(1000));
+    let done = descend_and_ascend(&rt, rt.alloc(), &mut inbox);
+    drop(inbox);
+    done?;
     Ok(())
 }
 
 /// Opens an inbox, and once more where memory is refused.
 fn opened(rt: &impl Abort, alloc: Global) -> Result<Inbox, NoMemory> {
     let callers = [CallerId::new(1).unwrap()];
-    let mut opened = Inbox::open(alloc, &callers);
-    if opened.is_err() {
-        opened = Inbox::open(alloc, &callers);
-        assert!(rt; opened.is_ok());
+    let opened = Inbox::open(alloc, &callers);
+    if opened.is_ok() {
+        return opened;
     }
-    opened
+    drop(opened);
+    let again = Inbox::open(alloc, &callers);
+    assert!(rt; again.is_ok());
+    again
 }
 
 /// Brings a call that came back, since memory was refused.
@@ -164,7 +193,7 @@ fn bring_again(rt: &impl Abort, inbox: &mut Inbox, back: Packet, before: (bool, 
     let c1 = CallerId::new(1).unwrap();
     assert_eq!(rt; (inbox.has_next(c1), inbox.handed(c1)), before);
     assert_eq!(rt; inbox.arrival(back.caller, back.number), Arrival::New);
-    assert_eq!(rt; inbox.arrive(back), Ok(Arrival::New));
+    arrive(rt, inbox, back, Arrival::New);
 }
 
 /// Brings a call, and what came back of it where memory is refused.
@@ -177,11 +206,18 @@ fn bring_at_last(
     let c1 = CallerId::new(1).unwrap();
     let call = call_of(alloc, number)?;
     let before = (inbox.has_next(c1), inbox.handed(c1));
-    if let Err(back) = inbox.arrive(call_of(alloc, number)?) {
+    let same = match call_of(alloc, number) {
+        Ok(same) => same,
+        Err(refused) => {
+            drop(call);
+            return Err(refused);
+        }
+    };
+    if let Err(back) = inbox.arrive(same) {
         assert_eq!(rt; back, call);
         bring_again(rt, inbox, back, before);
     }
-    assert_eq!(rt; inbox.arrive(call), Ok(Arrival::Repeat));
+    arrive(rt, inbox, call, Arrival::Repeat);
     Ok(())
 }
 
@@ -197,8 +233,12 @@ fn bring_all_at_last(rt: &impl Abort, alloc: Global, inbox: &mut Inbox) -> Resul
 #[test]
 fn refused_memory_changes_nothing(rt: HostRuntime) -> Result<(), Fail> {
     let mut inbox = opened(&rt, rt.alloc())?;
-    bring_all_at_last(&rt, rt.alloc(), &mut inbox)?;
-    take_ascending(&rt, &mut inbox);
+    let done = bring_all_at_last(&rt, rt.alloc(), &mut inbox);
+    if done.is_ok() {
+        take_ascending(&rt, &mut inbox);
+    }
+    drop(inbox);
+    done?;
     Ok(())
 }
 
@@ -217,6 +257,12 @@ impl Call {
             number: packet.number,
             future: packet.future,
         }
+    }
+
+    fn shown(packet: Packet) -> Call {
+        let call = Call::of(&packet);
+        drop(packet);
+        call
     }
 
     fn packet(&self, alloc: Global) -> Packet {
@@ -332,6 +378,7 @@ fn bring_to_both(
     assert_eq!(rt; inbox.arrival(packet.caller, packet.number), arrival);
     if may_pass && passed_by(inbox, &packet) {
         assert_eq!(rt; plain.next(call.caller), Some(call));
+        drop(packet);
     } else {
         arrive(rt, inbox, packet, arrival);
     }
@@ -350,12 +397,34 @@ fn random_step(
     step: u32,
 ) -> Result<(), AllocError> {
     if word / 3 % 3 == 0 {
-        let taken = inbox.next(caller).map(|packet| Call::of(&packet));
+        let taken = inbox.next(caller).map(Call::shown);
         assert_eq!(rt; taken, plain.next(caller));
         return Ok(());
     }
     let call = call_near(plain, caller, word, step);
     bring_to_both(rt, alloc, inbox, plain, call, word / 72 % 2 == 0)
+}
+
+/// Thirty steps, each of the caller that its word says, after which both show the same.
+fn random_steps(
+    rt: &impl Abort,
+    alloc: Global,
+    inbox: &mut Inbox,
+    plain: &mut PlainInbox,
+    callers: &[CallerId; 3],
+    word: &mut u32,
+) -> Result<(), AllocError> {
+    for step in 0..30 {
+        *word = word_after(*word);
+        let caller = callers[(*word % 3) as usize];
+        random_step(rt, alloc, inbox, plain, caller, *word, step)?;
+        assert!(rt;
+            callers
+                .iter()
+                .all(|caller| seen(inbox, *caller) == plain.seen(*caller))
+        );
+    }
+    Ok(())
 }
 
 /// Steps of an inbox and of a plain one, each drawn from the row of random words.
@@ -370,16 +439,10 @@ fn random_run(rt: &impl Abort, alloc: Global, word: &mut u32) -> Result<(), Fail
         held: Vec::new(alloc),
         handed: [0; CALLER_NUMBERS],
     };
-    for step in 0..30 {
-        *word = word_after(*word);
-        let caller = callers[(*word % 3) as usize];
-        random_step(rt, alloc, &mut inbox, &mut plain, caller, *word, step)?;
-        assert!(rt;
-            callers
-                .iter()
-                .all(|caller| seen(&inbox, *caller) == plain.seen(*caller))
-        );
-    }
+    let done = random_steps(rt, alloc, &mut inbox, &mut plain, &callers, word);
+    drop(inbox);
+    drop(plain);
+    done?;
     Ok(())
 }
 
@@ -389,6 +452,7 @@ fn pass_each_by(rt: &impl Abort, alloc: Global, inbox: &mut Inbox) -> Result<(),
     for (number, passes) in [(1, false), (0, true), (0, false), (2, false), (1, true)] {
         let packet = call_of(alloc, number)?;
         assert_eq!(rt; passed_by(inbox, &packet), passes);
+        drop(packet);
     }
     assert_eq!(rt; (inbox.handed(c1), inbox.has_next(c1)), (2, false));
     Ok(())
@@ -403,20 +467,29 @@ fn bring_beside_one_held(
     bring(rt, alloc, inbox, 1, Arrival::Repeat)?;
     bring(rt, alloc, inbox, 3, Arrival::New)?;
     assert_eq!(rt; inbox.is_empty(), false);
-    assert_eq!(rt; passed_by(inbox, &call_of(alloc, 2)?), false);
+    let between = call_of(alloc, 2)?;
+    assert_eq!(rt; passed_by(inbox, &between), false);
+    drop(between);
     bring(rt, alloc, inbox, 2, Arrival::New)
+}
+
+fn pass_bring_and_take(rt: &impl Abort, alloc: Global, inbox: &mut Inbox) -> Result<(), NoMemory> {
+    pass_each_by(rt, alloc, inbox)?;
+    bring_beside_one_held(rt, alloc, inbox)?;
+    for wanted in [Some(2), Some(3), None] {
+        take(rt, inbox, wanted);
+    }
+    assert_eq!(rt; inbox.is_empty(), true);
+    Ok(())
 }
 
 /// A call that is passed by leaves what one leaves that comes and goes out.
 #[test]
 fn passed_by_as_come_and_gone(rt: HostRuntime) -> Result<(), Fail> {
     let mut inbox = Inbox::open(rt.alloc(), &[CallerId::new(1).unwrap()])?;
-    pass_each_by(&rt, rt.alloc(), &mut inbox)?;
-    bring_beside_one_held(&rt, rt.alloc(), &mut inbox)?;
-    for wanted in [Some(2), Some(3), None] {
-        take(&rt, &mut inbox, wanted);
-    }
-    assert_eq!(rt; inbox.is_empty(), true);
+    let done = pass_bring_and_take(&rt, rt.alloc(), &mut inbox);
+    drop(inbox);
+    done?;
     Ok(())
 }
 

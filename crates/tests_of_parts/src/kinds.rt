@@ -55,6 +55,27 @@ fn text_of<A: Actor>(alloc: Global, actor: &A) -> Result<String, NoMemory> {
     Ok(text)
 }
 
+/// Compares an answer with that of a row.
+fn assert_answered(
+    rt: &impl Abort,
+    alloc: Global,
+    answered: Answer,
+    answer: &Result<Word, Fault>,
+) -> Result<(), NoMemory> {
+    match answer_of(alloc, answer) {
+        Ok(wanted) => {
+            assert_eq!(rt; answered, wanted);
+            drop(answered);
+            drop(wanted);
+            Ok(())
+        }
+        Err(refused) => {
+            drop(answered);
+            Err(refused)
+        }
+    }
+}
+
 /// Asks each call of the actor in turn.
 fn play<A: Actor>(
     rt: &impl Abort,
@@ -64,10 +85,10 @@ fn play<A: Actor>(
 ) -> Result<(), NoMemory> {
     for (method, words, answer, state) in rows {
         let answered = asked(alloc, actor, method, words)?;
-        let wanted = answer_of(alloc, answer)?;
-        assert_eq!(rt; answered, wanted);
+        assert_answered(rt, alloc, answered, answer)?;
         let text = text_of(alloc, actor)?;
         assert_eq!(rt; text.as_str(), *state);
+        drop(text);
     }
     Ok(())
 }
@@ -200,7 +221,7 @@ fn table_rows(rt: HostRuntime) -> Result<(), Fail> {
 fn fill(alloc: Global, table: &mut Table) -> Result<(), NoMemory> {
     for number in 1..1024_i64 {
         let key = Text::new(format!(in alloc; "k{number}")?);
-        let _ = table.ask(&Method::Put, &[Value::Text(key), Value::Int(number)])?;
+        drop(table.ask(&Method::Put, &[Value::Text(key), Value::Int(number)])?);
     }
     Ok(())
 }

@@ -73,7 +73,11 @@ fn first_argument(packet: &Packet) -> Option<i64> {
 
 fn packet_told(alloc: Global, owner: &mut Owner, k: FutureId) -> Told {
     match owner.packet(alloc, k) {
-        Ok(packet) => Told::Packet(packet.number, first_argument(&packet)),
+        Ok(packet) => {
+            let told = Told::Packet(packet.number, first_argument(&packet));
+            drop(packet);
+            told
+        }
         Err(refusal) => Told::NotSent(refusal),
     }
 }
@@ -83,7 +87,9 @@ fn next_told(alloc: Global, owner: &mut Owner) -> Result<Told, NoMemory> {
         return Ok(Told::Next(None));
     };
     let first = first_argument(&packet);
-    Ok(Told::Next(Some((packet.future, packet.number, first))))
+    let told = Told::Next(Some((packet.future, packet.number, first)));
+    drop(packet);
+    Ok(told)
 }
 
 fn sending_told(owner: &mut Owner, k: FutureId) -> Told {
@@ -251,12 +257,11 @@ fn assert_first_packet(
     times: u32,
 ) -> Result<(), NoMemory> {
     for time in 0..times {
-        let wanted = first_packet(alloc)?;
-        assert_eq!(rt;
-            owner.packet(alloc, FutureId::new(0)),
-            Ok(wanted),
-            "time {time}"
-        );
+        let wanted = Ok(first_packet(alloc)?);
+        let packet = owner.packet(alloc, FutureId::new(0));
+        assert_eq!(rt; packet, wanted, "time {time}");
+        drop(packet);
+        drop(wanted);
     }
     Ok(())
 }
@@ -300,14 +305,19 @@ fn assert_left(rt: &impl Abort, owner: &Owner) {
         (FutureId::new(3), Some(Err(Fault::ActorDied))),
     ];
     assert_answers(rt, owner, &answers);
+    drop(answers);
 }
 
 /// The last call goes to an actor that is known to be dead, and doesn't count.
 #[test]
 fn from_the_first_call_to_a_death(rt: HostRuntime) -> Result<(), Fail> {
     let mut owner = opened(rt.alloc())?;
-    assert_lives_and_dies(&rt, rt.alloc(), &mut owner)?;
-    assert_left(&rt, &owner);
+    let done = assert_lives_and_dies(&rt, rt.alloc(), &mut owner);
+    if done.is_ok() {
+        assert_left(&rt, &owner);
+    }
+    drop(owner);
+    done?;
     Ok(())
 }
 
@@ -336,6 +346,7 @@ fn calls_sent() -> [(Ask, Told); 8] {
 fn sent_without_their_packets(rt: HostRuntime) -> Result<(), Fail> {
     let mut owner = opened(rt.alloc())?;
     assert_told(&rt, rt.alloc(), &mut owner, &calls_sent());
+    drop(owner);
     Ok(())
 }
 
@@ -400,6 +411,7 @@ fn a_limit_counts_what_has_no_answer(rt: HostRuntime) -> Result<(), Fail> {
     let mut owner = opened_with_a_limit(rt.alloc(), 1)?;
     assert_limited(&rt, &owner, 1);
     assert_told(&rt, rt.alloc(), &mut owner, &calls_under_a_limit());
+    drop(owner);
     Ok(())
 }
 
@@ -450,6 +462,7 @@ fn calls_wait_for_answers(rt: HostRuntime) -> Result<(), Fail> {
     let mut owner = opened(rt.alloc())?;
     assert_told(&rt, rt.alloc(), &mut owner, &waiting_calls());
     assert_told(&rt, rt.alloc(), &mut owner, &calls_that_waited());
+    drop(owner);
     Ok(())
 }
 
@@ -654,6 +667,7 @@ fn assert_forged(rt: &impl Abort, alloc: Global, owner: &mut Owner) {
 fn forged_notices_change_nothing(rt: HostRuntime) -> Result<(), Fail> {
     let mut owner = opened_with_a_limit(rt.alloc(), 2)?;
     assert_forged(&rt, rt.alloc(), &mut owner);
+    drop(owner);
     Ok(())
 }
 
@@ -683,6 +697,7 @@ fn the_most_calls(rt: HostRuntime) -> Result<(), Fail> {
         (last, owner.count()),
         (Some((65_536, SubmitRefusal::TooManyCalls)), 65_536)
     );
+    drop(owner);
     Ok(())
 }
 
@@ -703,6 +718,7 @@ fn the_most_copies(rt: HostRuntime) -> Result<(), Fail> {
         (owner.copy(a1), owner.holds(a1)),
         (Err(HandleRefusal::TooManyCopies), 65_535)
     );
+    drop(owner);
     Ok(())
 }
 
@@ -728,12 +744,14 @@ fn asked_again(
 
 /// The caller, which is opened once more where memory is refused.
 fn opened_again(rt: &impl Abort, alloc: Global) -> Result<Owner, NoMemory> {
-    let mut owner = opened_with_a_limit(alloc, 2);
-    if owner.is_err() {
-        owner = opened_with_a_limit(alloc, 2);
-        assert!(rt; owner.is_ok());
+    let owner = opened_with_a_limit(alloc, 2);
+    if owner.is_ok() {
+        return owner;
     }
-    owner
+    drop(owner);
+    let again = opened_with_a_limit(alloc, 2);
+    assert!(rt; again.is_ok());
+    again
 }
 
 /// Asks for what each row asks for, where memory may be refused once.
@@ -781,6 +799,8 @@ fn calls_and_packets() -> [(Ask, Told); 11] {
 fn refused_memory_changes_nothing(rt: HostRuntime) -> Result<(), Fail> {
     let alloc = rt.alloc();
     let mut owner = opened_again(&rt, alloc)?;
-    assert_told_again(&rt, alloc, &mut owner, &calls_and_packets())?;
+    let done = assert_told_again(&rt, alloc, &mut owner, &calls_and_packets());
+    drop(owner);
+    done?;
     Ok(())
 }

@@ -47,14 +47,19 @@ fn assert_first_stays(rt: &impl Abort, table: &mut ReplyTable) {
         (9, None),
     ];
     assert_answers(rt, table, &rows);
+    drop(rows);
     assert_eq!(rt; (table.unanswered(), table.count()), (1, 3));
 }
 
 #[test]
 fn the_first_answer_stays(rt: HostRuntime) -> Result<(), Fail> {
     let mut table = ReplyTable::new(rt.alloc());
-    enter_three(&rt, &mut table)?;
-    assert_first_stays(&rt, &mut table);
+    let done = enter_three(&rt, &mut table);
+    if done.is_ok() {
+        assert_first_stays(&rt, &mut table);
+    }
+    drop(table);
+    done?;
     Ok(())
 }
 
@@ -85,9 +90,17 @@ fn play(rt: &impl Abort, table: &mut ReplyTable, step: Step) -> Result<(), NoMem
 /// Late and stray answers leave the counts.
 #[test]
 fn counts_of_two_actors(rt: HostRuntime) -> Result<(), Fail> {
+    let mut table = ReplyTable::new(rt.alloc());
+    let done = assert_counts(&rt, &mut table);
+    drop(table);
+    done?;
+    Ok(())
+}
+
+/// Compares how many futures of each actor wait after each step.
+fn assert_counts(rt: &impl Abort, table: &mut ReplyTable) -> Result<(), NoMemory> {
     let a1 = ActorId::new(1).unwrap();
     let a2 = ActorId::new(2).unwrap();
-    let mut table = ReplyTable::new(rt.alloc());
     for (step, want) in [
         (Step::Enter(a1), (1, 0)),
         (Step::Enter(a2), (1, 1)),
@@ -100,7 +113,7 @@ fn counts_of_two_actors(rt: HostRuntime) -> Result<(), Fail> {
         (Step::Enter(a1), (1, 1)),
         (Step::Keep(FutureId::new(1)), (1, 0)),
     ] {
-        play(&rt, &mut table, step)?;
+        play(rt, table, step)?;
         assert_eq!(rt;
             (table.pending(a1), table.pending(a2)),
             want,
@@ -148,6 +161,8 @@ fn refused_memory_changes_nothing(rt: HostRuntime) -> Result<(), Fail> {
     fill(&rt, &mut table);
     let rows = [(1, None), (2, Some(Ok(Value::Int(5)))), (16, None)];
     assert_answers(&rt, &table, &rows);
+    drop(rows);
+    drop(table);
     Ok(())
 }
 
@@ -256,16 +271,31 @@ fn assert_same(rt: &impl Abort, table: &ReplyTable, futures: &[Plain]) {
     }
 }
 
+/// Takes many steps, and compares which futures wait after each.
+fn take_steps(
+    rt: &impl Abort,
+    table: &mut ReplyTable,
+    futures: &mut Vec<Plain>,
+) -> Result<(), NoMemory> {
+    let mut number = 2_463_534_242;
+    for _ in 0..4_000 {
+        number = shuffled(number);
+        take_step(rt, table, futures, number)?;
+        assert_waiting(rt, table, futures);
+    }
+    Ok(())
+}
+
 #[test]
 fn the_same_as_a_plain_list(rt: HostRuntime) -> Result<(), Fail> {
     let mut table = ReplyTable::new(rt.alloc());
     let mut futures = Vec::new(rt.alloc());
-    let mut number = 2_463_534_242;
-    for _ in 0..4_000 {
-        number = shuffled(number);
-        take_step(&rt, &mut table, &mut futures, number)?;
-        assert_waiting(&rt, &table, &futures);
+    let done = take_steps(&rt, &mut table, &mut futures);
+    if done.is_ok() {
+        assert_same(&rt, &table, &futures);
     }
-    assert_same(&rt, &table, &futures);
+    drop(table);
+    drop(futures);
+    done?;
     Ok(())
 }

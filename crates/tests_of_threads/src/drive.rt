@@ -108,12 +108,14 @@ fn driven<R: Wait>(
     requires unused { IsUnusedCaller lines.now.mails.now lines.now.controls.now lines.now.replies.now 1 passes }
 {
     let driven = drive(rt, alloc, owner, plan, lines, passes);
-    Told {
+    let told = Told {
         is_starved: driven.starved,
         first: answer_of(&driven.owner, 0),
         second: answer_of(&driven.owner, 1),
         third: answer_of(&driven.owner, 2),
-    }
+    };
+    drop(driven);
+    told
 }
 
 /// A caller drives its plan, with an executor in a thread beside it.
@@ -183,20 +185,28 @@ fn joined<R: Threads + Wait + Sync>(
     requires owner { owner ≡ opened_under owner.limits 1 (1 ∷ []) }
     requires fits { first_bad (1 ∷ []) plan.items ≡ None }
 {
-    let (station, passes, exec) = opened(alloc)?;
-    let station = &station;
+    let (station, passes, exec) = match opened(alloc) {
+        Ok(opened) => opened,
+        Err(refused) => {
+            drop(owner);
+            drop(plan);
+            return Err(refused);
+        }
+    };
+    let lent = &station;
     let lines = CallerLines {
-        mails: &station.mails,
-        controls: &station.controls,
-        replies: &station.replies,
+        mails: &lent.mails,
+        controls: &lent.controls,
+        replies: &lent.replies,
     };
     let exec_lines = ExecLines {
-        mail: &station.mails[0],
-        control: &station.controls[0],
-        replies: &station.replies,
+        mail: &lent.mails[0],
+        control: &lent.controls[0],
+        replies: &lent.replies,
     };
     let caller = (owner, plan, passes);
     let (told, is_right) = beside(rt, alloc, caller, exec, (&lines, &exec_lines), way);
+    drop(station);
     Ok((told, is_right?))
 }
 
@@ -205,8 +215,8 @@ fn joined<R: Threads + Wait + Sync>(
 fn kept<R: Threads + Wait + Sync>(rt: &R, alloc: Global, way: Way) -> Result<(Told, bool), NoMemory>
     requires sync { IsSync R.row }
 {
-    let owner = owner_of(alloc, way)?;
     let plan = plan_of(alloc, way)?;
+    let owner = owner_of(alloc, way)?;
     joined(rt, alloc, owner, plan, way)
 }
 

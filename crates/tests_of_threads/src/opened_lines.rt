@@ -126,18 +126,22 @@ fn assert_counts(rt: &impl Abort, opened: &Opened) {
     );
 }
 
+fn assert_opened(rt: &impl Abort, alloc: Global, opened: &Opened) -> Result<(), AllocError> {
+    assert_counts(rt, opened);
+    assert_execs(rt, alloc, opened.execs.as_slice(), &[&[0, 2], &[0, 1]])?;
+    assert_callers(rt, alloc, opened.callers.as_slice(), &[&[0, 1], &[1], &[0]])
+}
+
 #[test]
 fn two_casts_and_three_callers(rt: HostRuntime) -> Result<(), Fail> {
     let alloc = rt.alloc();
     let (casts, setups) = matched(alloc)?;
-    let opened = open_lines(alloc, casts.as_slice(), setups.as_slice())?;
-    assert_counts(&rt, &opened);
-    assert_execs(&rt, alloc, opened.execs.as_slice(), &[&[0, 2], &[0, 1]])?;
-    assert_callers(
-        &rt,
-        alloc,
-        opened.callers.as_slice(),
-        &[&[0, 1], &[1], &[0]],
-    )?;
+    let opened = open_lines(alloc, casts.as_slice(), setups.as_slice());
+    drop(casts);
+    drop(setups);
+    let opened = opened?;
+    let done = assert_opened(&rt, alloc, &opened);
+    drop(opened);
+    done?;
     Ok(())
 }

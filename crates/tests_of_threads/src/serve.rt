@@ -75,8 +75,18 @@ fn serve_counter<R: Wait, G: Gate>(
     requires fit { PassesOf lines.now 1 [] passes }
     requires fresh { IsUnusedExec lines.now.replies.now (1 ∷ []) passes }
 {
-    let live = Live::open(alloc, actor(), &[caller()], Counter::open())?;
-    Ok(end_of(&serve(rt, live, lines, passes, gate)))
+    match Live::open(alloc, actor(), &[caller()], Counter::open()) {
+        Ok(live) => {
+            let finished = serve(rt, live, lines, passes, gate);
+            let end = end_of(&finished);
+            drop(finished);
+            Ok(end)
+        }
+        Err(refused) => {
+            drop(passes);
+            Err(refused)
+        }
+    }
 }
 
 /// A counter serves the station's lines.
@@ -108,8 +118,19 @@ fn served_letters<R: Wait + Abort>(
     letters: &[Posted],
 ) -> Result<(End, Option<Counted>), NoMemory> {
     let (mut station, mut collector, passes) = opened(alloc)?;
-    assert!(rt; station.post_all(rt, alloc, letters)?);
-    served(rt, alloc, &station, &mut collector, passes)
+    let told = match station.post_all(rt, alloc, letters) {
+        Ok(is_posted) => {
+            assert!(rt; is_posted);
+            served(rt, alloc, &station, &mut collector, passes)
+        }
+        Err(refused) => {
+            drop(passes);
+            Err(refused)
+        }
+    };
+    drop(station);
+    drop(collector);
+    told
 }
 
 /// A counter serves these letters, and a kill that was asked before.
@@ -119,9 +140,20 @@ fn served_and_killed<R: Wait + Abort>(
     letters: &[Posted],
 ) -> Result<(End, Option<Counted>), NoMemory> {
     let (mut station, mut collector, passes) = opened(alloc)?;
-    assert!(rt; station.post_all(rt, alloc, letters)?);
-    assert!(rt; station.ask_kill(rt));
-    served(rt, alloc, &station, &mut collector, passes)
+    let told = match station.post_all(rt, alloc, letters) {
+        Ok(is_posted) => {
+            assert!(rt; is_posted);
+            assert!(rt; station.ask_kill(rt));
+            served(rt, alloc, &station, &mut collector, passes)
+        }
+        Err(refused) => {
+            drop(passes);
+            Err(refused)
+        }
+    };
+    drop(station);
+    drop(collector);
+    told
 }
 
 #[test]

@@ -58,7 +58,7 @@ fn take_one<R: Wait, K: Actor>(rt: &R, mail: &Mail, letters: &mut MailExec, live
                 return;
             }
             Some(Letter::Call(packet)) => {
-                let _ = live.arrive(packet);
+                drop(live.arrive(packet));
                 return;
             }
         }
@@ -133,7 +133,7 @@ fn give_times<R: Wait, K: Actor>(
 {
     for _ in 0..times {
         let copy = reply.copy_of(alloc)?;
-        let _ = line.give(rt, gives, live.log(), Notice::Answered(copy));
+        drop(line.give(rt, gives, live.log(), Notice::Answered(copy)));
     }
     Ok(())
 }
@@ -160,7 +160,9 @@ pub(super) fn run_one<R: Wait, K: Actor>(
     let Some(reply) = run_next(live)? else {
         return Ok(());
     };
-    give_times(rt, alloc, live, line, gives, &reply, times)
+    let given = give_times(rt, alloc, live, line, gives, &reply, times);
+    drop(reply);
+    given
 }
 
 /// Tells the actor's death.
@@ -175,7 +177,7 @@ pub(super) fn tell_death<R: Wait, K: Actor>(
     requires grown { IsPrefix gives.old.seen (live_view K.state live.now).log }
     requires alive { All IsNoDeath gives.old.given }
 {
-    let _ = line.give(rt, gives, live.log(), Notice::Death(live.id()));
+    drop(line.give(rt, gives, live.log(), Notice::Death(live.id())));
 }
 
 /// An executor of the way `Holds`. Whether it saw no kill before it ran the call.
@@ -298,11 +300,22 @@ fn act<R: Wait, K: Actor>(
     }
 }
 
+/// Whether the actor retires.
+pub(super) fn retires<K: Actor>(live: Live<K>) -> bool {
+    let ended = live.retire();
+    let is_retired = ended.is_ok();
+    drop(ended);
+    is_retired
+}
+
 /// Whether the actor retires, if its way is to.
 fn ends<K: Actor>(live: Live<K>, way: Way) -> bool {
     match way {
-        Way::Retires | Way::Paces => live.retire().is_ok(),
-        Way::Holds | Way::Repeats | Way::Leaves => true,
+        Way::Retires | Way::Paces => retires(live),
+        Way::Holds | Way::Repeats | Way::Leaves => {
+            drop(live);
+            true
+        }
     }
 }
 
@@ -318,8 +331,16 @@ pub(super) fn serve_counter<R: Wait>(
     requires kills { (passes.kills.line ≡ lines.now.control.now.line) × (passes.kills.actor ≡ 1) }
     requires gives { passes.gives ≡ new_exec lines.now.replies.now.line 1 }
 {
-    let mut live = Live::open(alloc, actor(), &[caller()], Counter::open())?;
-    let is_right = act(rt, alloc, &mut live, lines, &mut passes, way)?;
-    let has_ended = ends(live, way);
-    Ok(is_right && has_ended)
+    let is_right = match Live::open(alloc, actor(), &[caller()], Counter::open()) {
+        Ok(mut live) => match act(rt, alloc, &mut live, lines, &mut passes, way) {
+            Ok(is_right) => Ok(ends(live, way) && is_right),
+            Err(refused) => {
+                drop(live);
+                Err(refused)
+            }
+        },
+        Err(refused) => Err(refused),
+    };
+    drop(passes);
+    is_right
 }

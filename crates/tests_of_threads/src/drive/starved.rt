@@ -9,7 +9,7 @@ ghost use Rattle.act_owner.specs.Owner.{open_owner as opened_owner};
 ghost use Rattle.act_mailbox.specs.Notices.{new_exec, IsNoDeath};
 ghost use Rattle.act_drive.specs.Driven.{IsUnusedCaller};
 
-use super::executor::{ExecLines, run_one, tell_death};
+use super::executor::{ExecLines, retires, run_one, tell_death};
 use super::pair::{Passes, opened_pair, other};
 use super::station::ExecPasses;
 use super::{Said, add, answer_of};
@@ -47,7 +47,10 @@ fn take_in<R: Wait, K: Actor>(
         None => Ok(false),
         Some(Letter::Call(packet)) => match live.arrive(packet) {
             Ok(_) => Ok(true),
-            Err(_) => Err(NoMemory),
+            Err(back) => {
+                drop(back);
+                Err(NoMemory)
+            }
         },
         Some(Letter::Note(note)) => {
             live.released(note);
@@ -106,11 +109,13 @@ fn attend_counter<R: Wait>(
     match Live::open(alloc, a, &[caller()], Counter::open()) {
         Ok(mut live) => {
             let is_drained = attend(rt, alloc, &mut live, lines, &mut passes);
-            live.retire().is_ok() && is_drained
+            drop(passes);
+            retires(live) && is_drained
         }
         Err(_) => {
             let death = Notice::Death(a);
-            let _ = lines.replies.give(rt, &mut passes.gives, &[], death);
+            drop(lines.replies.give(rt, &mut passes.gives, &[], death));
+            drop(passes);
             false
         }
     }
@@ -145,12 +150,14 @@ fn driven<R: Wait>(
 {
     let driven = drive(rt, alloc, owner, plan, lines, passes);
     let owner = &driven.owner;
-    Left {
+    let left = Left {
         is_starved: driven.starved,
         first: answer_of(owner, 0),
         second: answer_of(owner, 1),
         is_through: is_through(owner, actor()) && is_through(owner, other()),
-    }
+    };
+    drop(driven);
+    left
 }
 
 /// The first actor's handle is let go, and its note posted, before the call of the second.
@@ -201,7 +208,14 @@ fn joined<R: Threads + Wait + Sync>(rt: &R, alloc: Global) -> Result<(Left, (boo
 {
     let plan = one_call_each(alloc)?;
     let owner = Owner::open(alloc, caller(), &[actor(), other()])?;
-    let (pair, passes) = opened_pair(alloc)?;
+    let (pair, passes) = match opened_pair(alloc) {
+        Ok(opened) => opened,
+        Err(refused) => {
+            drop(owner);
+            drop(plan);
+            return Err(refused);
+        }
+    };
     let Passes {
         caller,
         exec,
@@ -222,7 +236,7 @@ fn joined<R: Threads + Wait + Sync>(rt: &R, alloc: Global) -> Result<(Left, (boo
         control: &pair.controls[1],
         replies: &pair.replies,
     };
-    Ok(thread::join(
+    let told = thread::join(
         rt,
         move || -> Left
             requires { (owner ≡ opened_owner 1 (1 ∷ 2 ∷ [])) × (first_bad (1 ∷ 2 ∷ []) plan.items ≡ None) ×
@@ -236,7 +250,9 @@ fn joined<R: Threads + Wait + Sync>(rt: &R, alloc: Global) -> Result<(Left, (boo
                 (other_exec.kills.line ≡ other_lines.control.now.line) × (other_exec.kills.actor ≡ 2) ×
                 (other_exec.gives ≡ new_exec other_lines.replies.now.line 2)) }
         { attended(rt, alloc, exec_lines, exec, other_lines, other_exec) },
-    ))
+    );
+    drop(pair);
+    Ok(told)
 }
 
 /// The first note is posted before the second call, else the first actor would not retire.

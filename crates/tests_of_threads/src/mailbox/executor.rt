@@ -87,6 +87,7 @@ fn serve<R: Wait, K: Actor>(
 {
     let note = take_kill(rt, control, &mut passes.kills, &live);
     give_death(rt, replies, &mut passes.notices, live.log(), live.id());
+    drop(live);
     (passes, note)
 }
 
@@ -183,7 +184,8 @@ fn opened_control(alloc: Global) -> Result<(Control, ControlExec, ControlCaller)
 {
     let actor = ActorId::new(8).unwrap();
     let caller = CallerId::new(1).unwrap();
-    let (control, mut askers, _starter, kills) = Control::open(alloc, actor, &[caller])?;
+    let (control, mut askers, starter, kills) = Control::open(alloc, actor, &[caller])?;
+    drop(starter);
     Ok((control, kills, askers.pop().unwrap()))
 }
 
@@ -232,17 +234,26 @@ fn opened(alloc: Global) -> Result<(Lines, ExecPasses, CallerPasses), NoMemory>
     ensures asker { IfOk result (λ opened. opened.2.kills.line ≡ opened.0.control.line) }
     ensures collector { IfOk result (λ opened. opened.2.notices.line ≡ opened.0.replies.line) }
 {
-    let (control, kills, ask) = opened_control(alloc)?;
     let (replies, notices, collector) = opened_replies(alloc)?;
-    let asker = CallerPasses {
-        kills: ask,
-        notices: collector,
-    };
-    Ok((
-        Lines { control, replies },
-        ExecPasses { kills, notices },
-        asker,
-    ))
+    match opened_control(alloc) {
+        Ok((control, kills, ask)) => {
+            let asker = CallerPasses {
+                kills: ask,
+                notices: collector,
+            };
+            Ok((
+                Lines { control, replies },
+                ExecPasses { kills, notices },
+                asker,
+            ))
+        }
+        Err(refused) => {
+            drop(replies);
+            drop(notices);
+            drop(collector);
+            Err(refused)
+        }
+    }
 }
 
 /// What a run of both leaves: the kill that the executor took, and what the caller was told.
@@ -269,6 +280,8 @@ fn run_both<R: Threads + Wait + Sync + Abort>(
         &mut executor,
         &mut asker,
     );
+    drop(executor);
+    drop(asker);
     (taken, told)
 }
 
@@ -277,10 +290,18 @@ fn an_executor_in_a_thread(rt: HostRuntime) -> Result<(), Fail> {
     let actor = ActorId::new(8).unwrap();
     let caller = CallerId::new(1).unwrap();
     let live = Live::open(rt.alloc(), actor, &[caller], Counter::open())?;
-    let (lines, executor, asker) = opened(rt.alloc())?;
+    let (lines, executor, asker) = match opened(rt.alloc()) {
+        Ok(opened) => opened,
+        Err(refused) => {
+            drop(live);
+            return Err(refused.into());
+        }
+    };
     let note = KillNote { caller, actor };
     let (taken, told) = run_both(&rt, &lines, (executor, live), (asker, note));
+    drop(lines);
     assert_eq!(rt; taken, note);
     assert_eq!(rt; told, Notice::Death(actor));
+    drop(told);
     Ok(())
 }

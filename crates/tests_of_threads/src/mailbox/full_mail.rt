@@ -33,6 +33,13 @@ pub(super) fn letter(alloc: Global, caller: CallerId, number: u32) -> Letter
     })
 }
 
+fn is_same(one: Letter, other: Letter) -> bool {
+    let is_same = one == other;
+    drop(one);
+    drop(other);
+    is_same
+}
+
 /// How many letters are taken in, until the next one is handed back.
 fn accepted<R: Wait>(
     rt: &R,
@@ -48,10 +55,17 @@ fn accepted<R: Wait>(
 {
     for number in 0..1000 {
         if let Err(back) = mail.post(rt, pass, letter(alloc, caller, number)) {
-            return (back == letter(alloc, caller, number)).then_some(number);
+            return is_same(back, letter(alloc, caller, number)).then_some(number);
         }
     }
     None
+}
+
+fn is_wanted(taken: Option<Letter>, wanted: Option<Letter>) -> bool {
+    let is_wanted = taken == wanted;
+    drop(taken);
+    drop(wanted);
+    is_wanted
 }
 
 /// Whether the next letter is this one, or there is none.
@@ -59,7 +73,7 @@ fn is_next<R: Wait>(rt: &R, mail: &Mail, pass: &mut MailExec, wanted: Option<Let
     requires { pass.old.line ≡ mail.now.line }
     ensures { pass.new.line ≡ mail.now.line }
 {
-    mail.take(rt, pass) == wanted
+    is_wanted(mail.take(rt, pass), wanted)
 }
 
 /// The same, by an attempt. One thread alone is never before a put that isn't finished.
@@ -67,7 +81,7 @@ fn is_next_at_once(mail: &Mail, pass: &mut MailExec, wanted: Option<Letter>) -> 
     requires { pass.old.line ≡ mail.now.line }
     ensures { pass.new.line ≡ mail.now.line }
 {
-    mail.try_take(pass) == wanted
+    is_wanted(mail.try_take(pass), wanted)
 }
 
 /// Whether the next letters are those of these numbers, in order.
@@ -176,5 +190,8 @@ fn full_and_empty(rt: HostRuntime) -> Result<(), Fail> {
     assert_eq!(rt; mail.actor(), ActorId::new(1).unwrap());
     assert_eq!(rt; pass.number(), 16);
     assert_fills_and_empties(&rt, alloc, &mail, &mut pass, &mut executor, caller);
+    drop(mail);
+    drop(pass);
+    drop(executor);
     Ok(())
 }

@@ -27,6 +27,13 @@ fn reply(number: u32) -> Notice
     })
 }
 
+fn is_same(one: Notice, other: Notice) -> bool {
+    let is_same = one == other;
+    drop(one);
+    drop(other);
+    is_same
+}
+
 /// Gives replies from this number on, until one is handed back, and tells which one that is.
 fn handed_back<R: Wait>(
     rt: &R,
@@ -45,10 +52,17 @@ fn handed_back<R: Wait>(
 {
     for number in from..1000 {
         if let Err(back) = replies.give(rt, pass, log, reply(number)) {
-            return (back == reply(number)).then_some(number);
+            return is_same(back, reply(number)).then_some(number);
         }
     }
     None
+}
+
+fn is_wanted(collected: Option<Notice>, wanted: Option<Notice>) -> bool {
+    let is_wanted = collected == wanted;
+    drop(collected);
+    drop(wanted);
+    is_wanted
 }
 
 /// Whether the next notice is this one, or there is none.
@@ -61,7 +75,7 @@ fn is_next<R: Wait>(
     requires { pass.old.line ≡ replies.now.line }
     ensures { pass.new.line ≡ replies.now.line }
 {
-    replies.collect(rt, pass) == wanted
+    is_wanted(replies.collect(rt, pass), wanted)
 }
 
 /// The same, by an attempt. One thread alone is never before a notice that isn't given to its end.
@@ -69,7 +83,7 @@ fn is_next_at_once(replies: &Replies, pass: &mut ReplyCaller, wanted: Option<Not
     requires { pass.old.line ≡ replies.now.line }
     ensures { pass.new.line ≡ replies.now.line }
 {
-    replies.try_collect(pass) == wanted
+    is_wanted(replies.try_collect(pass), wanted)
 }
 
 /// Whether the next replies are those of these numbers, in order.

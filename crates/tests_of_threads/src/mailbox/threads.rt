@@ -190,5 +190,9 @@ fn mail_two_threads(rt: HostRuntime) -> Result<(), Fail> {
     assert_eq!(rt; in_order, [200, 200]);
     assert_empty(&rt, &mail, &mut first, &mut executor);
     assert_empty(&rt, &mail, &mut second, &mut executor);
+    drop(mail);
+    drop(first);
+    drop(second);
+    drop(executor);
     Ok(())
 }

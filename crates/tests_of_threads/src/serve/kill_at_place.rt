@@ -57,6 +57,7 @@ fn ask_at<R: Wait>(rt: &R, gate: &AtPlace, control: &Control, mut ask: ControlCa
         actor: actor(),
     };
     let is_taken = control.ask(rt, &mut ask, kill).is_ok();
+    drop(ask);
     gate.is_asked.store(true, Ordering::SeqCst);
     is_taken
 }
@@ -81,9 +82,10 @@ fn killed_at<R: Threads + Wait + Sync>(
         mail,
         control,
         replies,
+        post,
         ask,
-        ..
     } = station;
+    drop(post);
     let lines = ExecLines {
         mail: &mail,
         control: &control,
@@ -94,17 +96,26 @@ fn killed_at<R: Threads + Wait + Sync>(
         is_reached: AtomicBool::new(false),
         is_asked: AtomicBool::new(false),
     };
-    let (gate, control) = (&gate, &control);
-    let (end, is_asked) = thread::join(
-        rt,
-        move || -> Result<End, NoMemory>
-            requires { PassesOf lines 1 [] passes × IsUnusedExec lines.replies.now (1 ∷ []) passes }
-        { serve_counter(rt, alloc, &lines, passes, gate) },
-        move || -> bool
-            requires { ask.line ≡ control.now.line }
-        { ask_at(rt, gate, control, ask) },
-    );
-    Ok((end?, given(rt, &replies[0], collector), is_asked))
+    let (end, is_asked) = {
+        let (gate, control) = (&gate, &control);
+        thread::join(
+            rt,
+            move || -> Result<End, NoMemory>
+                requires { PassesOf lines 1 [] passes × IsUnusedExec lines.replies.now (1 ∷ []) passes }
+            { serve_counter(rt, alloc, &lines, passes, gate) },
+            move || -> bool
+                requires { ask.line ≡ control.now.line }
+            { ask_at(rt, gate, control, ask) },
+        )
+    };
+    let told = match end {
+        Ok(end) => Ok((end, given(rt, &replies[0], collector), is_asked)),
+        Err(refused) => Err(refused),
+    };
+    drop(mail);
+    drop(control);
+    drop(replies);
+    told
 }
 
 /// A counter that has 24 calls is killed at a place of its log.
@@ -116,8 +127,19 @@ fn killed_after_calls<R: Threads + Wait + Sync + Abort>(
     requires sync { IsSync R.row }
 {
     let (mut station, mut collector, passes) = opened(alloc)?;
-    assert!(rt; station.post_calls(rt, alloc, 24)?);
-    killed_at(rt, alloc, place, station, &mut collector, passes)
+    let told = match station.post_calls(rt, alloc, 24) {
+        Ok(is_posted) => {
+            assert!(rt; is_posted);
+            killed_at(rt, alloc, place, station, &mut collector, passes)
+        }
+        Err(refused) => {
+            drop(station);
+            drop(passes);
+            Err(refused)
+        }
+    };
+    drop(collector);
+    told
 }
 
 #[test]

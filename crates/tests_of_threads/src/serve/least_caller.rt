@@ -87,8 +87,18 @@ fn serves<R: Wait, G: Gate>(
         control: &pair.control,
         replies: &pair.replies,
     };
-    let live = Live::open(alloc, actor(), &[caller(), second()], Counter::open())?;
-    Ok(has_run(&serve(rt, live, &lines, passes, gate).ended, wanted))
+    match Live::open(alloc, actor(), &[caller(), second()], Counter::open()) {
+        Ok(live) => {
+            let finished = serve(rt, live, &lines, passes, gate);
+            let is_run = has_run(&finished.ended, wanted);
+            drop(finished);
+            Ok(is_run)
+        }
+        Err(refused) => {
+            drop(passes);
+            Err(refused)
+        }
+    }
 }
 
 /// Whether these calls ran, in this order, and how often the gate was passed at each place.
@@ -97,11 +107,21 @@ fn served<R: Wait + Abort>(
     alloc: Global,
     wanted: &[(CallerId, u32)],
 ) -> Result<(bool, ([u64; COUNTED], u64)), NoMemory> {
-    let (mut pair, _collectors, passes) = opened(alloc)?;
-    assert!(rt; fill(rt, alloc, &pair.mail, &mut pair.first, &mut pair.second)?);
+    let (mut pair, collectors, passes) = opened(alloc)?;
+    drop(collectors);
     let gate = Counting::new();
-    let is_run = serves(rt, alloc, &pair, passes, &gate, wanted)?;
-    Ok((is_run, gate.counts()))
+    let is_run = match fill(rt, alloc, &pair.mail, &mut pair.first, &mut pair.second) {
+        Ok(is_filled) => {
+            assert!(rt; is_filled);
+            serves(rt, alloc, &pair, passes, &gate, wanted)
+        }
+        Err(refused) => {
+            drop(passes);
+            Err(refused)
+        }
+    };
+    drop(pair);
+    Ok((is_run?, gate.counts()))
 }
 
 /// Caller 2's first call runs, since caller 1's isn't there. Once it is, both callers have a call

@@ -61,16 +61,26 @@ fn passed_places<R: Wait + Abort>(
     alloc: Global,
     letters: &[Posted],
 ) -> Result<(End, ([u64; COUNTED], u64)), NoMemory> {
-    let (mut station, _collector, passes) = opened(alloc)?;
-    assert!(rt; station.post_all(rt, alloc, letters)?);
-    let lines = ExecLines {
-        mail: &station.mail,
-        control: &station.control,
-        replies: &station.replies,
-    };
+    let (mut station, collector, passes) = opened(alloc)?;
+    drop(collector);
     let gate = Counting::new();
-    let end = serve_counter(rt, alloc, &lines, passes, &gate)?;
-    Ok((end, gate.counts()))
+    let end = match station.post_all(rt, alloc, letters) {
+        Ok(is_posted) => {
+            assert!(rt; is_posted);
+            let lines = ExecLines {
+                mail: &station.mail,
+                control: &station.control,
+                replies: &station.replies,
+            };
+            serve_counter(rt, alloc, &lines, passes, &gate)
+        }
+        Err(refused) => {
+            drop(passes);
+            Err(refused)
+        }
+    };
+    drop(station);
+    Ok((end?, gate.counts()))
 }
 
 /// Call 0 runs as it comes. Call 2 comes before call 1 and waits for it. Call 3 runs as it comes

@@ -70,7 +70,9 @@ fn opened_control(alloc: Global) -> Result<(Control, ControlExec), NoMemory>
     ensures line { IfOk result (λ opened. (opened.1.line ≡ opened.0.line) × (opened.1.actor ≡ 1)) }
     ensures unused { IfOk result (λ opened. (opened.1.taken ≡ []) × (opened.1.stamps ≡ []) × (opened.1.lengths ≡ [])) }
 {
-    let (control, _asks, _starter, kills) = Control::open(alloc, actor(), &[caller(), second()])?;
+    let (control, asks, starter, kills) = Control::open(alloc, actor(), &[caller(), second()])?;
+    drop(asks);
+    drop(starter);
     Ok((control, kills))
 }
 
@@ -82,16 +84,24 @@ fn opened_both(alloc: Global) -> Result<BothLines, NoMemory>
     ensures kills { IfOk result (λ opened. (opened.kills.line ≡ opened.control.line) × (opened.kills.actor ≡ 1)) }
     ensures unused { IfOk result (λ opened. (opened.kills.taken ≡ []) × (opened.kills.stamps ≡ []) × (opened.kills.lengths ≡ [])) }
 {
-    let (mail, first, second, letters) = opened_mail(alloc)?;
-    let (control, kills) = opened_control(alloc)?;
-    Ok(BothLines {
-        mail,
-        first,
-        second,
-        letters,
-        control,
-        kills,
-    })
+    let opened = opened_mail(alloc)?;
+    match opened_control(alloc) {
+        Ok((control, kills)) => {
+            let (mail, first, second, letters) = opened;
+            Ok(BothLines {
+                mail,
+                first,
+                second,
+                letters,
+                control,
+                kills,
+            })
+        }
+        Err(refused) => {
+            drop(opened);
+            Err(refused)
+        }
+    }
 }
 
 /// The lines, and the passes of the collectors and of the executor.
@@ -178,8 +188,18 @@ fn serve_both<R: Wait>(
     requires fit { PassesOf lines.now 1 [] passes }
     requires fresh { IsUnusedExec lines.now.replies.now (1 ∷ 2 ∷ []) passes }
 {
-    let live = Live::open(alloc, actor(), &[caller(), second()], Counter::open())?;
-    Ok(end_of(&serve(rt, live, lines, passes, &NoGate)))
+    match Live::open(alloc, actor(), &[caller(), second()], Counter::open()) {
+        Ok(live) => {
+            let finished = serve(rt, live, lines, passes, &NoGate);
+            let end = end_of(&finished);
+            drop(finished);
+            Ok(end)
+        }
+        Err(refused) => {
+            drop(passes);
+            Err(refused)
+        }
+    }
 }
 
 /// How the actor ended, and what each of the callers was given.
@@ -212,8 +232,19 @@ fn served_both<R: Wait + Abort>(
     alloc: Global,
 ) -> Result<(End, [Option<Counted>; 2]), NoMemory> {
     let (mut pair, mut collectors, passes) = opened(alloc)?;
-    assert!(rt; fill(rt, alloc, &pair.mail, &mut pair.first, &mut pair.second)?);
-    ended(rt, alloc, &pair, &mut collectors, passes)
+    let told = match fill(rt, alloc, &pair.mail, &mut pair.first, &mut pair.second) {
+        Ok(is_filled) => {
+            assert!(rt; is_filled);
+            ended(rt, alloc, &pair, &mut collectors, passes)
+        }
+        Err(refused) => {
+            drop(passes);
+            Err(refused)
+        }
+    };
+    drop(pair);
+    drop(collectors);
+    told
 }
 
 /// The other caller has a call in the actor's inbox and one in its mail, and is given its death
