@@ -28,13 +28,24 @@ fn empty_history(alloc: Global) -> Result<History, NoMemory> {
         callers: Vec::new(alloc),
         actors: Vec::new(alloc),
     };
+    match add_nobody(alloc, &mut history) {
+        Ok(()) => Ok(history),
+        Err(error) => {
+            drop(history);
+            Err(error)
+        }
+    }
+}
+
+/// A caller and an actor for each number, of which nothing is told yet.
+fn add_nobody(alloc: Global, history: &mut History) -> Result<(), NoMemory> {
     for _ in 0..CALLER_NUMBERS {
         history.callers.push(Caller::new(alloc))?;
     }
     for _ in 0..ACTOR_NUMBERS {
         history.actors.push(Served::new(alloc))?;
     }
-    Ok(history)
+    Ok(())
 }
 
 /// A mistake of this line.
@@ -351,6 +362,15 @@ fn add_lines(reading: &mut Reading, rest: &[u8], before: u32) -> Result<(), Mist
     Ok(())
 }
 
+/// Adds what roles, steps and the lines of what was left tell, up to their first mistake.
+fn add_all(reading: &mut Reading, roles: &[Role], lines: Lines<'_>) -> Result<(), Mistake> {
+    reading.add_roles(roles)?;
+    reading.add_steps(lines.steps)?;
+    add_lines(reading, lines.rest, lines.before)?;
+    reading.check_calls()?;
+    reading.check_actors()
+}
+
 /// The history that roles, steps and the lines of what was left tell, or their first mistake.
 pub(crate) fn read_history(
     alloc: Global,
@@ -363,11 +383,14 @@ pub(crate) fn read_history(
         caller: 0,
         actor: 0,
     };
-    reading.add_roles(roles)?;
-    reading.add_steps(lines.steps)?;
-    add_lines(&mut reading, lines.rest, lines.before)?;
-    reading.check_calls()?;
-    reading.check_actors()?;
-    let Reading { history, .. } = reading;
-    Ok(history)
+    match add_all(&mut reading, roles, lines) {
+        Ok(()) => {
+            let Reading { history, .. } = reading;
+            Ok(history)
+        }
+        Err(mistake) => {
+            drop(reading);
+            Err(mistake)
+        }
+    }
 }
