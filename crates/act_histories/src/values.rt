@@ -228,6 +228,19 @@ fn compare_lines(
     Ok(())
 }
 
+/// Adds the first line that isn't as the world shows it at its end.
+fn compare_end<K: Actor>(
+    alloc: Global,
+    text: &mut String,
+    world: &World<K>,
+    lines: Lines<'_>,
+) -> Result<(), NoMemory> {
+    let mut shown = String::new(alloc);
+    play_report(alloc, world, &[], &mut shown)?;
+    compare_lines(text, lines.rest, lines.before, &shown)?;
+    Ok(())
+}
+
 /// What differs first between what is told and what the world shows that played the events.
 pub(crate) fn difference<K: Actor>(
     alloc: Global,
@@ -240,9 +253,7 @@ pub(crate) fn difference<K: Actor>(
     let mut text = String::new(alloc);
     compare_events(&mut text, world, history, events, told)?;
     if text.is_empty() {
-        let mut shown = String::new(alloc);
-        play_report(alloc, world, &[], &mut shown)?;
-        compare_lines(&mut text, lines.rest, lines.before, &shown)?;
+        compare_end(alloc, &mut text, world, lines)?;
     }
     if text.is_empty() {
         text.push_str("line 0: the play that was found ends otherwise\n")?;
