@@ -1,12 +1,15 @@
 //! A check of a history, from bytes to bytes.
 
-ghost use Rattle.std.specs.Prelude.{◌≡◌, ◌≤◌, ◌<◌, ◌+◌, ◌^◌, ℕ, List, None, length, map, IfOk, IfErr, OnOk, OnErr, string_bytes};
+ghost use Rattle.std.specs.Prelude.{◌≡◌, ◌≤◌, ◌<◌, ◌+◌, ◌^◌, ℕ, List, [], None, length, map, IfOk, IfErr, OnOk, OnErr, string_bytes};
 ghost use Rattle.std.specs.Io.KnownBytes.{Appends};
 ghost use Rattle.act_rules.specs.declared.script.Mode.TheVariants.{Play, Threads};
 ghost use Rattle.act_rules.specs.Grammar.{Script as Spelled};
 ghost use Rattle.act_rules.specs.Scripts.{actor_spec_of};
+ghost use Rattle.act_rules.specs.History.{ActorSpec};
 ghost use Rattle.act_scripts.specs.Roles.{AreFitting};
 ghost use Rattle.act_scripts.specs.Spelled.{mode_of, count_of, spelled_script};
+ghost use Rattle.act_world.specs.IsReachedBy.{IsReachedBy, HasRoom};
+ghost use Rattle.act_world.specs.View.{world_view};
 ghost use Rattle.act_console.specs.Input.{IsWholeInput};
 ghost use Rattle.act_console.specs.Output.{AppendsPrefix};
 ghost use Rattle.act_console.specs.Plans.{script_of};
@@ -30,7 +33,7 @@ use crate::same::same_roles;
 use crate::values::difference;
 use act_console::{ConsoleFault, Stock, casts_of, read_whole, write_whole};
 use act_kinds::{Actor, Boxed};
-use act_rules::{Event, Mode, Role, Wrong};
+use act_rules::{Event, Mode, Outcome, Role, Wrong};
 use act_scripts::{Items, Script, ScriptFault, read_script};
 use act_types::{ListOf, MAX_SCRIPT_BYTES, NoMemory};
 use act_world::World;
@@ -69,6 +72,30 @@ fn blames_text(alloc: Global, blames: &[Blame]) -> Result<String, AllocError> {
     Ok(text)
 }
 
+/// Why events are no play of the history, once they were played in a world that was just opened.
+/// What is told of each event is added.
+fn why_not_in<K: Actor>(
+    alloc: Global,
+    world: &mut World<K>,
+    told: &mut Vec<Outcome>,
+    events: &[Event],
+    history: &History,
+    shown: &[u8],
+    lines: Lines<'_>,
+) -> Result<Option<String>, NoMemory>
+    requires room { HasRoom (length events.now) (world_view K.state world.old).network }
+    requires none { told.old.items ≡ [] }
+    ensures { IfOk result (λ why. why ≡ None → (casts : List ActorSpec) →
+        IsReachedBy casts [] (world_view K.state world.old) →
+        EndsSo casts lines.entry.steps.now events.now shown.now) }
+{
+    if ends_so(alloc, world, events, lines.steps, shown, told)? {
+        return Ok(None);
+    }
+    let why = difference(alloc, world, history, events, told, lines)?;
+    Ok(Some(why))
+}
+
 /// Why events are no play of the history, once they were played with kinds of the stock.
 fn why_not_events(
     alloc: Global,
@@ -88,11 +115,10 @@ fn why_not_events(
     let casts = casts_of(alloc, stock, roles)?;
     let mut world = World::open(alloc, casts)?;
     let mut told = Vec::new(alloc);
-    if ends_so(alloc, &mut world, events, lines.steps, &shown, &mut told)? {
-        return Ok(None);
-    }
-    let why = difference(alloc, &world, history, events, &told, lines)?;
-    Ok(Some(why))
+    let why = why_not_in(alloc, &mut world, &mut told, events, history, &shown, lines);
+    drop(told);
+    drop(world);
+    why
 }
 
 /// Why a play that was read again is none of the history.
@@ -116,10 +142,14 @@ fn why_not_script(
         unreachable!()
     };
     if !same_roles(roles, casts.as_slice()) {
+        drop(casts);
+        drop(events);
         let why = String::from_str(alloc, "line 0: the play that was found has other roles\n")?;
         return Ok(Some(why));
     }
-    why_not_events(alloc, stock, casts, events.as_slice(), history, lines)
+    let why = why_not_events(alloc, stock, casts, events.as_slice(), history, lines);
+    drop(events);
+    why
 }
 
 /// Why the text of a play is none of the history, once it was read again.
@@ -192,6 +222,26 @@ fn verdict_of_events(
     }
 }
 
+/// The verdict of a play that was made as far as it could be.
+fn verdict_of_rebuilt(
+    alloc: Global,
+    stock: Stock,
+    roles: ListOf<Role>,
+    rebuilt: &Rebuilt,
+    history: &History,
+    lines: Lines<'_>,
+) -> Result<Verdict, NoMemory>
+    requires ready { IsReady ⟦<Boxed as Actor>⟧.state stock }
+    requires roles { AreFitting (map actor_spec_of roles) }
+    ensures { IfOk result (IsVerdictOf (script_of roles lines.entry.steps.now) lines.entry.rest.now) }
+{
+    let blames = why_blocked(alloc, history, &rebuilt.progress)?;
+    if !blames.is_empty() {
+        return Ok(Verdict::Refused(blames_text(alloc, &blames)?));
+    }
+    verdict_of_events(alloc, stock, roles, &rebuilt.events, history, lines)
+}
+
 /// The verdict of a history, which was read.
 fn verdict_of_history(
     alloc: Global,
@@ -207,16 +257,10 @@ fn verdict_of_history(
     if let Some(blame) = check_rules(alloc, history)? {
         return Ok(Verdict::Refused(blames_text(alloc, &[blame])?));
     }
-    let Rebuilt {
-        events,
-        progress,
-        ..
-    } = rebuild(alloc, history)?;
-    let blames = why_blocked(alloc, history, &progress)?;
-    if !blames.is_empty() {
-        return Ok(Verdict::Refused(blames_text(alloc, &blames)?));
-    }
-    verdict_of_events(alloc, stock, roles, &events, history, lines)
+    let rebuilt = rebuild(alloc, history)?;
+    let verdict = verdict_of_rebuilt(alloc, stock, roles, &rebuilt, history, lines);
+    drop(rebuilt);
+    verdict
 }
 
 /// The verdict of a script for threads, and of the lines after it.
@@ -245,7 +289,11 @@ fn verdict_of_script(
         before,
     };
     match read_history(alloc, roles.as_slice(), lines) {
-        Ok(history) => verdict_of_history(alloc, stock, roles, &history, lines),
+        Ok(history) => {
+            let verdict = verdict_of_history(alloc, stock, roles, &history, lines);
+            drop(history);
+            verdict
+        }
         Err(Mistake::NoMemory) => Err(NoMemory),
         Err(Mistake::Line(line, wrong)) => Ok(mistake_of(alloc, line, wrong)?),
     }

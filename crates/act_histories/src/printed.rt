@@ -3,6 +3,7 @@
 use act_rules::{Event, KindName, Role};
 use act_types::{Arg, CallerId};
 use std::alloc::{AllocError, Global};
+use std::fmt::Display;
 
 /// The word of a kind.
 fn kind_word(kind: KindName) -> &'static str {
@@ -45,6 +46,21 @@ fn push_args(text: &mut String, args: &[Arg]) -> Result<(), AllocError> {
     Ok(())
 }
 
+/// Adds the word of an event, and whom or what it is about.
+fn push_word<T: Display>(text: &mut String, word: &str, of: &T) -> Result<(), AllocError> {
+    write!(text, "{word} {of}")
+}
+
+/// Adds the word of an event, and the two that it is about.
+fn push_words<T: Display, U: Display>(
+    text: &mut String,
+    word: &str,
+    one: &T,
+    other: &U,
+) -> Result<(), AllocError> {
+    write!(text, "{word} {one} {other}")
+}
+
 /// Adds an event, without the end of its line.
 pub(crate) fn push_event(text: &mut String, event: &Event) -> Result<(), AllocError> {
     match event {
@@ -52,16 +68,16 @@ pub(crate) fn push_event(text: &mut String, event: &Event) -> Result<(), AllocEr
             write!(text, "submit {c} {a} {method}")?;
             push_args(text, args.as_slice())
         }
-        Event::Copy(c, a) => write!(text, "copy {c} {a}"),
-        Event::Release(c, a) => write!(text, "release {c} {a}"),
-        Event::AskKill(c, a) => write!(text, "kill {c} {a}"),
-        Event::Send(c, k) => write!(text, "send {c} {k}"),
-        Event::Deliver(i) => write!(text, "deliver {i}"),
-        Event::Run(a, c) => write!(text, "run {a} {c}"),
-        Event::Collect(j) => write!(text, "collect {j}"),
-        Event::TakeKill(a) => write!(text, "take {a}"),
-        Event::Tell(a, c) => write!(text, "tell {a} {c}"),
-        Event::Retire(a) => write!(text, "retire {a}"),
+        Event::Copy(c, a) => push_words(text, "copy", c, a),
+        Event::Release(c, a) => push_words(text, "release", c, a),
+        Event::AskKill(c, a) => push_words(text, "kill", c, a),
+        Event::Send(c, k) => push_words(text, "send", c, k),
+        Event::Deliver(i) => push_word(text, "deliver", i),
+        Event::Run(a, c) => push_words(text, "run", a, c),
+        Event::Collect(j) => push_word(text, "collect", j),
+        Event::TakeKill(a) => push_word(text, "take", a),
+        Event::Tell(a, c) => push_words(text, "tell", a, c),
+        Event::Retire(a) => push_word(text, "retire", a),
     }
 }
 

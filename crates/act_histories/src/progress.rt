@@ -122,16 +122,27 @@ impl Progress {
             callers: Vec::new(alloc),
             actors: Vec::new(alloc),
         };
+        match progress.add_all(alloc, history) {
+            Ok(()) => Ok(progress),
+            Err(error) => {
+                drop(progress);
+                Err(error)
+            }
+        }
+    }
+
+    /// A caller and an actor that did nothing yet, for each of the history's.
+    fn add_all(&mut self, alloc: Global, history: &History) -> Result<(), NoMemory> {
         for _caller in &history.callers {
-            progress.callers.push(Asked::new(alloc))?;
+            self.callers.push(Asked::new(alloc))?;
         }
         for _actor in &history.actors {
-            progress.actors.push(Done {
+            self.actors.push(Done {
                 ran: 0,
                 is_dead: false,
             })?;
         }
-        Ok(progress)
+        Ok(())
     }
 
     /// What the actor did so far.

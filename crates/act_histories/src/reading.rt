@@ -28,13 +28,24 @@ fn empty_history(alloc: Global) -> Result<History, NoMemory> {
         callers: Vec::new(alloc),
         actors: Vec::new(alloc),
     };
+    match add_nobody(alloc, &mut history) {
+        Ok(()) => Ok(history),
+        Err(error) => {
+            drop(history);
+            Err(error)
+        }
+    }
+}
+
+/// A caller and an actor for each number, of which nothing is told yet.
+fn add_nobody(alloc: Global, history: &mut History) -> Result<(), NoMemory> {
     for _ in 0..CALLER_NUMBERS {
         history.callers.push(Caller::new(alloc))?;
     }
     for _ in 0..ACTOR_NUMBERS {
         history.actors.push(Served::new(alloc))?;
     }
-    Ok(history)
+    Ok(())
 }
 
 /// A mistake of this line.
@@ -179,6 +190,34 @@ impl Reading {
         Ok(())
     }
 
+    /// Looks whether the line of a future tells of a call to the actor, which is the caller's next.
+    fn check_told(
+        &mut self,
+        c: CallerId,
+        k: FutureId,
+        a: ActorId,
+        line: u32,
+    ) -> Result<(), Mistake> {
+        self.check_future(c, k, line)?;
+        self.add_unknown(c, a, line)?;
+        match self.history.call(c, k) {
+            None => mistake(line, Wrongly::NotSubmitted),
+            Some(call) if call.actor != a => mistake(line, Wrongly::OtherActor),
+            Some(_) => Ok(()),
+        }
+    }
+
+    /// Notes the answer that a caller keeps of a call, and the line that tells it.
+    fn keep(&mut self, c: CallerId, k: FutureId, answer: Option<Answer>, line: u32) {
+        if let Some(call) = self.history.call_mut(c, k) {
+            call.answer = answer;
+            call.line = line;
+        }
+        if let Some(caller) = self.caller_mut(c) {
+            caller.told = caller.told.saturating_add(1);
+        }
+    }
+
     /// What a caller keeps of a call.
     fn add_future(
         &mut self,
@@ -188,20 +227,16 @@ impl Reading {
         answer: Option<Answer>,
         line: u32,
     ) -> Result<(), Mistake> {
-        self.check_future(c, k, line)?;
-        self.add_unknown(c, a, line)?;
-        let Some(call) = self.history.call_mut(c, k) else {
-            return mistake(line, Wrongly::NotSubmitted);
-        };
-        if call.actor != a {
-            return mistake(line, Wrongly::OtherActor);
+        match self.check_told(c, k, a, line) {
+            Ok(()) => {
+                self.keep(c, k, answer, line);
+                Ok(())
+            }
+            Err(mistake) => {
+                drop(answer);
+                Err(mistake)
+            }
         }
-        call.answer = answer;
-        call.line = line;
-        if let Some(caller) = self.caller_mut(c) {
-            caller.told = caller.told.saturating_add(1);
-        }
-        Ok(())
     }
 
     /// How an actor is left.
@@ -258,20 +293,36 @@ impl Reading {
         }
     }
 
-    /// A call that an actor ran.
-    fn add_run(&mut self, a: ActorId, place: u32, item: RunItem, line: u32) -> Result<(), Mistake> {
-        self.learn(&item)?;
-        self.note_run(a, place, &item);
+    /// Looks whether the line of a run comes in its turn.
+    fn check_run(&self, a: ActorId, place: u32, line: u32) -> Result<(), Mistake> {
         if a.number() != self.actor {
             return mistake(line, Wrongly::OutOfOrder);
         }
-        let Some(actor) = self.actor_mut(a) else {
-            return mistake(line, Wrongly::NoRole);
-        };
-        if actor.log.len() != place as usize {
-            return mistake(line, Wrongly::OutOfOrder);
+        match self.history.actor(a) {
+            None => mistake(line, Wrongly::NoRole),
+            Some(actor) if actor.log.len() != place as usize => {
+                mistake(line, Wrongly::OutOfOrder)
+            }
+            Some(_) => Ok(()),
         }
-        actor.log.push(Ran { item, line })?;
+    }
+
+    /// What the run of a call tells of it, in its turn.
+    fn note(&mut self, a: ActorId, place: u32, item: &RunItem, line: u32) -> Result<(), Mistake> {
+        self.learn(item)?;
+        self.note_run(a, place, item);
+        self.check_run(a, place, line)
+    }
+
+    /// A call that an actor ran.
+    fn add_run(&mut self, a: ActorId, place: u32, item: RunItem, line: u32) -> Result<(), Mistake> {
+        if let Err(mistake) = self.note(a, place, &item, line) {
+            drop(item);
+            return Err(mistake);
+        }
+        if let Some(actor) = self.actor_mut(a) {
+            actor.log.push(Ran { item, line })?;
+        }
         Ok(())
     }
 
@@ -351,6 +402,15 @@ fn add_lines(reading: &mut Reading, rest: &[u8], before: u32) -> Result<(), Mist
     Ok(())
 }
 
+/// Adds what roles, steps and the lines of what was left tell, up to their first mistake.
+fn add_all(reading: &mut Reading, roles: &[Role], lines: Lines<'_>) -> Result<(), Mistake> {
+    reading.add_roles(roles)?;
+    reading.add_steps(lines.steps)?;
+    add_lines(reading, lines.rest, lines.before)?;
+    reading.check_calls()?;
+    reading.check_actors()
+}
+
 /// The history that roles, steps and the lines of what was left tell, or their first mistake.
 pub(crate) fn read_history(
     alloc: Global,
@@ -363,11 +423,14 @@ pub(crate) fn read_history(
         caller: 0,
         actor: 0,
     };
-    reading.add_roles(roles)?;
-    reading.add_steps(lines.steps)?;
-    add_lines(&mut reading, lines.rest, lines.before)?;
-    reading.check_calls()?;
-    reading.check_actors()?;
-    let Reading { history, .. } = reading;
-    Ok(history)
+    match add_all(&mut reading, roles, lines) {
+        Ok(()) => {
+            let Reading { history, .. } = reading;
+            Ok(history)
+        }
+        Err(mistake) => {
+            drop(reading);
+            Err(mistake)
+        }
+    }
 }

@@ -256,6 +256,18 @@ impl Rebuilt {
         }
         Ok(())
     }
+
+    /// Puts events as far as they can be put.
+    fn put_all(&mut self, history: &History) -> Result<(), NoMemory> {
+        for _round in 0..MAX_ROUNDS {
+            let has_submitted = self.submit_round(history)?;
+            let has_served = self.serve_round(history)?;
+            if !has_submitted && !has_served {
+                break;
+            }
+        }
+        self.retire_all(history)
+    }
 }
 
 /// How many calls of each caller to the actor may have no answer.
@@ -268,20 +280,19 @@ const MAX_ROUNDS: u32 = 4_294_967_295;
 
 /// The events of a play that ends so, as far as they can be put.
 pub(crate) fn rebuild(alloc: Global, history: &History) -> Result<Rebuilt, NoMemory> {
+    let progress = Progress::open(alloc, history)?;
     let mut rebuilt = Rebuilt {
         alloc,
         events: Vec::new(alloc),
         letters: 0,
         notices: 0,
-        progress: Progress::open(alloc, history)?,
+        progress,
     };
-    for _round in 0..MAX_ROUNDS {
-        let has_submitted = rebuilt.submit_round(history)?;
-        let has_served = rebuilt.serve_round(history)?;
-        if !has_submitted && !has_served {
-            break;
+    match rebuilt.put_all(history) {
+        Ok(()) => Ok(rebuilt),
+        Err(error) => {
+            drop(rebuilt);
+            Err(error)
         }
     }
-    rebuilt.retire_all(history)?;
-    Ok(rebuilt)
 }

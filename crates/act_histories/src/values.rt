@@ -1,6 +1,6 @@
 //! What a world shows after a play that was found, beside what a history tells.
 
-use crate::history::{History, Lines};
+use crate::history::{Call, History, Lines};
 use crate::printed::push_event;
 use crate::reason::{CallName, PlaceName};
 use act_console::play_report;
@@ -103,6 +103,29 @@ fn compare_run<K: Actor>(
     }
 }
 
+/// Begins the line that tells of the answer of a call.
+fn push_call(text: &mut String, name: CallName, call: &Call) -> Result<(), AllocError> {
+    let line = call.line;
+    match call.place {
+        Some(place) => {
+            let at = PlaceName {
+                actor: call.actor,
+                place,
+            };
+            write!(text, "line {line}: the answer at {at} is ")
+        }
+        None => write!(text, "line {line}: the answer of {name} is "),
+    }
+}
+
+/// Tells that the caller kept another answer.
+fn push_other_answer(text: &mut String, kept: &Answer, told: &Answer) -> Result<(), AllocError> {
+    push_answer(text, kept)?;
+    text.push_str(", not ")?;
+    push_answer(text, told)?;
+    text.push('\n')
+}
+
 /// Compares a kept answer with what is told of it.
 fn compare_answer<K: Actor>(
     text: &mut String,
@@ -126,27 +149,12 @@ fn compare_answer<K: Actor>(
     if same_answer(kept, told) {
         return Ok(());
     }
-    let line = call.line;
-    match call.place {
-        Some(place) => {
-            let at = PlaceName {
-                actor: call.actor,
-                place,
-            };
-            write!(text, "line {line}: the answer at {at} is ")?;
-        }
-        None => {
-            let name = CallName {
-                caller: c,
-                future: k,
-            };
-            write!(text, "line {line}: the answer of {name} is ")?;
-        }
-    }
-    push_answer(text, kept)?;
-    text.push_str(", not ")?;
-    push_answer(text, told)?;
-    text.push('\n')
+    let name = CallName {
+        caller: c,
+        future: k,
+    };
+    push_call(text, name, call)?;
+    push_other_answer(text, kept, told)
 }
 
 /// Adds what differs after an event, if anything does.
@@ -220,6 +228,19 @@ fn compare_lines(
     Ok(())
 }
 
+/// Adds the first line that isn't as the world shows it at its end.
+fn compare_end<K: Actor>(
+    alloc: Global,
+    text: &mut String,
+    world: &World<K>,
+    lines: Lines<'_>,
+) -> Result<(), NoMemory> {
+    let mut shown = String::new(alloc);
+    play_report(alloc, world, &[], &mut shown)?;
+    compare_lines(text, lines.rest, lines.before, &shown)?;
+    Ok(())
+}
+
 /// What differs first between what is told and what the world shows that played the events.
 pub(crate) fn difference<K: Actor>(
     alloc: Global,
@@ -232,9 +253,7 @@ pub(crate) fn difference<K: Actor>(
     let mut text = String::new(alloc);
     compare_events(&mut text, world, history, events, told)?;
     if text.is_empty() {
-        let mut shown = String::new(alloc);
-        play_report(alloc, world, &[], &mut shown)?;
-        compare_lines(&mut text, lines.rest, lines.before, &shown)?;
+        compare_end(alloc, &mut text, world, lines)?;
     }
     if text.is_empty() {
         text.push_str("line 0: the play that was found ends otherwise\n")?;

@@ -5,6 +5,7 @@
 use act_rules::{Event, KindName, Role};
 use act_types::{ActorId, Arg, CallerId, ListOf, Method, NoMemory};
 use std::alloc::{AllocError, Global};
+use std::fmt::Display;
 
 /// The word of a kind.
 fn kind_word(kind: KindName) -> &'static str {
@@ -52,22 +53,37 @@ fn push_submit(
     text.push('\n')
 }
 
+/// Adds the line of an event: its word, and whom or what it is about.
+fn push_word<T: Display>(text: &mut String, word: &str, of: &T) -> Result<(), AllocError> {
+    writeln!(text, "{word} {of}")
+}
+
+/// Adds the line of an event: its word, and the two that it is about.
+fn push_words<T: Display, U: Display>(
+    text: &mut String,
+    word: &str,
+    one: &T,
+    other: &U,
+) -> Result<(), AllocError> {
+    writeln!(text, "{word} {one} {other}")
+}
+
 /// Adds the line of an event.
 fn push_event(text: &mut String, event: &Event) -> Result<(), AllocError> {
     match event {
         Event::Submit(caller, actor, method, args) => {
             push_submit(text, *caller, *actor, method, args)
         }
-        Event::Copy(caller, actor) => writeln!(text, "copy {caller} {actor}"),
-        Event::Release(caller, actor) => writeln!(text, "release {caller} {actor}"),
-        Event::Send(caller, future) => writeln!(text, "send {caller} {future}"),
-        Event::Deliver(place) => writeln!(text, "deliver {place}"),
-        Event::Run(actor, caller) => writeln!(text, "run {actor} {caller}"),
-        Event::Collect(place) => writeln!(text, "collect {place}"),
-        Event::AskKill(caller, actor) => writeln!(text, "kill {caller} {actor}"),
-        Event::TakeKill(actor) => writeln!(text, "take {actor}"),
-        Event::Tell(actor, caller) => writeln!(text, "tell {actor} {caller}"),
-        Event::Retire(actor) => writeln!(text, "retire {actor}"),
+        Event::Copy(caller, actor) => push_words(text, "copy", caller, actor),
+        Event::Release(caller, actor) => push_words(text, "release", caller, actor),
+        Event::Send(caller, future) => push_words(text, "send", caller, future),
+        Event::Deliver(place) => push_word(text, "deliver", place),
+        Event::Run(actor, caller) => push_words(text, "run", actor, caller),
+        Event::Collect(place) => push_word(text, "collect", place),
+        Event::AskKill(caller, actor) => push_words(text, "kill", caller, actor),
+        Event::TakeKill(actor) => push_word(text, "take", actor),
+        Event::Tell(actor, caller) => push_words(text, "tell", actor, caller),
+        Event::Retire(actor) => push_word(text, "retire", actor),
     }
 }
 

@@ -102,7 +102,12 @@ fn answer_of_steps<Rt: Threads + Wait + Sync, G: Gate>(
     let twins = casts_of(alloc, twins, other)?;
     match run_recorded(rt, alloc, casts, twins, plans, gate) {
         Ok(recorded) => {
-            let Recorded { events, source, .. } = recorded;
+            let Recorded {
+                joined,
+                events,
+                source,
+            } = recorded;
+            drop(joined);
             answer_of_play(alloc, roles.as_slice(), &events, source)
         }
         Err(fault) => answer_of_no_play(alloc, fault, &marks),

@@ -57,21 +57,32 @@ impl Causes {
             callers: Vec::new(alloc),
             actors: Vec::new(alloc),
         };
+        match causes.add_nobody(alloc) {
+            Ok(()) => Ok(causes),
+            Err(error) => {
+                drop(causes);
+                Err(error)
+            }
+        }
+    }
+
+    /// A caller and an actor for each number, which did nothing yet.
+    fn add_nobody(&mut self, alloc: Global) -> Result<(), NoMemory> {
         for _caller in 0..CALLER_NUMBERS {
-            causes.callers.push(Posted {
+            self.callers.push(Posted {
                 submitted: 0,
                 calls: Vec::new(alloc),
                 notes: [None; ACTOR_NUMBERS],
             })?;
         }
         for _actor in 0..ACTOR_NUMBERS {
-            causes.actors.push(Given {
+            self.actors.push(Given {
                 replies: Vec::new(alloc),
                 deaths: [None; CALLER_NUMBERS],
                 is_asked: false,
             })?;
         }
-        Ok(causes)
+        Ok(())
     }
 
     /// The place that the next letter has.

@@ -177,6 +177,7 @@ pub fn is_play_of<K: Actor>(
         (map (λ actor. end_view K.state actor.ended) actors.now)) }
 {
     let mut world = World::open(alloc, casts)?;
-    let is = ends_so(alloc, &mut world, events, owners, actors)?;
-    Ok(is)
+    let is = ends_so(alloc, &mut world, events, owners, actors);
+    drop(world);
+    Ok(is?)
 }

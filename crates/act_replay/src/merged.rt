@@ -34,6 +34,15 @@ fn next_mark(pages: &[Page], done: &[usize], at: usize) -> Option<Mark> {
     }
 }
 
+/// Of so many threads no mark is an event.
+fn nothing_done(alloc: Global, threads: usize) -> Result<Vec<usize>, NoMemory> {
+    let mut done = Vec::new(alloc);
+    for _thread in 0..threads {
+        done.push(0)?;
+    }
+    Ok(done)
+}
+
 /// A mark more of a thread is an event.
 fn go_on(done: &mut Vec<usize>, at: usize) {
     if let Some(place) = done.get_mut(at) {
@@ -80,18 +89,13 @@ fn count_marks(pages: &[Page]) -> Option<usize> {
 impl Merged {
     /// No event, for so many callers and actors.
     fn open(alloc: Global, callers: usize, actors: usize) -> Result<Merged, NoMemory> {
-        let mut of_callers = Vec::new(alloc);
-        for _caller in 0..callers {
-            of_callers.push(0)?;
-        }
-        let mut of_actors = Vec::new(alloc);
-        for _actor in 0..actors {
-            of_actors.push(0)?;
-        }
+        let of_callers = nothing_done(alloc, callers)?;
+        let of_actors = nothing_done(alloc, actors)?;
+        let causes = Causes::open(alloc)?;
         Ok(Merged {
             alloc,
             events: Vec::new(alloc),
-            causes: Causes::open(alloc)?,
+            causes,
             of_callers,
             of_actors,
         })
@@ -213,6 +217,23 @@ impl Merged {
         }
         Ok(has_moved)
     }
+
+    /// Puts events until no thread has one whose cause stands.
+    fn put_all<K: Actor>(
+        &mut self,
+        owners: &[Owner],
+        actors: &[Finished<K>],
+        pages: &Pages<Page>,
+    ) -> Result<(), NoMemory> {
+        for _round in 0..MAX_ROUNDS {
+            let has_called = self.call_round(owners, pages.of_callers.as_slice())?;
+            let has_served = self.serve_round(actors, pages.of_actors.as_slice())?;
+            if !has_called && !has_served {
+                break;
+            }
+        }
+        Ok(())
+    }
 }
 
 /// More rounds than there are events in any play.
@@ -232,17 +253,15 @@ pub(crate) fn merge<K: Actor>(
         return Ok(None);
     };
     let mut merged = Merged::open(alloc, owners.len(), actors.len())?;
-    for _round in 0..MAX_ROUNDS {
-        let has_called = merged.call_round(owners, of_callers)?;
-        let has_served = merged.serve_round(actors, of_actors)?;
-        if !has_called && !has_served {
-            break;
-        }
+    if let Err(error) = merged.put_all(owners, actors, pages) {
+        drop(merged);
+        return Err(error);
     }
     let Merged { events, .. } = merged;
     if events.len() == called.wrapping_add(served) {
         Ok(Some(events))
     } else {
+        drop(events);
         Ok(None)
     }
 }

@@ -70,16 +70,27 @@ impl Rebuilt {
             callers: Vec::new(alloc),
             actors: Vec::new(alloc),
         };
+        match rebuilt.add_nobody(callers, actors) {
+            Ok(()) => Ok(rebuilt),
+            Err(error) => {
+                drop(rebuilt);
+                Err(error)
+            }
+        }
+    }
+
+    /// So many callers and actors that did nothing yet.
+    fn add_nobody(&mut self, callers: usize, actors: usize) -> Result<(), NoMemory> {
         for _caller in 0..callers {
-            rebuilt.callers.push(Asked::new(alloc))?;
+            self.callers.push(Asked::new(self.alloc))?;
         }
         for _actor in 0..actors {
-            rebuilt.actors.push(Served {
+            self.actors.push(Served {
                 ran: 0,
                 is_dead: false,
             })?;
         }
-        Ok(rebuilt)
+        Ok(())
     }
 
     fn put(&mut self, event: Event) -> Result<(), NoMemory> {
@@ -343,6 +354,22 @@ impl Rebuilt {
         }
         Ok(())
     }
+
+    /// Puts events as far as they can be put.
+    fn put_all<K: Actor>(
+        &mut self,
+        owners: &[Owner],
+        actors: &[Finished<K>],
+    ) -> Result<(), NoMemory> {
+        for _round in 0..MAX_ROUNDS {
+            let has_submitted = self.submit_round(owners)?;
+            let has_served = self.serve_round(owners, actors)?;
+            if !has_submitted && !has_served {
+                break;
+            }
+        }
+        self.retire_all(owners, actors)
+    }
 }
 
 /// More rounds than there are events in any play.
@@ -355,14 +382,14 @@ pub(crate) fn rebuild<K: Actor>(
     actors: &[Finished<K>],
 ) -> Result<Vec<Event>, NoMemory> {
     let mut rebuilt = Rebuilt::open(alloc, owners.len(), actors.len())?;
-    for _round in 0..MAX_ROUNDS {
-        let has_submitted = rebuilt.submit_round(owners)?;
-        let has_served = rebuilt.serve_round(owners, actors)?;
-        if !has_submitted && !has_served {
-            break;
+    match rebuilt.put_all(owners, actors) {
+        Ok(()) => {
+            let Rebuilt { events, .. } = rebuilt;
+            Ok(events)
+        }
+        Err(error) => {
+            drop(rebuilt);
+            Err(error)
         }
     }
-    rebuilt.retire_all(owners, actors)?;
-    let Rebuilt { events, .. } = rebuilt;
-    Ok(events)
 }

@@ -9,7 +9,7 @@ ghost use Rattle.act_plans.specs.Runs.{first_bad_plan};
 ghost use Rattle.act_executor.specs.Joined.{IsJoined};
 ghost use Rattle.act_executor.specs.Runs.{plan_view};
 ghost use Rattle.act_executor.specs.Plays.{IsPlayOf};
-ghost use Rattle.act_replay.specs.Faults.{IsRecordFault};
+ghost use Rattle.act_replay.specs.Faults.{IsPlayFault, IsRecordFault};
 
 use crate::merged::merge;
 use crate::rebuilt::rebuild;
@@ -55,6 +55,24 @@ fn events_of<K: Actor>(
     }
 }
 
+/// The events of a play that ends in what is joined, and where they come from.
+fn checked_events<K: Actor>(
+    alloc: Global,
+    twins: Vec<Cast>,
+    joined: &Joined<K>,
+    pages: &Pages<Page>,
+) -> Result<(Vec<Event>, Source), RecordFault>
+    requires fit { IsFitting twins.items }
+    ensures played { IfOk result (λ play.
+        IsPlayOf (map (actor_spec ⟦<Boxed as Actor>⟧.state) twins.items) play.0.items joined.now.owners.items
+        (map (λ actor. end_view K.state actor.ended) joined.now.actors.items)) }
+    ensures fault { IfErr result IsPlayFault }
+{
+    let (found, source) = events_of(alloc, joined, pages)?;
+    let events = check_play(alloc, twins, found, joined)?;
+    Ok((events, source))
+}
+
 /// Runs the plans as `run_plans` does, and gives beside what is joined a play that ends in it.
 ///
 /// The twins are the casts once more, with their kinds in the same opening states, in boxes: the
@@ -84,11 +102,17 @@ pub fn run_recorded<R: Threads + Wait + Sync, K: Actor + Send, G: Gate>(
 {
     let ran = run_plans_noting::<R, K, G, Page>(rt, alloc, casts, plans, gate)?;
     let (joined, pages) = ran;
-    let (found, source) = events_of(alloc, &joined, &pages)?;
-    let events = check_play(alloc, twins, found, &joined)?;
-    Ok(Recorded {
-        joined,
-        events,
-        source,
-    })
+    let play = checked_events(alloc, twins, &joined, &pages);
+    drop(pages);
+    match play {
+        Ok((events, source)) => Ok(Recorded {
+            joined,
+            events,
+            source,
+        }),
+        Err(fault) => {
+            drop(joined);
+            Err(fault)
+        }
+    }
 }

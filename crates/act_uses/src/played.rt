@@ -77,9 +77,12 @@ pub fn play_part<K: Actor>(
     let events = events_in(alloc, bytes)?;
     let part = first_events(events.as_slice(), count);
     if !world.has_room(part.len()) {
+        drop(events);
         return Err(PartFault::NoRoom);
     }
-    match world.play(part, told) {
+    let played = world.play(part, told);
+    drop(events);
+    match played {
         Ok(()) => Ok(()),
         Err(place) => Err(PartFault::Stopped(place)),
     }

@@ -1,4 +1,5 @@
 use Rattle.std.proofs.Common.{map, arith}
+use Rattle.std.proofs.lemmas.Result.{IfOk-weaker}
 use Rattle.act_rules.specs.Scripts.{actor_spec_of}
 use Rattle.act_actor.specs.Casts.{actor_spec}
 use Rattle.act_console.proofs.Roles.{casts_fit}
@@ -12,9 +13,11 @@ open-requires g c = (
   casts_fit (λ b. (goal.Actor-dyn g (b.vtable, b.value)).state b.value) c.in_ok-casts.casts.items c.args.roles c.in_ok-casts.ensures c.requires.roles,
 )
 
-pub returns-then-branch : goal.returns-then-branch
-returns-then-branch g c = λ _.
+pub returns : goal.returns
+returns g c =
     let casts = map (actor_spec (λ b. (goal.Actor-dyn g (b.vtable, b.value)).state b.value)) c.in_ok-casts.casts.items in
-    ends_same casts (map actor_spec_of c.args.roles) c.args.lines.steps.now c.args.events.now c.deref.result.now c.in_ok-shown.shown.items (told_lines c.args.lines.rest.now)
+    IfOk-weaker c.why_not_in-why.result _ _
+    (λ why ends none. ends_same casts (map actor_spec_of c.args.roles) c.args.lines.steps.now c.args.events.now c.deref.result.now c.in_ok-shown.shown.items (told_lines c.args.lines.rest.now)
     c.in_ok-casts.ensures c.deref.ensures.value c.in_ok-shown.ensures
-    (c.in_ok-ends_so.ensures c.if-branch.true casts c.in_ok-world.ensures.reached)
+    (ends none casts c.in_ok-world.ensures.reached))
+    c.why_not_in-why.ensures
