@@ -28,18 +28,6 @@ fn step<K: Actor>(world: &mut World<K>, event: &Event) -> Result<(), NoMemory>
     Ok(())
 }
 
-/// Does these events in a world.
-fn do_all<K: Actor>(world: &mut World<K>, events: &[Event]) -> Result<(), NoMemory>
-    ensures { OnOk result ((casts : List ActorSpec) →
-        IsReachedBy casts [] (world_view K.state world.old) →
-        IsReachedBy casts events.now (world_view K.state world.new)) }
-{
-    for event in events {
-        step(world, event)?;
-    }
-    Ok(())
-}
-
 /// Opens a world and does these events in it.
 pub fn world_after<K: Actor>(
     alloc: Global,
@@ -51,13 +39,10 @@ pub fn world_after<K: Actor>(
         IsReachedBy (map (actor_spec K.state) casts.items) events.now (world_view K.state world)) }
 {
     let mut world = World::open(alloc, casts)?;
-    match do_all(&mut world, events) {
-        Ok(()) => Ok(world),
-        Err(error) => {
-            drop(world);
-            Err(error)
-        }
+    for event in events {
+        step(&mut world, event)?;
     }
+    Ok(world)
 }
 
 /// What an actor ran, whatever state it is in.

@@ -49,13 +49,8 @@ fn send_call(alloc: Global, method: Method, value: Value) -> Result<(Owner, Pack
     let c = CallerId::new(1).unwrap();
     let a = ActorId::new(1).unwrap();
     let mut owner = Owner::open(alloc, c, &[a])?;
-    match pose_question(alloc, &mut owner, method, value) {
-        Ok(packet) => Ok((owner, packet)),
-        Err(error) => {
-            drop(owner);
-            Err(error)
-        }
-    }
+    let packet = pose_question(alloc, &mut owner, method, value)?;
+    Ok((owner, packet))
 }
 
 /// The actor's side: the call arrives and runs.
@@ -79,16 +74,10 @@ fn run_call<K: Actor>(alloc: Global, kind: K, packet: Packet) -> Result<(Live<K>
     let a = ActorId::new(1).unwrap();
     let mut live = Live::open(alloc, a, &[c], kind)?;
     let Ok(_) = live.arrive(packet) else {
-        drop(live);
         return Err(NoMemory);
     };
-    match live.run(c) {
-        Ok(reply) => Ok((live, reply.unwrap())),
-        Err(error) => {
-            drop(live);
-            Err(error)
-        }
-    }
+    let reply = live.run(c)?.unwrap();
+    Ok((live, reply))
 }
 
 /// Opens a caller and an actor, and carries one call there and its answer back.
@@ -105,14 +94,7 @@ pub fn ask_once<K: Actor>(
         (live_view K.state heard.live).state ≡ (step_of_question (K.state kind) method value).0) }
 {
     let (mut owner, packet) = send_call(alloc, method, value)?;
-    match run_call(alloc, kind, packet) {
-        Ok((live, reply)) => {
-            owner.collect(Notice::Answered(reply));
-            Ok(Heard { owner, live })
-        }
-        Err(error) => {
-            drop(owner);
-            Err(error)
-        }
-    }
+    let (live, reply) = run_call(alloc, kind, packet)?;
+    owner.collect(Notice::Answered(reply));
+    Ok(Heard { owner, live })
 }

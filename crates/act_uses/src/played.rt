@@ -77,12 +77,9 @@ pub fn play_part<K: Actor>(
     let events = events_in(alloc, bytes)?;
     let part = first_events(events.as_slice(), count);
     if !world.has_room(part.len()) {
-        drop(events);
         return Err(PartFault::NoRoom);
     }
-    let played = world.play(part, told);
-    drop(events);
-    match played {
+    match world.play(part, told) {
         Ok(()) => Ok(()),
         Err(place) => Err(PartFault::Stopped(place)),
     }

@@ -3,8 +3,8 @@ use Rattle.actors.specs.Event.{Event}
 use Rattle.actors.specs.Worlds.{HasPlayed, world_view}
 use Rattle.act_uses.proofs.played.play_part.Goals as goal
 
-pub returns-in-Err-clause-err : goal.returns-in-Err-clause-err
-returns-in-Err-clause-err g c = λ script read.
-    subst (λ (events : List Event). HasPlayed (take c.in-Err.place events) (world_view g.K.Actor.state c.args.world.now) (world_view g.K.Actor.state c.play-played.new.self) c.args.told.now.items c.play-played.new.told.items)
+pub returns-clause-err : goal.returns-clause-err
+returns-clause-err g c = λ script read.
+    subst (λ (events : List Event). HasPlayed (take c.in-Err.place events) (world_view g.K.Actor.state c.args.world.now) (world_view g.K.Actor.state c.play.new.self) c.args.told.now.items c.play.new.told.items)
     (c.first_events-part.ensures ∙ ap (λ (events : List Event). take c.args.count events) (c.as_slice.ensures ∙ c.in_ok-events.ensures.events script read))
     c.in-Err.ensures.err
