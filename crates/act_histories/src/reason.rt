@@ -42,7 +42,7 @@ impl fmt::Display for PlaceName {
 }
 
 /// Why no play ends so.
-#[derive(Clone, Copy)]
+#[derive(Clone, Copy, Debug, PartialEq, Eq)]
 pub(crate) enum Reason {
     /// The caller of the call at this place may not call the actor.
     NoHandle(PlaceName, CallerId),
@@ -85,9 +85,8 @@ pub(crate) enum Reason {
     Stuck,
 }
 
-impl Reason {
-    /// Why a call can't have run at its place.
-    fn fmt_place<W: fmt::Write>(&self, f: &mut fmt::Formatter<W>) -> fmt::Result {
+impl fmt::Display for Reason {
+    fn fmt<W: fmt::Write>(&self, f: &mut fmt::Formatter<W>) -> fmt::Result {
         match *self {
             Reason::NoHandle(at, c) => write!(f, "{at} is a call of {c}, which has no handle"),
             Reason::Unsubmitted(at, call) => write!(f, "{at} is {call}, which has no line"),
@@ -97,13 +96,6 @@ impl Reason {
             Reason::OtherCall(at, call) => write!(f, "{at} isn't {call} as it was submitted"),
             Reason::AfterTheEnd(at) => write!(f, "{at} runs after a terminate"),
             Reason::Terminated(at) => write!(f, "{at} is a terminate, so its actor is dead"),
-            _ => self.fmt_call(f),
-        }
-    }
-
-    /// Why a call can't be left as it is.
-    fn fmt_call<W: fmt::Write>(&self, f: &mut fmt::Formatter<W>) -> fmt::Result {
-        match *self {
             Reason::NotRun(call, a) => write!(f, "{call} has an answer, and {a} didn't run it"),
             Reason::LeftOver(call, a) => write!(f, "{a} retired, and didn't run {call}"),
             Reason::NoDeath(call, a) => write!(f, "{call} has ActorDied, and {a} isn't dead"),
@@ -114,14 +106,6 @@ impl Reason {
                 )
             }
             Reason::Later(call, k) => write!(f, "{call} takes the answer of @{k}, a later call"),
-            Reason::Open(call) => write!(f, "{call} has no answer"),
-            _ => self.fmt_wait(f),
-        }
-    }
-
-    /// What a call waits for.
-    fn fmt_wait<W: fmt::Write>(&self, f: &mut fmt::Formatter<W>) -> fmt::Result {
-        match *self {
             Reason::WaitsForAnswer(call, of) => write!(f, "{call} waits for the answer of {of}"),
             Reason::WaitsForTurn(call, of, a) => {
                 write!(f, "{call} waits for {of} at {a}, which ran before it")
@@ -141,19 +125,14 @@ impl Reason {
                     "{call} waits for the answer of {of}, by the limit of {a}"
                 )
             }
-            _ => f.write_str("nothing more can happen"),
+            Reason::Open(call) => write!(f, "{call} has no answer"),
+            Reason::Stuck => f.write_str("nothing more can happen"),
         }
     }
 }
 
-impl fmt::Display for Reason {
-    fn fmt<W: fmt::Write>(&self, f: &mut fmt::Formatter<W>) -> fmt::Result {
-        self.fmt_place(f)
-    }
-}
-
 /// A reason, and the line where it shows.
-#[derive(Clone, Copy)]
+#[derive(Clone, Copy, Debug, PartialEq, Eq)]
 pub(crate) struct Blame {
     pub(crate) line: u32,
     pub(crate) reason: Reason,
