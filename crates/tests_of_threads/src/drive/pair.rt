@@ -171,8 +171,28 @@ pub(super) fn opened_pair(alloc: Global) -> Result<(Pair, Passes), NoMemory>
         (exec.gives ≡ new_exec opened.0.replies.line 2)) }
 {
     let room = make_room(alloc)?;
-    let one = opened_lines(alloc, actor())?;
-    let two = opened_lines(alloc, other())?;
-    let replies = opened_replies(alloc)?;
-    Ok(paired(room, one, two, replies))
+    let one = match opened_lines(alloc, actor()) {
+        Ok(one) => one,
+        Err(refused) => {
+            drop(room);
+            return Err(refused);
+        }
+    };
+    let two = match opened_lines(alloc, other()) {
+        Ok(two) => two,
+        Err(refused) => {
+            drop(room);
+            drop(one);
+            return Err(refused);
+        }
+    };
+    match opened_replies(alloc) {
+        Ok(replies) => Ok(paired(room, one, two, replies)),
+        Err(refused) => {
+            drop(room);
+            drop(one);
+            drop(two);
+            Err(refused)
+        }
+    }
 }

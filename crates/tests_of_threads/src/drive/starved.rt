@@ -1,16 +1,18 @@
 //! A caller of two actors, where memory may be refused to each of them.
 
-ghost use Rattle.std.specs.Prelude.{◌≡◌, [], ◌∷◌, All, None, IfOk};
+ghost use Rattle.std.specs.Prelude.{◌≡◌, [], ◌∷◌, All, None, IfOk, slice_index_or};
 ghost use Rattle.std.specs.Thread.{IsSync};
 ghost use Rattle.act_rules.specs.Consistent.{IsPrefix};
 ghost use Rattle.act_rules.specs.Plans.{first_bad};
 ghost use Rattle.act_actor.specs.StateViews.{live_view};
 ghost use Rattle.act_owner.specs.Owner.{open_owner as opened_owner};
+ghost use Rattle.act_mailbox.specs.Controls.{ControlView};
+ghost use Rattle.act_mailbox.specs.Mails.{MailView};
 ghost use Rattle.act_mailbox.specs.Notices.{new_exec, IsNoDeath};
 ghost use Rattle.act_drive.specs.Driven.{IsUnusedCaller};
 
 use super::executor::{ExecLines, retires, run_one, tell_death};
-use super::pair::{Passes, opened_pair, other};
+use super::pair::{Pair, Passes, opened_pair, other};
 use super::station::ExecPasses;
 use super::{Said, add, answer_of};
 use crate::lines::{actor, caller};
@@ -202,20 +204,31 @@ fn attended<R: Threads + Wait + Sync>(
     )
 }
 
-/// A caller drives its plan, and its two actors attend. What it leaves, and whether each retired.
-fn joined<R: Threads + Wait + Sync>(rt: &R, alloc: Global) -> Result<(Left, (bool, bool)), NoMemory>
+/// A caller drives its plan over these lines, and its two actors attend. What it leaves, and whether
+/// each retired.
+fn driven_and_attended<R: Threads + Wait + Sync>(
+    rt: &R,
+    alloc: Global,
+    owner: Owner,
+    plan: Plan,
+    pair: &Pair,
+    passes: Passes,
+) -> (Left, (bool, bool))
     requires sync { IsSync R.row }
+    requires owner { owner ≡ opened_owner 1 (1 ∷ 2 ∷ []) }
+    requires fits { first_bad (1 ∷ 2 ∷ []) plan.items ≡ None }
+    requires caller { IsUnusedCaller pair.now.mails pair.now.controls pair.now.replies 1 passes.caller }
+    requires exec { let mails = pair.now.mails in let controls = pair.now.controls in
+        let exec = passes.exec in (m : MailView) (k : ControlView) →
+        (exec.letters.line ≡ (slice_index_or mails 0 m).line) ×
+        (exec.kills.line ≡ (slice_index_or controls 0 k).line) × (exec.kills.actor ≡ 1) ×
+        (exec.gives ≡ new_exec pair.now.replies.line 1) }
+    requires other_exec { let mails = pair.now.mails in let controls = pair.now.controls in
+        let exec = passes.other_exec in (m : MailView) (k : ControlView) →
+        (exec.letters.line ≡ (slice_index_or mails 1 m).line) ×
+        (exec.kills.line ≡ (slice_index_or controls 1 k).line) × (exec.kills.actor ≡ 2) ×
+        (exec.gives ≡ new_exec pair.now.replies.line 2) }
 {
-    let plan = one_call_each(alloc)?;
-    let owner = Owner::open(alloc, caller(), &[actor(), other()])?;
-    let (pair, passes) = match opened_pair(alloc) {
-        Ok(opened) => opened,
-        Err(refused) => {
-            drop(owner);
-            drop(plan);
-            return Err(refused);
-        }
-    };
     let Passes {
         caller,
         exec,
@@ -236,7 +249,7 @@ fn joined<R: Threads + Wait + Sync>(rt: &R, alloc: Global) -> Result<(Left, (boo
         control: &pair.controls[1],
         replies: &pair.replies,
     };
-    let told = thread::join(
+    thread::join(
         rt,
         move || -> Left
             requires { (owner ≡ opened_owner 1 (1 ∷ 2 ∷ [])) × (first_bad (1 ∷ 2 ∷ []) plan.items ≡ None) ×
@@ -250,9 +263,27 @@ fn joined<R: Threads + Wait + Sync>(rt: &R, alloc: Global) -> Result<(Left, (boo
                 (other_exec.kills.line ≡ other_lines.control.now.line) × (other_exec.kills.actor ≡ 2) ×
                 (other_exec.gives ≡ new_exec other_lines.replies.now.line 2)) }
         { attended(rt, alloc, exec_lines, exec, other_lines, other_exec) },
-    );
-    drop(pair);
-    Ok(told)
+    )
+}
+
+/// A caller drives its plan, and its two actors attend. What it leaves, and whether each retired.
+fn joined<R: Threads + Wait + Sync>(rt: &R, alloc: Global) -> Result<(Left, (bool, bool)), NoMemory>
+    requires sync { IsSync R.row }
+{
+    let plan = one_call_each(alloc)?;
+    let owner = Owner::open(alloc, caller(), &[actor(), other()])?;
+    match opened_pair(alloc) {
+        Ok((pair, passes)) => {
+            let told = driven_and_attended(rt, alloc, owner, plan, &pair, passes);
+            drop(pair);
+            Ok(told)
+        }
+        Err(refused) => {
+            drop(owner);
+            drop(plan);
+            Err(refused)
+        }
+    }
 }
 
 /// The first note is posted before the second call, else the first actor would not retire.

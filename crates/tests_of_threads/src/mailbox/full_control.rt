@@ -58,6 +58,39 @@ fn are_next<R: Wait>(
     true
 }
 
+/// The actor runs this call of the caller.
+fn run_call(live: &mut Live<Counter>, call: Packet) -> Result<(), NoMemory> {
+    let caller = call.caller;
+    if let Err(back) = live.arrive(call) {
+        drop(back);
+        return Err(NoMemory);
+    }
+    let reply = live.run(caller)?;
+    drop(reply);
+    Ok(())
+}
+
+/// The actor runs so many calls of the caller.
+fn run_calls(
+    alloc: Global,
+    live: &mut Live<Counter>,
+    caller: CallerId,
+    count: u32,
+) -> Result<(), NoMemory> {
+    for number in 0..count {
+        let call = Packet {
+            caller,
+            actor: live.id(),
+            number,
+            future: FutureId::new(number),
+            method: Method::Get,
+            args: SmallList::new(alloc),
+        };
+        run_call(live, call)?;
+    }
+    Ok(())
+}
+
 /// An actor that ran so many calls of the caller.
 fn after_calls(
     alloc: Global,
@@ -66,21 +99,13 @@ fn after_calls(
     count: u32,
 ) -> Result<Live<Counter>, NoMemory> {
     let mut live = Live::open(alloc, actor, &[caller], Counter::open())?;
-    for number in 0..count {
-        let call = Packet {
-            caller,
-            actor,
-            number,
-            future: FutureId::new(number),
-            method: Method::Get,
-            args: SmallList::new(alloc),
-        };
-        if live.arrive(call).is_err() {
-            return Err(NoMemory);
+    match run_calls(alloc, &mut live, caller, count) {
+        Ok(()) => Ok(live),
+        Err(refused) => {
+            drop(live);
+            Err(refused)
         }
-        live.run(caller)?;
     }
-    Ok(live)
 }
 
 /// The control line of actor 1 and caller 2, the passes of the caller and of the starter, and the
@@ -176,16 +201,37 @@ fn assert_killed_after<R: Wait + Abort>(
         are_next(rt, control, executor, &live, 0, 1),
         "after {count}"
     );
+    drop(live);
+    Ok(())
+}
+
+/// A kill is taken at each of the first lengths of the log.
+fn assert_kills_taken<R: Wait + Abort>(
+    rt: &R,
+    alloc: Global,
+    control: &Control,
+    pass: &mut ControlCaller,
+    executor: &mut ControlExec,
+) -> Result<(), NoMemory>
+    requires pass { pass.old.line ≡ control.now.line }
+    requires executor { (executor.old.line ≡ control.now.line) × (executor.old.actor ≡ 1) }
+{
+    for count in 0..4 {
+        assert_killed_after(rt, alloc, control, pass, executor, count)?;
+    }
     Ok(())
 }
 
 /// A kill is taken at each length of the log.
 #[test]
 fn kills_after_calls(rt: HostRuntime) -> Result<(), Fail> {
-    let (control, mut pass, _starter, mut executor) = opened(rt.alloc())?;
-    for count in 0..4 {
-        assert_killed_after(&rt, rt.alloc(), &control, &mut pass, &mut executor, count)?;
-    }
+    let (control, mut pass, starter, mut executor) = opened(rt.alloc())?;
+    drop(starter);
+    let done = assert_kills_taken(&rt, rt.alloc(), &control, &mut pass, &mut executor);
+    drop(control);
+    drop(pass);
+    drop(executor);
+    done?;
     Ok(())
 }
 
@@ -242,8 +288,19 @@ fn full_and_empty(rt: HostRuntime) -> Result<(), Fail> {
     let actor = ActorId::new(1).unwrap();
     let caller = CallerId::new(2).unwrap();
     let live = Live::open(rt.alloc(), actor, &[caller], Counter::open())?;
-    let (control, mut pass, mut starter, mut executor) = opened(rt.alloc())?;
+    let (control, mut pass, mut starter, mut executor) = match opened(rt.alloc()) {
+        Ok(opened) => opened,
+        Err(refused) => {
+            drop(live);
+            return Err(refused.into());
+        }
+    };
     assert_names(&rt, &control, &pass, &starter);
     assert_fills_and_empties(&rt, &control, &mut pass, &mut starter, &mut executor, &live);
+    drop(live);
+    drop(control);
+    drop(pass);
+    drop(starter);
+    drop(executor);
     Ok(())
 }

@@ -172,7 +172,9 @@ fn assert_fills_and_empties<R: Wait + Abort>(
     assert!(rt; is_next(rt, mail, executor, None));
     assert_filled(rt, alloc, mail, pass, executor, caller);
     assert_next(rt, alloc, mail, pass, executor, caller, (0, 1), 63);
-    assert!(rt; mail.post(rt, pass, letter(alloc, caller, 64)).is_ok());
+    let posted = mail.post(rt, pass, letter(alloc, caller, 64));
+    assert!(rt; posted.is_ok());
+    drop(posted);
     assert_next(rt, alloc, mail, pass, executor, caller, (1, 33), 32);
     assert_next(rt, alloc, mail, pass, executor, caller, (33, 64), 1);
     let last = letter(alloc, caller, 64);

@@ -201,6 +201,7 @@ fn assert_empties<R: Wait + Abort>(
 
 #[test]
 fn full_and_empty(rt: HostRuntime) -> Result<(), Fail> {
+    let (replies, mut pass, mut collector) = opened(rt.alloc())?;
     let log = [RunItem {
         caller: CallerId::new(1).unwrap(),
         number: 0,
@@ -209,15 +210,16 @@ fn full_and_empty(rt: HostRuntime) -> Result<(), Fail> {
         args: SmallList::new(rt.alloc()),
     }];
     let death = ActorId::new(8).unwrap();
-    let (replies, mut pass, mut collector) = opened(rt.alloc())?;
     assert_eq!(rt; (replies.caller().number(), pass.actor()), (1, death));
     assert_fills(&rt, &replies, &mut pass, &mut collector, &log);
-    assert!(rt;
-        replies
-            .give(&rt, &mut pass, &log, Notice::Death(death))
-            .is_ok()
-    );
+    let given = replies.give(&rt, &mut pass, &log, Notice::Death(death));
+    assert!(rt; given.is_ok());
+    drop(given);
+    drop(log);
     pass.shows();
     assert_empties(&rt, &replies, &mut pass, &mut collector);
+    drop(replies);
+    drop(pass);
+    drop(collector);
     Ok(())
 }

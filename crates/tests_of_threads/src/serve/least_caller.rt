@@ -4,7 +4,7 @@ ghost use Rattle.std.specs.Prelude.{◌≡◌, [], ◌∷◌};
 ghost use Rattle.act_serve.specs.Turns.{PassesFit, PassesOf, IsUnusedExec};
 
 use super::places::{COUNTED, Counting};
-use super::station::call;
+use super::station::{call, is_taken};
 use super::two_callers::{Pair, opened, posted, second};
 use crate::lines::{actor, caller};
 use act_actor::{Live, RunItem};
@@ -28,7 +28,7 @@ fn noted<R: Wait>(rt: &R, mail: &Mail, pass: &mut MailCaller, caller: CallerId) 
         actor: actor(),
         after: 2,
     };
-    mail.post(rt, pass, Letter::Note(note)).is_ok()
+    is_taken(mail.post(rt, pass, Letter::Note(note)))
 }
 
 /// Each caller's second call comes before any first one, and caller 2's first call before caller

@@ -92,6 +92,13 @@ pub(super) fn terminate(alloc: Global, caller: CallerId, actor: ActorId, number:
     }
 }
 
+/// Whether the line took a letter, which it hands back else.
+pub(super) fn is_taken(posted: Result<(), Letter>) -> bool {
+    let is_taken = posted.is_ok();
+    drop(posted);
+    is_taken
+}
+
 /// A letter of caller 1.
 #[derive(Clone, Copy)]
 pub(super) enum Posted {
@@ -111,9 +118,7 @@ impl Station {
         ensures same { self.new ≡ record self.old { post = self.new.post } }
         ensures pass { (self.new.post.line ≡ self.old.mail.line) × (self.new.post.number ≡ 1) }
     {
-        self.mail
-            .post(rt, &mut self.post, Letter::Call(packet))
-            .is_ok()
+        is_taken(self.mail.post(rt, &mut self.post, Letter::Call(packet)))
     }
 
     /// Posts that caller 1 submitted so many calls and submits no more.
@@ -127,9 +132,7 @@ impl Station {
             actor,
             after,
         };
-        self.mail
-            .post(rt, &mut self.post, Letter::Note(note))
-            .is_ok()
+        is_taken(self.mail.post(rt, &mut self.post, Letter::Note(note)))
     }
 
     /// Posts a letter, and whether the line took it.

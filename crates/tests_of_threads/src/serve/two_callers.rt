@@ -4,7 +4,7 @@ ghost use Rattle.std.specs.Prelude.{◌≡◌, [], ◌∷◌, slice_index_or, If
 ghost use Rattle.act_mailbox.specs.Notices.{RepliesView};
 ghost use Rattle.act_serve.specs.Turns.{PassesFit, PassesOf, IsUnusedExec};
 
-use super::station::{call, terminate};
+use super::station::{call, is_taken, terminate};
 use super::{Counted, End, end_of, given};
 use crate::lines::{actor, caller, opened_replies};
 use act_actor::Live;
@@ -155,7 +155,7 @@ pub(super) fn posted<R: Wait>(rt: &R, mail: &Mail, pass: &mut MailCaller, packet
     requires caller { packet.caller ≡ pass.old.number }
     ensures { (pass.new.line ≡ pass.old.line) × (pass.new.number ≡ pass.old.number) }
 {
-    mail.post(rt, pass, Letter::Call(packet)).is_ok()
+    is_taken(mail.post(rt, pass, Letter::Call(packet)))
 }
 
 /// Caller 2's second call comes first and its first call last. Between them caller 1 adds and
