@@ -42,7 +42,7 @@ impl fmt::Display for PlaceName {
 }
 
 /// Why no play ends so.
-#[derive(Clone, Copy, Debug, PartialEq, Eq)]
+#[derive(Clone, Copy)]
 pub(crate) enum Reason {
     /// The caller of the call at this place may not call the actor.
     NoHandle(PlaceName, CallerId),
@@ -85,54 +85,113 @@ pub(crate) enum Reason {
     Stuck,
 }
 
+/// Writes one thing, and what is said of it.
+fn say<W: fmt::Write, T: fmt::Display>(
+    f: &mut fmt::Formatter<W>,
+    one: &T,
+    after: &str,
+) -> fmt::Result {
+    write!(f, "{one}{after}")
+}
+
+/// Writes two things, with what stands between them and after them.
+fn say_two<W: fmt::Write, T: fmt::Display, U: fmt::Display>(
+    f: &mut fmt::Formatter<W>,
+    one: &T,
+    between: &str,
+    other: &U,
+    after: &str,
+) -> fmt::Result {
+    write!(f, "{one}{between}{other}{after}")
+}
+
+// Each line is written by a function, since all that `write!` does would stand in the proof once for each reason.
 impl fmt::Display for Reason {
     fn fmt<W: fmt::Write>(&self, f: &mut fmt::Formatter<W>) -> fmt::Result {
         match *self {
-            Reason::NoHandle(at, c) => write!(f, "{at} is a call of {c}, which has no handle"),
-            Reason::Unsubmitted(at, call) => write!(f, "{at} is {call}, which has no line"),
-            Reason::Elsewhere(at, call, a) => write!(f, "{at} is {call}, which goes to {a}"),
-            Reason::Skips(at, call) => write!(f, "{at} skips {call}"),
-            Reason::Again(at, call) => write!(f, "{at} runs {call} again"),
-            Reason::OtherCall(at, call) => write!(f, "{at} isn't {call} as it was submitted"),
-            Reason::AfterTheEnd(at) => write!(f, "{at} runs after a terminate"),
-            Reason::Terminated(at) => write!(f, "{at} is a terminate, so its actor is dead"),
-            Reason::NotRun(call, a) => write!(f, "{call} has an answer, and {a} didn't run it"),
-            Reason::LeftOver(call, a) => write!(f, "{a} retired, and didn't run {call}"),
-            Reason::NoDeath(call, a) => write!(f, "{call} has ActorDied, and {a} isn't dead"),
-            Reason::HalfDead(open, call) => {
-                write!(
-                    f,
-                    "{open} has no answer, and the death that answered {call} answers both"
-                )
+            Reason::NoHandle(at, c) => say_two(
+                f,
+                &at,
+                " is a call of ",
+                &c,
+                ", which has no handle",
+            ),
+            Reason::Unsubmitted(at, call) => say_two(f, &at, " is ", &call, ", which has no line"),
+            Reason::Elsewhere(at, call, a) => {
+                say_two(f, &at, " is ", &call, ", which goes to ")?;
+                say(f, &a, "")
             }
-            Reason::Later(call, k) => write!(f, "{call} takes the answer of @{k}, a later call"),
-            Reason::WaitsForAnswer(call, of) => write!(f, "{call} waits for the answer of {of}"),
+            Reason::Skips(at, call) => say_two(f, &at, " skips ", &call, ""),
+            Reason::Again(at, call) => say_two(f, &at, " runs ", &call, " again"),
+            Reason::OtherCall(at, call) => say_two(
+                f,
+                &at,
+                " isn't ",
+                &call,
+                " as it was submitted",
+            ),
+            Reason::AfterTheEnd(at) => say(f, &at, " runs after a terminate"),
+            Reason::Terminated(at) => say(f, &at, " is a terminate, so its actor is dead"),
+            Reason::NotRun(call, a) => say_two(
+                f,
+                &call,
+                " has an answer, and ",
+                &a,
+                " didn't run it",
+            ),
+            Reason::LeftOver(call, a) => say_two(f, &a, " retired, and didn't run ", &call, ""),
+            Reason::NoDeath(call, a) => say_two(
+                f,
+                &call,
+                " has ActorDied, and ",
+                &a,
+                " isn't dead",
+            ),
+            Reason::HalfDead(open, call) => {
+                let both = " has no answer, and the death that answered ";
+                say_two(f, &open, both, &call, " answers both")
+            }
+            Reason::Later(call, k) => {
+                say_two(f, &call, " takes the answer of @", &k, ", a later call")
+            }
+            Reason::WaitsForAnswer(call, of) => {
+                say_two(f, &call, " waits for the answer of ", &of, "")
+            }
             Reason::WaitsForTurn(call, of, a) => {
-                write!(f, "{call} waits for {of} at {a}, which ran before it")
+                say_two(f, &call, " waits for ", &of, " at ")?;
+                say(f, &a, ", which ran before it")
             }
             Reason::WaitsForDeath(call, of, a) => {
-                write!(
-                    f,
-                    "{call} waits for the death of {a}, which ran {of} before"
-                )
+                say_two(f, &call, " waits for the death of ", &a, ", which ran ")?;
+                say(f, &of, " before")
             }
             Reason::WaitsForSubmission(call, of) => {
-                write!(f, "{call} waits for {of}, which is submitted before it")
-            }
-            Reason::WaitsForRoom(call, of, a) => {
-                write!(
+                say_two(
                     f,
-                    "{call} waits for the answer of {of}, by the limit of {a}"
+                    &call,
+                    " waits for ",
+                    &of,
+                    ", which is submitted before it",
                 )
             }
-            Reason::Open(call) => write!(f, "{call} has no answer"),
+            Reason::WaitsForRoom(call, of, a) => {
+                say_two(
+                    f,
+                    &call,
+                    " waits for the answer of ",
+                    &of,
+                    ", by the limit of ",
+                )?;
+                say(f, &a, "")
+            }
+            Reason::Open(call) => say(f, &call, " has no answer"),
             Reason::Stuck => f.write_str("nothing more can happen"),
         }
     }
 }
 
 /// A reason, and the line where it shows.
-#[derive(Clone, Copy, Debug, PartialEq, Eq)]
+#[derive(Clone, Copy)]
 pub(crate) struct Blame {
     pub(crate) line: u32,
     pub(crate) reason: Reason,
