@@ -172,7 +172,9 @@ pub(super) fn recorded<R: Threads + Wait + Sync>(
         && plans_fit(casts.as_slice(), plans.as_slice())
     {
         let joined = run_plans(rt, alloc, casts, plans, &NoGate)?;
-        play_of(alloc, twins, &joined)
+        let found = play_of(alloc, twins, &joined);
+        drop(joined);
+        found
     } else {
         Err(RecordFault::Run(RunFault::TooMany))
     }

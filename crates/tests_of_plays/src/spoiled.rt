@@ -8,6 +8,7 @@ use act_replay::is_play_of;
 use act_types::{CallerId, FutureId, ListOf, Method, NoMemory};
 use act_world::Event;
 use std::alloc::Global;
+use std::process::Abort;
 use std::sync::Wait;
 use std::test::Fail;
 use std::thread::Threads;
@@ -80,15 +81,29 @@ fn fits(alloc: Global, events: &[Event], joined: &Joined<Counter>) -> Result<boo
     }
 }
 
+/// Whether the play in this order, with so many answers collected, is one of what was joined.
+fn fits_in(
+    alloc: Global,
+    joined: &Joined<Counter>,
+    order: [CallerId; 2],
+    answers: u32,
+) -> Result<bool, NoMemory> {
+    let events = play(alloc, order, answers)?;
+    let fits = fits(alloc, &events, joined);
+    drop(events);
+    fits
+}
+
 /// All answers are 0, so the two orders differ in the run list alone.
 #[test]
 fn one_call_out_of_order(rt: HostRuntime) -> Result<(), Fail> {
     let alloc = rt.alloc();
     let Ids { c1, c2, .. } = few_ids();
     let joined = both_ask(&rt, alloc)?;
-    let one = fits(alloc, &play(alloc, [c1, c2], 2)?, &joined)?;
-    let other = fits(alloc, &play(alloc, [c2, c1], 2)?, &joined)?;
-    assert!(rt; one != other);
+    let one = fits_in(alloc, &joined, [c1, c2], 2);
+    let other = fits_in(alloc, &joined, [c2, c1], 2);
+    drop(joined);
+    assert!(rt; one? != other?);
     Ok(())
 }
 
@@ -97,8 +112,26 @@ fn an_answer_short(rt: HostRuntime) -> Result<(), Fail> {
     let alloc = rt.alloc();
     let Ids { c1, c2, .. } = few_ids();
     let joined = both_ask(&rt, alloc)?;
-    assert!(rt; !fits(alloc, &play(alloc, [c1, c2], 1)?, &joined)?);
-    assert!(rt; !fits(alloc, &play(alloc, [c2, c1], 1)?, &joined)?);
+    let one = fits_in(alloc, &joined, [c1, c2], 1);
+    let other = fits_in(alloc, &joined, [c2, c1], 1);
+    drop(joined);
+    assert!(rt; !one?);
+    assert!(rt; !other?);
+    Ok(())
+}
+
+/// In neither order a counter that retired can retire once more.
+fn assert_retired(
+    rt: &impl Abort,
+    alloc: Global,
+    joined: &Joined<Counter>,
+) -> Result<(), NoMemory> {
+    let Ids { c1, c2, a1, .. } = few_ids();
+    for order in [[c1, c2], [c2, c1]] {
+        let mut events = play(alloc, order, 2)?;
+        events.push(Event::Retire(a1))?;
+        assert!(rt; !fits(alloc, &events, joined)?);
+    }
     Ok(())
 }
 
@@ -106,12 +139,9 @@ fn an_answer_short(rt: HostRuntime) -> Result<(), Fail> {
 #[test]
 fn one_event_refused(rt: HostRuntime) -> Result<(), Fail> {
     let alloc = rt.alloc();
-    let Ids { c1, c2, a1, .. } = few_ids();
     let joined = both_ask(&rt, alloc)?;
-    for order in [[c1, c2], [c2, c1]] {
-        let mut events = play(alloc, order, 2)?;
-        events.push(Event::Retire(a1))?;
-        assert!(rt; !fits(alloc, &events, &joined)?);
-    }
+    let done = assert_retired(&rt, alloc, &joined);
+    drop(joined);
+    done?;
     Ok(())
 }

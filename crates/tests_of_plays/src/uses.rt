@@ -47,6 +47,7 @@ fn one_call_is_heard(rt: HostRuntime) -> Result<(), Fail> {
     let heard = ask_once(rt.alloc(), Counter::open(), Method::Add, Value::Int(5))?;
     let answer = heard.owner.answer(FutureId::new(0));
     assert!(rt; matches!(answer, Some(Ok(Value::Int(5)))));
+    drop(heard);
     Ok(())
 }
 
@@ -58,9 +59,12 @@ fn a_front_is_read_off(rt: HostRuntime) -> Result<(), Fail> {
     let casts = account(alloc, a1, c1)?;
     assert!(rt; cast_fits(casts.as_slice()));
     let events = deposit(alloc, a1, c1)?;
-    let world = world_after(alloc, casts, events.as_slice())?;
-    let ran = ran_of(alloc, &world, a1, c1)?;
-    assert_eq!(rt; ran.as_slice(), [(0, FutureId::new(0))].as_slice());
+    let world = world_after(alloc, casts, events.as_slice());
+    drop(events);
+    let world = world?;
+    let ran = ran_of(alloc, &world, a1, c1);
+    drop(world);
+    assert_eq!(rt; ran?.as_slice(), [(0, FutureId::new(0))].as_slice());
     Ok(())
 }
 
@@ -71,8 +75,8 @@ fn a_play_goes_to_its_end(rt: HostRuntime) -> Result<(), Fail> {
     let c1 = CallerId::new(1).unwrap();
     let casts = account(alloc, a1, c1)?;
     assert!(rt; cast_fits(casts.as_slice()));
-    let mut world = World::open(alloc, casts)?;
     let events = deposit(alloc, a1, c1)?;
+    let mut world = World::open(alloc, casts)?;
     let mut told = Vec::new(alloc);
     assert_eq!(rt;
         play_patiently(&mut world, events.as_slice(), &mut told, 3),
@@ -87,6 +91,9 @@ fn a_play_goes_to_its_end(rt: HostRuntime) -> Result<(), Fail> {
         Ok(Did::Kept(c1, k0)),
     ];
     assert_eq!(rt; told.as_slice(), wanted.as_slice());
+    drop(told);
+    drop(world);
+    drop(events);
     Ok(())
 }
 
@@ -103,6 +110,8 @@ fn a_part_of_a_script_is_played(rt: HostRuntime) -> Result<(), Fail> {
     assert_eq!(rt; play_part(alloc, &mut world, script, 2, &mut told), Ok(()));
     let wanted: [Outcome; 2] = [Ok(Did::Future(c1, FutureId::new(0))), Ok(Did::Mail(0))];
     assert_eq!(rt; told.as_slice(), wanted.as_slice());
+    drop(told);
+    drop(world);
     Ok(())
 }
 
@@ -157,6 +166,7 @@ fn each_kind_answers_in_its_box(rt: HostRuntime) -> Result<(), Fail> {
     for owner in &joined.owners {
         assert_answers(&rt, owner, [5, 0, 10, 1]);
     }
+    drop(joined);
     Ok(())
 }
 

@@ -93,11 +93,27 @@ fn cast_of<K: Actor>(alloc: Global, role: Role<K>) -> Result<Cast<K>, NoMemory> 
 fn lists_of(alloc: Global, rows: &[Row]) -> Result<(Vec<Event>, Vec<Outcome>), NoMemory> {
     let mut events = Vec::new(alloc);
     let mut wanted = Vec::new(alloc);
+    match push_rows(alloc, &mut events, &mut wanted, rows) {
+        Ok(()) => Ok((events, wanted)),
+        Err(error) => {
+            drop(events);
+            drop(wanted);
+            Err(error)
+        }
+    }
+}
+
+fn push_rows(
+    alloc: Global,
+    events: &mut Vec<Event>,
+    wanted: &mut Vec<Outcome>,
+    rows: &[Row],
+) -> Result<(), NoMemory> {
     for (step, outcome) in rows {
         events.push(event_of(alloc, *step)?)?;
         wanted.push(*outcome)?;
     }
-    Ok((events, wanted))
+    Ok(())
 }
 
 /// Plays the rows where memory may be refused once: then the world stops at the event that wanted
@@ -109,8 +125,8 @@ fn played<K: Actor>(
     rows: &[Row],
 ) -> Result<World<K>, NoMemory> {
     assert!(rt; cast_fits(casts.as_slice()));
-    let mut world = World::open(alloc, casts)?;
     let (events, wanted) = lists_of(alloc, rows)?;
+    let mut world = World::open(alloc, casts)?;
     assert!(rt; events.len() <= 100);
     let mut told = Vec::new(alloc);
     if let Err(i) = world.play(events.as_slice(), &mut told) {
@@ -120,6 +136,9 @@ fn played<K: Actor>(
         assert_eq!(rt; world.play(&events[stop..], &mut told), Ok(()));
     }
     assert_eq!(rt; told.as_slice(), wanted.as_slice());
+    drop(told);
+    drop(wanted);
+    drop(events);
     Ok(world)
 }
 
@@ -233,8 +252,9 @@ fn assert_end(
 ) -> Result<(), NoMemory> {
     let world = played(rt, alloc, casts, rows)?;
     let (callers, actors) = shown;
-    let end = end_of(alloc, &world, callers, actors)?;
-    assert_eq!(rt; end.as_str(), wanted);
+    let end = end_of(alloc, &world, callers, actors);
+    drop(world);
+    assert_eq!(rt; end?.as_str(), wanted);
     Ok(())
 }
 
@@ -464,10 +484,11 @@ fn ran_and_yet_died(rt: HostRuntime) -> Result<(), Fail> {
         (Step::Deliver(1), Err(WorldRefusal::ActorEnded)),
     ];
     let world = played(&rt, alloc, casts, &rows)?;
-    let end = end_of(alloc, &world, &[c1], &[a1])?;
-    let wanted = "c1.0 a1 = ActorDied\nc1.1 a1 = ActorDied\na1 dead\na1.0 c1.0 add 5\n";
-    assert_eq!(rt; end.as_str(), wanted);
+    let end = end_of(alloc, &world, &[c1], &[a1]);
     world.consistent();
+    drop(world);
+    let wanted = "c1.0 a1 = ActorDied\nc1.1 a1 = ActorDied\na1 dead\na1.0 c1.0 add 5\n";
+    assert_eq!(rt; end?.as_str(), wanted);
     Ok(())
 }
 
@@ -507,9 +528,10 @@ fn pending_limit(rt: HostRuntime) -> Result<(), Fail> {
         ),
     ];
     let world = played(&rt, alloc, casts, &rows)?;
-    let end = end_of(alloc, &world, &[c1], &[a1])?;
+    let end = end_of(alloc, &world, &[c1], &[a1]);
+    drop(world);
     let wanted = "c1.0 a1 = 1\nc1.1 a1 ?\nc1.2 a1 ?\na1 live counter 1\na1.0 c1.0 add 1\n";
-    assert_eq!(rt; end.as_str(), wanted);
+    assert_eq!(rt; end?.as_str(), wanted);
     Ok(())
 }
 
@@ -571,11 +593,12 @@ fn terminate_in_turn(rt: HostRuntime) -> Result<(), Fail> {
         (Step::Collect(4), Ok(Did::Kept(c1, k4))),
     ];
     let world = played(&rt, alloc, casts, &rows)?;
-    let end = end_of(alloc, &world, &[c1], &[a1, a2])?;
+    let end = end_of(alloc, &world, &[c1], &[a1, a2]);
+    drop(world);
     let wanted =
         "c1.0 a1 = 5\nc1.1 a1 = unit\nc1.2 a1 = ActorDied\nc1.3 a2 = BadArgs\nc1.4 a2 = 2\n\
         a1 dead\na1.0 c1.0 add 5\na1.1 c1.1 terminate\n\
         a2 live counter 2\na2.0 c1.3 terminate 1\na2.1 c1.4 add 2\n";
-    assert_eq!(rt; end.as_str(), wanted);
+    assert_eq!(rt; end?.as_str(), wanted);
     Ok(())
 }

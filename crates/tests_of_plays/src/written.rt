@@ -73,7 +73,9 @@ fn answers_passed_on<R: Threads + Wait + Sync, K: Actor + Send>(
     let Some(recorded) = written(rt, alloc, pending, kinds, twins, &one, &two)? else {
         return Ok(false);
     };
-    Ok(recorded.events.len() == 45 && recorded.source == Source::Noted)
+    let is_whole = recorded.events.len() == 45 && recorded.source == Source::Noted;
+    drop(recorded);
+    Ok(is_whole)
 }
 
 /// How many deaths, and how many retirements, a play has.
@@ -106,7 +108,9 @@ fn killed<R: Threads + Wait + Sync, K: Actor + Send>(
     let Some(recorded) = written(rt, alloc, None, kinds, twins, &one, &two)? else {
         return Ok(false);
     };
-    Ok(ends_in(recorded.events.as_slice()) == (1, 1))
+    let ends = ends_in(recorded.events.as_slice());
+    drop(recorded);
+    Ok(ends == (1, 1))
 }
 
 #[test]

@@ -50,10 +50,13 @@ fn moved_arguments(rt: HostRuntime) -> Result<(), Fail> {
     let casts = one_cast(alloc, (a1, &[c1], Counter::open()))?;
     assert!(rt; cast_fits(casts.as_slice()));
     let mut world = World::open(alloc, casts)?;
-    assert_handed(&rt, alloc, &mut world, &rows)?;
-    let end = end_of(alloc, &world, &[c1], &[a1])?;
+    let end = match assert_handed(&rt, alloc, &mut world, &rows) {
+        Ok(()) => end_of(alloc, &world, &[c1], &[a1]),
+        Err(error) => Err(error),
+    };
+    drop(world);
     assert_eq!(rt;
-        end.as_str(),
+        end?.as_str(),
         "c1.0 a1 = 5\na1 live counter 5\na1.0 c1.0 add 5\n"
     );
     Ok(())

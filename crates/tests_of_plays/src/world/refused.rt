@@ -38,6 +38,9 @@ fn assert_told(
     assert_eq!(rt; told.capacity(), 0);
     assert_eq!(rt; world.play(events.as_slice(), &mut told), Ok(()));
     assert_eq!(rt; told.as_slice(), wanted.as_slice());
+    drop(told);
+    drop(wanted);
+    drop(events);
     Ok(())
 }
 
@@ -64,9 +67,12 @@ fn nothing_there(rt: HostRuntime) -> Result<(), Fail> {
         (Step::Tell(a1, c1), Err(WorldRefusal::NotDead)),
     ];
     let mut world = one_counter(&rt, alloc, a1, c1)?;
-    assert_told(&rt, alloc, &mut world, &rows)?;
-    let end = end_of(alloc, &world, &[c1], &[a1])?;
-    assert_eq!(rt; end.as_str(), "a1 live counter 0\n");
+    let end = match assert_told(&rt, alloc, &mut world, &rows) {
+        Ok(()) => end_of(alloc, &world, &[c1], &[a1]),
+        Err(error) => Err(error),
+    };
+    drop(world);
+    assert_eq!(rt; end?.as_str(), "a1 live counter 0\n");
     Ok(())
 }
 
@@ -81,8 +87,12 @@ fn assert_refused(
     let c1 = CallerId::new(1).unwrap();
     for first in 0..refused.len() {
         let mut world = one_counter(rt, alloc, a1, c1)?;
-        assert_told(rt, alloc, &mut world, before)?;
-        assert_told(rt, alloc, &mut world, &refused[first..])?;
+        let done = match assert_told(rt, alloc, &mut world, before) {
+            Ok(()) => assert_told(rt, alloc, &mut world, &refused[first..]),
+            Err(error) => Err(error),
+        };
+        drop(world);
+        done?;
     }
     Ok(())
 }
