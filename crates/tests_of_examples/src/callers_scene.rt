@@ -96,7 +96,9 @@ pub fn alone<R: Abort + Threads + Wait + Sync, C: Code + Send>(
     assert!(rt; plans_fit(&casts, &plans));
     assert!(rt; codes_fit(&casts, &plans, &codes));
     let joined = run_callers(rt, alloc, casts, plans, codes, &NoGate)?;
-    Ok(report_of(alloc, &joined)?)
+    let report = report_of(alloc, &joined);
+    drop(joined);
+    Ok(report?)
 }
 
 /// Whether a report has both lines of one of these ends.

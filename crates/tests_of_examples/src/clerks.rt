@@ -61,7 +61,9 @@ fn different_code_in_one_run(rt: HostRuntime) -> Result<(), Fail> {
     assert!(rt; plans_fit(&casts, &plans));
     assert!(rt; codes_fit(&casts, &plans, &clerks));
     let joined = run_clerks(&rt, alloc, casts, plans, clerks)?;
-    let report = report_of(alloc, &joined)?;
+    let report = report_of(alloc, &joined);
+    drop(joined);
+    let report = report?;
     assert!(rt; ends_as(report.as_str(), &ENDS));
     assert!(rt;
         report

@@ -113,15 +113,30 @@ pub fn played<R: Abort>(
     calls: &[Call],
 ) -> Result<String, NoMemory> {
     assert!(rt; cast_fits(&casts));
-    let mut world = World::open(alloc, casts)?;
     let events = events_of(rt, alloc, calls)?;
+    let mut world = World::open(alloc, casts)?;
+    let report = report_of(rt, alloc, &mut world, &events);
+    drop(world);
+    drop(events);
+    report
+}
+
+/// The report of a world after these events.
+fn report_of<R: Abort>(
+    rt: &R,
+    alloc: Global,
+    world: &mut World<Boxed>,
+    events: &[Event],
+) -> Result<String, NoMemory> {
     let mut told = Vec::new(alloc);
     assert!(rt; world.has_room(events.len()));
-    if world.play(&events, &mut told).is_err() {
+    let played = world.play(events, &mut told);
+    drop(told);
+    if played.is_err() {
         return Err(NoMemory);
     }
     let mut text = String::new(alloc);
-    play_report(alloc, &world, &[], &mut text)?;
+    play_report(alloc, world, &[], &mut text)?;
     Ok(text)
 }
 
@@ -148,6 +163,8 @@ pub fn threaded<R: Abort + Threads + Wait + Sync>(
     assert!(rt; plans_fit(&casts, &plans));
     let joined = run_plans(rt, alloc, casts, plans, &NoGate)?;
     let mut text = String::new(alloc);
-    joined_report(alloc, &joined, &mut text)?;
+    let told = joined_report(alloc, &joined, &mut text);
+    drop(joined);
+    told?;
     Ok(text)
 }

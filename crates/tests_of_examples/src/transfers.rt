@@ -92,7 +92,9 @@ fn the_sum_is_kept(rt: HostRuntime) -> Result<(), Fail> {
     assert!(rt; plans_fit(&casts, &plans));
     assert!(rt; codes_fit(&casts, &plans, &transfers));
     let joined = run_transfers(&rt, alloc, casts, plans, transfers)?;
-    let report = report_of(alloc, &joined)?;
+    let report = report_of(alloc, &joined);
+    drop(joined);
+    let report = report?;
     assert!(rt; ends_as(report.as_str(), &ENDS));
     Ok(())
 }
