@@ -10,6 +10,9 @@ has no time.
     tools/more_edits.py [--jobs N] --all | CRATE..
                                          tries all further edits, or those of these crates, over what the
                                          last checks kept, and writes what came of it into docs/edits.md
+    tools/more_edits.py [--jobs N] --own CRATE..
+                                         tries the edits of must-fail of these crates in the same way, and
+                                         writes nothing
 
 The share is a twentieth of those that docs/edits.md lists as refused, and is drawn by the commit. Its
 edits lie in must-fail/ while the gate runs. The gate must tell of each edit that it was refused, so one
@@ -169,8 +172,8 @@ def gate():
 # All further edits, and the page.
 
 
-def try_those_of(crate):
-    edits, found = edits_in(MORE, [crate]), []
+def try_those_of(crate, kind):
+    edits, found = edits_in(kind, [crate]), []
     for each in try_crate(crate, edits):
         print(f"{each.edit.name}: {'refused' if each.is_refused else 'NOT REFUSED'}: {each.told}", flush=True)
         found.append(each)
@@ -209,13 +212,14 @@ def summary(sections, missing):
     return textwrap.fill(f"In all {refused} of {tried} were refused.{untried}", 118) + "\n"
 
 
-def try_and_write(crates, jobs):
-    """Whether each further edit of these crates is refused."""
+def try_all_of(crates, kind, jobs):
+    """Whether each edit of this kind of these crates is refused. What came of further ones is written."""
     every = []
     kit()
     with ThreadPoolExecutor(jobs) as pool:
-        for crate, tried in zip(crates, pool.map(try_those_of, crates)):
-            write_section(crate, tried)
+        for crate, tried in zip(crates, pool.map(lambda crate: try_those_of(crate, kind), crates)):
+            if kind == MORE:
+                write_section(crate, tried)
             every += tried
     failed = [each for each in every if not each.is_refused]
     for each in failed:
@@ -229,17 +233,20 @@ def main():
     parser.add_argument("--check", action="store_true")
     parser.add_argument("--gate", action="store_true")
     parser.add_argument("--all", action="store_true")
+    parser.add_argument("--own", action="store_true")
     parser.add_argument("--jobs", type=int, default=1)
     parser.add_argument("crates", nargs="*", metavar="CRATE")
     given = parser.parse_args()
-    have = sorted({edit.crate for edit in edits_in(MORE)})
-    if given.check + given.gate + given.all + bool(given.crates) != 1 or {*given.crates} - {*have}:
-        parser.error(f"one of --check, --gate, --all and CRATE.., each of: {' '.join(have)}")
+    kind = GATE if given.own else MORE
+    have = sorted({edit.crate for edit in edits_in(kind)})
+    is_one = given.check + given.gate + given.all + bool(given.crates) == 1
+    if not is_one or {*given.crates} - {*have} or given.own and not given.crates:
+        parser.error(f"one of --check, --gate, --all and [--own] CRATE.., each of: {' '.join(have)}")
     if not check():
         return False
     if given.gate:
         return gate()
-    return given.check or try_and_write(given.crates or have, given.jobs)
+    return given.check or try_all_of(given.crates or have, kind, given.jobs)
 
 
 if __name__ == "__main__":
