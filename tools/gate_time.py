@@ -105,6 +105,10 @@ class Watch:
         return crates, edits
 
 
+def minutes(seconds):
+    return f"{seconds / 60:.1f}" if seconds else "-"
+
+
 def table(spent, whole, elapsed):
     """The lines of the table, the dearest crate first."""
     yield HEADINGS
@@ -112,10 +116,10 @@ def table(spent, whole, elapsed):
     crates = sorted({crate for crate, _ in spent}, key=lambda crate: -sum(spent[crate, kind] for kind in KINDS))
     for crate in crates:
         figures = [spent[crate, kind] for kind in KINDS]
-        yield f"| {crate} | " + " | ".join(f"{each / 60:.1f}" for each in [*figures, sum(figures)]) + " |"
+        yield f"| {crate} | " + " | ".join(map(minutes, [*figures, sum(figures)])) + " |"
     sums = [sum(spent[crate, kind] for crate in crates) for kind in KINDS]
-    yield f"| else | | | | | {(whole - sum(sums)) / 60:.1f} |"
-    yield "| all | " + " | ".join(f"{each / 60:.1f}" for each in [*sums, whole]) + " |"
+    yield f"| else | - | - | - | - | {minutes(whole - sum(sums))} |"
+    yield "| all | " + " | ".join(map(minutes, [*sums, whole])) + " |"
     yield f"\n{elapsed / 60:.1f} minutes in all, on {os.cpu_count()} processors."
 
 
