@@ -17,8 +17,8 @@ has no time.
 The share is a twentieth of those that docs/edits.md lists as refused, and is drawn by the commit. Its
 edits lie in must-fail/ while the gate runs. The gate must tell of each edit that it was refused, so one
 that can't be applied, compiled or read is a failure. A note tells which were refused with no error in a function: since the prover doesn't cover it,
-or for a name alone which a proof speaks of and the edit took away. Of the further edits tried by
-themselves such a one is a failure.
+or for a name alone which a proof speaks of and the edit took away. Of edits that are tried without
+the gate such a one is a failure.
 """
 import argparse
 import hashlib

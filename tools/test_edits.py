@@ -157,6 +157,15 @@ class Page(Scratch):
         self.assertIn("In all 1 of 1 were refused.", page.read_text())
         self.assertNotIn("not refused", page.read_text())
 
+    def test_what_came_of_a_crates_own_edits_is_told_and_not_written(self):
+        edit, page = self.edit(GOOD, kind=GATE), self.crate / "edits.md"
+        for is_refused in (True, False):
+            patches = {"PAGE": page, "kit": lambda: None, "edits_in": lambda kind, crates: [edit] if kind == GATE else [],
+                       "try_crate": lambda crate, edits: [trying.Tried(each, is_refused, "..") for each in edits]}
+            with mock.patch.multiple(more_edits, print=lambda *_, **__: None, create=True, **patches):
+                self.assertIs(more_edits.try_all_of(["low"], GATE, 1), is_refused)
+        self.assertFalse(page.exists())
+
 
 class Share(Scratch):
     def test_the_share_is_of_those_that_the_page_has_as_refused(self):
