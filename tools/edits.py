@@ -54,10 +54,12 @@ class Edit:
         self.folder = self.path.parent.parent
         self.crate = self.folder.name
         self.name = f"{self.crate}/{self.path.name}"
+        # Read at once: where the gate tries it, its folder is elsewhere by then.
+        self.content = self.path.read_bytes()
 
     def pairs(self):
         file, old, found = "", None, []
-        for line in self.path.read_text().split("\n"):
+        for line in self.content.decode().split("\n"):
             word, _, text = line.partition(": ")
             if word == "file":
                 file = text.strip()

@@ -4,10 +4,11 @@
     tools/gate_time.py [--every SECONDS] [--edits N] [COMMAND ..]
 
 Runs the command (`rt ci`, where none is given) at the top of a checkout and looks at the prover's processes meanwhile,
-about once a second. A process counts for the crate that it checks. It is an edit's where it works on a changed copy of
-the crate, and `again` where that copy is the crate as it stands, which the gate proves once more for its edits. It is
-the tests' where it checks these, and else the proof's. What a process did after the last look at it is missed, so the
-row `else` has that, the compilers, the linker and the tests as they run. With --edits the N dearest edits are told, too.
+about once a second. A process counts for the crate that it checks. It is an edit's, or that of several, where it works
+on a changed copy of the crate, and `again` where that copy is the crate as it stands, which is proved once more for
+its edits. It is the tests' where it checks these, and else the proof's. What a process did after the last look at it is
+missed, so the row `else` has that, the compilers, the linker and the tests as they run. With --edits the N dearest
+checks of edits are told, too.
 The table comes on standard output when the command ends, or when this is interrupted, and the status is the command's.
 Figures need a machine that does nothing else.
 """
@@ -21,7 +22,7 @@ import sys
 import time
 from pathlib import Path
 
-from edits import GATE, PARTS, TOP, BadEdit, edits_in
+from edits import GATE, MORE, PARTS, TOP, BadEdit, edits_in
 
 KINDS = ("proof", "tests", "again", "edits")
 # A crate from nothing is built; an edit of one, and its tests, are checked.
@@ -37,27 +38,32 @@ def is_as_it_stands(crate, room):
     return all(Path(room, file.relative_to(crate)).read_bytes() == file.read_bytes() for file in files)
 
 
-def edit_in(crate, room):
-    """The name of the edit that was made in a copy of the crate."""
-    for edit in edits_in(GATE, [crate]):
-        try:
-            if all(Path(room, file).read_text() == text for file, text in edit.applied({}).items()):
-                return edit.name
-        except BadEdit:
-            continue
-    return f"{crate}/?"
+def is_made_in(edit, room):
+    """Whether each line that the edit changes is so in a copy of its crate."""
+    try:
+        changed = edit.applied({})
+    except BadEdit:
+        return False
+    return all(has_lines_of(Path(room, file), (edit.folder / file).read_text(), text) for file, text in changed.items())
 
 
-def crate_and_kind(words, folder):
-    """Which crate a process of the prover checks, as what, and which edit, or None."""
+def has_lines_of(copy, old, new):
+    """Whether the copy of a file has each of the new lines that isn't an old one, at its place."""
+    rows = zip(*(text.split("\n") for text in (copy.read_text(), old, new)))
+    return all(row == new for row, old, new in rows if old != new)
+
+
+def crate_and_kind(words, folder, edits):
+    """Which crate a process of the prover checks, as what, and with which of the edits, or None."""
     if len(words) < 2 or not words[0].endswith("/rattle") or words[1] not in WORKS or "--crate-name" not in words:
         return None
     crate = words[words.index("--crate-name") + 1]
     if OF_AN_EDIT not in folder:
-        return crate, "tests" if "--test" in words else "proof", ""
+        return crate, "tests" if "--test" in words else "proof", ()
     if is_as_it_stands(TOP / "crates" / crate, folder):
-        return crate, "again", ""
-    return crate, "edits", edit_in(crate, folder)
+        return crate, "again", ()
+    made = tuple(edit.name for edit in edits if edit.crate == crate and is_made_in(edit, folder))
+    return crate, "edits", made or (f"{crate}/?",)
 
 
 def stat_of(process):
@@ -70,8 +76,8 @@ def stat_of(process):
 class Watch:
     """What the processes of the prover worked, of those that a command begins."""
 
-    def __init__(self, session):
-        self.session, self.kinds, self.seconds = session, {}, {}
+    def __init__(self, session, edits):
+        self.session, self.edits, self.kinds, self.seconds = session, edits, {}, {}
 
     def look(self):
         """Notes how long each process has worked by now."""
@@ -88,7 +94,7 @@ class Watch:
         one = process, start
         if one not in self.kinds:
             words = Path(f"/proc/{process}/cmdline").read_bytes().decode(errors="replace").split("\0")
-            found = crate_and_kind(words, os.readlink(f"/proc/{process}/cwd"))
+            found = crate_and_kind(words, os.readlink(f"/proc/{process}/cwd"), self.edits)
             # A process is first its parent's copy, and becomes the prover then.
             if not found:
                 return
@@ -96,13 +102,13 @@ class Watch:
         self.seconds[one] = seconds
 
     def spent(self):
-        """The seconds of each crate and kind, and those of each edit."""
-        crates, edits = collections.Counter(), collections.Counter()
-        for one, (crate, kind, edit) in self.kinds.items():
+        """The seconds of each crate and kind, and those of the edits that were checked together."""
+        crates, checks = collections.Counter(), collections.Counter()
+        for one, (crate, kind, made) in self.kinds.items():
             crates[crate, kind] += self.seconds[one]
-            edits[edit] += self.seconds[one]
-        del edits[""]
-        return crates, edits
+            checks[made] += self.seconds[one]
+        del checks[()]
+        return crates, checks
 
 
 def minutes(seconds):
@@ -123,12 +129,13 @@ def table(spent, whole, elapsed):
     yield f"\n{elapsed / 60:.1f} minutes in all, on {os.cpu_count()} processors."
 
 
-def dearest(edits, count):
-    """The lines that tell the dearest edits, and what one takes in the mean."""
-    mean = sum(edits.values()) / max(1, len(edits))
-    yield f"\n{len(edits)} edits were tried, each in {mean:.0f} seconds of a processor in the mean."
-    for edit, seconds in edits.most_common(count):
-        yield f"- {edit}: {seconds:.0f} s"
+def dearest(checks, count):
+    """The lines that tell the dearest checks of edits, and what an edit takes in the mean."""
+    edits = {edit for made in checks for edit in made}
+    mean = sum(checks.values()) / max(1, len(edits))
+    yield f"\n{len(edits)} edits were tried in {len(checks)} checks, each in {mean:.0f} s of a processor in the mean."
+    for (edit, *others), seconds in checks.most_common(count):
+        yield f"- {edit}{f' and {len(others)} others' if others else ''}: {seconds:.0f} s"
 
 
 def interrupt(_signal, _frame):
@@ -141,10 +148,12 @@ def main():
     parser.add_argument("--edits", type=int, default=0, metavar="N")
     parser.add_argument("command", nargs=argparse.REMAINDER)
     arguments = parser.parse_args()
+    # Read before the command begins: tools/gate.py has the edits elsewhere for a while.
+    every = [*edits_in(GATE), *edits_in(MORE)]
     began = time.monotonic()
     signal.signal(signal.SIGTERM, interrupt)
     with subprocess.Popen(arguments.command or ["rt", "ci"], start_new_session=True) as ran:
-        watch = Watch(ran.pid)
+        watch = Watch(ran.pid, every)
         try:
             while ran.poll() is None:
                 watch.look()
@@ -152,11 +161,11 @@ def main():
         except KeyboardInterrupt:
             print("interrupted: the table has what was done until then", file=sys.stderr)
             os.killpg(ran.pid, signal.SIGTERM)
-    crates, edits = watch.spent()
+    crates, checks = watch.spent()
     used = resource.getrusage(resource.RUSAGE_CHILDREN)
     print("\n".join(table(crates, used.ru_utime + used.ru_stime, time.monotonic() - began)), flush=True)
     if arguments.edits:
-        print("\n".join(dearest(edits, arguments.edits)), flush=True)
+        print("\n".join(dearest(checks, arguments.edits)), flush=True)
     return ran.returncode
 
 

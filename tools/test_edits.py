@@ -5,6 +5,8 @@ import unittest
 from pathlib import Path
 from unittest import mock
 
+import gate
+import gate_time
 import more_edits
 import trying
 from edits import GATE, MORE, Edit, Place, fault_of
@@ -116,39 +118,86 @@ class Trying(Scratch):
         self.assertEqual(found, [[edit] for edit in edits])
 
 
-class Gate(unittest.TestCase):
-    WANTED = {"low/a.edit", "low/b.edit"}
-    ERROR = "rt: must-fail low/{}.edit: refused, as it must be: note: src/few.rt:5:5: it is not proved .."
-    GOOD = [ERROR.format("a"), ERROR.format("b")]
+class Rounds(Scratch):
+    """Groups of edits, with a prover that says what the test has it say."""
 
-    def faults(self, said, wanted=WANTED):
-        return [*more_edits.gate_faults(more_edits.told_by_the_gate(said), wanted)]
+    def tried(self, edits, *answers):
+        trial = trying.Trial.__new__(trying.Trial)
+        checks, answers = [], [*answers]
+        says = lambda group: checks.append([edit.path.stem for edit in group]) or answers.pop(0)
+        alone = lambda edit: trying.Tried(edit, False, "alone")
+        functions = lambda edit: {} if edit.path.stem == "d" else {edit.path.stem: edit}
+        fits = mock.patch.object(trying, "fits", lambda edit, group, _: len(group) < 3)
+        patches = {"functions": functions, "try_together": says, "try_alone": alone, "is_proved": lambda: True}
+        with fits, mock.patch.multiple(trial, create=True, **patches):
+            return [(each.edit.path.stem, each.told) for each in trial.try_all(edits)], checks
 
-    def test_all_refused(self):
-        self.assertEqual(self.faults(self.GOOD), [])
-        self.assertEqual(more_edits.weak(more_edits.told_by_the_gate(self.GOOD)), [])
+    def test_what_rests_on_a_refused_one_is_tried_again_without_it(self):
+        a, b, c, d = (self.edit(GOOD, name=f"{name}.edit") for name in "abcd")
+        found, checks = self.tried([a, b, c, d], ({a: "of a"}, [b]), ({b: "of b"}, []))
+        self.assertEqual(found, [("a", "of a"), ("b", "of b"), ("d", "alone"), ("c", "alone")])
+        self.assertEqual(checks, [["a", "b", "c"], ["b"]])
 
-    def test_what_is_not_refused_is_told(self):
-        for end in ["BAD EDIT: there is no file", "NOT REFUSED: still proved"]:
-            self.assertEqual(len(self.faults([self.GOOD[0], f"rt: must-fail low/b.edit: {end}"])), 1, end)
+    def test_where_nothing_is_refused_each_is_tried_alone(self):
+        a, b = (self.edit(GOOD, name=f"{name}.edit") for name in "ab")
+        found, checks = self.tried([a, b], ({}, [a, b]))
+        self.assertEqual(found, [("a", "alone"), ("b", "alone")])
+        self.assertEqual(checks, [["a", "b"]])
 
-    def test_what_was_not_tried_is_told(self):
-        self.assertEqual(len(self.faults(self.GOOD[:1])), 1)
-        self.assertEqual(len(self.faults(self.GOOD, {"low/a.edit"})), 1)
 
-    def test_what_is_refused_with_no_error_is_noted(self):
-        ends = ["refused, as it must be (only because a proof file names ..)", "refused, as it must be"]
-        ends += ["refused, as it must be: ./proofs/few/Answers.antt:16:5: note: large solution: .."]
-        for end in ends:
-            told = more_edits.told_by_the_gate([self.GOOD[0], f"rt: must-fail low/b.edit: {end}"])
-            self.assertEqual(more_edits.weak(told), ["low/b.edit"], end)
+class Gate(Scratch):
+    SAID = ["== low", f"fn {LEN}: proved", f"fn {FMT}: proved, may wait", "logic=proved functions=2", "rt: low proved",
+            "== low: its tests", "fn low::tests::few: proved", "rt: low: its tests are proved",
+            "rt: kept is kept: an earlier run on this machine proved the same files over the same libraries",
+            "== high", "fn high::top: not proved", "rt: high NOT PROVED"]
+
+    def test_a_crate_that_is_proved_is_told_with_its_functions(self):
+        self.assertEqual([*gate.proved_crates(self.SAID)], [("low", [LEN, FMT]), ("kept", [])])
+
+    def test_edits_out_of_sight_are_put_back(self):
+        top = self.crate.parent / "top"
+        folder = top / "crates/low" / GATE
+        folder.mkdir(parents=True)
+        (folder / "longer.edit").write_text(GOOD)
+        with mock.patch.object(gate, "TOP", top):
+            with self.assertRaises(KeyboardInterrupt), gate.out_of_sight():
+                self.assertFalse(folder.exists())
+                raise KeyboardInterrupt
+        self.assertEqual((folder / "longer.edit").read_text(), GOOD)
+
+    def test_an_edit_of_a_crate_that_is_not_proved_is_not_refused(self):
+        low, high = self.edit(GOOD, GATE), Edit(self.edit(GOOD, name="other.edit").path)
+        high.crate = "high"
+        tries = lambda crate, edits, *_: [trying.Tried(edit, True, "..") for edit in edits]
+        with mock.patch.multiple(gate, create=True, try_crate=tries, print=lambda *_, **__: None):
+            lanes = gate.Lanes([low, high])
+            lanes.add("low", [LEN])
+            lanes.begin(2)
+            self.assertEqual([(each.edit, each.is_refused) for each in lanes.end()], [(low, True), (high, False)])
+
+
+class GateTime(Scratch):
+    def test_edits_made_together_are_each_found_in_a_copy(self):
+        of_first = "file: src/few.rt\nold: list[0]\nnew: list[1]\n"
+        made = [self.edit(GOOD, name="a.edit"), self.edit(of_first, name="b.edit")]
+        other = self.edit(GOOD.replace("+ 1", "+ 2"), name="c.edit")
+        room = self.crate.parent / "rt-edit-1"
+        (room / "src").mkdir(parents=True)
+        (room / "src/few.rt").write_text(made[1].applied(made[0].applied({}))["src/few.rt"])
+        words = ["/kit/rattle", "check", "--crate-name", "low"]
+        with mock.patch.multiple(gate_time, is_as_it_stands=lambda *_: False):
+            found = gate_time.crate_and_kind(words, str(room), [*made, other])
+        self.assertEqual(found, ("low", "edits", ("low/a.edit", "low/b.edit")))
 
 
 class Page(Scratch):
     def test_a_section_is_written_anew_and_others_stay(self):
         edit = self.edit(GOOD)
         page = self.crate / "edits.md"
-        patches = {"PAGE": page, "edits_in": lambda _: [edit, Edit(self.crate.parent / "high" / MORE / "a.edit")]}
+        other = self.crate.parent / "high" / MORE / "a.edit"
+        other.parent.mkdir(parents=True)
+        other.write_text(GOOD)
+        patches = {"PAGE": page, "edits_in": lambda _: [edit, Edit(other)]}
         with mock.patch.multiple(more_edits, output_of=lambda *_: "abc", **patches):
             more_edits.write_section("low", [trying.Tried(edit, False, "still proved")])
             self.assertIn("In all 0 of 1 were refused. Not tried yet: those of high.", page.read_text())
@@ -181,19 +230,11 @@ class Share(Scratch):
         self.assertEqual(shares[0], shares[2])
         self.assertNotEqual(shares[0], shares[1])
 
-    def test_lent_edits_go_again(self):
-        edit = self.edit(GOOD)
-        (self.crate / GATE).rmdir()
-        with self.assertRaises(KeyboardInterrupt), more_edits.lent([edit]):
-            self.assertEqual((self.crate / GATE / "longer.edit").read_text(), GOOD)
-            raise KeyboardInterrupt
-        self.assertFalse((self.crate / GATE).exists())
-
 
 class Jobs(unittest.TestCase):
     def test_all_processors_where_each_check_has_its_memory(self):
-        self.assertEqual(more_edits.jobs_of_the_gate(4, 16 << 30), {"RT_JOBS": "4"})
-        self.assertEqual(more_edits.jobs_of_the_gate(4, (16 << 30) - 1), {})
+        self.assertEqual(gate.jobs_of_the_gate(4, 16 << 30), {"RT_JOBS": "4"})
+        self.assertEqual(gate.jobs_of_the_gate(4, (16 << 30) - 1), {})
 
 if __name__ == "__main__":
     unittest.main()

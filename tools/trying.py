@@ -4,8 +4,8 @@ What an edit costs is mostly loading: two seconds or three each for the front en
 libraries, and for the files that the prover offers. So edits of different functions are applied together,
 and these functions alone are checked. The prover goes on after a function that it refuses, and the others
 still have its contract. An edit counts as refused so only where a message names an error in its own
-function, and none of what that function calls is refused beside it. Every other edit is tried alone, and
-last as the gate does it, over the whole crate.
+function, and none of what that function calls is refused beside it. Where something is, it is tried in a group
+again, without those that were refused. Every other edit is tried alone, over the whole crate, as `rt ci` does it.
 """
 import functools
 import importlib.machinery
@@ -20,8 +20,8 @@ from typing import NamedTuple
 from edits import TOP, BadEdit
 
 ONE_JOB = ["--jobs", "1"]
-# An edit takes up to 0.1 GB more.
-MAX_TOGETHER = 12
+# More take more memory, and their functions call one another more often.
+MAX_TOGETHER = 48
 
 VERDICT = re.compile(r"fn (\S+): (.*)")
 REFUSED = re.compile(r"(not proved|no proof)\b")
@@ -29,8 +29,8 @@ REFUSED = re.compile(r"(not proved|no proof)\b")
 RESTS = re.compile(r"(is|are) not proved|it waits for")
 UNPROVED = re.compile(r"note: (?:\./)?(src/\S+?):(\d+):\d+: (.*)")
 ERROR = re.compile(r"(?:\./)?(\S+?):(\d+):\d+: error: (.*)")
-# What the gate says of an edit where the prover told an error, and not only that it doesn't cover a function.
-REFUSED_BY_THE_GATE = re.compile(r"refused, as it must be: (note: |\S+: error: )")
+# What `rt` says of an edit where the prover told an error, and not only that it doesn't cover a function.
+REFUSED_BY_THE_RULES = re.compile(r"refused, as it must be: (note: |\S+: error: )")
 # What a proof says where an edit took away a name of which it speaks, which tells nothing of the contract.
 NAMES = re.compile(r"has no field|is not in scope|has no `|was not admitted")
 
@@ -56,26 +56,52 @@ def kit():
     return module
 
 
-class Trial:
-    """A crate, whose edits are tried over a copy of its kept work."""
+def symbols_in(lines):
+    """The functions of which a check tells, as the prover names them."""
+    return [found[1] for found in map(VERDICT.match, lines) if found]
 
-    def __init__(self, name, room):
+
+class Trial:
+    """A crate, whose edits are tried over what was proved of it before.
+
+    A check keeps what it proves, and takes of what is kept only what is as it was. So of all that several
+    edits leave as it was, each part is proved once."""
+
+    def __init__(self, name, room, wait):
+        self.wait = wait
         self.crate = next(it for it in kit().rtlib.crates_below(str(TOP)) if it.name == name)
         self.kept = f"{room}/{name}"
         self.symbols = []
+        Path(self.kept).mkdir()
+
+    def check(self, texts, *words):
+        """The status of a check of the crate with these texts, and its lines."""
+        self.wait()
+        ran = kit().checked(self.crate, texts, [*ONE_JOB, *words], self.kept)
+        return ran.returncode, ran.stdout.split("\n")
 
     def prepare(self):
-        """Builds what the crate uses, and checks the crate as it stands. Returns whether it is proved."""
+        """Builds what the crate uses, begins with what its last check kept, and returns whether it is proved."""
         with open(f"{self.kept}.log", "w") as log:
             for lower in self.crate.below():
                 lower.out = log
                 if lower.build_rlib(ONE_JOB, anew=False):
                     return False
         if self.crate.has_kept():
-            shutil.copytree(f"{self.crate.folder}/out/incremental", self.kept)
-        ran = kit().checked(self.crate, {}, ONE_JOB, self.kept)
-        self.symbols = [found[1] for found in map(VERDICT.match, ran.stdout.split("\n")) if found]
-        return ran.returncode == 0
+            shutil.copytree(f"{self.crate.folder}/out/incremental", self.kept, dirs_exist_ok=True)
+        return self.is_proved()
+
+    def knows(self, symbols):
+        """Takes these as the crate's functions, from a check that proved it, or checks it where they are none.
+        Returns whether it is proved."""
+        self.symbols = symbols
+        return bool(symbols) or self.is_proved()
+
+    def is_proved(self):
+        """Whether the crate is proved as it stands, all of which is then kept."""
+        status, said = self.check({})
+        self.symbols = symbols_in(said)
+        return status == 0
 
     def functions(self, edit):
         """The functions that it changes as the prover names them, each with its place; none where it isn't plain."""
@@ -84,33 +110,46 @@ class Trial:
         return named if len({*named.values()}) == len({*places}) else {}
 
     def try_together(self, edits):
-        """Tries these edits, each of other functions, in one check. Returns those that are refused, with a message."""
+        """Tries these edits, each of other functions, in one check. Returns those that are refused, with a message, and
+        those of which it can't be told, since what their functions call is refused."""
         texts = {}
         for edit in edits:
             texts = edit.applied(texts)
         functions = {edit: self.functions(edit) for edit in edits}
-        asked = [word for named in functions.values() for symbol in named for word in ("--only", symbol)]
-        said = kit().checked(self.crate, texts, [*ONE_JOB, *asked], self.kept).stdout.split("\n")
+        _, said = self.check(texts, *(word for named in functions.values() for it in named for word in ("--only", it)))
         if not any(line.startswith("only=") for line in said):
-            return {}
+            return {}, edits
+        verdicts = verdicts_in(said)
+        resting = [edit for edit in edits if any(RESTS.search(verdicts.get(symbol, "")) for symbol in functions[edit])]
         told = {edit: own_error(said, functions[edit], len(edits) > 1) for edit in edits}
-        return {edit: error for edit, error in told.items() if error}
+        return {edit: error for edit, error in told.items() if error}, resting
 
     def try_alone(self, edit):
-        """Tries it over the whole crate, as the gate does."""
-        said = kit().must_fail(self.crate, str(edit.path), ONE_JOB, self.kept)[1].partition(": ")[2]
-        return Tried(edit, bool(REFUSED_BY_THE_GATE.match(said)), said)
+        """Tries it over the whole crate, as `rt ci` does, and leaves what is kept as it was."""
+        with tempfile.TemporaryDirectory(prefix="edit-alone-") as room:
+            path = Path(room, edit.path.name)
+            path.write_bytes(edit.content)
+            self.wait()
+            kit().linked(self.kept, f"{room}/kept")
+            said = kit().must_fail(self.crate, str(path), ONE_JOB, f"{room}/kept")[1].partition(": ")[2]
+        return Tried(edit, bool(REFUSED_BY_THE_RULES.match(said)), said)
 
     def try_all(self, edits):
         """Tries each, and yields what came of it."""
         left = [edit for edit in edits if not self.functions(edit)]
-        for group in groups([edit for edit in edits if edit not in left], self.functions):
-            refused = self.try_together(group)
-            others = [edit for edit in group if edit not in refused]
-            if len(group) > 1:
-                refused.update(told for edit in others for told in self.try_together([edit]).items())
-            left += [edit for edit in group if edit not in refused]
-            yield from (Tried(edit, True, told) for edit, told in refused.items())
+        waiting = [edit for edit in edits if edit not in left]
+        while waiting:
+            again = []
+            for group in groups(waiting, self.functions):
+                refused, resting = self.try_together(group)
+                yield from (Tried(edit, True, told) for edit, told in refused.items())
+                # Without what was refused there, they can be told apart.
+                others = [edit for edit in group if edit not in refused]
+                again += [edit for edit in others if refused and edit in resting]
+                left += [edit for edit in others if not refused or edit not in resting]
+            waiting = again
+        if len(left) > 1 and not self.is_proved():
+            return
         yield from map(self.try_alone, left)
 
 
@@ -150,9 +189,14 @@ def fits(edit, group, functions):
     return True
 
 
+def verdicts_in(said):
+    """What a check says of each function, by its name."""
+    return dict(found.groups() for found in map(VERDICT.match, said) if found)
+
+
 def own_error(said, functions, has_others):
     """The first message that names an error in one of these functions, where the prover refuses it by itself."""
-    verdicts = dict(found.groups() for found in map(VERDICT.match, said) if found)
+    verdicts = verdicts_in(said)
     for symbol, place in functions.items():
         verdict = verdicts.get(symbol, "")
         if REFUSED.match(verdict) and not (has_others and RESTS.search(verdict)):
@@ -171,9 +215,10 @@ def is_error_in(line, symbol, place):
     return bool(error) and error[1].startswith(proofs) and not NAMES.search(error[3])
 
 
-def try_crate(name, edits):
-    """What came of each edit of a crate, as it comes; nothing where the crate itself isn't proved."""
+def try_crate(name, edits, wait=lambda: None, prepare=Trial.prepare):
+    """What came of each edit of a crate, as it comes; nothing where the crate itself isn't proved. Waits before each
+    check as told."""
     with tempfile.TemporaryDirectory(prefix="more-edits-") as room:
-        trial = Trial(name, room)
-        if trial.prepare():
+        trial = Trial(name, room, wait)
+        if prepare(trial):
             yield from trial.try_all(edits)
