@@ -14,6 +14,7 @@ MORE = "more-must-fail"
 
 PARTS = ("src/", "specs/", "proofs/")
 FUNCTION = re.compile(r"( *)(?:pub(?:\([a-z]+\))? )?(?:unsafe )?fn (\w+)")
+CLAUSE = re.compile(r" *(?:ghost|requires|ensures)\b")
 BLOCK = re.compile(r"(?:pub )?(?:impl|trait)\b(.*)\{")
 
 
@@ -90,17 +91,32 @@ class Edit:
             raise BadEdit(f"{pair.old!r} stands in {pair.file} {text.count(pair.old)} times, and not once")
         return text.replace(pair.old, pair.new)
 
-    def places(self):
-        """The functions that it changes, or None where it changes more than functions and their proofs."""
-        texts, found, others = {}, set(), set()
+    def _steps(self):
+        """Each pair, with the text that it finds and where in it."""
+        texts = {}
         for pair in self.pairs():
             text = texts.get(pair.file) or (self.folder / pair.file).read_text()
+            yield pair, text, text.index(pair.old)
+            texts[pair.file] = text.replace(pair.old, pair.new)
+
+    def places(self):
+        """The functions that it changes, or None where it changes more than functions and their proofs."""
+        found, others = set(), set()
+        for pair, text, at in self._steps():
             if not pair.file.startswith("src/"):
                 others.add(str(Path(pair.file).parent))
             elif not pair.old.startswith("use "):
-                found.add(place_at(pair.file, text, text.index(pair.old)))
-            texts[pair.file] = text.replace(pair.old, pair.new)
+                found.add(place_at(pair.file, text, at))
         return None if None in found or others - {place.proofs() for place in found} else found
+
+    def is_of_bodies(self):
+        """Whether it changes bodies of functions and their proofs, and not what a function takes, asks or promises."""
+        for pair, text, at in self._steps():
+            place = place_at(pair.file, text, at) if pair.file.startswith("src/") else None
+            is_of_body = place and text.count("\n", 0, at) >= body_of(text.split("\n"), place)
+            if pair.file.startswith("src/") and not is_of_body:
+                return False
+        return True
 
 
 def place_at(file, text, at):
@@ -113,6 +129,18 @@ def place_at(file, text, at):
             place = Place(file, owner_of(lines, first), found[2], attributes_from(lines, first) + 1, last + 1)
             return place if row <= last else None
     return None
+
+
+def body_of(lines, place):
+    """The row on which the body of a function begins, or that after its end where it has none."""
+    rows = range(place.first - 1, place.last)
+    start = next(row for row in rows if FUNCTION.match(lines[row]))
+    indent, has_clauses = FUNCTION.match(lines[start])[1], False
+    for row in range(start, place.last):
+        has_clauses |= bool(CLAUSE.match(lines[row]))
+        if lines[row] == f"{indent}{{" or not has_clauses and lines[row].endswith("{"):
+            return row
+    return place.last
 
 
 def attributes_from(lines, row):

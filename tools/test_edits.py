@@ -34,6 +34,7 @@ fn first(list: &[u8]) -> u8 {
 }
 """
 GOOD = "file: src/few.rt\nold: self.list.len()\nnew: self.list.len() + 1\n"
+OF_TRAIT = "file: src/few.rt\nold: self.len() > 1\nnew: true\n"
 LEN = "low::few::Few::len"
 FMT = "low::few::FewDisplay::fmt"
 SAID = [
@@ -98,11 +99,33 @@ class Trying(Scratch):
         return {symbol: place for place in places for symbol in trying.symbols_of([LEN, FMT], "low", place)}
 
     def test_a_refusal_of_its_own_is_told(self):
-        self.assertIn("src/few.rt:5:5", trying.own_error(SAID, self.places(GOOD), True))
+        for may_rest in (True, False):
+            self.assertIn("src/few.rt:5:5", trying.own_error(SAID, self.places(GOOD), may_rest))
 
     def test_a_refusal_for_another_function_is_not(self):
-        of_trait = "file: src/few.rt\nold: self.len() > 1\nnew: true\n"
-        self.assertIsNone(trying.own_error(SAID, self.places(of_trait), True))
+        for may_rest in (True, False):
+            self.assertIsNone(trying.own_error(SAID, self.places(OF_TRAIT), may_rest))
+
+    def test_a_refusal_of_its_own_beside_another_counts_where_it_may_rest(self):
+        rests = f"fn {FMT}: no proof: `search` did not prove `returns`; it calls `{LEN}`, which is not proved"
+        said = [*SAID[:2], "note: src/few.rt:15:9: it is not proved that .. (`returns`)", rests]
+        self.assertIn("src/few.rt:15:9", trying.own_error(said, self.places(OF_TRAIT), True))
+        self.assertIsNone(trying.own_error(said, self.places(OF_TRAIT), False))
+
+    def test_an_error_elsewhere_is_seen(self):
+        self.assertFalse(trying.is_told_elsewhere(SAID, self.places(GOOD)))
+        self.assertTrue(trying.is_told_elsewhere(SAID, self.places(OF_TRAIT)))
+        lemma = "./proofs/Lists.antt:3:5: error: the two types differ"
+        self.assertTrue(trying.is_told_elsewhere([*SAID, lemma], self.places(GOOD)))
+
+    def test_an_edit_of_more_than_bodies_is_apart(self):
+        clause = "file: src/few.rt\nold: length self.now\nnew: 1\n"
+        head = "file: src/few.rt\nold: (&self) -> usize\nnew: (self) -> usize\n"
+        path = "file: src/few.rt\nold: use std::fmt\nnew: use core::fmt\n" + GOOD
+        found = [self.edit(text).is_of_bodies() for text in (GOOD, OF_TRAIT, clause, head, path)]
+        self.assertEqual(found, [True, True, False, False, False])
+        edits = [self.edit(clause, name="a.edit"), self.edit(OF_TRAIT, name="b.edit")]
+        self.assertEqual(trying.groups(edits, lambda edit: {edit.name: edit}), [[edit] for edit in edits])
 
     def test_a_proved_function_is_not_refused(self):
         proved = [SAID[0], f"fn {LEN}: proved"]
@@ -110,7 +133,7 @@ class Trying(Scratch):
 
     def test_a_lost_name_is_no_refusal(self):
         lost = ["./proofs/few/Few/len/Answers.antt:3:5: error: `c` has no field `len`", f"fn {LEN}: not proved"]
-        self.assertIsNone(trying.own_error(lost, self.places(GOOD), False))
+        self.assertIsNone(trying.own_error(lost, self.places(GOOD), True))
 
     def test_edits_of_one_function_are_apart(self):
         edits = [self.edit(GOOD, name=name) for name in ("a.edit", "b.edit")]
@@ -138,11 +161,11 @@ class Rounds(Scratch):
         self.assertEqual(found, [("a", "of a"), ("b", "of b"), ("d", "alone"), ("c", "alone")])
         self.assertEqual(checks, [["a", "b", "c"], ["b"]])
 
-    def test_where_nothing_is_refused_each_is_tried_alone(self):
-        a, b = (self.edit(GOOD, name=f"{name}.edit") for name in "ab")
-        found, checks = self.tried([a, b], ({}, [a, b]))
-        self.assertEqual(found, [("a", "alone"), ("b", "alone")])
-        self.assertEqual(checks, [["a", "b"]])
+    def test_where_nothing_is_refused_the_group_is_halved_and_each_is_tried_alone_in_the_end(self):
+        a, b, c = (self.edit(GOOD, name=f"{name}.edit") for name in "abc")
+        found, checks = self.tried([a, b, c], ({}, [a, b, c]), ({}, []), ({c: "of c"}, [b]), ({}, [b]))
+        self.assertEqual(found, [("c", "of c"), ("a", "alone"), ("b", "alone")])
+        self.assertEqual(checks, [["a", "b", "c"], ["a"], ["b", "c"], ["b"]])
 
 
 class Gate(Scratch):

@@ -1,11 +1,12 @@
-"""Tries must-fail edits over what the last checks kept, as many of a crate in one check as can be told apart.
+"""Tries must-fail edits over what was proved before, as many of a crate in one check as can be told apart.
 
-What an edit costs is mostly loading: two seconds or three each for the front end, for the logic and the
-libraries, and for the files that the prover offers. So edits of different functions are applied together,
-and these functions alone are checked. The prover goes on after a function that it refuses, and the others
-still have its contract. An edit counts as refused so only where a message names an error in its own
-function, and none of what that function calls is refused beside it. Where something is, it is tried in a group
-again, without those that were refused. Every other edit is tried alone, over the whole crate, as `rt ci` does it.
+What an edit costs is mostly loading: two seconds or three each for the front end, for the logic and the libraries, and
+for what the prover prints. So edits of different functions are applied together, and these functions alone are checked.
+The prover goes on after a function that it refuses, and others that call it are proved by its contract, which no edit
+of a group changes. So an edit counts as refused where a message names an error in its own function, and each message
+of that check names one in a function that was edited. Else something that an edit did not change is refused, too: then
+a function counts only where nothing that it calls is refused beside it, and is else tried in a group again, without
+those that were. Every other edit is tried alone, over the whole crate, as `rt ci` does it.
 """
 import functools
 import importlib.machinery
@@ -20,7 +21,7 @@ from typing import NamedTuple
 from edits import TOP, BadEdit
 
 ONE_JOB = ["--jobs", "1"]
-# More take more memory, and their functions call one another more often.
+# More take more memory: 2 GB for these.
 MAX_TOGETHER = 48
 
 VERDICT = re.compile(r"fn (\S+): (.*)")
@@ -119,9 +120,11 @@ class Trial:
         _, said = self.check(texts, *(word for named in functions.values() for it in named for word in ("--only", it)))
         if not any(line.startswith("only=") for line in said):
             return {}, edits
+        every = {symbol: place for named in functions.values() for symbol, place in named.items()}
+        is_mixed = len(edits) > 1 and is_told_elsewhere(said, every)
+        told = {edit: own_error(said, functions[edit], not is_mixed) for edit in edits}
         verdicts = verdicts_in(said)
         resting = [edit for edit in edits if any(RESTS.search(verdicts.get(symbol, "")) for symbol in functions[edit])]
-        told = {edit: own_error(said, functions[edit], len(edits) > 1) for edit in edits}
         return {edit: error for edit, error in told.items() if error}, resting
 
     def try_alone(self, edit):
@@ -137,17 +140,17 @@ class Trial:
     def try_all(self, edits):
         """Tries each, and yields what came of it."""
         left = [edit for edit in edits if not self.functions(edit)]
-        waiting = [edit for edit in edits if edit not in left]
+        waiting = groups([edit for edit in edits if edit not in left], self.functions)
         while waiting:
-            again = []
-            for group in groups(waiting, self.functions):
-                refused, resting = self.try_together(group)
-                yield from (Tried(edit, True, told) for edit, told in refused.items())
-                # Without what was refused there, they can be told apart.
-                others = [edit for edit in group if edit not in refused]
-                again += [edit for edit in others if refused and edit in resting]
-                left += [edit for edit in others if not refused or edit not in resting]
-            waiting = again
+            group = waiting.pop(0)
+            refused, resting = self.try_together(group)
+            yield from (Tried(edit, True, told) for edit, told in refused.items())
+            others = [edit for edit in group if edit not in refused]
+            # Without what was refused there, these can be told apart; where nothing was, the group is halved.
+            again = [edit for edit in others if edit in resting] if refused else others if len(group) > 1 else []
+            left += [edit for edit in others if edit not in again]
+            half = len(again) if refused else len(again) // 2
+            waiting += filter(None, [again[:half], again[half:]])
         if len(left) > 1 and not self.is_proved():
             return
         yield from map(self.try_alone, left)
@@ -180,6 +183,8 @@ def fits(edit, group, functions):
     taken = {symbol for other in group for symbol in functions(other)}
     if len(group) >= MAX_TOGETHER or taken & {*functions(edit)}:
         return False
+    if not all(other.is_of_bodies() for other in [*group, edit]):
+        return False
     texts = {}
     try:
         for other in [*group, edit]:
@@ -194,25 +199,33 @@ def verdicts_in(said):
     return dict(found.groups() for found in map(VERDICT.match, said) if found)
 
 
-def own_error(said, functions, has_others):
-    """The first message that names an error in one of these functions, where the prover refuses it by itself."""
+def own_error(said, functions, may_rest):
+    """The first message that names an error in one of these functions, where the prover refuses it by itself. If it may
+    rest on another one, that can be refused, too."""
     verdicts = verdicts_in(said)
     for symbol, place in functions.items():
         verdict = verdicts.get(symbol, "")
-        if REFUSED.match(verdict) and not (has_others and RESTS.search(verdict)):
+        if REFUSED.match(verdict) and (may_rest or not RESTS.search(verdict)):
             for line in said:
-                if is_error_in(line, symbol, place):
+                if is_in(line, symbol, place) and not NAMES.search(line):
                     return re.sub(r"^(note: )?(\./)?", "", line)
     return None
 
 
-def is_error_in(line, symbol, place):
+def is_told_elsewhere(said, functions):
+    """Whether an error is told outside these functions. None is told of what only calls a refused function, since it is
+    proved by what that promises."""
+    told = [line for line in said if UNPROVED.match(line) or ERROR.match(line)]
+    return not all(any(is_in(line, *function) for function in functions.items()) for line in told)
+
+
+def is_in(line, symbol, place):
     """Whether this message tells of an error in that function, or in what is written of its proof."""
     note, error = UNPROVED.match(line), ERROR.match(line)
     if note:
         return note[1] == place.file and place.first <= int(note[2]) <= place.last
     proofs = "/".join(["proofs", *symbol.split("::")[1:], ""])
-    return bool(error) and error[1].startswith(proofs) and not NAMES.search(error[3])
+    return bool(error) and error[1].startswith(proofs)
 
 
 def try_crate(name, edits, wait=lambda: None, prepare=Trial.prepare):
