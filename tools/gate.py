@@ -40,6 +40,9 @@ PROVED = re.compile(r"rt: (\w+) (proved$|is kept: )")
 def put_back():
     """Gives the crates their edits again: after this run, or after one that was killed."""
     for folder in TOP.glob(f"crates/*/{ASIDE}"):
+        if folder.with_name(GATE).exists():
+            where = folder.parent.relative_to(TOP)
+            sys.exit(f"gate: {where} has {GATE} and {ASIDE}, which a killed run left: remove one")
         folder.rename(folder.with_name(GATE))
 
 
@@ -143,7 +146,9 @@ def proved_crates(lines):
     where an earlier run proved it."""
     said = []
     for line in lines:
-        said = [] if line.startswith("== ") else [*said, line]
+        if line.startswith("== "):
+            said = []
+        said.append(line)
         proved = PROVED.match(line)
         if proved:
             yield proved[1], symbols_in(said) if proved[2] == "proved" else []

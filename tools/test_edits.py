@@ -188,6 +188,13 @@ class Gate(Scratch):
                 raise KeyboardInterrupt
         self.assertEqual((folder / "longer.edit").read_text(), GOOD)
 
+    def test_edits_that_a_killed_run_left_are_not_put_over_others(self):
+        for kind in (GATE, gate.ASIDE):
+            (self.crate.parent / "crates/low" / kind).mkdir(parents=True)
+        with mock.patch.object(gate, "TOP", self.crate.parent):
+            with self.assertRaisesRegex(SystemExit, "crates/low has must-fail and"):
+                gate.put_back()
+
     def test_an_edit_of_a_crate_that_is_not_proved_is_not_refused(self):
         low, high = self.edit(GOOD, GATE), Edit(self.edit(GOOD, name="other.edit").path)
         high.crate = "high"
