@@ -13,6 +13,7 @@ An edit counts as refused where a message names an error in its own function, or
 is refused, for an error and not for a lost name (tools/trying.py). Each that wasn't refused, or wasn't tried, is a
 failure. Checks of edits take the processor time that `rt ci` leaves, and all of it once that has ended.
 """
+import collections
 import os
 import queue
 import re
@@ -96,10 +97,13 @@ class Lanes:
 
     def __init__(self, edits):
         self.edits, self.waiting, self.threads, self.tried = edits, queue.PriorityQueue(), [], []
+        self.of_crate = collections.defaultdict(list)
+        for edit in edits:
+            self.of_crate[edit.crate].append(edit)
 
     def add(self, crate, symbols):
         """Has the edits of a crate wait, which is proved."""
-        mine = [edit for edit in self.edits if edit.crate == crate]
+        mine = self.of_crate.get(crate)
         if mine:
             # (what changes more than functions is tried by itself, over the whole crate)
             dearness = sum(1 if edit.places() else 10 for edit in mine)

@@ -150,9 +150,9 @@ class Rounds(Scratch):
         says = lambda group: checks.append([edit.path.stem for edit in group]) or answers.pop(0)
         alone = lambda edit: trying.Tried(edit, False, "alone")
         functions = lambda edit: {} if edit.path.stem == "d" else {edit.path.stem: edit}
-        fits = mock.patch.object(trying, "fits", lambda edit, group, _: len(group) < 3)
+        together = mock.patch.object(trying, "groups", lambda edits, _: [edits])
         patches = {"functions": functions, "try_together": says, "try_alone": alone, "is_proved": lambda: True}
-        with fits, mock.patch.multiple(trial, create=True, **patches):
+        with together, mock.patch.multiple(trial, create=True, **patches):
             return [(each.edit.path.stem, each.told) for each in trial.try_all(edits)], checks
 
     def test_what_rests_on_a_refused_one_is_tried_again_without_it(self):
@@ -160,6 +160,12 @@ class Rounds(Scratch):
         found, checks = self.tried([a, b, c, d], ({a: "of a"}, [b]), ({b: "of b"}, []))
         self.assertEqual(found, [("a", "of a"), ("b", "of b"), ("d", "alone"), ("c", "alone")])
         self.assertEqual(checks, [["a", "b", "c"], ["b"]])
+
+    def test_a_crate_is_proved_before_its_edits_where_no_check_told_its_functions(self):
+        for symbols, is_proved in ([LEN], False), ([], True), ([], False):
+            trial = trying.Trial.__new__(trying.Trial)
+            with mock.patch.object(trial, "is_proved", lambda: is_proved):
+                self.assertIs(trial.knows(symbols), bool(symbols) or is_proved)
 
     def test_where_nothing_is_refused_the_group_is_halved_and_each_is_tried_alone_in_the_end(self):
         a, b, c = (self.edit(GOOD, name=f"{name}.edit") for name in "abc")

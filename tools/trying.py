@@ -166,32 +166,35 @@ def symbols_of(symbols, crate, place):
             yield symbol
 
 
+class Group:
+    """Edits that are tried in one check. No two change one function, and all can be applied in turn."""
+
+    def __init__(self):
+        self.edits, self.taken, self.texts, self.is_full = [], set(), {}, False
+
+    def takes(self, edit, functions):
+        """Adds the edit, of these functions, where it fits. Returns whether it does."""
+        is_apart = not edit.is_of_bodies()
+        if self.is_full or self.taken & {*functions} or self.edits and is_apart:
+            return False
+        try:
+            self.texts = edit.applied(self.texts)
+        except BadEdit:
+            return False
+        self.edits.append(edit)
+        self.taken.update(functions)
+        self.is_full = is_apart or len(self.edits) >= MAX_TOGETHER
+        return True
+
+
 def groups(edits, functions):
-    """The edits in groups, in each of which no two change one function, and all can be applied in turn."""
+    """These edits in groups, each in the first that takes it, or by itself."""
     found = []
     for edit in edits:
-        fitting = (group for group in found if fits(edit, group, functions))
-        group = next(fitting, None)
-        if group is None:
-            found.append(group := [])
-        group.append(edit)
-    return found
-
-
-def fits(edit, group, functions):
-    """Whether the edit can be tried together with these."""
-    taken = {symbol for other in group for symbol in functions(other)}
-    if len(group) >= MAX_TOGETHER or taken & {*functions(edit)}:
-        return False
-    if not all(other.is_of_bodies() for other in [*group, edit]):
-        return False
-    texts = {}
-    try:
-        for other in [*group, edit]:
-            texts = other.applied(texts)
-    except BadEdit:
-        return False
-    return True
+        if not any(group.takes(edit, functions(edit)) for group in found):
+            found.append(Group())
+            found[-1].takes(edit, functions(edit))
+    return [group.edits for group in found]
 
 
 def verdicts_in(said):
