@@ -125,22 +125,50 @@ def place_at(file, text, at):
     for first in range(row, -1, -1):
         found = FUNCTION.match(lines[first])
         if found:
-            last = lines.index(f"{found[1]}}}", first) if f"{found[1]}}}" in lines[first:] else first
+            last = rows_of(lines, first)[1]
             place = Place(file, owner_of(lines, first), found[2], attributes_from(lines, first) + 1, last + 1)
             return place if row <= last else None
     return None
 
 
+def rows_of(lines, start):
+    """The rows on which the body of a function begins and ends, which starts on that row. Where it has no body, or an
+    empty one, that begins after its end."""
+    indent, has_clauses, depth = FUNCTION.match(lines[start])[1], False, 0
+    for begin, line in enumerate(lines[start:], start):
+        has_clauses |= bool(CLAUSE.match(line))
+        if line == f"{indent}{{" or not has_clauses and line.endswith("{"):
+            ends = (row for row in range(begin, len(lines)) if lines[row] == f"{indent}}}")
+            return begin, next(ends, begin)
+        depth += line.count("{") - line.count("}")
+        is_empty = line == f"{indent}{{}}" or not has_clauses and line.endswith("{}")
+        if depth == 0 and (is_empty or line.endswith(";")):
+            return begin + 1, begin
+    return start + 1, start
+
+
 def body_of(lines, place):
     """The row on which the body of a function begins, or that after its end where it has none."""
-    rows = range(place.first - 1, place.last)
-    start = next(row for row in rows if FUNCTION.match(lines[row]))
-    indent, has_clauses = FUNCTION.match(lines[start])[1], False
-    for row in range(start, place.last):
-        has_clauses |= bool(CLAUSE.match(lines[row]))
-        if lines[row] == f"{indent}{{" or not has_clauses and lines[row].endswith("{"):
-            return row
-    return place.last
+    return rows_of(lines, next(row for row in range(place.first - 1, place.last) if FUNCTION.match(lines[row])))[0]
+
+
+def functions_in(file, text):
+    """The functions of a file of src whose body has lines, each as its place."""
+    lines = text.split("\n")
+    for row, line in enumerate(lines):
+        if FUNCTION.match(line):
+            begin, end = rows_of(lines, row)
+            if begin + 1 < end:
+                yield place_at(file, text, sum(map(len, lines[:row])) + row)
+
+
+def without_bodies(text, places):
+    """The text, in which each of these functions has a loop without end for its body, on as many lines."""
+    lines = text.split("\n")
+    for place in places:
+        begin, end = body_of(lines, place), place.last - 1
+        lines[begin + 1 : end] = ["loop {}", *[""] * (end - begin - 2)]
+    return "\n".join(lines)
 
 
 def attributes_from(lines, row):

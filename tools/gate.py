@@ -1,7 +1,7 @@
 #!/usr/bin/env python3
 """Runs the gate: `rt ci`, and beside it each wrong body, several of a crate in one check.
 
-    tools/gate.py
+    tools/gate.py [COMMAND..]
 
 `rt ci` proves every crate from nothing, runs the tests and the programs, and judges all of these. The edits of
 must-fail it would try one at a time, each crate's over a second proof of it, which takes longer than all else. So they
@@ -11,7 +11,8 @@ commit draws.
 
 An edit counts as refused where a message names an error in its own function, or where `rt` says of it alone that it
 is refused, for an error and not for a lost name (tools/trying.py). Each that wasn't refused, or wasn't tried, is a
-failure. Checks of edits take the processor time that `rt ci` leaves, and all of it once that has ended.
+failure. Checks of edits take the processor time that `rt ci` leaves, and all of it once that has ended. Where it
+passed, COMMAND runs beside the last of them: what tries the programs, as they are proved by then.
 """
 import collections
 import os
@@ -177,8 +178,8 @@ def run(lanes):
     return ran.returncode
 
 
-def gate():
-    """Whether the gate passes, and each edit of must-fail and of the share is refused."""
+def gate(command):
+    """Whether the gate passes, then this command, and each edit of must-fail and of the share is refused."""
     commit = output_of("git", "rev-parse", "HEAD") or "none"
     listed = listed_as_refused()
     further = [edit for edit in edits_in(MORE) if edit.name in listed]
@@ -187,15 +188,17 @@ def gate():
     print("\n".join(f"    {edit.name}" for edit in share), flush=True)
     lanes = Lanes([*edits_in(GATE), *share])
     kit()
-    status = run(lanes)
+    status = run(lanes) or command and subprocess.run(command, cwd=TOP).returncode
     tried = lanes.end()
     failed = [each for each in tried if not each.is_refused]
     for each in failed:
         print(f"gate: {each.edit.name}: not refused: {each.told}")
+    if status:
+        print("gate: rt ci failed, or what runs after it")
     print(f"gate: {len(tried)} edits tried: {len(failed)} failed")
     return not status and not failed
 
 
 if __name__ == "__main__":
     put_back()
-    sys.exit(0 if check() and gate() else 1)
+    sys.exit(0 if check() and gate(sys.argv[1:]) else 1)

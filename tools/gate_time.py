@@ -35,7 +35,8 @@ HEADINGS = "| Crate | Proof | Tests | Again, for edits | Edits | All, processor 
 def is_as_it_stands(crate, room):
     """Whether a copy of the crate is the crate as it stands."""
     files = [file for part in PARTS for file in Path(crate, part).rglob("*") if file.is_file()]
-    return all(Path(room, file.relative_to(crate)).read_bytes() == file.read_bytes() for file in files)
+    copies = [(Path(room, file.relative_to(crate)), file) for file in files]
+    return all(copy.is_file() and copy.read_bytes() == file.read_bytes() for copy, file in copies)
 
 
 def is_made_in(edit, room):
@@ -48,7 +49,9 @@ def is_made_in(edit, room):
 
 
 def has_lines_of(copy, old, new):
-    """Whether the copy of a file has each of the new lines that isn't an old one, at its place."""
+    """Whether the copy of a file is there, and has each of the new lines that isn't an old one, at its place."""
+    if not copy.is_file():
+        return False
     rows = zip(*(text.split("\n") for text in (copy.read_text(), old, new)))
     return all(row == new for row, old, new in rows if old != new)
 

@@ -9,7 +9,7 @@ import gate
 import gate_time
 import more_edits
 import trying
-from edits import GATE, MORE, Edit, Place, fault_of
+from edits import GATE, MORE, Edit, Place, fault_of, functions_in, place_at
 
 SOURCE = """use std::fmt;
 
@@ -37,11 +37,12 @@ GOOD = "file: src/few.rt\nold: self.list.len()\nnew: self.list.len() + 1\n"
 OF_TRAIT = "file: src/few.rt\nold: self.len() > 1\nnew: true\n"
 LEN = "low::few::Few::len"
 FMT = "low::few::FewDisplay::fmt"
+FIRST = "low::few::first"
 SAID = [
     "note: src/few.rt:5:5: it is not proved that what the function ensures holds when it returns (`returns`)",
     f"fn {LEN}: no proof: expected answers in ./proofs/few/Few/len/Answers.antt; `search` did not prove `returns`",
     f"fn {FMT}: no proof: it calls `{LEN}`, which is not proved",
-    "fn low::few::first: proved",
+    f"fn {FIRST}: proved",
     "only=3 proved=1",
 ]
 
@@ -141,6 +142,66 @@ class Trying(Scratch):
         self.assertEqual(found, [[edit] for edit in edits])
 
 
+class Bare(Scratch):
+    """Checks of functions that were edited, where all others are bare."""
+
+    def trial(self, *said):
+        trial = trying.Trial.__new__(trying.Trial)
+        trial.crate = mock.Mock(folder=str(self.crate))
+        trial.crate.name, trial.symbols = "low", [LEN, FMT, FIRST, "low::fn::first::map"]
+        trial.check = mock.Mock(return_value=(1, [*said]))
+        return trial
+
+    def test_each_other_function_has_a_hole_and_no_body(self):
+        edited = self.edit(GOOD).applied({})
+        texts = self.trial().bare(edited, [LEN])
+        rows = zip(SOURCE.split("\n"), texts.pop("src/few.rt").split("\n"), strict=True)
+        changed = [(old.strip(), new.strip()) for old, new in rows if old != new]
+        edited = ("self.list.len()", "self.list.len() + 1")
+        self.assertEqual(changed, [edited, ("self.len() > 1", "loop {}"), ("list[0]", "loop {}")])
+        folders = ["proofs/few/FewDisplay/fmt", "proofs/few/first"]
+        names = ["Answers.antt", "Invariants.antt", "Proof.antt"]
+        self.assertEqual([*texts], [f"{folder}/{name}" for folder in folders for name in names])
+        self.assertIn("use Rattle.low.proofs.few.first.Statement.{statement}", texts["proofs/few/first/Proof.antt"])
+        self.assertIsNone(texts["proofs/few/first/Answers.antt"])
+
+    def test_a_function_with_no_body_ends_where_it_does(self):
+        law = "fn law()\n    ensures { A ≡ record {\n      b = c;\n    } }\n{}\n"
+        given = "trait Each {\n    fn run(self)\n        ensures { done self };\n    fn end(self);\n}\n"
+        text = law + "fn none() {}\n" + given + SOURCE
+        found = [(place.name, place.last) for place in functions_in("src/few.rt", text)]
+        self.assertEqual(found, [("len", 21), ("fmt", 27), ("first", 32)])
+        places = [place_at("src/few.rt", text, text.index(word)) for word in ("b = c", "fn none", "done self", "end(")]
+        found = [(place.name, place.first, place.last) for place in places]
+        self.assertEqual(found, [("law", 1, 5), ("none", 6, 6), ("run", 8, 9), ("end", 10, 10)])
+
+    def test_a_body_stays_where_its_place_may_be_of_a_function_that_is_asked_for(self):
+        trial = self.trial()
+        trial.symbols.append("low::few::FewOther::len")
+        self.assertIn("self.list.len()", trial.bare({}, ["low::few::FewOther::len"])["src/few.rt"])
+        self.assertNotIn("self.list.len()", trial.bare({}, [FMT])["src/few.rt"])
+
+    def test_where_the_control_is_refused_the_check_tells_nothing(self):
+        edit = self.edit(GOOD)
+        proved, refused = ("no holes", "depends on a hole in `x`"), ("not proved; it stands on `x`", "no proof: `x`", "")
+        for control, is_told in [*((it, True) for it in proved), *((it, False) for it in refused)]:
+            lines = [f"fn {it}: {control}" for it in (FMT, FIRST) if control]
+            trial = self.trial(*SAID[:2], *lines, "only=2 holes=1")
+            self.assertEqual([*trial.try_together([edit])[0]], [edit] * is_told)
+            asked = [word for word in trial.check.call_args.args[1:] if word.startswith("low::")]
+            self.assertEqual(asked[:1] + [len(asked)], [LEN, 2])
+
+    def test_an_edit_of_definitions_counts_where_a_lemma_fails_by_it_alone(self):
+        edit, ended = self.edit("file: src/few.rt\nold: use std::fmt;\nnew: use std::io;\n"), "holes=2"
+        error, lost = (f"./proofs/Few.antt:3:5: error: {text}" for text in ("they differ", "`x` is not in scope"))
+        cases = [([ended], [error, ended], 1), ([error, ended], [error, ended], 0), ([ended], [ended], 0)]
+        cases += [([ended], [error], 0), ([ended], [lost, ended], 0), ([], [error, ended], 0)]
+        for before, after, count in cases:
+            trial = self.trial()
+            trial.check.side_effect = [(1, before), (1, after)]
+            self.assertEqual(len([*trial.try_over_lemmas([edit])]), count)
+
+
 class Rounds(Scratch):
     """Groups of edits, with a prover that says what the test has it say."""
 
@@ -152,6 +213,7 @@ class Rounds(Scratch):
         functions = lambda edit: {} if edit.path.stem == "d" else {edit.path.stem: edit}
         together = mock.patch.object(trying, "groups", lambda edits, _: [edits])
         patches = {"functions": functions, "try_together": says, "try_alone": alone, "is_proved": lambda: True}
+        patches["try_over_lemmas"] = lambda edits: []
         with together, mock.patch.multiple(trial, create=True, **patches):
             return [(each.edit.path.stem, each.told) for each in trial.try_all(edits)], checks
 

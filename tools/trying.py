@@ -2,29 +2,49 @@
 
 What an edit costs is mostly loading: two seconds or three each for the front end, for the logic and the libraries, and
 for what the prover prints. So edits of different functions are applied together, and these functions alone are checked.
-The prover goes on after a function that it refuses, and others that call it are proved by its contract, which no edit
-of a group changes. So an edit counts as refused where a message names an error in its own function, and each message
-of that check names one in a function that was edited. Else something that an edit did not change is refused, too: then
-a function counts only where nothing that it calls is refused beside it, and is else tried in a group again, without
-those that were. Every other edit is tried alone, over the whole crate, as `rt ci` does it.
+
+All others are bare there: a function has a hole for its proof, and no body. The prover takes it by what it promises,
+as it takes a function that it refuses, and no edit of a group changes that. As a control each check has one function
+more, which is as it was: where that is refused, the check tells nothing.
+
+An edit counts as refused where a message names an error in its own function, and each message of that check names one
+in a function that was edited. Else something that an edit did not change is refused, too: then a function counts only
+where nothing that it calls is refused beside it, and is else tried in a group again, without those that were.
+
+An edit of definitions is tried over the lemmas, where all functions are bare, and counts where an error is told of one
+of these; none is told there without it. Every other edit is tried alone, over the whole crate, as `rt ci` does it.
 """
 import functools
 import importlib.machinery
 import importlib.util
+import random
 import re
 import shutil
+import subprocess
 import sys
 import tempfile
 from pathlib import Path
 from typing import NamedTuple
 
-from edits import TOP, BadEdit
+from edits import TOP, BadEdit, functions_in, without_bodies
 
 ONE_JOB = ["--jobs", "1"]
+HOLES = "--allow-holes"
 # More take more memory: 2 GB for these.
 MAX_TOGETHER = 48
 
+# The proof of a function that is not to be proved.
+HOLE = """use Rattle.{module}.Statement.{{statement}}
+
+pub {name}_spec : {{M : Type 1}} → statement M
+{name}_spec = ?
+"""
+# What stands in the place of a proof that is written out, and what the prover then wouldn't read.
+PROOF, PARTS_OF_A_PROOF = "Proof.antt", ("Answers.antt", "Invariants.antt")
+
 VERDICT = re.compile(r"fn (\S+): (.*)")
+# A closure, what a type's end runs, or one of a cycle: each has its proof elsewhere.
+OF_ANOTHER = re.compile(r"[+]|::fn::")
 REFUSED = re.compile(r"(not proved|no proof)\b")
 # The function may be refused only because another one is.
 RESTS = re.compile(r"(is|are) not proved|it waits for")
@@ -32,6 +52,8 @@ UNPROVED = re.compile(r"note: (?:\./)?(src/\S+?):(\d+):\d+: (.*)")
 ERROR = re.compile(r"(?:\./)?(\S+?):(\d+):\d+: error: (.*)")
 # What `rt` says of an edit where the prover told an error, and not only that it doesn't cover a function.
 REFUSED_BY_THE_RULES = re.compile(r"refused, as it must be: (note: |\S+: error: )")
+NO_END = "the check did not end"
+NOT_TOLD = "no proof"
 # What a proof says where an edit took away a name of which it speaks, which tells nothing of the contract.
 NAMES = re.compile(r"has no field|is not in scope|has no `|was not admitted")
 
@@ -57,6 +79,38 @@ def kit():
     return module
 
 
+def checked(crate, texts, flags, kept):
+    """Checks a copy of the crate with these texts in place of its own files, or no file where a text is None, as `rt`
+    checks an edit."""
+    rtlib = kit().rtlib
+    with tempfile.TemporaryDirectory(prefix="rt-edit-") as room:
+        for part in rtlib.PARTS:
+            if Path(crate.folder, part).is_dir():
+                shutil.copytree(f"{crate.folder}/{part}", f"{room}/{part}")
+        for path, text in texts.items():
+            put(Path(room, path), text)
+        words = [*rtlib.guarded(), rtlib.RATTLE, "check", *crate.words(flags, keeps=False), "--incremental", kept]
+        how = {"stdin": subprocess.DEVNULL, "stdout": subprocess.PIPE, "stderr": subprocess.STDOUT, "errors": "replace"}
+        return subprocess.run(words, cwd=room, **how)
+
+
+def put(path, text):
+    """Has this text stand in that file, or no file there."""
+    if text is None:
+        path.unlink(missing_ok=True)
+    else:
+        path.parent.mkdir(parents=True, exist_ok=True)
+        path.write_text(text)
+
+
+def hole_of(symbol):
+    """The files of a function's proof, where that is a hole."""
+    names = symbol.split("::")[1:]
+    folder, module = "/".join(["proofs", *names]), ".".join([symbol.split("::")[0], "proofs", *names])
+    written = dict.fromkeys(f"{folder}/{part}" for part in PARTS_OF_A_PROOF)
+    return written | {f"{folder}/{PROOF}": HOLE.format(module=module, name=names[-1])}
+
+
 def symbols_in(lines):
     """The functions of which a check tells, as the prover names them."""
     return [found[1] for found in map(VERDICT.match, lines) if found]
@@ -78,8 +132,25 @@ class Trial:
     def check(self, texts, *words):
         """The status of a check of the crate with these texts, and its lines."""
         self.wait()
-        ran = kit().checked(self.crate, texts, [*ONE_JOB, *words], self.kept)
+        ran = checked(self.crate, texts, [*ONE_JOB, *words], self.kept)
         return ran.returncode, ran.stdout.split("\n")
+
+    def bare(self, texts, functions):
+        """These texts, in which each function of the crate but these has a hole for its proof, and no body."""
+        texts, others = dict(texts), {*self.others(functions)}
+        for path in Path(self.crate.folder, "src").rglob("*.rt"):
+            file = str(path.relative_to(self.crate.folder))
+            text = texts.get(file) or path.read_text()
+            # (where a place has the names of several functions, none of them may be one of these)
+            named = [(place, {*symbols_of(self.symbols, self.crate.name, place)}) for place in functions_in(file, text)]
+            texts[file] = without_bodies(text, [place for place, symbols in named if symbols and symbols <= others])
+        for symbol in sorted(others):
+            texts |= hole_of(symbol)
+        return texts
+
+    def others(self, functions):
+        """The functions of the crate but these, of which each has its proof in a folder of its own."""
+        return sorted(it for it in self.symbols if it not in functions and not OF_ANOTHER.search(it))
 
     def prepare(self):
         """Builds what the crate uses, begins with what its last check kept, and returns whether it is proved."""
@@ -110,22 +181,48 @@ class Trial:
         named = {symbol: place for place in places for symbol in symbols_of(self.symbols, self.crate.name, place)}
         return named if len({*named.values()}) == len({*places}) else {}
 
+    def control(self, edits, functions):
+        """A function that none of these edits changes, which they draw, or none where each is changed."""
+        others = self.others(functions)
+        return random.Random("".join(edit.name for edit in edits)).sample(others, min(len(others), 1))
+
+    def check_edited(self, edits, functions):
+        """The lines of a check of these functions, as the edits have them, or none where it tells nothing."""
+        texts, control = {}, self.control(edits, functions)
+        for edit in edits:
+            texts = edit.applied(texts)
+        asked = [*functions, *control]
+        _, said = self.check(self.bare(texts, asked), HOLES, *(word for it in asked for word in ("--only", it)))
+        is_whole = any(line.startswith("only=") for line in said)
+        return said if is_whole and not any(is_refused(verdicts_in(said).get(it, NOT_TOLD)) for it in control) else []
+
     def try_together(self, edits):
         """Tries these edits, each of other functions, in one check. Returns those that are refused, with a message, and
         those of which it can't be told, since what their functions call is refused."""
-        texts = {}
-        for edit in edits:
-            texts = edit.applied(texts)
         functions = {edit: self.functions(edit) for edit in edits}
-        _, said = self.check(texts, *(word for named in functions.values() for it in named for word in ("--only", it)))
-        if not any(line.startswith("only=") for line in said):
-            return {}, edits
         every = {symbol: place for named in functions.values() for symbol, place in named.items()}
+        said = self.check_edited(edits, every)
+        if not said:
+            return {}, edits
         is_mixed = len(edits) > 1 and is_told_elsewhere(said, every)
         told = {edit: own_error(said, functions[edit], not is_mixed) for edit in edits}
         verdicts = verdicts_in(said)
         resting = [edit for edit in edits if any(RESTS.search(verdicts.get(symbol, "")) for symbol in functions[edit])]
         return {edit: error for edit, error in told.items() if error}, resting
+
+    def lemma_error(self, texts):
+        """The first error of a lemma, where the crate has these texts, or that the check did not end."""
+        _, said = self.check(self.bare(texts, ()), HOLES)
+        is_whole = any(line.startswith("holes=") for line in said)
+        return next((line for line in said if is_of_proofs(line)), None) if is_whole else NO_END
+
+    def try_over_lemmas(self, edits):
+        """Tries these edits of definitions, and yields what came of each that an error of a lemma refuses."""
+        if edits and self.lemma_error({}) is None:
+            for edit in edits:
+                error = self.lemma_error(edit.applied({}))
+                if error not in (None, NO_END):
+                    yield Tried(edit, True, plain(error))
 
     def try_alone(self, edit):
         """Tries it over the whole crate, as `rt ci` does, and leaves what is kept as it was."""
@@ -151,6 +248,9 @@ class Trial:
             left += [edit for edit in others if edit not in again]
             half = len(again) if refused else len(again) // 2
             waiting += filter(None, [again[:half], again[half:]])
+        for each in self.try_over_lemmas([edit for edit in left if not self.functions(edit)]):
+            left.remove(each.edit)
+            yield each
         if len(left) > 1 and not self.is_proved():
             return
         yield from map(self.try_alone, left)
@@ -208,11 +308,27 @@ def own_error(said, functions, may_rest):
     verdicts = verdicts_in(said)
     for symbol, place in functions.items():
         verdict = verdicts.get(symbol, "")
-        if REFUSED.match(verdict) and (may_rest or not RESTS.search(verdict)):
+        if is_refused(verdict) or may_rest and REFUSED.match(verdict):
             for line in said:
                 if is_in(line, symbol, place) and not NAMES.search(line):
-                    return re.sub(r"^(note: )?(\./)?", "", line)
+                    return plain(line)
     return None
+
+
+def is_of_proofs(line):
+    """Whether an error is told of a file of proofs, and not only of a name that is lost."""
+    found = ERROR.match(line)
+    return bool(found) and found[1].startswith("proofs/") and not NAMES.search(line)
+
+
+def is_refused(verdict):
+    """Whether a function is refused by itself, and not only since another one is."""
+    return bool(REFUSED.match(verdict)) and not RESTS.search(verdict)
+
+
+def plain(line):
+    """A message without the marks before it."""
+    return re.sub(r"^(note: )?(\./)?", "", line)
 
 
 def is_told_elsewhere(said, functions):
