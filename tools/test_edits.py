@@ -183,11 +183,11 @@ class Bare(Scratch):
 
     def test_where_the_control_is_refused_the_check_tells_nothing(self):
         edit = self.edit(GOOD)
-        proved, refused = ("no holes", "depends on a hole in `x`"), ("not proved; it stands on `x`", "no proof: `x`", "")
-        for control, is_told in [*((it, True) for it in proved), *((it, False) for it in refused)]:
+        proved, refused = ["no holes", "depends on a hole in `x`"], ["not proved; it stands on `x`", "no proof: `x`", ""]
+        for control in [*proved, *refused]:
             lines = [f"fn {it}: {control}" for it in (FMT, FIRST) if control]
             trial = self.trial(*SAID[:2], *lines, "only=2 holes=1")
-            self.assertEqual([*trial.try_together([edit])[0]], [edit] * is_told)
+            self.assertEqual([*trial.try_together([edit])[0]], [edit] * (control in proved))
             asked = [word for word in trial.check.call_args.args[1:] if word.startswith("low::")]
             self.assertEqual(asked[:1] + [len(asked)], [LEN, 2])
 
