@@ -109,6 +109,10 @@ class Edit:
                 found.add(place_at(pair.file, text, at))
         return None if None in found or others - {place.proofs() for place in found} else found
 
+    def is_of_definitions(self):
+        """Whether it changes what stands in specs/."""
+        return any(pair.file.startswith("specs/") for pair in self.pairs())
+
     def is_of_bodies(self):
         """Whether it changes bodies of functions and their proofs, and not what a function takes, asks or promises."""
         for pair, text, at in self._steps():

@@ -248,7 +248,7 @@ class Trial:
             left += [edit for edit in others if edit not in again]
             half = len(again) if refused else len(again) // 2
             waiting += filter(None, [again[:half], again[half:]])
-        for each in self.try_over_lemmas([edit for edit in left if not self.functions(edit)]):
+        for each in self.try_over_lemmas([edit for edit in left if edit.is_of_definitions()]):
             left.remove(each.edit)
             yield each
         if len(left) > 1 and not self.is_proved():
