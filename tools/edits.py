@@ -107,7 +107,16 @@ class Edit:
                 others.add(str(Path(pair.file).parent))
             elif not pair.old.startswith("use "):
                 found.add(place_at(pair.file, text, at))
-        return None if None in found or others - {place.proofs() for place in found} else found
+        if None in found:
+            return None
+        lacking = others - {place.proofs() for place in found}
+        found |= {place for place in self._functions() if place.proofs() in lacking} if lacking else set()
+        return None if others - {place.proofs() for place in found} else found
+
+    def _functions(self):
+        """The functions of the crate that have a body of lines."""
+        for path in sorted(self.folder.glob("src/**/*.rt")):
+            yield from functions_in(str(path.relative_to(self.folder)), path.read_text())
 
     def is_of_definitions(self):
         """Whether it changes what stands in specs/."""

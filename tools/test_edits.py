@@ -94,6 +94,16 @@ class Edits(Scratch):
         self.assertIsNone(self.edit("file: src/few.rt\nold: impl<T: Clone>\nnew: impl<T>\n").places())
 
 
+    def test_an_edit_of_a_proof_is_placed_in_its_function(self):
+        text = "file: proofs/few/{}Answers.antt\nold: true\nnew: false\n"
+        for folder, names in ("Few/len/", ["len"]), ("first/", ["first"]), ("", None):
+            file = self.crate / "proofs/few" / folder / "Answers.antt"
+            file.parent.mkdir(parents=True, exist_ok=True)
+            file.write_text("true\n")
+            places = self.edit(text.format(folder)).places()
+            self.assertEqual(places and [place.name for place in places], names)
+
+
 class Trying(Scratch):
     def places(self, text):
         places = self.edit(text).places()
