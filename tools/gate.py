@@ -93,6 +93,12 @@ def say(text):
     print(f"{text}\n", end="", flush=True)
 
 
+def dearness(edit):
+    """What a check of this edit takes, beside one of a function of a library: a program's code is read whole, and what
+    changes more than functions has a check of its own."""
+    return 4 if (edit.folder / "src/main.rt").exists() else 1 if edit.places() else 2
+
+
 class Lanes:
     """Threads that try the edits of crates, of those that wait the dearest first."""
 
@@ -106,9 +112,7 @@ class Lanes:
         """Has the edits of a crate wait, which is proved."""
         mine = self.of_crate.get(crate)
         if mine:
-            # (what changes more than functions is tried by itself, over the whole crate)
-            dearness = sum(1 if edit.places() else 10 for edit in mine)
-            self.waiting.put((-dearness, crate, mine, symbols))
+            self.waiting.put((-sum(map(dearness, mine)), crate, mine, symbols))
 
     def begin(self, count):
         """Begins so many more threads."""

@@ -255,6 +255,13 @@ class Gate(Scratch):
     def test_a_crate_that_is_proved_is_told_with_its_functions(self):
         self.assertEqual([*gate.proved_crates(self.SAID)], [("low", [LEN, FMT]), ("kept", [])])
 
+    def test_edits_of_a_program_are_dear_and_those_of_definitions_too(self):
+        of_path = self.edit("file: src/few.rt\nold: Few<T> {\nnew: Few<T> {{\n", name="path.edit")
+        edits = [self.edit(GOOD), of_path]
+        self.assertEqual([gate.dearness(edit) for edit in edits], [1, 2])
+        (self.crate / "src/main.rt").write_text("")
+        self.assertEqual([gate.dearness(edit) for edit in edits], [4, 4])
+
     def test_edits_out_of_sight_are_put_back(self):
         top = self.crate.parent / "top"
         folder = top / "crates/low" / GATE
