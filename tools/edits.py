@@ -136,12 +136,16 @@ def place_at(file, text, at):
     """The function that stands around this place of a file, or None."""
     lines, row = text.split("\n"), text.count("\n", 0, at)
     for first in range(row, -1, -1):
-        found = FUNCTION.match(lines[first])
-        if found:
-            last = rows_of(lines, first)[1]
-            place = Place(file, owner_of(lines, first), found[2], attributes_from(lines, first) + 1, last + 1)
-            return place if row <= last else None
+        if FUNCTION.match(lines[first]):
+            place = place_of(file, lines, first)
+            return place if row < place.last else None
     return None
+
+
+def place_of(file, lines, start):
+    """The function that starts on this row of a file."""
+    name, last = FUNCTION.match(lines[start])[2], rows_of(lines, start)[1]
+    return Place(file, owner_of(lines, start), name, attributes_from(lines, start) + 1, last + 1)
 
 
 def rows_of(lines, start):
@@ -172,7 +176,7 @@ def functions_in(file, text):
         if FUNCTION.match(line):
             begin, end = rows_of(lines, row)
             if begin + 1 < end:
-                yield place_at(file, text, sum(map(len, lines[:row])) + row)
+                yield place_of(file, lines, row)
 
 
 def without_bodies(text, places):

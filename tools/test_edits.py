@@ -206,6 +206,8 @@ class Bare(Scratch):
         error, lost = (f"./proofs/Few.antt:3:5: error: {text}" for text in ("they differ", "`x` is not in scope"))
         cases = [([ended], [error, ended], 1), ([error, ended], [error, ended], 0), ([ended], [ended], 0)]
         cases += [([ended], [error], 0), ([ended], [lost, ended], 0), ([], [error, ended], 0)]
+        unread = "./specs/Few.antt:3:5: error: expected the end"
+        cases += [([ended], [error, unread, ended], 0), ([unread, ended], [error, ended], 0)]
         for before, after, count in cases:
             trial = self.trial()
             trial.check.side_effect = [(1, before), (1, after)]

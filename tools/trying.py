@@ -52,7 +52,7 @@ UNPROVED = re.compile(r"note: (?:\./)?(src/\S+?):(\d+):\d+: (.*)")
 ERROR = re.compile(r"(?:\./)?(\S+?):(\d+):\d+: error: (.*)")
 # What `rt` says of an edit where the prover told an error, and not only that it doesn't cover a function.
 REFUSED_BY_THE_RULES = re.compile(r"refused, as it must be: (note: |\S+: error: )")
-NO_END = "the check did not end"
+TELLS_NOTHING = "the check tells nothing"
 NOT_TOLD = "no proof"
 # What a proof says where an edit took away a name of which it speaks, which tells nothing of the contract.
 NAMES = re.compile(r"has no field|is not in scope|has no `|was not admitted")
@@ -119,8 +119,8 @@ def symbols_in(lines):
 class Trial:
     """A crate, whose edits are tried over what was proved of it before.
 
-    A check keeps what it proves, and takes of what is kept only what is as it was. So of all that several
-    edits leave as it was, each part is proved once."""
+    A check keeps what it proves, and takes of what is kept only what is as it was. So what several checks
+    have in common is proved once."""
 
     def __init__(self, name, room, wait):
         self.wait = wait
@@ -211,17 +211,18 @@ class Trial:
         return {edit: error for edit, error in told.items() if error}, resting
 
     def lemma_error(self, texts):
-        """The first error of a lemma, where the crate has these texts, or that the check did not end."""
+        """The first error of a lemma, where the crate has these texts, or that the check tells nothing: it did not end,
+        or what is stated can't be read."""
         _, said = self.check(self.bare(texts, ()), HOLES)
-        is_whole = any(line.startswith("holes=") for line in said)
-        return next((line for line in said if is_of_proofs(line)), None) if is_whole else NO_END
+        is_whole = any(line.startswith("holes=") for line in said) and not any(map(is_of_statements, said))
+        return next((line for line in said if is_of_proofs(line)), None) if is_whole else TELLS_NOTHING
 
     def try_over_lemmas(self, edits):
         """Tries these edits of definitions, and yields what came of each that an error of a lemma refuses."""
         if edits and self.lemma_error({}) is None:
             for edit in edits:
                 error = self.lemma_error(edit.applied({}))
-                if error not in (None, NO_END):
+                if error not in (None, TELLS_NOTHING):
                     yield Tried(edit, True, plain(error))
 
     def try_alone(self, edit):
@@ -319,6 +320,12 @@ def is_of_proofs(line):
     """Whether an error is told of a file of proofs, and not only of a name that is lost."""
     found = ERROR.match(line)
     return bool(found) and found[1].startswith("proofs/") and not NAMES.search(line)
+
+
+def is_of_statements(line):
+    """Whether an error is told of a definition or of a clause."""
+    found = ERROR.match(line)
+    return bool(found) and found[1].startswith(("specs/", "src/"))
 
 
 def is_refused(verdict):
