@@ -118,6 +118,18 @@ class Edit:
         for path in sorted(self.folder.glob("src/**/*.rt")):
             yield from functions_in(str(path.relative_to(self.folder)), path.read_text())
 
+    def is_within(self, place):
+        """Whether all that it changes stands in this function."""
+        steps = [(pair.file, text.count("\n", 0, at) + 1) for pair, text, at in self._steps()]
+        return all(file == place.file and place.first <= row <= place.last for file, row in steps)
+
+    def is_for_a_copy(self, places):
+        """Whether it changes one function alone, and so that it can be made in a copy of that: no method of a trait, and
+        not a program's first function."""
+        place, *others = places
+        is_plain = not others and place.name != "main" and len(place.owner) < 2 and self.is_within(place)
+        return is_plain and not is_of_trait((self.folder / place.file).read_text(), place)
+
     def is_of_definitions(self):
         """Whether it changes what stands in specs/."""
         return any(pair.file.startswith("specs/") for pair in self.pairs())
@@ -164,9 +176,14 @@ def rows_of(lines, start):
     return start + 1, start
 
 
+def head_of(lines, place):
+    """The row of a function's name."""
+    return next(row for row in range(place.first - 1, place.last) if FUNCTION.match(lines[row]))
+
+
 def body_of(lines, place):
     """The row on which the body of a function begins, or that after its end where it has none."""
-    return rows_of(lines, next(row for row in range(place.first - 1, place.last) if FUNCTION.match(lines[row])))[0]
+    return rows_of(lines, head_of(lines, place))[0]
 
 
 def functions_in(file, text):
@@ -188,6 +205,24 @@ def without_bodies(text, places):
     return "\n".join(lines)
 
 
+def with_copy(text, edited, place, name):
+    """The text, and below it a function of another text of its file, under that name, with the place of this copy."""
+    lines = edited.split("\n")
+    head = head_of(lines, place)
+    lines[head] = lines[head].replace(f"fn {place.name}", f"fn {name}", 1)
+    block = block_of(lines, head)
+    above = [*text.rstrip("\n").split("\n"), *filter(None, [block])]
+    copy = lines[place.first - 1 : place.last]
+    placed = place._replace(name=name, first=len(above) + 1, last=len(above) + len(copy))
+    return "\n".join([*above, *copy, *["}"] * bool(block), ""]), placed
+
+
+def is_of_trait(text, place):
+    """Whether the function stands in a trait."""
+    lines = text.split("\n")
+    return block_of(lines, head_of(lines, place)).removeprefix("pub ").startswith("trait")
+
+
 def attributes_from(lines, row):
     """The first line of the attributes above this one, or this one."""
     while row and lines[row - 1].lstrip().startswith("#["):
@@ -195,14 +230,19 @@ def attributes_from(lines, row):
     return row
 
 
+def block_of(lines, row):
+    """The first line of the block of methods around this row, or nothing where there is none."""
+    above = reversed(lines[:row]) if lines[row].startswith(" ") else ()
+    return next(filter(BLOCK.match, above), "")
+
+
 def owner_of(lines, row):
     """The type whose method stands on this line, and its trait, as far as there are any."""
-    for line in reversed(lines[:row] if lines[row].startswith(" ") else []):
-        block = BLOCK.match(line)
-        if block:
-            names = re.sub(r"<(?:[^<>]|<(?:[^<>]|<[^<>]*>)*>)*>", " ", block[1]).partition(" where")[0].split(" for ")
-            return tuple(name.partition(": ")[0].split("::")[-1].strip() for name in reversed(names))
-    return ()
+    block = BLOCK.match(block_of(lines, row))
+    if not block:
+        return ()
+    names = re.sub(r"<(?:[^<>]|<(?:[^<>]|<[^<>]*>)*>)*>", " ", block[1]).partition(" where")[0].split(" for ")
+    return tuple(name.partition(": ")[0].split("::")[-1].strip() for name in reversed(names))
 
 
 def edits_in(kind, crates=()):

@@ -49,11 +49,14 @@ def is_made_in(edit, room):
 
 
 def has_lines_of(copy, old, new):
-    """Whether the copy of a file is there, and has each of the new lines that isn't an old one, at its place."""
+    """Whether the copy of a file is there, and has each of the new lines that isn't an old one: at its place, or below
+    all, where copies of functions stand."""
     if not copy.is_file():
         return False
-    rows = zip(*(text.split("\n") for text in (copy.read_text(), old, new)))
-    return all(row == new for row, old, new in rows if old != new)
+    lines, old_lines, new_lines = (text.split("\n") for text in (copy.read_text(), old, new))
+    below = {*lines[len(old_lines) - 1 :]}
+    rows = zip(lines, old_lines, new_lines)
+    return all(row == new or new in below for row, old, new in rows if old != new)
 
 
 def crate_and_kind(words, folder, edits):

@@ -135,8 +135,8 @@ class Trying(Scratch):
         path = "file: src/few.rt\nold: use std::fmt\nnew: use core::fmt\n" + GOOD
         found = [self.edit(text).is_of_bodies() for text in (GOOD, OF_TRAIT, clause, head, path)]
         self.assertEqual(found, [True, True, False, False, False])
-        edits = [self.edit(clause, name="a.edit"), self.edit(OF_TRAIT, name="b.edit")]
-        self.assertEqual(trying.groups(edits, lambda edit: {edit.name: edit}), [[edit] for edit in edits])
+        edits = [self.edit(path, name="a.edit"), self.edit(OF_TRAIT, name="b.edit")]
+        self.assertEqual(trying.groups(edits, lambda edit: self.places(edit.content.decode())), [[it] for it in edits])
 
     def test_a_proved_function_is_not_refused(self):
         proved = [SAID[0], f"fn {LEN}: proved"]
@@ -146,9 +146,9 @@ class Trying(Scratch):
         lost = ["./proofs/few/Few/len/Answers.antt:3:5: error: `c` has no field `len`", f"fn {LEN}: not proved"]
         self.assertIsNone(trying.own_error(lost, self.places(GOOD), True))
 
-    def test_edits_of_one_function_are_apart(self):
-        edits = [self.edit(GOOD, name=name) for name in ("a.edit", "b.edit")]
-        found = trying.groups(edits, lambda edit: self.places(GOOD))
+    def test_edits_of_one_method_of_a_trait_are_apart(self):
+        edits = [self.edit(OF_TRAIT, name=name) for name in ("a.edit", "b.edit")]
+        found = trying.groups(edits, lambda edit: self.places(OF_TRAIT))
         self.assertEqual(found, [[edit] for edit in edits])
 
 
@@ -212,6 +212,76 @@ class Bare(Scratch):
             trial = self.trial()
             trial.check.side_effect = [(1, before), (1, after)]
             self.assertEqual(len([*trial.try_over_lemmas([edit])]), count)
+
+
+class Copies(Scratch):
+    """Several edits of one function in one check."""
+
+    def setUp(self):
+        super().setUp()
+        clause = "file: src/few.rt\nold: length self.now\nnew: 1\n"
+        of_first = "file: src/few.rt\nold: list[0]\nnew: list[{}]\n"
+        texts = {"a": GOOD, "b": clause, "c": of_first.format(1), "d": of_first.format(2)}
+        self.edits = [self.edit(text, name=f"{name}.edit") for name, text in texts.items()]
+        self.trial = Bare.trial(self)
+
+    def group(self):
+        group = trying.Group()
+        self.assertTrue(all(group.takes(edit, self.trial.functions(edit)) for edit in self.edits))
+        group.make_copies(str(self.crate), self.trial.functions)
+        return group
+
+    def test_the_second_edit_of_a_function_and_one_of_a_clause_are_made_in_copies(self):
+        group = self.group()
+        lines = group.texts["src/few.rt"].split("\n")
+        in_place = SOURCE.replace("self.list.len()", "self.list.len() + 1").replace("list[0]", "list[1]")
+        self.assertEqual(lines[: in_place.count("\n")], in_place.rstrip("\n").split("\n"))
+        places = {symbol: place for each in group.functions.values() for symbol, place in each.items()}
+        found = {symbol: lines[place.first - 1 : place.last] for symbol, place in places.items()}
+        self.assertEqual([*found], [LEN, "low::few::Few::len_of_b", FIRST, "low::few::first_of_d"])
+        copy = ["    #[tactic(auto)]", "    pub fn len_of_b(&self) -> usize", "        ensures { result ≡ 1 }", "    {"]
+        self.assertEqual(found["low::few::Few::len_of_b"], [*copy, "        self.list.len()", "    }"])
+        self.assertEqual(found["low::few::first_of_d"], ["fn first_of_d(list: &[u8]) -> u8 {", "    list[2]", "}"])
+        at = lines.index(copy[0], 20)
+        self.assertEqual((lines[at - 1], lines[at + 6]), ("impl<T: Clone> Few<T> {", "}"))
+
+    def test_what_is_written_of_a_proof_is_copied_with_its_names(self):
+        proofs = self.crate / "proofs/few/Few/len"
+        proofs.mkdir(parents=True)
+        text = "use Rattle.low.proofs.few.Few.len.Goals as goal\nreturns c = len_spec\n"
+        proofs.joinpath("Answers.antt").write_text(text)
+        found = dict(trying.proof_of_copy(str(self.crate), LEN, "len_of_b"))
+        renamed = text.replace("Few.len.", "Few.len_of_b.").replace("len_spec", "len_of_b_spec")
+        self.assertEqual(found, {"proofs/few/Few/len_of_b/Answers.antt": renamed})
+
+    def test_the_control_of_copies_is_a_copy_as_it_is(self):
+        said = [f"fn {FIRST}: no proof: `x`", "note: src/few.rt:20:5: it is not proved", "only=5 holes=1"]
+        for control, count in ("no holes", 1), ("no proof: `x`", 0), (None, 0):
+            names = ("few::Few::len_as_it_is", "few::first_as_it_is")
+            lines = [f"fn low::{name}: {control}" for name in names if control]
+            self.trial.check.return_value = (1, [*said, *lines])
+            self.assertEqual(len(self.trial.try_together(self.edits)[0]), count)
+            asked = [word for word in self.trial.check.call_args.args if str(word).startswith("low::")]
+            self.assertEqual([len(asked), asked[4].endswith("_as_it_is")], [5, True])
+
+    def test_a_method_of_a_trait_and_an_edit_of_more_than_one_function_have_no_copy(self):
+        both = self.edit(GOOD + "old: list[0]\nnew: list[1]\n", name="both.edit")
+        imported = self.edit("file: src/few.rt\nold: use std::fmt;\nnew: use std::io;\n" + GOOD, name="use.edit")
+        edits = [*self.edits[:1], self.edit(OF_TRAIT, name="trait.edit"), both, imported]
+        found = [edit.is_for_a_copy([*self.trial.functions(edit).values()]) for edit in edits]
+        self.assertEqual(found, [True, False, False, False])
+        given = "trait Each {\n    fn run(&self) -> u8 {\n        1\n    }\n}\n"
+        (self.crate / "src/each.rt").write_text(given)
+        of_given = self.edit("file: src/each.rt\nold: 1\nnew: 2\n", name="given.edit")
+        self.assertFalse(of_given.is_for_a_copy([*of_given.places()]))
+
+    def test_a_method_of_a_type_made_of_others_is_found(self):
+        place = Place("src/few.rt", ("Box", "Actor"), "ask", 1, 3)
+        ask = "low::few::BoxDynActorSendActor::ask"
+        self.assertEqual(trying.symbols_of([ask, LEN], "low", place), [ask])
+        symbols = ["low::few::CallDisplay::fmt", "low::few::CallErrorDisplay::fmt"]
+        place = Place("src/few.rt", ("Call", "Display"), "fmt", 1, 3)
+        self.assertEqual(trying.symbols_of(symbols, "low", place), symbols[:1])
 
 
 class Rounds(Scratch):

@@ -7,6 +7,9 @@ All others are bare there: a function has a hole for its proof, and no body. The
 as it takes a function that it refuses, and no edit of a group changes that. As a control each check has one function
 more, which is as it was: where that is refused, the check tells nothing.
 
+Two edits of one function are tried in one check, too: the second is made in a copy, below it and under another name,
+with what is written of its proof. So is one that changes what a function promises. The control is such a copy then.
+
 An edit counts as refused where a message names an error in its own function, and each message of that check names one
 in a function that was edited. Else something that an edit did not change is refused, too: then a function counts only
 where nothing that it calls is refused beside it, and is else tried in a group again, without those that were.
@@ -26,7 +29,7 @@ import tempfile
 from pathlib import Path
 from typing import NamedTuple
 
-from edits import TOP, BadEdit, functions_in, without_bodies
+from edits import TOP, BadEdit, functions_in, with_copy, without_bodies
 
 ONE_JOB = ["--jobs", "1"]
 HOLES = "--allow-holes"
@@ -111,6 +114,17 @@ def hole_of(symbol):
     return written | {f"{folder}/{PROOF}": HOLE.format(module=module, name=names[-1])}
 
 
+def proof_of_copy(folder, symbol, name):
+    """The files of what is written of a function's proof, as a copy under that name has them."""
+    crate, *above, old = symbol.split("::")
+    before, after = (".".join(["Rattle", crate, "proofs", *above, word, ""]) for word in (old, name))
+    for part in (PROOF, *PARTS_OF_A_PROOF):
+        file = Path(folder, "proofs", *above, old, part)
+        if file.is_file():
+            text = file.read_text().replace(before, after).replace(f"{old}_spec", f"{name}_spec")
+            yield "/".join(["proofs", *above, name, part]), text
+
+
 def symbols_in(lines):
     """The functions of which a check tells, as the prover names them."""
     return [found[1] for found in map(VERDICT.match, lines) if found]
@@ -181,27 +195,32 @@ class Trial:
         named = {symbol: place for place in places for symbol in symbols_of(self.symbols, self.crate.name, place)}
         return named if len({*named.values()}) == len({*places}) else {}
 
-    def control(self, edits, functions):
-        """A function that none of these edits changes, which they draw, or none where each is changed."""
-        others = self.others(functions)
-        return random.Random("".join(edit.name for edit in edits)).sample(others, min(len(others), 1))
+    def control(self, group):
+        """A function as it is, which the edits of a group draw: a copy of one where that has copies, or else one that no
+        edit changes. None where each is changed."""
+        copied = [(symbol, place) for edit in group.copied for symbol, place in self.functions(edit).items()]
+        drawn = copied or self.others({symbol for named in group.functions.values() for symbol in named})
+        found = random.Random("".join(edit.name for edit in group.functions)).sample(drawn, min(len(drawn), 1))
+        return [group.add_copy(self.crate.folder, *one)[0] for one in found] if copied else found
 
-    def check_edited(self, edits, functions):
-        """The lines of a check of these functions, as the edits have them, or none where it tells nothing."""
-        texts, control = {}, self.control(edits, functions)
-        for edit in edits:
-            texts = edit.applied(texts)
-        asked = [*functions, *control]
-        _, said = self.check(self.bare(texts, asked), HOLES, *(word for it in asked for word in ("--only", it)))
+    def check_edited(self, group):
+        """The lines of a check of a group of edits, or none where it tells nothing."""
+        control = self.control(group)
+        asked = [*(symbol for named in group.functions.values() for symbol in named), *control]
+        _, said = self.check(self.bare(group.texts, asked), HOLES, *(word for it in asked for word in ("--only", it)))
         is_whole = any(line.startswith("only=") for line in said)
         return said if is_whole and not any(is_refused(verdicts_in(said).get(it, NOT_TOLD)) for it in control) else []
 
     def try_together(self, edits):
-        """Tries these edits, each of other functions, in one check. Returns those that are refused, with a message, and
-        those of which it can't be told, since what their functions call is refused."""
-        functions = {edit: self.functions(edit) for edit in edits}
+        """Tries these edits in one check. Returns those that are refused, with a message, and those of which it can't be
+        told, since what their functions call is refused."""
+        group = Group()
+        for edit in edits:
+            group.takes(edit, self.functions(edit))
+        group.make_copies(self.crate.folder, self.functions)
+        functions = group.functions
         every = {symbol: place for named in functions.values() for symbol, place in named.items()}
-        said = self.check_edited(edits, every)
+        said = self.check_edited(group)
         if not said:
             return {}, edits
         is_mixed = len(edits) > 1 and is_told_elsewhere(said, every)
@@ -259,33 +278,64 @@ class Trial:
 
 def symbols_of(symbols, crate, place):
     """What the prover names the function that stands at this place. A method goes by the module of its type."""
-    module, owner = [crate, *place.module()], "".join(place.owner)
-    for symbol in symbols:
-        *above, name = symbol.split("::")
-        is_there = above[-1].startswith(owner) if owner and len(above) > 1 else above == module
-        if name == place.name and is_there:
-            yield symbol
+    named = [(symbol, symbol.split("::")) for symbol in symbols if symbol.endswith(f"::{place.name}")]
+    if not place.owner:
+        return [symbol for symbol, words in named if words[:-1] == [crate, *place.module()]]
+    of_blocks = [(symbol, words[-2]) for symbol, words in named if len(words) > 2]
+    found = [symbol for symbol, block in of_blocks if block.startswith("".join(place.owner))]
+    return found or [symbol for symbol, block in of_blocks if is_of_more(block, place.owner)]
+
+
+def is_of_more(block, owner):
+    """Whether the prover names a type and a trait so, with what the type is made of between them."""
+    return len(owner) == 2 and block.startswith(owner[0]) and block.endswith(owner[1])
 
 
 class Group:
-    """Edits that are tried in one check. No two change one function, and all can be applied in turn."""
+    """Edits that are tried in one check. No two change one function: a second one changes a copy of it."""
 
     def __init__(self):
-        self.edits, self.taken, self.texts, self.is_full = [], set(), {}, False
+        self.functions, self.copied, self.texts, self.is_full = {}, [], {}, False
 
     def takes(self, edit, functions):
         """Adds the edit, of these functions, where it fits. Returns whether it does."""
-        is_apart = not edit.is_of_bodies()
-        if self.is_full or self.taken & {*functions} or self.edits and is_apart:
+        if self.is_full:
             return False
+        is_apart = not edit.is_of_bodies()
+        is_second = any(functions.keys() & named.keys() for named in self.functions.values())
+        if is_apart or is_second or not self.makes(edit):
+            if edit.is_for_a_copy([*functions.values()]):
+                self.copied.append(edit)
+                functions = {}
+            elif self.functions or not self.makes(edit):
+                return False
+        self.functions[edit] = functions
+        self.is_full = is_apart and bool(functions) or len(self.functions) >= MAX_TOGETHER
+        return True
+
+    def makes(self, edit):
+        """Makes the edit, and returns whether it could."""
         try:
             self.texts = edit.applied(self.texts)
         except BadEdit:
             return False
-        self.edits.append(edit)
-        self.taken.update(functions)
-        self.is_full = is_apart or len(self.edits) >= MAX_TOGETHER
         return True
+
+    def make_copies(self, folder, functions):
+        """Makes the edits that are made in copies. All others are made before, as each finds its text once."""
+        for edit in self.copied:
+            (symbol, place), = functions(edit).items()
+            self.functions[edit] = dict([self.add_copy(folder, symbol, place, edit)])
+
+    def add_copy(self, folder, symbol, place, edit=None):
+        """Adds a copy of a function, as it is or as the edit has it. Returns what the prover names it, and its place."""
+        above, _, old = symbol.rpartition("::")
+        name = f"{old}_of_{edit.path.stem}" if edit else f"{old}_as_it_is"
+        as_it_is = Path(folder, place.file).read_text()
+        edited = edit.applied({})[place.file] if edit else as_it_is
+        text, placed = with_copy(self.texts.get(place.file, as_it_is), edited, place, name)
+        self.texts = {**self.texts, place.file: text, **dict(proof_of_copy(folder, symbol, name))}
+        return f"{above}::{name}", placed
 
 
 def groups(edits, functions):
@@ -295,7 +345,7 @@ def groups(edits, functions):
         if not any(group.takes(edit, functions(edit)) for group in found):
             found.append(Group())
             found[-1].takes(edit, functions(edit))
-    return [group.edits for group in found]
+    return [[*group.functions] for group in found]
 
 
 def verdicts_in(said):
