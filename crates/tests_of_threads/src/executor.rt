@@ -11,10 +11,9 @@ mod terminates;
 mod told;
 
 use act_actor::Cast;
-use act_executor::Plan;
 use act_kinds::{Account, Boxed, Counter, ListKind, Table};
 use act_types::{CallerId, Method, NoMemory};
-use scene::{Given, Ids, Row, few_ids, plans_of, two_casts};
+use scene::{Given, Ids, Row, few_ids, two_casts};
 use std::alloc::Global;
 use std::test::Fail;
 use told::tell;
@@ -28,26 +27,26 @@ fn table_and_account(alloc: Global) -> Result<Vec<Cast<Boxed>>, NoMemory> {
 }
 
 /// Caller 1 puts and gets, and caller 2 deposits and withdraws.
-fn puts_and_deposits(alloc: Global) -> Result<Vec<(CallerId, Plan)>, NoMemory> {
+fn puts_and_deposits() -> [(CallerId, Row); 4] {
     let Ids { c1, c2, a1, a2, .. } = few_ids();
-    let rows = [
+    [
         (c1, Row::Call(a1, Method::Put, Given::Pair(5))),
         (c1, Row::Call(a1, Method::Get, Given::Key)),
         (c2, Row::Call(a2, Method::Deposit, Given::Int(10))),
         (c2, Row::Call(a2, Method::Withdraw, Given::Answer(0))),
-    ];
-    plans_of(alloc, &[c1, c2], &rows)
+    ]
 }
 
 /// Memory and threads are refused from outside, at most once.
 #[test]
 fn a_table_and_an_account(rt: HostRuntime) -> Result<(), Fail> {
     let alloc = rt.alloc();
+    let Ids { c1, c2, .. } = few_ids();
     let casts = table_and_account(alloc)?;
-    let plans = puts_and_deposits(alloc)?;
+    let steps = puts_and_deposits();
     let wanted = "c1: unit 5\nc2: 10 0\n\
         a1 retired table \"k\" 5: c1.0 c1.1\na2 retired account 0: c2.0 c2.1\n";
-    tell(&rt, alloc, casts, plans, wanted)?;
+    tell(&rt, alloc, casts, &[c1, c2], &steps, wanted)?;
     Ok(())
 }
 
@@ -60,23 +59,23 @@ fn counter_and_list(alloc: Global) -> Result<Vec<Cast<Boxed>>, NoMemory> {
 }
 
 /// Caller 1 adds 1, and then the answer.
-fn adds_the_answer(alloc: Global) -> Result<Vec<(CallerId, Plan)>, NoMemory> {
+fn adds_the_answer() -> [(CallerId, Row); 3] {
     let Ids { c1, a1, .. } = few_ids();
-    let rows = [
+    [
         (c1, Row::Call(a1, Method::Add, Given::Int(1))),
         (c1, Row::Await(0)),
         (c1, Row::Call(a1, Method::Add, Given::Answer(0))),
-    ];
-    plans_of(alloc, &[c1], &rows)
+    ]
 }
 
 /// An answer is awaited and passed on, and nobody calls the list.
 #[test]
 fn an_answer_awaited(rt: HostRuntime) -> Result<(), Fail> {
     let alloc = rt.alloc();
+    let Ids { c1, .. } = few_ids();
     let casts = counter_and_list(alloc)?;
-    let plans = adds_the_answer(alloc)?;
+    let steps = adds_the_answer();
     let wanted = "c1: 1 2\na1 retired counter 2: c1.0 c1.1\na2 retired list:\n";
-    tell(&rt, alloc, casts, plans, wanted)?;
+    tell(&rt, alloc, casts, &[c1], &steps, wanted)?;
     Ok(())
 }

@@ -43,6 +43,26 @@ pub(super) struct ExecLines<'a> {
     pub(super) replies: &'a Replies,
 }
 
+/// Has a letter arrive, if there is memory for it.
+pub(super) fn arrive<K: Actor>(live: &mut Live<K>, letter: Letter) -> Result<(), NoMemory>
+    ensures same { let after = live_view K.state live.new in
+        after ≡ record (live_view K.state live.old) { inbox = after.inbox } }
+{
+    match letter {
+        Letter::Call(packet) => match live.arrive(packet) {
+            Ok(_) => Ok(()),
+            Err(back) => {
+                drop(back);
+                Err(NoMemory)
+            }
+        },
+        Letter::Note(note) => {
+            live.released(note);
+            Ok(())
+        }
+    }
+}
+
 /// Takes a letter, and has it arrive.
 fn take_one<R: Wait, K: Actor>(rt: &R, mail: &Mail, letters: &mut MailExec, live: &mut Live<K>)
     requires line { letters.old.line ≡ mail.now.line }
@@ -51,17 +71,11 @@ fn take_one<R: Wait, K: Actor>(rt: &R, mail: &Mail, letters: &mut MailExec, live
         after ≡ record (live_view K.state live.old) { inbox = after.inbox } }
 {
     for _ in rt.forever() {
-        match mail.take(rt, letters) {
-            None => thread::yield_now(),
-            Some(Letter::Note(note)) => {
-                live.released(note);
-                return;
-            }
-            Some(Letter::Call(packet)) => {
-                drop(live.arrive(packet));
-                return;
-            }
+        if let Some(letter) = mail.take(rt, letters) {
+            let _ = arrive(live, letter);
+            return;
         }
+        thread::yield_now();
     }
     unreachable!()
 }

@@ -11,7 +11,7 @@ ghost use Rattle.act_mailbox.specs.Mails.{MailView};
 ghost use Rattle.act_mailbox.specs.Notices.{new_exec, IsNoDeath};
 ghost use Rattle.act_drive.specs.Driven.{IsUnusedCaller};
 
-use super::executor::{ExecLines, retires, run_one, tell_death};
+use super::executor::{ExecLines, arrive, retires, run_one, tell_death};
 use super::pair::{Pair, Passes, opened_pair, other};
 use super::station::ExecPasses;
 use super::{Said, add, answer_of};
@@ -19,7 +19,7 @@ use crate::lines::{actor, caller};
 use act_actor::Live;
 use act_drive::{CallerLines, CallerPasses, Plan, drive};
 use act_kinds::{Actor, Counter};
-use act_mailbox::{Letter, Mail, MailExec, Replies, ReplyExec};
+use act_mailbox::{Mail, MailExec, Replies, ReplyExec};
 use act_owner::Owner;
 use act_rules::Step;
 use act_types::{ActorId, FutureId, NoMemory, Notice};
@@ -47,15 +47,8 @@ fn take_in<R: Wait, K: Actor>(
 {
     match mail.take(rt, letters) {
         None => Ok(false),
-        Some(Letter::Call(packet)) => match live.arrive(packet) {
-            Ok(_) => Ok(true),
-            Err(back) => {
-                drop(back);
-                Err(NoMemory)
-            }
-        },
-        Some(Letter::Note(note)) => {
-            live.released(note);
+        Some(letter) => {
+            arrive(live, letter)?;
             Ok(true)
         }
     }

@@ -6,11 +6,11 @@ mod doing;
 use super::scene::{
     Given, Ids, Row, all_actors, all_callers, counters, few_ids, limited, plans_of,
 };
-use super::told::text_of;
+use super::told::{assert_text, text_of};
 use act_actor::{Cast, cast_fits};
 use act_executor::{NoGate, Plan, RunFault, codes_fit, plans_fit, run_callers};
 use act_kinds::Counter;
-use act_types::{CallerId, Method, NoMemory};
+use act_types::{ActorId, CallerId, Method, NoMemory};
 use doing::Doing;
 use std::alloc::Global;
 use std::process::Abort;
@@ -31,9 +31,13 @@ fn told<R: Threads + Wait + Sync>(
         && codes_fit(casts.as_slice(), plans.as_slice(), codes.as_slice())
     {
         let joined = run_callers(rt, alloc, casts, plans, codes, &NoGate)?;
-        return Ok(text_of(alloc, &joined)?);
+        Ok(text_of(alloc, joined)?)
+    } else {
+        drop(casts);
+        drop(plans);
+        drop(codes);
+        Err(RunFault::TooMany)
     }
-    Err(RunFault::TooMany)
 }
 
 /// Code for each of these callers.
@@ -48,6 +52,24 @@ fn codes_of(
     Ok(given)
 }
 
+/// Runs counters with these plans and codes, and tells what is left.
+fn told_by<R: Threads + Wait + Sync>(
+    rt: &R,
+    alloc: Global,
+    casts: Vec<Cast<Counter>>,
+    plans: Vec<(CallerId, Plan)>,
+    codes: &[(CallerId, Doing)],
+) -> Result<String, RunFault> {
+    match codes_of(alloc, codes) {
+        Ok(codes) => told(rt, alloc, casts, plans, codes),
+        Err(refused) => {
+            drop(casts);
+            drop(plans);
+            Err(refused.into())
+        }
+    }
+}
+
 /// Runs two counters that callers 1 and 2 may call: caller 1 by this code, caller 2 by these steps.
 fn one_code<R: Threads + Wait + Sync>(
     rt: &R,
@@ -57,9 +79,13 @@ fn one_code<R: Threads + Wait + Sync>(
 ) -> Result<String, RunFault> {
     let Ids { c1, c2, a1, a2, .. } = few_ids();
     let casts = counters(alloc, &[a1, a2], &[c1, c2])?;
-    let plans = plans_of(alloc, &[c2], steps)?;
-    let codes = codes_of(alloc, &[(c1, doing)])?;
-    told(rt, alloc, casts, plans, codes)
+    match plans_of(alloc, &[c2], steps) {
+        Ok(plans) => told_by(rt, alloc, casts, plans, &[(c1, doing)]),
+        Err(refused) => {
+            drop(casts);
+            Err(refused.into())
+        }
+    }
 }
 
 /// Of such a run this is to be left.
@@ -71,7 +97,7 @@ fn tell<R: Threads + Wait + Sync + Abort>(
     wanted: &str,
 ) -> Result<(), RunFault> {
     let text = one_code(rt, alloc, doing, steps)?;
-    assert_eq!(rt; text.as_str(), wanted);
+    assert_text(rt, text, wanted);
     Ok(())
 }
 
@@ -103,10 +129,10 @@ fn a_full_limit_waits(rt: HostRuntime) -> Result<(), Fail> {
     let alloc = rt.alloc();
     let Ids { c1, a1, .. } = few_ids();
     let casts = limited(counters(alloc, &[a1], &[c1])?, 1);
-    let codes = codes_of(alloc, &[(c1, Doing::FillsUp(a1, 4))])?;
-    let text = told(&rt, alloc, casts, Vec::new(alloc), codes)?;
+    let codes = [(c1, Doing::FillsUp(a1, 4))];
+    let text = told_by(&rt, alloc, casts, Vec::new(alloc), &codes)?;
     let wanted = "c1: 1 2 3 4\na1 retired counter 4: c1.0 c1.1 c1.2 c1.3\n";
-    assert_eq!(rt; text.as_str(), wanted);
+    assert_text(&rt, text, wanted);
     Ok(())
 }
 
@@ -119,18 +145,51 @@ fn all_add_one(alloc: Global, callers: &[CallerId]) -> Result<Vec<(CallerId, Doi
     Ok(codes)
 }
 
+/// What is left where each of these callers adds 1 to each of eight actors, which are these.
+fn told_of_all<R: Threads + Wait + Sync>(
+    rt: &R,
+    alloc: Global,
+    actors: &[ActorId],
+    callers: &[CallerId],
+) -> Result<String, RunFault> {
+    let casts = counters(alloc, actors, callers)?;
+    match all_add_one(alloc, callers) {
+        Ok(codes) => told(rt, alloc, casts, Vec::new(alloc), codes),
+        Err(refused) => {
+            drop(casts);
+            Err(refused.into())
+        }
+    }
+}
+
+/// The text has a line of each of these actors, to which sixteen callers added 1.
+fn assert_each_counted(
+    rt: &impl Abort,
+    alloc: Global,
+    actors: &[ActorId],
+    text: &str,
+) -> Result<(), NoMemory> {
+    for actor in actors {
+        let line = format!(in alloc; "\n{actor} retired counter 16: ")?;
+        let has_line = text.contains(line.as_str());
+        drop(line);
+        assert!(rt; has_line, "{actor}");
+    }
+    Ok(())
+}
+
 /// Sixteen callers by code, each of which adds 1 to each of eight actors.
 #[test]
 fn sixteen_codes_and_eight_actors(rt: HostRuntime) -> Result<(), Fail> {
     let alloc = rt.alloc();
     let actors = all_actors(alloc)?;
     let callers = all_callers(alloc)?;
-    let casts = counters(alloc, actors.as_slice(), callers.as_slice())?;
-    let codes = all_add_one(alloc, callers.as_slice())?;
-    let text = told(&rt, alloc, casts, Vec::new(alloc), codes)?;
-    for actor in &actors {
-        let line = format!(in alloc; "\n{actor} retired counter 16: ")?;
-        assert!(rt; text.as_str().contains(line.as_str()), "{actor}");
-    }
+    let told = told_of_all(&rt, alloc, actors.as_slice(), callers.as_slice());
+    drop(callers);
+    let text = told?;
+    let done = assert_each_counted(&rt, alloc, actors.as_slice(), text.as_str());
+    drop(text);
+    drop(actors);
+    done?;
     Ok(())
 }

@@ -1,10 +1,12 @@
 //! Runs whose gate sees which actors run at the same time, or whether any does.
 
-use super::scene::{Given, Ids, Row, all_actors, counters, few_ids, plans_for_all, plans_of, ran};
+use super::scene::{
+    Given, Ids, Row, all_actors, counters, few_ids, plans_for_all, plans_of, ran, ran_steps,
+};
 use act_actor::Cast;
 use act_executor::{Gate, Joined, Plan, RunFault};
 use act_kinds::Counter;
-use act_types::{ActorId, CallerId, Method, NoMemory};
+use act_types::{ActorId, CallerId, Method};
 use std::alloc::Global;
 use std::sync::Wait;
 use std::sync::atomic::{AtomicU64, Ordering};
@@ -62,7 +64,7 @@ fn all_met<R: Threads + Wait + Sync>(
         came: AtomicU64::new(0),
         saw_all: AtomicU64::new(0),
     };
-    ran(rt, alloc, casts, plans, &meeting)?;
+    drop(ran(rt, alloc, casts, plans, &meeting)?);
     Ok(meeting.saw_all.load(Ordering::SeqCst) == all)
 }
 
@@ -118,17 +120,16 @@ fn bad_plan_of<K: Drop>(
     }
 }
 
-/// Of three plans, by falling caller, those of callers 2 and 1 are bad at their second step.
-fn two_bad_plans(alloc: Global) -> Result<Vec<(CallerId, Plan)>, NoMemory> {
+/// The steps of three plans, by falling caller. Those of callers 2 and 1 are bad at their second.
+fn two_bad_plans() -> [(CallerId, Row); 5] {
     let Ids { c1, c2, c3, a1, .. } = few_ids();
-    let rows = [
+    [
         (c3, Row::Call(a1, Method::Add, Given::Int(1))),
         (c2, Row::Release(a1)),
         (c2, Row::Copy(a1)),
         (c1, Row::Release(a1)),
         (c1, Row::Kill(a1)),
-    ];
-    plans_of(alloc, &[c3, c2, c1], &rows)
+    ]
 }
 
 /// The bad plan of which a run of them tells, and how often the gate was passed.
@@ -138,11 +139,11 @@ fn run_bad_plans<R: Threads + Wait + Sync>(
 ) -> Result<(Option<(CallerId, u32)>, u64), RunFault> {
     let Ids { c1, c2, c3, a1, .. } = few_ids();
     let casts = counters(alloc, &[a1], &[c1, c2, c3])?;
-    let plans = two_bad_plans(alloc)?;
     let gate = Counting {
         passes: AtomicU64::new(0),
     };
-    let bad = bad_plan_of(ran(rt, alloc, casts, plans, &gate))?;
+    let ended = ran_steps(rt, alloc, casts, &[c3, c2, c1], &two_bad_plans(), &gate);
+    let bad = bad_plan_of(ended)?;
     Ok((bad, gate.passes.load(Ordering::SeqCst)))
 }
 

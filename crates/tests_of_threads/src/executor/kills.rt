@@ -1,6 +1,6 @@
 //! Kills that come while calls run.
 
-use super::scene::{Given, Ids, Row, counters, few_ids, plans_of};
+use super::scene::{Given, Ids, Row, counters, few_ids};
 use super::told::{tell, told};
 use act_executor::RunFault;
 use act_types::Method;
@@ -29,9 +29,10 @@ fn kill_beside_calls<R: Threads + Wait + Sync>(rt: &R, alloc: Global) -> Result<
         (c2, Row::Kill(a1)),
     ];
     let casts = counters(alloc, &[a1], &[c1, c2])?;
-    let plans = plans_of(alloc, &[c1, c2], &rows)?;
-    let text = told(rt, alloc, casts, plans)?;
-    Ok(KILLED.contains(&text.as_str()))
+    let text = told(rt, alloc, casts, &[c1, c2], &rows)?;
+    let can_be = KILLED.contains(&text.as_str());
+    drop(text);
+    Ok(can_be)
 }
 
 /// Memory and threads are refused from outside, at most once.
@@ -55,7 +56,7 @@ fn twenty_kills(rt: HostRuntime) -> Result<(), Fail> {
     let alloc = rt.alloc();
     let Ids { c1, a1, .. } = few_ids();
     let casts = counters(alloc, &[a1], &[c1])?;
-    let plans = plans_of(alloc, &[c1], &[(c1, Row::Kill(a1)); 20])?;
-    tell(&rt, alloc, casts, plans, "c1:\na1 killed:\n")?;
+    let kills = [(c1, Row::Kill(a1)); 20];
+    tell(&rt, alloc, casts, &[c1], &kills, "c1:\na1 killed:\n")?;
     Ok(())
 }

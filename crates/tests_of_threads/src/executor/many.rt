@@ -1,14 +1,15 @@
 //! As many callers and actors as there can be, and more calls than a line has room for.
 
 use super::scene::{
-    Given, Ids, Row, all_actors, all_callers, counters, few_ids, plans_for_all, plans_of, ran,
+    Given, Ids, Row, all_actors, all_callers, counters, few_ids, plans_for_all, ran, ran_steps,
 };
 use act_executor::{Ended, Finished, Joined, NoGate, RunFault};
 use act_kinds::{Actor, Counter};
 use act_owner::Owner;
 use act_rules::RunItem;
-use act_types::{FutureId, MAX_ACTORS, MAX_CALLERS, Method, NoMemory, Value};
+use act_types::{ActorId, CallerId, FutureId, MAX_ACTORS, MAX_CALLERS, Method, NoMemory, Value};
 use std::alloc::Global;
+use std::process::Abort;
 use std::sync::Wait;
 use std::test::Fail;
 use std::thread::Threads;
@@ -90,6 +91,24 @@ fn all_have_counted<K: Actor>(alloc: Global, actors: &[Finished<K>]) -> Result<b
     Ok(actors.len() == MAX_ACTORS as usize)
 }
 
+/// Runs what adds 1 to each of these actors for each of these callers.
+fn run_sizes<R: Threads + Wait + Sync>(
+    rt: &R,
+    alloc: Global,
+    actors: &[ActorId],
+    callers: &[CallerId],
+) -> Result<Joined<Counter>, RunFault> {
+    let mut casts = counters(alloc, actors, callers)?;
+    casts.reverse();
+    match plans_for_all(alloc, callers, actors) {
+        Ok(plans) => ran(rt, alloc, casts, plans, &NoGate),
+        Err(refused) => {
+            drop(casts);
+            Err(refused.into())
+        }
+    }
+}
+
 /// Runs what adds 1 to each of eight counters for each of sixteen callers.
 fn run_all_sizes<R: Threads + Wait + Sync>(
     rt: &R,
@@ -97,10 +116,21 @@ fn run_all_sizes<R: Threads + Wait + Sync>(
 ) -> Result<Joined<Counter>, RunFault> {
     let callers = all_callers(alloc)?;
     let actors = all_actors(alloc)?;
-    let plans = plans_for_all(alloc, callers.as_slice(), actors.as_slice())?;
-    let mut casts = counters(alloc, actors.as_slice(), callers.as_slice())?;
-    casts.reverse();
-    ran(rt, alloc, casts, plans, &NoGate)
+    let joined = run_sizes(rt, alloc, actors.as_slice(), callers.as_slice());
+    drop(callers);
+    drop(actors);
+    joined
+}
+
+/// All callers have their answers, and all actors ran their calls.
+fn assert_all_sizes(
+    rt: &impl Abort,
+    alloc: Global,
+    joined: &Joined<Counter>,
+) -> Result<(), NoMemory> {
+    assert!(rt; all_have_numbers(joined.owners.as_slice()));
+    assert!(rt; all_have_counted(alloc, joined.actors.as_slice())?);
+    Ok(())
 }
 
 /// Each of sixteen callers adds 1 to each of eight counters, whose casts come by falling number.
@@ -108,8 +138,9 @@ fn run_all_sizes<R: Threads + Wait + Sync>(
 fn all_sizes(rt: HostRuntime) -> Result<(), Fail> {
     let alloc = rt.alloc();
     let joined = run_all_sizes(&rt, alloc)?;
-    assert!(rt; all_have_numbers(joined.owners.as_slice()));
-    assert!(rt; all_have_counted(alloc, joined.actors.as_slice())?);
+    let done = assert_all_sizes(&rt, alloc, &joined);
+    drop(joined);
+    done?;
     Ok(())
 }
 
@@ -136,8 +167,9 @@ fn two_hundred_in_order(rt: HostRuntime) -> Result<(), Fail> {
     let Ids { c1, a1, .. } = few_ids();
     let row = (c1, Row::Call(a1, Method::Add, Given::Int(1)));
     let casts = counters(alloc, &[a1], &[c1])?;
-    let plans = plans_of(alloc, &[c1], &[row; 200])?;
-    let joined = ran(&rt, alloc, casts, plans, &NoGate)?;
-    assert!(rt; have_counted_to(joined.owners.as_slice(), 200));
+    let joined = ran_steps(&rt, alloc, casts, &[c1], &[row; 200], &NoGate)?;
+    let have_counted = have_counted_to(joined.owners.as_slice(), 200);
+    drop(joined);
+    assert!(rt; have_counted);
     Ok(())
 }

@@ -1,6 +1,6 @@
 //! Runs whose gate counts at which places of which actors it is passed.
 
-use super::scene::{Given, Ids, Row, counters, few_ids, plans_of, ran};
+use super::scene::{Given, Ids, Row, counters, few_ids, ran_steps};
 use act_executor::{Ended, Finished, Gate, RunFault};
 use act_kinds::{Actor, Counter};
 use act_types::{ActorId, CallerId, Method, NoMemory};
@@ -66,15 +66,14 @@ impl Gate for Places {
     }
 }
 
-/// So many more calls `add 1` of a caller.
-fn push_adds(
+/// So many more calls of a caller, each with this.
+fn push_calls(
     rows: &mut Vec<(CallerId, Row)>,
-    caller: CallerId,
-    actor: ActorId,
-    times: u32,
+    calls: (CallerId, ActorId, Given, u32),
 ) -> Result<(), NoMemory> {
+    let (caller, actor, given, times) = calls;
     for _ in 0..times {
-        rows.push((caller, Row::Call(actor, Method::Add, Given::Int(1))))?;
+        rows.push((caller, Row::Call(actor, Method::Add, given)))?;
     }
     Ok(())
 }
@@ -83,13 +82,19 @@ fn push_adds(
 /// before it. Actor 1 has 10 calls in all, and actor 2 has 12.
 fn rows(alloc: Global) -> Result<Vec<(CallerId, Row)>, NoMemory> {
     let Ids { c1, c2, c3, a1, a2 } = few_ids();
+    let one = Given::Int(1);
+    let all = [
+        (c1, a2, one, 1),
+        (c1, a1, Given::Answer(0), 1),
+        (c1, a1, one, 6),
+        (c2, a1, one, 3),
+        (c2, a2, one, 5),
+        (c3, a2, one, 6),
+    ];
     let mut rows = Vec::new(alloc);
-    push_adds(&mut rows, c1, a2, 1)?;
-    rows.push((c1, Row::Call(a1, Method::Add, Given::Answer(0))))?;
-    push_adds(&mut rows, c1, a1, 6)?;
-    push_adds(&mut rows, c2, a1, 3)?;
-    push_adds(&mut rows, c2, a2, 5)?;
-    push_adds(&mut rows, c3, a2, 6)?;
+    for calls in &all {
+        push_calls(&mut rows, *calls)?;
+    }
     Ok(rows)
 }
 
@@ -101,22 +106,34 @@ fn runs_of<K: Actor>(finished: Option<&Finished<K>>) -> Option<usize> {
     }
 }
 
+/// Runs these steps, and tells how many calls each actor ran.
+fn run_steps<R: Threads + Wait + Sync>(
+    rt: &R,
+    alloc: Global,
+    steps: &[(CallerId, Row)],
+    places: &Places,
+) -> Result<[Option<usize>; 2], RunFault> {
+    let Ids { c1, c2, c3, a1, a2 } = few_ids();
+    let callers = [c1, c2, c3];
+    let casts = counters(alloc, &[a1, a2], &callers)?;
+    let joined = ran_steps(rt, alloc, casts, &callers, steps, places)?;
+    let runs = [runs_of(joined.actors.get(0)), runs_of(joined.actors.get(1))];
+    drop(joined);
+    Ok(runs)
+}
+
 /// How many calls each actor ran, and whether the gate was passed once at each of their places.
 fn run_counted<R: Threads + Wait + Sync>(
     rt: &R,
     alloc: Global,
 ) -> Result<([Option<usize>; 2], bool), RunFault> {
-    let Ids { c1, c2, c3, a1, a2 } = few_ids();
-    let callers = [c1, c2, c3];
-    let casts = counters(alloc, &[a1, a2], &callers)?;
-    let plans = plans_of(alloc, &callers, rows(alloc)?.as_slice())?;
+    let rows = rows(alloc)?;
     let places = Places::new(alloc)?;
-    let joined = ran(rt, alloc, casts, plans, &places)?;
-    let runs = [runs_of(joined.actors.get(0)), runs_of(joined.actors.get(1))];
-    Ok((
-        runs,
-        places.has_each_once(1, 10) && places.has_each_once(2, 12),
-    ))
+    let runs = run_steps(rt, alloc, rows.as_slice(), &places);
+    drop(rows);
+    let each_once = places.has_each_once(1, 10) && places.has_each_once(2, 12);
+    drop(places);
+    Ok((runs?, each_once))
 }
 
 /// Some of the calls run as they come, and some once the call before them has come.

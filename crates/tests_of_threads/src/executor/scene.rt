@@ -59,19 +59,26 @@ fn key(alloc: Global) -> Result<Arg, NoMemory> {
     Ok(Arg::Plain(Value::Text(Text::copied(alloc, "k")?)))
 }
 
-fn args_of(alloc: Global, given: Given) -> Result<ListOf<Arg>, NoMemory> {
+fn one_arg(alloc: Global, arg: Arg) -> Result<ListOf<Arg>, NoMemory> {
     let mut args = ListOf::new(alloc);
-    match given {
-        Given::Nothing => {}
-        Given::Int(number) => args.push(Arg::Plain(Value::Int(number)))?,
-        Given::Key => args.push(key(alloc)?)?,
-        Given::Pair(number) => {
-            args.push(key(alloc)?)?;
-            args.push(Arg::Plain(Value::Int(number)))?;
-        }
-        Given::Answer(number) => args.push(Arg::Fut(FutureId::new(number)))?,
-    }
+    args.push(arg)?;
     Ok(args)
+}
+
+fn key_and_number(alloc: Global, number: i64) -> Result<ListOf<Arg>, NoMemory> {
+    let mut args = one_arg(alloc, key(alloc)?)?;
+    args.push(Arg::Plain(Value::Int(number)))?;
+    Ok(args)
+}
+
+fn args_of(alloc: Global, given: Given) -> Result<ListOf<Arg>, NoMemory> {
+    match given {
+        Given::Nothing => Ok(ListOf::new(alloc)),
+        Given::Int(number) => one_arg(alloc, Arg::Plain(Value::Int(number))),
+        Given::Key => one_arg(alloc, key(alloc)?),
+        Given::Pair(number) => key_and_number(alloc, number),
+        Given::Answer(number) => one_arg(alloc, Arg::Fut(FutureId::new(number))),
+    }
 }
 
 fn step_of(alloc: Global, row: Row) -> Result<Step, NoMemory> {
@@ -213,6 +220,26 @@ pub(super) fn ran<R: Threads + Wait + Sync, K: Actor + Send, G: Gate>(
     if cast_fits(casts.as_slice()) && plans_fit(casts.as_slice(), plans.as_slice()) {
         run_plans(rt, alloc, casts, plans, gate)
     } else {
+        drop(casts);
+        drop(plans);
         Err(RunFault::TooMany)
+    }
+}
+
+/// Runs these steps of these callers.
+pub(super) fn ran_steps<R: Threads + Wait + Sync, K: Actor + Send, G: Gate>(
+    rt: &R,
+    alloc: Global,
+    casts: Vec<Cast<K>>,
+    callers: &[CallerId],
+    steps: &[(CallerId, Row)],
+    gate: &G,
+) -> Result<Joined<K>, RunFault> {
+    match plans_of(alloc, callers, steps) {
+        Ok(plans) => ran(rt, alloc, casts, plans, gate),
+        Err(refused) => {
+            drop(casts);
+            Err(refused.into())
+        }
     }
 }

@@ -1,6 +1,6 @@
 //! An actor that one of its callers terminates.
 
-use super::scene::{Given, Ids, Row, counters, few_ids, plans_of, ran};
+use super::scene::{Given, Ids, Row, counters, few_ids, ran_steps};
 use super::told::tell;
 use act_executor::{Ended, Finished, Joined, NoGate, RunFault};
 use act_kinds::Counter;
@@ -30,9 +30,9 @@ fn terminate_alone<R: Threads + Wait + Sync + Abort>(
 ) -> Result<(), RunFault> {
     let Ids { c1, a1, .. } = few_ids();
     let casts = counters(alloc, &[a1], &[c1])?;
-    let plans = plans_of(alloc, &[c1], &[add(c1, a1, 5), terminate(c1, a1)])?;
+    let rows = [add(c1, a1, 5), terminate(c1, a1)];
     let wanted = "c1: 5 unit\na1 killed: c1.0 c1.1\n";
-    tell(rt, alloc, casts, plans, wanted)
+    tell(rt, alloc, casts, &[c1], &rows, wanted)
 }
 
 /// Memory and threads are refused from outside, at most once.
@@ -130,9 +130,10 @@ fn terminate_beside_calls<R: Threads + Wait + Sync>(
         add(c2, a1, 1),
     ];
     let casts = counters(alloc, &[a1], &[c1, c2])?;
-    let plans = plans_of(alloc, &[c1, c2], &rows)?;
-    let joined = ran(rt, alloc, casts, plans, &NoGate)?;
-    Ok(is_terminated(&joined))
+    let joined = ran_steps(rt, alloc, casts, &[c1, c2], &rows, &NoGate)?;
+    let is_terminated = is_terminated(&joined);
+    drop(joined);
+    Ok(is_terminated)
 }
 
 #[test]

@@ -1,13 +1,13 @@
 //! What is left of a run, as text: a line for each caller with its answers, and one for each actor
 //! with its end and the calls of its log.
 
-use super::scene::ran;
-use act_actor::Cast;
-use act_executor::{Ended, Finished, Joined, NoGate, Plan, RunFault};
+use super::scene::{Row, ran_steps};
+use act_actor::{Cast, Retired};
+use act_executor::{Ended, Finished, Joined, NoGate, RunFault};
 use act_kinds::Actor;
 use act_owner::Owner;
 use act_rules::RunItem;
-use act_types::{Answer, CallerId, FutureId, NoMemory};
+use act_types::{ActorId, Answer, CallerId, FutureId, NoMemory};
 use std::alloc::Global;
 use std::process::Abort;
 use std::sync::Wait;
@@ -28,7 +28,7 @@ fn push_owner(text: &mut String, owner: &Owner) -> Result<(), NoMemory> {
     for place in 0..owner.count() {
         push_answer(text, owner.answer(FutureId::new(place)))?;
     }
-    writeln!(text)?;
+    text.push('\n')?;
     Ok(())
 }
 
@@ -38,29 +38,34 @@ fn push_log(text: &mut String, log: &[RunItem]) -> Result<(), NoMemory> {
         let k = item.future;
         write!(text, " {caller}.{k}")?;
     }
-    writeln!(text)?;
+    text.push('\n')?;
     Ok(())
+}
+
+/// An actor that didn't retire, with this word for its end.
+fn push_dead(
+    text: &mut String,
+    actor: ActorId,
+    end: &str,
+    log: &[RunItem],
+) -> Result<(), NoMemory> {
+    write!(text, "{actor} {end}:")?;
+    push_log(text, log)
+}
+
+fn push_retired<K: Actor>(text: &mut String, retired: &Retired<K>) -> Result<(), NoMemory> {
+    let actor = retired.id();
+    write!(text, "{actor} retired ")?;
+    retired.state_text(text)?;
+    text.push(':')?;
+    push_log(text, retired.log())
 }
 
 fn push_end<K: Actor>(text: &mut String, ended: &Ended<K>) -> Result<(), NoMemory> {
     match ended {
-        Ended::Killed(dead) => {
-            let actor = dead.id();
-            write!(text, "{actor} killed:")?;
-            push_log(text, dead.log())
-        }
-        Ended::Retired(retired) => {
-            let actor = retired.id();
-            write!(text, "{actor} retired ")?;
-            retired.state_text(text)?;
-            write!(text, ":")?;
-            push_log(text, retired.log())
-        }
-        Ended::Starved(dead) => {
-            let actor = dead.id();
-            write!(text, "{actor} starved:")?;
-            push_log(text, dead.log())
-        }
+        Ended::Killed(dead) => push_dead(text, dead.id(), "killed", dead.log()),
+        Ended::Retired(retired) => push_retired(text, retired),
+        Ended::Starved(dead) => push_dead(text, dead.id(), "starved", dead.log()),
     }
 }
 
@@ -78,33 +83,52 @@ fn push_ends<K: Actor>(text: &mut String, actors: &[Finished<K>]) -> Result<(), 
     Ok(())
 }
 
-pub(super) fn text_of<K: Actor>(alloc: Global, joined: &Joined<K>) -> Result<String, NoMemory> {
-    let mut text = String::new(alloc);
-    push_owners(&mut text, joined.owners.as_slice())?;
-    push_ends(&mut text, joined.actors.as_slice())?;
-    Ok(text)
+fn push_joined<K: Actor>(text: &mut String, joined: &Joined<K>) -> Result<(), NoMemory> {
+    push_owners(text, joined.owners.as_slice())?;
+    push_ends(text, joined.actors.as_slice())
 }
 
-/// Runs the plans, and tells what is left.
+pub(super) fn text_of<K: Actor>(alloc: Global, joined: Joined<K>) -> Result<String, NoMemory> {
+    let mut text = String::new(alloc);
+    let pushed = push_joined(&mut text, &joined);
+    drop(joined);
+    match pushed {
+        Ok(()) => Ok(text),
+        Err(refused) => {
+            drop(text);
+            Err(refused)
+        }
+    }
+}
+
+/// Runs these steps of these callers, and tells what is left.
 pub(super) fn told<R: Threads + Wait + Sync, K: Actor + Send>(
     rt: &R,
     alloc: Global,
     casts: Vec<Cast<K>>,
-    plans: Vec<(CallerId, Plan)>,
+    callers: &[CallerId],
+    steps: &[(CallerId, Row)],
 ) -> Result<String, RunFault> {
-    let joined = ran(rt, alloc, casts, plans, &NoGate)?;
-    Ok(text_of(alloc, &joined)?)
+    let joined = ran_steps(rt, alloc, casts, callers, steps, &NoGate)?;
+    Ok(text_of(alloc, joined)?)
 }
 
-/// Runs the plans, of which this is to be left.
+/// The text is as wanted.
+pub(super) fn assert_text(rt: &impl Abort, text: String, wanted: &str) {
+    assert_eq!(rt; text.as_str(), wanted);
+    drop(text);
+}
+
+/// Runs these steps of these callers, of which this is to be left.
 pub(super) fn tell<R: Threads + Wait + Sync + Abort, K: Actor + Send>(
     rt: &R,
     alloc: Global,
     casts: Vec<Cast<K>>,
-    plans: Vec<(CallerId, Plan)>,
+    callers: &[CallerId],
+    steps: &[(CallerId, Row)],
     wanted: &str,
 ) -> Result<(), RunFault> {
-    let text = told(rt, alloc, casts, plans)?;
-    assert_eq!(rt; text.as_str(), wanted);
+    let text = told(rt, alloc, casts, callers, steps)?;
+    assert_text(rt, text, wanted);
     Ok(())
 }

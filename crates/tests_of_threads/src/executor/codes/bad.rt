@@ -1,8 +1,9 @@
 //! Code that uses its session badly. It gives up where it is told another thing than it should be.
 
 use super::super::scene::{Given, Ids, Row, few_ids, two_casts};
+use super::super::told::assert_text;
 use super::doing::{Doing, ask_one, int};
-use super::{codes_of, one_code, tell, told};
+use super::{one_code, tell, told_by};
 use act_executor::{GaveUp, KillRefusal, RunFault, Session, WaitRefusal};
 use act_kinds::Counter;
 use act_rules::{HandleRefusal, SubmitRefusal};
@@ -21,6 +22,18 @@ pub(super) fn wait_for_none<S: Session>(session: &mut S) -> Result<(), GaveUp> {
     so(session.answer(next).is_none())
 }
 
+/// Both ways of calling the actor are refused, and each refusal is this one.
+fn refuses_calls<S: Session>(
+    session: &mut S,
+    a: ActorId,
+    refusal: SubmitRefusal,
+) -> Result<(), GaveUp> {
+    let args = int(session.alloc(), 1)?;
+    so(session.submit(a, Method::Add, args) == Err(refusal))?;
+    let args = int(session.alloc(), 1)?;
+    so(session.ask(a, Method::Add, args) == Err(refusal))
+}
+
 /// Each use of the actor is refused, and each refusal is this one.
 fn is_refused<S: Session>(
     session: &mut S,
@@ -28,14 +41,14 @@ fn is_refused<S: Session>(
     handle: HandleRefusal,
     submit: SubmitRefusal,
 ) -> Result<(), GaveUp> {
-    let args = int(session.alloc(), 1)?;
-    so(session.submit(a, Method::Add, args) == Err(submit))?;
-    let args = int(session.alloc(), 1)?;
-    so(session.ask(a, Method::Add, args) == Err(submit))?;
-    so(session.copy(a) == Err(handle))?;
-    so(session.release(a) == Err(handle))?;
-    so(session.kill(a) == Err(KillRefusal::Handle(handle)))?;
-    so(session.holds(a) == 0 && session.pending(a) == 0)
+    refuses_calls(session, a, submit)?;
+    so(
+        session.copy(a) == Err(handle)
+            && session.release(a) == Err(handle)
+            && session.kill(a) == Err(KillRefusal::Handle(handle))
+            && session.holds(a) == 0
+            && session.pending(a) == 0,
+    )
 }
 
 /// Copies its handle, lets both go, and uses it all the same. Then it calls the other.
@@ -124,10 +137,10 @@ fn asks_a_stranger(rt: HostRuntime) -> Result<(), Fail> {
         (a1, &[c1], Counter::open()),
         (a2, &[c2], Counter::open()),
     )?;
-    let codes = codes_of(alloc, &[(c1, Doing::AsksAStranger(a2))])?;
-    let text = told(&rt, alloc, casts, Vec::new(alloc), codes)?;
+    let codes = [(c1, Doing::AsksAStranger(a2))];
+    let text = told_by(&rt, alloc, casts, Vec::new(alloc), &codes)?;
     let wanted = "c1:\nc2:\na1 retired counter 0:\na2 retired counter 0:\n";
-    assert_eq!(rt; text.as_str(), wanted);
+    assert_text(&rt, text, wanted);
     Ok(())
 }
 
