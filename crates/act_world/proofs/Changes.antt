@@ -1,6 +1,6 @@
 -- How a world goes on where one of its actors changes, or nothing does.
-use Rattle.std.proofs.Common.{◌≡◌, ◌≢◌, ℕ, ◌<◌, true, false, List, length, map, get_or, Some, None, inl, inr, refl, ap, sym, ◌∙◌, subst}
-use Rattle.std.specs.Prelude.{Option, Result, Ok, Err, OnErr, IfNone, slice_get, slice_set, option_map}
+use Rattle.std.proofs.Common.{◌≡◌, ◌≢◌, ℕ, ◌<◌, ◌++◌, ◌∷◌, [], true, false, List, length, map, arith, length-append, get_or, Some, None, inl, inr, refl, ap, sym, ◌∙◌, subst}
+use Rattle.std.specs.Prelude.{Option, Result, Ok, Err, OnErr, IfOk, IsErrAnd, IfNone, slice_get, slice_set, option_map}
 use Rattle.std.proofs.lemmas.Bool.Decides.{eqb_tells}
 use Rattle.std.proofs.lemmas.Option.{slice_get-map, slice_get-get_or, get_or_from_slice_get}
 use Rattle.act_rules.specs.declared.event.Event.{Event}
@@ -8,6 +8,10 @@ use Rattle.act_rules.specs.declared.outcome.Did.{Did}
 use Rattle.act_rules.specs.declared.outcome.WorldRefusal.{WorldRefusal}
 use Rattle.act_rules.specs.History.{ActorSpec, History, cast_of, names, is_ended}
 use Rattle.act_rules.specs.Rules.{refusal_of, did, add_event, outcome_of, after}
+use Rattle.act_world.specs.declared.network.MailEntry.{MailEntry}
+use Rattle.act_world.specs.declared.network.Posted.{Posted}
+use Rattle.act_world.specs.Network.{NetworkView}
+use Rattle.act_world.specs.IsReachedBy.{IsGrown}
 use Rattle.act_world.specs.View.{SlotView, Runs, Died, Ended, Vacant, WorldView}
 use Rattle.act_world.specs.Slots.{is_live_slot}
 use Rattle.act_world.specs.Refines.{IsStage, Refines}
@@ -34,6 +38,22 @@ on_err (Err error) holds = holds
 pub on_none : {A P : Type 0} (found : Option A) → P → IfNone found P
 on_none (Some value) holds = tt
 on_none None holds = holds
+
+-- an error brings no outcome
+pub no_ok : {A E : Type 0} (result : Result A E) (P : A → Type 0) (Q : E → Type 0) → IsErrAnd result Q → IfOk result P
+no_ok (Ok value) P Q is = absurd is
+no_ok (Err error) P Q is = tt
+
+-- ---- letters and notices
+
+pub grown_none : (network : NetworkView) → IsGrown network network
+grown_none network = omega arith
+
+pub grown_reply : (network : NetworkView) (replies : List Posted) (notice : Posted) → replies ≡ network.replies ++ notice ∷ [] → IsGrown network (record network { replies = replies })
+grown_reply network replies notice is = omega (arith, ap (λ (all : List Posted). length all) is, length-append network.replies (notice ∷ []))
+
+pub grown_letter : (network : NetworkView) (mail : List MailEntry) (letter : MailEntry) → mail ≡ network.mail ++ letter ∷ [] → IsGrown network (record network { mail = mail })
+grown_letter network mail letter is = omega (arith, ap (λ (all : List MailEntry). length all) is, length-append network.mail (letter ∷ []))
 
 -- ---- slots
 

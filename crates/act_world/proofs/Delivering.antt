@@ -1,7 +1,8 @@
 -- A letter that is brought to its actor.
-use Rattle.std.proofs.Common.{◌≡◌, ℕ, Bool, true, false, cond, List, map, get_or, Some, None, refl, ap, sym, ◌∙◌, subst}
+use Rattle.std.proofs.Common.{◌≡◌, ℕ, zero, suc, [], ◌∷◌, length, arith, Bool, true, false, cond, List, map, get_or, Some, None, refl, ap, sym, ◌∙◌, subst}
 use Rattle.std.specs.Prelude.{Option, Ok, Err, find, slice_get, slice_set, not}
 use Rattle.std.proofs.lemmas.List.{map-set}
+use Rattle.std.proofs.lemmas.Option.{slice_get_past}
 use Rattle.act_rules.specs.declared.history.Submission.{Submission}
 use Rattle.act_rules.specs.declared.history.Letter.{Letter}
 use Rattle.act_rules.specs.declared.history.Letter.TheVariants.{Call as CallLetter, Note as NoteLetter}
@@ -9,7 +10,7 @@ use Rattle.act_rules.specs.declared.event.Event.TheVariants.{Deliver}
 use Rattle.act_rules.specs.declared.outcome.Arrival.{Arrival}
 use Rattle.act_rules.specs.declared.outcome.Arrival.TheVariants.{New, Repeat}
 use Rattle.act_rules.specs.declared.outcome.Did.TheVariants.{Arrived}
-use Rattle.act_rules.specs.declared.outcome.WorldRefusal.TheVariants.{ActorEnded}
+use Rattle.act_rules.specs.declared.outcome.WorldRefusal.TheVariants.{ActorEnded, NoMail}
 use Rattle.act_rules.specs.Laws.{history}
 use Rattle.act_rules.specs.Submissions.{needs, calls_to}
 use Rattle.act_rules.specs.History.{History, cast_of, names, calls_of, is_ended, has_letter}
@@ -202,3 +203,18 @@ module _ {S : Type 0} (f : S → SlotView) (network : NetworkView) (slots : List
       let follows = deliver_follows h (record { network = network; slots = map f slots }) i letter (f x) (f y) told lawful refines (sym at) (at_slot h lawful refines) went in
       let slots_are : slice_set (map f slots) (entry_actor letter) (f y) ≡ map f (slice_set slots a y) = ap (λ (b : ℕ). slice_set (map f slots) b (f y)) (sym to) ∙ sym (map-set f slots a y) in
       (follows.0, subst (λ (seen : List SlotView). Refines (after h (Deliver i)) (record { network = network; slots = seen })) slots_are follows.1)
+
+-- ---- no letter
+
+none_alike : {A B : Type 0} (xs : List A) (ys : List B) (i : ℕ) → None ≡ slice_get xs i → length xs ≡ length ys → slice_get ys i ≡ None
+none_alike [] ys i none same = slice_get_past ys i (omega arith)
+none_alike (x ∷ xs) ys zero none same = cc
+none_alike (x ∷ xs) [] (suc i) none same = refl
+none_alike (x ∷ xs) (y ∷ ys) (suc i) none same = none_alike xs ys i none (omega arith)
+
+-- there is no letter at this place
+pub no_letter_follows : (world : WorldView) (i : ℕ) → None ≡ slice_get world.network.mail i → FollowsRules (Deliver i) world world (Err NoMail)
+no_letter_follows world i none casts before refines =
+    let h = history casts before in
+    let none_there : slice_get h.mail i ≡ None = none_alike world.network.mail h.mail i none refines.mail_count in
+    refused_follows h (Deliver i) NoMail world (ap (λ (o : Option Letter). deliver_refusal o h) none_there) refines

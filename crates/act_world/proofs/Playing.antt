@@ -1,5 +1,5 @@
 -- One event of the whole world, and one event after another.
-use Rattle.std.proofs.Common.{◌≡◌, ℕ, ◌+◌, ◌<◌, List, [], ◌∷◌, ◌++◌, length, take, Result, Ok, Err, IfOk, OnErr, ap, sym, ◌∙◌, subst, get_or, append_assoc, append-nil, Option, Some}
+use Rattle.std.proofs.Common.{◌≡◌, ℕ, ◌+◌, ◌<◌, ◌≤◌, arith, List, [], ◌∷◌, ◌++◌, length, take, Result, Ok, Err, IfOk, OnErr, ap, sym, ◌∙◌, subst, get_or, append_assoc, append-nil, Option, Some}
 use Rattle.std.specs.Prelude.{IfSome}
 use Rattle.std.proofs.lemmas.Option.{slice_get-get_or}
 use Rattle.std.proofs.lemmas.List.{take_more}
@@ -11,7 +11,7 @@ use Rattle.act_rules.proofs.Steps.{after_all-append, outcomes-append}
 use Rattle.act_world.specs.Network.{NetworkView}
 use Rattle.act_world.specs.View.{SlotView, WorldView}
 use Rattle.act_world.specs.Refines.{Refines}
-use Rattle.act_world.specs.IsReachedBy.{IsReachedBy, FollowsRules, FollowsThere, IsUnrefused, IsUnrefusedThere, IsUnrefusedAt, HasPlayed}
+use Rattle.act_world.specs.IsReachedBy.{IsReachedBy, FollowsRules, FollowsThere, IsUnrefused, IsUnrefusedThere, IsUnrefusedAt, HasPlayed, IsGrownBy}
 use Rattle.act_world.specs.Memory.{TakesMemory, TakesMemoryThere, TakesMemoryAt}
 
 abbrev pub with_slots : NetworkView → List SlotView → WorldView
@@ -33,9 +33,25 @@ pub memory_there : {E : Type 0} (slots : List SlotView) (event shown : Event) (o
 memory_there slots event shown old (Ok told) is takes = tt
 memory_there slots event shown old (Err e) is takes = subst (λ (x : Event). TakesMemory x (with_slots old slots)) (sym is) (takes slots)
 
+-- where nothing of the network changed, nothing of the world did
+pub err_there : {A E : Type 0} (slots : List SlotView) (old new : NetworkView) (result : Result A E) → OnErr result (new ≡ old) → OnErr result (with_slots new slots ≡ with_slots old slots)
+err_there slots old new (Ok told) same = tt
+err_there slots old new (Err e) same = ap (λ (network : NetworkView). with_slots network slots) same
+
+pub refused_there : {E : Type 0} (slots : List SlotView) (old new : NetworkView) (result : Result Outcome E) → IfOk result (λ told. OnErr told (new ≡ old)) → IfOk result (λ told. OnErr told (with_slots new slots ≡ with_slots old slots))
+refused_there slots old new (Ok told) same = err_there slots old new told same
+refused_there slots old new (Err e) same = tt
+
 -- the world stands after one event more
 pub stands_next : (casts : List ActorSpec) (before : List Event) (event : Event) (world : WorldView) → Refines (after (history casts before) event) world → IsReachedBy casts (before ++ event ∷ []) world
 stands_next casts before event world refines = subst (λ (h : History). Refines h world) (sym (after_all-append (opening casts) before (event ∷ []))) refines
+
+-- each event adds one letter or notice at most
+pub grown_start : (events : List Event) (network : NetworkView) → IsGrownBy (length events) network network
+grown_start events network = omega arith
+
+pub grown_within : (events : List Event) (i : ℕ) (old new : NetworkView) → i ≤ length events → IsGrownBy i old new → IsGrownBy (length events) old new
+grown_within events i old new within grown = omega arith
 
 -- no event yet
 pub Played_none : (world : WorldView) (told : List Outcome) → HasPlayed [] world world told told

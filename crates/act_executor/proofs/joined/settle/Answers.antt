@@ -1,12 +1,26 @@
 use Rattle.std.proofs.Common.{rules, List, map, All, ap, sym, ◌∙◌, subst}
 use Rattle.act_mailbox.specs.Controls.{ControlView}
+use Rattle.act_mailbox.specs.Notices.{RepliesView}
 use Rattle.act_serve.specs.declared.turn.Finished.{Finished}
 use Rattle.act_drive.specs.declared.caller.Driven.{Driven}
-use Rattle.act_executor.specs.Audits.{HasEndpoints, KillTold, CallerTold, ActorLeft, left_of}
+use Rattle.act_executor.specs.Audits.{SitsAtReplies, SitsAtControl, HasEndpoints, KillTold, CallerTold, ActorLeft, left_of}
 use Rattle.act_serve.specs.Served.{end_view}
 use Rattle.act_executor.specs.Joined.{is_starved}
 use Rattle.act_executor.proofs.Settled.{seen_through, none_any}
 use Rattle.act_executor.proofs.joined.settle.Goals as goal
+
+pub audit_actors-requires-clause-lines : goal.audit_actors-requires-clause-lines
+audit_actors-requires-clause-lines g c = ap (map (λ (line : RepliesView). line.line)) c.as_slice-2.ensures.value ∙ c.requires.replies
+
+pub audit_actors-requires-clause-sit : goal.audit_actors-requires-clause-sit
+audit_actors-requires-clause-sit g c =
+    let At : List RepliesView → Type 0 = λ l. All (λ (f : Finished _). All (SitsAtReplies l) f.passes.notices.items) c.args.ends.actors.items in
+    subst At (sym c.as_slice-2.ensures.value) c.requires.actors
+
+pub audit_kills-requires-clause-sit : goal.audit_kills-requires-clause-sit
+audit_kills-requires-clause-sit g c =
+    let At : List ControlView → Type 0 = λ l. All (SitsAtControl l) c.args.ends.starters.items in
+    subst At (sym c.as_slice-3.ensures.value) c.requires.starters
 
 pub audit_kills-requires-clause-lines : goal.audit_kills-requires-clause-lines
 audit_kills-requires-clause-lines g c = ap (map (λ (k : ControlView). k.line)) c.as_slice-3.ensures.value ∙ c.requires.controls ∙ sym (seen_through (λ (l : ActorLeft _). l.kills.line) c.audit_actors.new.actors.items c.args.ends.actors.items c.audit_actors.ensures.same_actors)

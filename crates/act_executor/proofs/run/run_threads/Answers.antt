@@ -22,3 +22,9 @@ returns-clause-starters g c =
 
 pub starter_at-requires : goal.starter_at-requires
 starter_at-requires g c = c.requires.starters ∙ ap (map (λ (control : ControlView). new_putter control.line starter)) (sym c.as_slice.ensures.value)
+
+pub run_tasks-requires-clause-servings : goal.run_tasks-requires-clause-servings
+run_tasks-requires-clause-servings g c κs within = c.in_ok-servings.ensures.ready
+
+pub run_tasks-requires-clause-drivings : goal.run_tasks-requires-clause-drivings
+run_tasks-requires-clause-drivings g c κs within = c.in_ok-drivings.ensures.ready

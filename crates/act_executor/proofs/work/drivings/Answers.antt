@@ -19,6 +19,7 @@ loop-setup-init g c =
     let callers = into_iter_items c.into_iter-setup-iterator.result.b in
     let first : setups ≡ c.args.setups.items = search rules in
     let second : callers ≡ c.args.callers.items = search rules in
+    let start = setup_start c.args.lines.now (g.D.Conducts.of c.args.conducts) in
     let At : List CallerSetup × List (Endpoint CallerPasses) → Type 0 = λ p. Each (IsCaller c.args.lines.now) p.0 p.1 in
     record {
       first_long = search rules;
@@ -31,7 +32,8 @@ loop-setup-init g c =
       left = λ k d below. refl;
       fits = subst (λ (l : List CallerSetup). All (λ (setup : CallerSetup). first_bad setup.actors.items setup.plan.items ≡ None) l) (sym first) c.requires.fits;
       ready = search rules;
-      starts = search (rules, first, second);
+      starts = ap (λ l. map driving_start l ++ map start (zip setups callers)) c.new-drivings.ensures.items
+          ∙ (λ i. map start (zip (first i) (second i)));
     }
 
 pub add_driving-requires-clause-caller : goal.add_driving-requires-clause-caller

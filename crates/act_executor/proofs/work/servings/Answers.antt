@@ -17,6 +17,7 @@ loop-cast-init g c =
     let execs = into_iter_items c.into_iter-cast-iterator.result.b in
     let first : casts ≡ c.args.casts.items = search rules in
     let second : execs ≡ c.args.execs.items = search rules in
+    let start = cast_start g.K.Actor.state c.args.lines.now.replies.items in
     let At : List (Cast _) × List (Endpoint ExecPasses) → Type 0 = λ p. Each (IsExec c.args.lines.now) p.0 p.1 in
     record {
       first_long = search rules;
@@ -25,7 +26,8 @@ loop-cast-init g c =
       places = subst (λ (l : List (Endpoint ExecPasses)). All (λ (exec : Endpoint ExecPasses). (exec.place < length c.args.lines.now.mails.items) × (exec.place < length c.args.lines.now.controls.items)) l) (sym second) c.requires.places;
       execs = subst At (λ i. (sym first i, sym second i)) c.requires.execs;
       ready = search rules;
-      starts = search (rules, first, second);
+      starts = ap (λ l. map (serving_start g.K.Actor.state) l ++ map start (zip casts execs)) c.new-servings.ensures.items
+          ∙ (λ i. map start (zip (first i) (second i)));
     }
 
 pub add_serving-requires-clause-callers : goal.add_serving-requires-clause-callers

@@ -25,3 +25,6 @@ pub returns-clause-refused : goal.returns-clause-refused
 returns-clause-refused g c = IfOk-weaker c.run_in.result _ _
     (λ ran refused. on_err_weaker ran (λ same. map-set_same (slot_view g.K.Actor.state) c.args.slots.now c.slot_of.result c.run_in.new.slot c.index-slots-slot_of.result same) refused)
     c.run_in.ensures.refused
+
+pub bounds-slots-slot_of : goal.bounds-slots-slot_of
+bounds-slots-slot_of g c = c.slot_of.ensures.below

@@ -1,4 +1,4 @@
-use Rattle.std.proofs.Common.{◌≡◌, ◌≢◌, ℕ, Some, None, ap, sym, ◌∙◌, subst, slice_set, get_or}
+use Rattle.std.proofs.Common.{◌≡◌, ◌≢◌, ℕ, Some, None, refl, ap, sym, ◌∙◌, subst, slice_set, get_or}
 use Rattle.std.specs.Prelude.{slice_get, position}
 use Rattle.act_types.specs.declared.call.Notice.{Notice}
 use Rattle.act_rules.specs.declared.event.Event.TheVariants as event
@@ -9,7 +9,8 @@ use Rattle.act_owner.specs.Owner.{OwnerView, collect_result, after_collect, Know
 use Rattle.act_world.specs.declared.network.Posted.{Posted}
 use Rattle.act_world.specs.Network.{NetworkView, is_owner, told_collected}
 use Rattle.act_world.specs.Refines.{Refines}
-use Rattle.act_world.proofs.Changes.{on_err}
+use Rattle.act_world.proofs.Changes.{on_err, no_ok, grown_none}
+use Rattle.act_world.specs.IsReachedBy.{IsGrown}
 use Rattle.act_world.proofs.Lawful.{world_lawful}
 use Rattle.act_world.proofs.Sending.{SeesOwner}
 use Rattle.act_world.proofs.Collecting.{collect_follows, collect_owned, late_follows, reply_takes}
@@ -65,3 +66,48 @@ returns-in_err-notice-clause-memory c =
     } in
     let other : (k : ℕ) → collect_result owner notice.notice ≢ Late k = λ k late. c.in_default-collected.not-Late k (c.collected.ensures ∙ late) in
     on_err c.from_residual.result (λ slots casts before reached. reply_takes (history casts before) c.args.self.now slots c.args.j c.in-Some-place_of.place notice owner (world_lawful casts before) reached here sees c.in_err-notice.ensures.memory_last other)
+
+pub returns-in_default-clause-told : goal.returns-in_default-clause-told
+returns-in_default-clause-told c = refl
+
+pub returns-in_default-clause-refused : goal.returns-in_default-clause-refused
+returns-in_default-clause-refused c = refl
+
+pub returns-in_default-clause-grown : goal.returns-in_default-clause-grown
+returns-in_default-clause-grown c = grown_none c.args.self.now
+
+pub returns-in_default-place_of-clause-told : goal.returns-in_default-place_of-clause-told
+returns-in_default-place_of-clause-told c = refl
+
+pub returns-in_default-place_of-clause-refused : goal.returns-in_default-place_of-clause-refused
+returns-in_default-place_of-clause-refused c = refl
+
+pub returns-in_default-place_of-clause-grown : goal.returns-in_default-place_of-clause-grown
+returns-in_default-place_of-clause-grown c = grown_none c.args.self.now
+
+pub returns-in-Late-clause-told : goal.returns-in-Late-clause-told
+returns-in-Late-clause-told c = refl
+
+pub returns-in-Late-clause-grown : goal.returns-in-Late-clause-grown
+returns-in-Late-clause-grown c = grown_none c.args.self.now
+
+pub returns-in_err-notice-clause-ok : goal.returns-in_err-notice-clause-ok
+returns-in_err-notice-clause-ok c = no_ok c.from_residual.result _ _ c.from_residual.ensures.1
+
+pub returns-in_err-notice-clause-told : goal.returns-in_err-notice-clause-told
+returns-in_err-notice-clause-told c = no_ok c.from_residual.result _ _ c.from_residual.ensures.1
+
+pub returns-in_err-notice-clause-refused : goal.returns-in_err-notice-clause-refused
+returns-in_err-notice-clause-refused c = no_ok c.from_residual.result _ _ c.from_residual.ensures.1
+
+pub returns-in_err-notice-clause-grown : goal.returns-in_err-notice-clause-grown
+returns-in_err-notice-clause-grown c = grown_none c.args.self.now
+
+pub returns-in_err-notice-clause-err : goal.returns-in_err-notice-clause-err
+returns-in_err-notice-clause-err c = on_err c.from_residual.result refl
+
+pub returns-clause-told : goal.returns-clause-told
+returns-clause-told c = c.collect_outcome.ensures.told
+
+pub returns-clause-grown : goal.returns-clause-grown
+returns-clause-grown c = subst (λ (network : NetworkView). IsGrown c.args.self.now network) (sym c.self.view_is) (grown_none c.args.self.now)

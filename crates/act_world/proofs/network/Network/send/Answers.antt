@@ -1,4 +1,4 @@
-use Rattle.std.proofs.Common.{◌≡◌, ◌++◌, ◌∷◌, [], List, length, None, Some, ap, sym, ◌∙◌, subst, arith, slice_set, get_or, Ok, Err}
+use Rattle.std.proofs.Common.{◌≡◌, ◌++◌, ◌∷◌, [], List, length, None, refl, ap, sym, ◌∙◌, subst, arith, slice_set, get_or, Ok, Err}
 use Rattle.std.specs.Prelude.{position, IfOk}
 use Rattle.std.proofs.lemmas.Grind.{common_steps}
 use Rattle.act_rules.specs.declared.event.Event.TheVariants as event
@@ -11,8 +11,9 @@ use Rattle.act_world.specs.declared.network.CallKey.{CallKey}
 use Rattle.act_world.specs.declared.network.MailEntry.{MailEntry}
 use Rattle.act_world.specs.declared.network.MailEntry.TheVariants.{Call as CallEntry}
 use Rattle.act_world.specs.Network.{NetworkView, is_owner}
-use Rattle.act_world.specs.IsReachedBy.{FollowsThere}
+use Rattle.act_world.specs.IsReachedBy.{FollowsThere, IsGrown}
 use Rattle.act_world.specs.Refines.{Refines}
+use Rattle.act_world.proofs.Changes.{grown_none, grown_letter}
 use Rattle.act_world.proofs.Lawful.{world_lawful}
 use Rattle.act_world.proofs.Sending.{SeesOwner, send_no_caller, send_refused_follows, unsent_follows, unsent_unrefused, send_follows}
 use Rattle.act_world.proofs.network.Network.send.Goals as goal
@@ -74,3 +75,31 @@ returns-clause-ok c slots casts before reached =
     subst (λ (network : NetworkView). (Ok (did.Mail c.len-i.result) ≡ outcome_of h (event.Send c.args.c c.args.k)) × Refines (after h (event.Send c.args.c c.args.k)) (record { network = record network { owners = slice_set network.owners c.in-Some.place c.send.new.self; mail = c.push_reserved.new.self.items }; slots = slots })) (sym c.self.view_is)
     (send_follows h c.args.self.now slots c.args.c c.args.k c.in-Some.place c.len-i.result owner c.send.new.self address c.push_reserved.new.self.items (world_lawful casts before) reached sees
     c.in-Ok.ensures.accepted c.in-Ok.ensures.value c.in-Ok.ensures.ok counted mail)
+
+pub returns-in_default-clause-told : goal.returns-in_default-clause-told
+returns-in_default-clause-told c = refl
+
+pub returns-in_default-clause-refused : goal.returns-in_default-clause-refused
+returns-in_default-clause-refused c = refl
+
+pub returns-in_default-clause-grown : goal.returns-in_default-clause-grown
+returns-in_default-clause-grown c = grown_none c.args.self.now
+
+pub returns-then-is_err-clause-grown : goal.returns-then-is_err-clause-grown
+returns-then-is_err-clause-grown c = rw c.reserve.ensures.items (subst (λ (network : NetworkView). IsGrown c.args.self.now network) (sym c.self.view_is) (grown_none c.args.self.now))
+
+pub returns-in-Err-clause-told : goal.returns-in-Err-clause-told
+returns-in-Err-clause-told c = refl
+
+pub returns-in-Err-clause-grown : goal.returns-in-Err-clause-grown
+returns-in-Err-clause-grown c = rw c.reserve.ensures.items (subst (λ (network : NetworkView). IsGrown c.args.self.now network) (sym c.self.view_is) (grown_none c.args.self.now))
+
+pub returns-clause-told : goal.returns-clause-told
+returns-clause-told c = refl
+
+pub returns-clause-grown : goal.returns-clause-grown
+returns-clause-grown c =
+    let mailed : c.reserve.new.self.items ≡ c.args.self.now.mail = ◌∙◌ {A = List MailEntry} c.reserve.ensures.items (ap (λ (network : NetworkView). network.mail) c.self.view_is) in
+    let letter : MailEntry = CallEntry (record { caller = c.args.c; actor = c.in-Ok.address.0; number = c.in-Ok.address.1; future = c.args.k }) in
+    let mail : c.push_reserved.new.self.items ≡ c.args.self.now.mail ++ letter ∷ [] = ◌∙◌ {A = List MailEntry} c.push_reserved.ensures.items (ap (λ (items : List MailEntry). items ++ letter ∷ []) mailed) in
+    subst (λ (network : NetworkView). IsGrown c.args.self.now (record network { mail = c.push_reserved.new.self.items })) (sym c.self.view_is) (grown_letter c.args.self.now c.push_reserved.new.self.items letter mail)

@@ -1,10 +1,11 @@
-use Rattle.std.proofs.Common.{◌∙◌, ap, sym, subst}
+use Rattle.std.proofs.Common.{◌∙◌, refl, ap, sym, subst}
 use Rattle.std.specs.Prelude.{OnErr}
 use Rattle.std.proofs.Math.Seq.{map-set_same}
 use Rattle.std.proofs.lemmas.Result.{IfOk-weaker, on_err_weaker}
 use Rattle.act_world.specs.Slots.{IsNewCall, IsBrought}
 use Rattle.act_world.specs.View.{slot_view, world_view}
-use Rattle.act_world.proofs.Delivering.{new_unrefused, new_takes, brought_follows}
+use Rattle.act_world.proofs.Changes.{grown_none}
+use Rattle.act_world.proofs.Delivering.{new_unrefused, new_takes, brought_follows, no_letter_follows}
 use Rattle.act_world.proofs.world.World.deliver.Goals as goal
 
 pub returns-clause-ok : goal.returns-clause-ok
@@ -37,3 +38,24 @@ returns-clause-refused g c = IfOk-weaker c.bring.result _ _
     (λ same. ap (λ slots. record (world_view g.K.Actor.state c.args.self.now) { slots = slots }) (map-set_same (slot_view g.K.Actor.state) c.args.self.now.slots c.slot_of.result c.bring.new.slot c.index-slots-slot_of.result same))
     refused)
     c.bring.ensures.refused
+
+pub returns-in_default-clause-ok : goal.returns-in_default-clause-ok
+returns-in_default-clause-ok g c = no_letter_follows (world_view g.K.Actor.state c.args.self.now) c.args.i c.in_default.ensures
+
+pub returns-in_default-clause-told : goal.returns-in_default-clause-told
+returns-in_default-clause-told g c = refl
+
+pub returns-in_default-clause-refused : goal.returns-in_default-clause-refused
+returns-in_default-clause-refused g c = refl
+
+pub returns-in_default-clause-grown : goal.returns-in_default-clause-grown
+returns-in_default-clause-grown g c = grown_none c.args.self.now.network
+
+pub returns-clause-told : goal.returns-clause-told
+returns-clause-told g c = c.bring.ensures.told
+
+pub returns-clause-grown : goal.returns-clause-grown
+returns-clause-grown g c = grown_none c.args.self.now.network
+
+pub bounds-slots-slot_of : goal.bounds-slots-slot_of
+bounds-slots-slot_of g c = c.slot_of.ensures.below

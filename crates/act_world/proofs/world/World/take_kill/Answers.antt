@@ -34,3 +34,6 @@ pub returns-clause-refused : goal.returns-clause-refused
 returns-clause-refused g c = on_err_weaker c.kill_in.result
     (λ same. ap (λ slots. record (world_view g.K.Actor.state c.args.self.now) { slots = slots }) (map-set_same (slot_view g.K.Actor.state) c.args.self.now.slots c.slot_of.result c.kill_in.new.slot c.index-self-slot_of.result same))
     c.kill_in.ensures.refused
+
+pub bounds-self-slot_of : goal.bounds-self-slot_of
+bounds-self-slot_of g c = c.slot_of.ensures.below
