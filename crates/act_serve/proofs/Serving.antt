@@ -192,6 +192,13 @@ looked_on looked now long more is below within = go (tells looked long)
     go (same b e) = let n : now ≡ looked + 1 = is ∙ ap (λ (x : Bool). cond x (looked + 1) looked) b in omega (arith, n, e, within)
     go (other b ne) = let n : now ≡ looked = is ∙ ap (λ (x : Bool). cond x (looked + 1) looked) b in omega (arith, n, ne, below, within)
 
+pub looked_past : (looked now long : ℕ) → now ≡ looked_after looked long → long ≤ looked → long < now
+looked_past looked now long is below = go (tells looked long)
+  where
+    go : Tells looked long → long < now
+    go (same b e) = let n : now ≡ looked + 1 = is ∙ ap (λ (x : Bool). cond x (looked + 1) looked) b in omega (arith, n, e)
+    go (other b ne) = let n : now ≡ looked = is ∙ ap (λ (x : Bool). cond x (looked + 1) looked) b in omega (arith, n, ne, below)
+
 -- what an executor leaves whose actor ended so
 module _ (opening : KindState) (lines : List RepliesView) (before : ExecPasses) (actor : ActorView) (endpoints : List (Endpoint ReplyExecView)) (passes : ExecPasses)
     (h : IsServing opening (endpoint_callers lines before.notices.items) lines passes.letters.taken actor endpoints)
@@ -215,6 +222,7 @@ module _ (opening : KindState) (lines : List RepliesView) (before : ExecPasses) 
         shown = subst (λ (l : List (Endpoint ReplyExecView)). All (λ (endpoint : Endpoint ReplyExecView). endpoint.pass.seen ≡ actor.log) l) (sym all_told) (told_at actor.id stamp actor.log endpoints (λ (endpoint : Endpoint ReplyExecView). endpoint.pass.seen ≡ actor.log) (λ k d lt. refl));
         kills = kills;
         looked = looked;
+        last_look = tt;
         drained = tt;
         traced = traced;
       }))
@@ -234,6 +242,7 @@ module _ (opening : KindState) (lines : List RepliesView) (before : ExecPasses) 
         shown = subst (λ (l : List (Endpoint ReplyExecView)). All (λ (endpoint : Endpoint ReplyExecView). endpoint.pass.seen ≡ actor.log) l) (sym all_told) (told_at actor.id stamp actor.log endpoints (λ (endpoint : Endpoint ReplyExecView). endpoint.pass.seen ≡ actor.log) (λ k d lt. refl));
         kills = (none, lived);
         looked = looked;
+        last_look = tt;
         drained = tt;
         traced = tt;
       }))
@@ -242,8 +251,8 @@ module _ (opening : KindState) (lines : List RepliesView) (before : ExecPasses) 
       all_told = told_is ∙ (λ i. map (with_death_given (is i).id (is i).log stamp) endpoints)
 
   pub retired_served : (a : ℕ) (retired : RetiredView) → actor.id ≡ a → retired ≡ record { id = actor.id; log = actor.log; state = actor.state } → MayRetire actor.log actor.inbox → passes.notices.items ≡ endpoints
-      → IsUntaken passes.kills → IsTracedSoFar actor.id lines actor.log passes → HasServed opening a lines before (Retired retired) passes
-  retired_served a retired named is may same_endpoints none so_far =
+      → IsUntaken passes.kills → length actor.log < passes.kills.looked → IsTracedSoFar actor.id lines actor.log passes → HasServed opening a lines before (Retired retired) passes
+  retired_served a retired named is may same_endpoints none past so_far =
       subst (λ (x : ℕ). HasServed opening x lines before (Retired retired) passes) named (subst (λ (r : RetiredView). HasServed opening actor.id lines before (Retired r) passes) (sym is) (record {
         id = refl;
         log = h.fed.log;
@@ -253,6 +262,7 @@ module _ (opening : KindState) (lines : List RepliesView) (before : ExecPasses) 
         shown = λ k d lt. tt;
         kills = (none, may.lives);
         looked = looked;
+        last_look = past;
         drained = record {
           state = h.follows;
           notes = notes;

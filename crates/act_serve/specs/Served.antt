@@ -1,5 +1,5 @@
 -- What an executor's thread leaves.
-use Rattle.std.specs.Prelude.{◌≡◌, ℕ, ◌≤◌, ◌==◌, ◌&&◌, Bool, true, false, List, [], ◌∷◌, ◌++◌, length, map, zip, filter, filter_map, slice_get, Option, Some, None, if◌then◌else◌, All, Contains}
+use Rattle.std.specs.Prelude.{◌≡◌, ℕ, ◌≤◌, ◌<◌, ◌==◌, ◌&&◌, Bool, true, false, List, [], ◌∷◌, ◌++◌, length, map, zip, filter, filter_map, slice_get, Option, Some, None, if◌then◌else◌, All, Contains}
 use Rattle.std.specs.Option.{option_or}
 use Rattle.std.specs.List.{enumerate_from, range_with_len}
 use Rattle.act_types.specs.KindState.{KindState}
@@ -155,5 +155,6 @@ pub record HasServed (opening : KindState) (a : ℕ) (lines : List RepliesView) 
   pub shown : All (λ endpoint. HasShownLog end endpoint.pass.seen) passes.notices.items
   pub kills : KillsTaken passes.kills end
   pub looked : length (end_log end) ≤ passes.kills.looked
+  pub last_look : IfRetired end (λ retired. length retired.log < passes.kills.looked)
   pub drained : IfRetired end (HasDrained opening (endpoint_callers lines before.notices.items) passes.letters.taken)
   pub traced : IsActorTraced a lines end passes

@@ -1,4 +1,4 @@
-use Rattle.std.proofs.Common.{rules, ◌≡◌, ◌≤◌, ◌∙◌, Bool, false, ap, sym, subst, refl, length, map}
+use Rattle.std.proofs.Common.{rules, ◌≡◌, ◌≤◌, ◌<◌, ◌∙◌, Bool, false, ap, sym, subst, refl, length, map}
 use Rattle.act_rules.specs.RunList.{has_terminated, NothingFollowsAnEnd}
 use Rattle.act_actor.specs.Actor.{MayRetire}
 use Rattle.act_actor.specs.View.{ActorView, DeadView}
@@ -10,7 +10,7 @@ use Rattle.act_serve.specs.declared.turn.ExecPasses.{ExecPasses}
 use Rattle.act_serve.specs.ActorTraces.{exec_clock}
 use Rattle.act_serve.specs.Served.{endpoint_callers, without_given, KillsOfDead}
 use Rattle.act_serve.specs.Turns.{PassesFit, IsServing, IsTracedSoFar, HasLooked, with_death_given}
-use Rattle.act_serve.proofs.Serving.{stay_on, look_on, still_untaken, kept_kills, looked_on, step_fit, killed_served, starved_served, retired_served, fresh_serving}
+use Rattle.act_serve.proofs.Serving.{stay_on, look_on, still_untaken, kept_kills, looked_on, looked_past, step_fit, killed_served, starved_served, retired_served, fresh_serving}
 use Rattle.act_serve.proofs.Traces.{traced_over, traced_told, traced_looked, traced_fresh}
 use Rattle.act_serve.proofs.turn.serve_by.Goals as goal
 
@@ -112,6 +112,7 @@ returns-in-Ok g c =
     (looked_on c.loop.passes.kills.looked after.kills.looked (length before.log) (length now.log) look.1 old.passes.looked turn.on.long) (turn.on.last old.last)
     c.args.live.id (retired_view g.K.Actor.state c.in-Ok.retired) (turn.on.id ∙ old.id) c.in-Ok.ensures.ok may (λ i. after.notices.items)
     (still_untaken c.loop.passes.kills after.kills look.0 old.untaken)
+    (subst (λ (s : ActorView). length s.log < after.kills.looked) (sym (turn.idle (search rules)).1.0) (looked_past c.loop.passes.kills.looked after.kills.looked (length before.log) look.1 old.passes.looked))
     (turn.traced (g.K.Actor.state c.args.live.kind) (endpoint_callers replies c.args.passes.notices.items) old.serving on.0 (traced_looked before.id replies before.log c.loop.passes c.is_over.new.kills seen.0 old.traced))
 
 pub loop-preserved : goal.loop-preserved
