@@ -16,7 +16,7 @@ use Rattle.act_rules.specs.declared.outcome.SendRefusal.TheVariants.{NotReady, A
 use Rattle.act_rules.specs.Submissions.{needs, kept_at, copies_held, handle_refusal, send_refusal}
 use Rattle.act_handles.specs.Handles.{copies_in, without_copy}
 use Rattle.act_handles.proofs.Lookups.{copies-without_copy}
-use Rattle.act_owner.specs.Owner.{OwnerView, sending_refusal, with_sent, with_handles, after_collect, is_known_call, is_sent, is_ready, first_ready}
+use Rattle.act_owner.specs.Owner.{OwnerView, sending_refusal, with_sent, with_handles, after_collect, is_known_call, is_sent, is_ready, first_ready, is_known_dead}
 use Rattle.act_owner.specs.Life.{Sent, Released, Noticed, after_change}
 use Rattle.act_owner.proofs.Waiting.{find_true}
 use Rattle.act_mailbox.specs.Traces.{greatest, steps_in, found_in, AreTakenLater}
@@ -333,8 +333,8 @@ unstepped start lines done driver step so was = record {
 }
 
 -- a kill that needn't be asked
-pub traces_spared : (lines : CallerLines) (old new : Driver) (a : ℕ) → Traces lines old new → TracesStep lines (Kill a) old new
-traces_spared lines old new a waits start done was = unstepped start lines done new (Kill a) (λ o before same. inl refl) (waits start done was)
+pub traces_spared : (lines : CallerLines) (old new : Driver) (a : ℕ) → Traces lines old new → is_known_dead new.owner a ≡ true → TracesStep lines (Kill a) old new
+traces_spared lines old new a waits dead start done was = unstepped start lines done new (Kill a) (λ o before same. inl (refl, ap (λ (owner : OwnerView). is_known_dead owner a) same ∙ dead)) (waits start done was)
 
 -- a future that is answered now
 pub traces_awaited : (lines : CallerLines) (old new : Driver) (k : ℕ) → Traces lines old new → is_some (kept_at new.owner.kept k) ≡ true → TracesStep lines (Await k) old new

@@ -3,7 +3,7 @@ use Rattle.std.specs.Prelude.{◌≡◌, ℕ, ◌⊎◌, List, [], ◌∷◌, �
 use Rattle.act_rules.specs.declared.script.Step.{Step}
 use Rattle.act_rules.specs.declared.script.Step.TheVariants.{Submit, Copy, Release, Kill, Await}
 use Rattle.act_rules.specs.Submissions.{kept_at}
-use Rattle.act_owner.specs.Owner.{OwnerView}
+use Rattle.act_owner.specs.Owner.{OwnerView, is_known_dead}
 use Rattle.act_owner.specs.Life.{Copied, Released, Submitted, Sent, Noticed}
 use Rattle.act_mailbox.specs.Controls.{ControlView}
 use Rattle.act_mailbox.specs.Traces.{steps_in}
@@ -21,12 +21,13 @@ IsMeanwhile (ChangeMade (Noticed notice)) = Unit {0}
 IsMeanwhile (KillAsked a) = ⊥
 
 -- a caller that began as `owner` and did the steps `before` does a plan's step, and its steps are then `steps`; a kill
--- may go unasked, within what `HasDone` says of kills, and what is awaited is answered by then
+-- may go unasked once the actor is known to be dead, and what is awaited is answered by then
 abbrev pub DoesStep : OwnerView → Step → List CallerStep → List CallerStep → Type 0
 DoesStep owner (Submit a method args) before steps = steps ≡ before ++ ChangeMade (Submitted a method args) ∷ []
 DoesStep owner (Copy a) before steps = steps ≡ before ++ ChangeMade (Copied a) ∷ []
 DoesStep owner (Release a) before steps = steps ≡ before ++ ChangeMade (Released a) ∷ []
-DoesStep owner (Kill a) before steps = (steps ≡ before) ⊎ (steps ≡ before ++ KillAsked a ∷ [])
+DoesStep owner (Kill a) before steps = ((steps ≡ before) × (is_known_dead (owner_after_steps owner before) a ≡ true))
+    ⊎ (steps ≡ before ++ KillAsked a ∷ [])
 DoesStep owner (Await k) before steps = (steps ≡ before)
     × (is_some (kept_at (owner_after_steps owner before).kept k) ≡ true)
 

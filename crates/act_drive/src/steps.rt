@@ -260,7 +260,7 @@ impl Driver {
         match self.owner.ask_kill(a) {
             Err(_) => Err(NoMemory),
             Ok(_) => match kill_endpoint(lines.controls, self.passes.kills.as_slice(), a) {
-                None => Ok(()),
+                None => Err(NoMemory),
                 Some(at) => {
                     notes.note(Mark::AskKill(a));
                     self.ask_until(rt, alloc, lines, at, a, notes)

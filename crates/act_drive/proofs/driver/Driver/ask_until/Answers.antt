@@ -37,7 +37,9 @@ returns-in_err-wait_turn-clause-waits g c =
     on_err c.from_residual.result _ (waits_trans _ _ _ (waits_trans _ _ _ c.loop.invariant.waits (c.ask.ensures.refused c.if-ask.false)) c.in_err-wait_turn.ensures.only_waits.waits)
 
 pub returns-then-is_dead-clause-traced : goal.returns-then-is_dead-clause-traced
-returns-then-is_dead-clause-traced g c none = traces_spared c.args.lines.now c.args.self.now c.loop.self c.args.a c.loop.invariant.traced
+returns-then-is_dead-clause-traced g c none =
+    let dead : is_known_dead c.loop.self.owner c.args.a ≡ true = search rules in
+    traces_spared c.args.lines.now c.args.self.now c.loop.self c.args.a c.loop.invariant.traced dead
 
 pub returns-then-ask-clause-traced : goal.returns-then-ask-clause-traced
 returns-then-ask-clause-traced g c none start done is =
