@@ -27,6 +27,7 @@ use act_types::{
 };
 use std::alloc::Global;
 use std::marker::Model;
+use std::slice;
 
 /// An actor that runs: its name, the calls that it holds, those that it ran, and its kind.
 #[derive(Drop)]
@@ -72,6 +73,12 @@ fn answer_of<K: Actor>(alloc: Global, kind: &mut K, packet: &Packet) -> Result<A
     ensures moved { OnOk result (K.state kind.new ≡ (after_item (K.state kind.old) (item_of packet.now)).0) }
     ensures err { OnErr result (K.state kind.new ≡ K.state kind.old) }
 {
+    if let [Settled::Good(value)] = packet.args.as_slice() {
+        return match packet.method {
+            Method::Terminate => Ok(Err(Fault::BadArgs)),
+            _ => kind.ask(&packet.method, slice::from_ref(value)),
+        };
+    }
     match values_of(alloc, packet.args.as_slice())? {
         Ok(values) => match packet.method {
             Method::Terminate => Ok(answer_to_terminate(values.as_slice())),
@@ -339,11 +346,7 @@ impl<K: Actor> Live<K> {
         if self.terminated() || !self.inbox.is_empty() {
             return false;
         }
-        if self.inbox.handed(packet.caller) != packet.number {
-            return false;
-        }
-        let arrival = self.arrival(packet.actor, packet.caller, packet.number);
-        matches!(arrival, Arrival::New)
+        packet.actor == self.id && self.inbox.is_next(packet)
     }
 
     /// Runs a call at once, as `arrive` and then `run` do. It never stands in the inbox, each growth

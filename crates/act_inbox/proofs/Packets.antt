@@ -1,11 +1,13 @@
 -- What the packets that an inbox holds tell.
-use Rattle.std.proofs.Common.{◌≡◌, ℕ, ◌<◌, ◌≤◌, Option, Some, None, Bool, true, false, ◌==◌, ◌&&◌, ◌||◌, is_some, nat_lt, if◌then◌else◌, refl, arith, find}
-use Rattle.std.proofs.lemmas.Bool.{lt-ltb, le-ltb, ltb-true, ltb-false}
+use Rattle.std.proofs.Common.{◌≡◌, ℕ, ◌<◌, ◌≤◌, Option, Some, None, Bool, true, false, ◌==◌, ◌&&◌, ◌||◌, is_some, nat_lt, if◌then◌else◌, [], refl, sym, ◌∙◌, arith, eq-eqb, find}
+use Rattle.std.specs.Prelude.{IsTrue, ◌↔◌}
+use Rattle.std.proofs.lemmas.Bool.{lt-ltb, le-ltb, ltb-true, ltb-false, eqb-true}
 use Rattle.std.proofs.lemmas.Bool.Decides.{nat_tests}
 use Rattle.act_types.specs.declared.call.Packet.{Packet}
 use Rattle.act_rules.specs.declared.outcome.Arrival.TheVariants.{New, Repeat, Stranger}
 use Rattle.act_inbox.specs.declared.inbox.Lane.{Lane}
-use Rattle.act_inbox.specs.Inbox.{InboxView, is_packet_of, lane_of, is_listed, handed_of, was_handed, waiting_packet, next_of, has_come, call_arrival, arrival_of, waiting_after, with_held}
+use Rattle.act_inbox.specs.Inbox.{InboxView, is_packet_of, lane_of, is_listed, handed_of, was_handed, waiting_packet, next_of, has_come, call_arrival, arrival_of, waiting_after, with_held, IsNextToCome}
+use Rattle.act_inbox.proofs.Lanes.{listed_handed}
 
 pub both_equal : (a b c d : ℕ) → ((a == b) && (c == d)) ≡ true → (a ≡ b) × (c ≡ d)
 both_equal a b c d e = grind (arith, nat_tests)
@@ -55,6 +57,24 @@ listed_told true small was e = refl
 -- its caller is listed
 pub new_listed : (inbox : InboxView) (packet : Packet) → arrival_of inbox packet ≡ New → is_listed inbox packet.caller ≡ true
 new_listed inbox packet e = listed_told (is_listed inbox packet.caller) (nat_lt packet.number 65536) (has_come inbox packet.caller packet.number) e
+
+-- a caller that isn't listed has no next call
+pub none_next : (inbox : InboxView) (packet : Packet) → lane_of inbox packet.caller ≡ None → IsTrue false ↔ IsNextToCome packet inbox
+none_next inbox packet none = (λ is. absurd (cc), λ next. rw none at (new_listed inbox packet next.is_new))
+
+-- where no call is held, the number alone tells whether a call is its caller's next and new
+module _ (inbox : InboxView) (packet : Packet) (lane : Lane) (listed : lane_of inbox packet.caller ≡ Some lane)
+    (small : packet.number < 65536) (empty : inbox.held ≡ []) where
+  next_here : (lane.handed == packet.number) ≡ true → IsNextToCome packet inbox
+  next_here same =
+      let is : lane.handed ≡ packet.number = eqb-true _ _ same in
+      record {
+        is_new = sym (comes_first inbox packet.caller packet.number lane listed small (omega arith) (rw empty refl));
+        numbered = sym is ∙ listed_handed inbox packet.caller lane listed;
+      }
+
+  pub next_decides : IsTrue (lane.handed == packet.number) ↔ IsNextToCome packet inbox
+  next_decides = (next_here, λ next. eq-eqb lane.handed packet.number (listed_handed inbox packet.caller lane listed ∙ sym next.numbered))
 
 -- a packet that comes for the first time
 module _ (old new : InboxView) (packet : Packet) (is_new : arrival_of old packet ≡ New) (lanes : new.lanes ≡ old.lanes)

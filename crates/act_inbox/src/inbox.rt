@@ -206,6 +206,17 @@ impl Inbox {
         self.held.is_empty()
     }
 
+    /// Whether a call is its caller's next and new, where no other is held.
+    pub fn is_next(&self, packet: &Packet) -> bool
+        requires { HoldsNone self.now }
+        ensures { IsTrue result ↔ IsNextToCome packet.now self.now }
+    {
+        match place_of_lane(&self.lanes, packet.caller) {
+            None => false,
+            Some(place) => packet.number < MAX_CALLS && self.lanes[place].handed == packet.number,
+        }
+    }
+
     /// Takes in the caller's next call and hands it out at once, as `arrive` and then `next` do,
     /// where no other is held. The packet stays with whoever calls.
     pub fn pass_by(&mut self, packet: &Packet)
