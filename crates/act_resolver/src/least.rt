@@ -76,9 +76,12 @@ impl LeastSet {
         ensures { self.new ≡ slice_set self.old k is_member }
     {
         let word = k / WORD_BITS;
+        let had_leaf = self.leaves.has(word);
         let has_leaf = self.leaves.set(k, is_member);
-        let has_inner = self.inner.set(word, has_leaf);
-        self.top.set(word / WORD_BITS, has_inner);
+        if had_leaf != has_leaf {
+            let has_inner = self.inner.set(word, has_leaf);
+            self.top.set(word / WORD_BITS, has_inner);
+        }
     }
 
     /// The least of the numbers.
@@ -160,6 +163,14 @@ impl Level {
         let word = with_bit(self.words[k / WORD_BITS], k % WORD_BITS, is_member);
         self.words[k / WORD_BITS] = word;
         word != 0
+    }
+
+    /// Whether this word has a bit.
+    pub fn has(&self, word: usize) -> bool
+        requires { word < length self.now }
+        ensures { result ≡ has_any self.now word }
+    {
+        self.words[word] != 0
     }
 
     /// The first word that has a bit.

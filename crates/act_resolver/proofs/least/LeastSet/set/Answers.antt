@@ -3,6 +3,9 @@ use Rattle.std.specs.Prelude.{slice_set}
 use Rattle.act_resolver.proofs.Levels.{bits_of-set, length-bits_of, tells_after}
 use Rattle.act_resolver.proofs.least.LeastSet.set.Goals as goal
 
+pub has-had_leaf-requires : goal.has-had_leaf-requires
+has-had_leaf-requires c = let size = ap length (sym c.self.view_is) ∙ length-bits_of c.self.inside.leaves in omega (arith, size)
+
 pub set-has_leaf-requires : goal.set-has_leaf-requires
 set-has_leaf-requires c = let size = ap length (sym c.self.view_is) ∙ length-bits_of c.self.inside.leaves in omega (arith, size)
 
@@ -27,8 +30,14 @@ invariant_of-self c =
       },
     )
 
-pub returns : goal.returns
-returns c =
+pub returns-then-had_leaf-has_leaf : goal.returns-then-had_leaf-has_leaf
+returns-then-had_leaf-has_leaf c =
+    let size = ap length (sym c.self.view_is) ∙ length-bits_of c.self.inside.leaves in
+    bits_of-set c.self.inside.leaves c.set-has_leaf.new.self c.args.k c.args.is_member c.set-has_leaf.ensures.count (omega (arith, size)) c.set-has_leaf.ensures.same c.set-has_leaf.ensures.others
+    ∙ ap (λ members. slice_set members c.args.k c.args.is_member) c.self.view_is
+
+pub returns-else-had_leaf-has_leaf : goal.returns-else-had_leaf-has_leaf
+returns-else-had_leaf-has_leaf c =
     let size = ap length (sym c.self.view_is) ∙ length-bits_of c.self.inside.leaves in
     bits_of-set c.self.inside.leaves c.set-has_leaf.new.self c.args.k c.args.is_member c.set-has_leaf.ensures.count (omega (arith, size)) c.set-has_leaf.ensures.same c.set-has_leaf.ensures.others
     ∙ ap (λ members. slice_set members c.args.k c.args.is_member) c.self.view_is
