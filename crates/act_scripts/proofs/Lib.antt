@@ -4,4 +4,5 @@ pub mod Marks
 pub mod Each
 pub mod Plain
 pub mod Lines
+pub mod Cutting
 pub mod Roles

@@ -1,8 +1,8 @@
 //! Lines and scripts.
 
-ghost use Rattle.std.specs.Prelude.{◌≡◌, ◌==◌, ◌||◌, true, ◌≤◌, ◌<◌, ◌^◌, ◌+◌, ℕ, map, IfOk, OnOk, IfSome, length};
+ghost use Rattle.std.specs.Prelude.{◌≡◌, ◌==◌, true, ◌≤◌, ◌<◌, ◌^◌, ◌+◌, ◌++◌, ◌∷◌, [], List, ℕ, map, take, drop, Ok, IfOk, OnOk, IfErr, IfSome, length};
 ghost use Rattle.std.specs.List.{list_all, list_any};
-ghost use Rattle.act_scripts.specs.Gives.{Gives};
+ghost use Rattle.act_scripts.specs.Gives.{Gives, Fails};
 ghost use Rattle.act_scripts.specs.Spelled.{IsLineOf, LeavesScript, GivesScript, mode_of, count_of, spelled_script, fault_at_line};
 ghost use Rattle.act_rules.specs.Submissions.{IsLimit};
 ghost use Rattle.act_rules.specs.Scripts.{actor_spec_of};
@@ -56,72 +56,65 @@ impl Items {
     }
 }
 
-/// Whether each byte prints or is a space.
-fn are_plain(bytes: &[u8]) -> bool
-    ensures { result ≡ list_all is_plain_byte bytes.now }
+/// Adds a word of plain bytes.
+fn push_word<'a>(words: &mut Vec<&'a str>, word: &'a [u8]) -> Result<(), AllocError>
+    requires { list_all is_plain_byte word.now ≡ true }
+    ensures { OnOk result (map (λ w. w.now) words.new.items ≡ map (λ w. w.now) words.old.items ++ word.now ∷ []) }
 {
-    bytes.iter().all(|byte| 0x20 <= *byte && *byte <= 0x7e)
-}
-
-/// Whether each byte prints, is a space or ends a line. It looks at all of them, as a machine does fastest.
-fn are_plain_lines(bytes: &[u8]) -> bool
-    ensures { result ≡ list_all (λ b. is_plain_byte b || (b == 10)) bytes.now }
-{
-    let mut plain = true;
-    for byte in bytes {
-        plain &= (0x20 <= *byte && *byte <= 0x7e) || *byte == b'\n';
-    }
-    plain
-}
-
-/// Whether a line is short and plain. Of the lines of a plain script the latter is known.
-fn check_plain(line: &[u8], is_known: bool) -> Result<(), LineFault>
-    requires { is_known ≡ true → list_all is_plain_byte line.now ≡ true }
-    ensures { Gives (λ _. line.now) result (plain_at line.now) }
-{
-    if line.len() > MAX_LINE_BYTES {
-        return Err(BAD_LINE);
-    }
-    if !is_known && !are_plain(line) {
-        return Err(BAD_LINE);
-    }
+    // Plain bytes are text.
+    words.push(unsafe { str::from_utf8_unchecked(word) })?;
     Ok(())
 }
 
-/// Puts the words of a line, which single spaces part, in the place of those of the line before.
-/// All lines share one vector, so that a line asks for no memory of its own.
-fn split_words<'a>(words: &mut Vec<&'a str>, line: &'a [u8]) -> Result<(), AllocError>
-    requires { list_all is_plain_byte line.now ≡ true }
-    ensures { OnOk result (map (λ w. w.now) words.new.items ≡ words_in line.now) }
+/// Where the first line ends, if it is short and plain. Its words, which single spaces part, take the place of those
+/// of the line before: all lines share one vector, so that a line asks for no memory of its own. Each byte is looked
+/// at once.
+fn cut<'a>(words: &mut Vec<&'a str>, bytes: &'a [u8]) -> Result<usize, LineFault>
+    ensures within { IfOk result (λ end. end ≤ length bytes.now) }
+    ensures plain { IfOk result (λ end. plain_at (take end bytes.now) ≡ Ok (take end bytes.now)) }
+    ensures words { IfOk result (λ end. map (λ w. w.now) words.new.items ≡ words_in (take end bytes.now)) }
+    ensures last { IfOk result (λ end. end ≡ length bytes.now → lines_in bytes.now ≡ take end bytes.now ∷ []) }
+    ensures more { IfOk result (λ end. end < length bytes.now →
+        lines_in bytes.now ≡ take end bytes.now ∷ lines_in (drop (end + 1) bytes.now)) }
+    ensures fault { IfErr result (λ fault. (line : List ℕ) (lines : List (List ℕ)) →
+        lines_in bytes.now ≡ line ∷ lines → Fails fault (plain_at line)) }
 {
     words.clear();
-    for word in line.split(|byte| *byte == b' ') {
-        // A plain line's words are plain, and so they are text.
-        words.push(unsafe { str::from_utf8_unchecked(word) })?;
+    let mut word = 0;
+    for at in 0..bytes.len().min(MAX_LINE_BYTES + 1) {
+        let byte = bytes[at];
+        if byte <= b' ' {
+            if byte == b'\n' {
+                push_word(words, &bytes[word..at])?;
+                return Ok(at);
+            }
+            if byte != b' ' {
+                return Err(BAD_LINE);
+            }
+            push_word(words, &bytes[word..at])?;
+            word = at + 1;
+        } else if byte > b'~' {
+            return Err(BAD_LINE);
+        }
     }
-    Ok(())
+    if bytes.len() > MAX_LINE_BYTES {
+        return Err(BAD_LINE);
+    }
+    push_word(words, &bytes[word..])?;
+    Ok(bytes.len())
 }
 
-/// What a line says, and nothing for one that is skipped.
+/// What a short and plain line says, whose words these are, and nothing for one that is skipped.
 #[tactic(auto, unfolding(act_rules::specs::Grammar::line_at))]
-fn line_of<'a>(
-    alloc: Global,
-    mode: Mode,
-    words: &mut Vec<&'a str>,
-    line: &'a [u8],
-    is_plain: bool,
-) -> Result<Option<Line>, LineFault>
-    requires { is_plain ≡ true → list_all is_plain_byte line.now ≡ true }
+fn line_of(alloc: Global, mode: Mode, words: &[&str], line: &[u8]) -> Result<Option<Line>, LineFault>
+    requires plain { plain_at line.now ≡ Ok line.now }
+    requires words { map (λ w. w.now) words.now ≡ words_in line.now }
     ensures said { Gives (λ x. x) result (line_at (forms_of mode) line.now) }
     ensures of_mode { IfOk result (λ said. IfSome said (IsLineOf mode)) }
 {
-    check_plain(line, is_plain)?;
     match line {
         [] | [b'#', ..] => Ok(None),
-        _ => {
-            split_words(words, line)?;
-            Ok(Some(form_of(alloc, mode, words.as_slice())?))
-        }
+        _ => Ok(Some(form_of(alloc, mode, words)?)),
     }
 }
 
@@ -243,25 +236,25 @@ fn add(script: &mut Script, line: Line, number: u32) -> Result<(), LineFault>
     }
 }
 
-/// Adds what the line of this number says, if it isn't skipped.
-fn add_line<'a>(
+/// Adds what the line of this number says, whose words these are, if it isn't skipped.
+fn add_line(
     alloc: Global,
     mode: Mode,
     script: &mut Script,
-    words: &mut Vec<&'a str>,
-    line: &'a [u8],
-    is_plain: bool,
+    words: &[&str],
+    line: &[u8],
     number: u32,
 ) -> Result<(), LineFault>
     requires mode { mode_of script.old.items ≡ mode }
-    requires plain { is_plain ≡ true → list_all is_plain_byte line.now ≡ true }
+    requires plain { plain_at line.now ≡ Ok line.now }
+    requires words { map (λ w. w.now) words.now ≡ words_in line.now }
     ensures sound { AreSound (map actor_spec_of script.old.casts) → AreSound (map actor_spec_of script.new.casts) }
     ensures mode { mode_of script.new.items ≡ mode }
     ensures read { LeavesScript result script.new
         (line_added (forms_of mode) (spelled_script script.old) number line.now) }
     ensures few { count_of script.new.items ≤ count_of script.old.items + 1 }
 {
-    match line_of(alloc, mode, words, line, is_plain)? {
+    match line_of(alloc, mode, words, line)? {
         None => Ok(()),
         Some(line) => add(script, line, number),
     }
@@ -287,16 +280,23 @@ fn read_lines(alloc: Global, bytes: &[u8], mode: Mode) -> Result<Script, ScriptF
 {
     let mut script = empty_script(alloc, mode);
     let mut words = Vec::new(alloc);
-    let is_plain = are_plain_lines(bytes);
     let mut number = 0;
-    for line in bytes.split(|byte| *byte == b'\n') {
+    let mut rest = bytes;
+    'lines: loop {
         number += 1;
-        match add_line(alloc, mode, &mut script, &mut words, line, is_plain, number) {
+        let end = match cut(&mut words, rest) {
+            Ok(end) => end,
+            Err(fault) => return Err(fault_in(number, fault)),
+        };
+        match add_line(alloc, mode, &mut script, words.as_slice(), &rest[..end], number) {
             Ok(()) => {}
             Err(fault) => return Err(fault_in(number, fault)),
         }
+        if end == rest.len() {
+            return Ok(script);
+        }
+        rest = &rest[end + 1..];
     }
-    Ok(script)
 }
 
 /// What a script of this mode spells, or its first fault. What only a run of threads refuses,
