@@ -106,7 +106,12 @@ fn cut<'a>(words: &mut Vec<&'a str>, bytes: &'a [u8]) -> Result<usize, LineFault
 
 /// What a short and plain line says, whose words these are, and nothing for one that is skipped.
 #[tactic(auto, unfolding(act_rules::specs::Grammar::line_at))]
-fn line_of(alloc: Global, mode: Mode, words: &[&str], line: &[u8]) -> Result<Option<Line>, LineFault>
+fn line_of(
+    alloc: Global,
+    mode: Mode,
+    words: &[&str],
+    line: &[u8],
+) -> Result<Option<Line>, LineFault>
     requires plain { plain_at line.now ≡ Ok line.now }
     requires words { map (λ w. w.now) words.now ≡ words_in line.now }
     ensures said { Gives (λ x. x) result (line_at (forms_of mode) line.now) }
@@ -288,7 +293,14 @@ fn read_lines(alloc: Global, bytes: &[u8], mode: Mode) -> Result<Script, ScriptF
             Ok(end) => end,
             Err(fault) => return Err(fault_in(number, fault)),
         };
-        match add_line(alloc, mode, &mut script, words.as_slice(), &rest[..end], number) {
+        match add_line(
+            alloc,
+            mode,
+            &mut script,
+            words.as_slice(),
+            &rest[..end],
+            number,
+        ) {
             Ok(()) => {}
             Err(fault) => return Err(fault_in(number, fault)),
         }
