@@ -5,9 +5,9 @@ The version is the newest of CHANGELOG.md, and each place of VERSIONED must name
 have a line for each tool, and for nothing else. Each line of docs/glossary.md ends with a name and its file, which
 must have that name. Each crate of crates.txt has a README.md of at most 30 lines, which tells on which crates it stands.
 
-The pages of docs and of PLAIN, and those READMEs, have no line over 120 columns, but where a block quotes a file. No
-sentence of the prose of PLAIN and of those READMEs is over 30 words. Of docs/audit.md the sentences before its second
-heading count, since its lists hold none. It is counted so:
+No page, and none of those READMEs, has a line over 120 columns, but where a block quotes a file, or a sentence of over
+30 words. Of docs/audit.md the sentences before its second heading count, since its lists hold none, and of docs/edits.md,
+which is a list, none do. It is counted so:
 
   - Prose is what stands in no block: neither behind a fence nor four spaces in. Headings and pictures are none.
   - A paragraph, an item of a list and a cell of a table are each a text of their own.
@@ -22,16 +22,8 @@ from program import TOP
 
 VERSIONED = ["README.md", "crates.txt", "crates/ray_actors/src/main.rt"]
 GLOSSARY = "docs/glossary.md"
-PLAIN = [
-    "README.md",
-    "CONTRIBUTING.md",
-    "docs/architecture.md",
-    "docs/audit.md",
-    GLOSSARY,
-    "docs/library.md",
-    "docs/rules.md",
-    "tools/README.md",
-]
+PAGES = ["*.md", "docs/*.md", "examples/*.md", "tools/*.md", "crates/*/README.md"]
+WRITTEN_BY_TOOLS = {"docs/edits.md"}
 HEAD_ALONE = {"docs/audit.md"}
 # What a crate's README may have.
 MAX_LINES = 30
@@ -163,20 +155,23 @@ def faults_of_sentences(page):
                 yield f"{page}:{number}: a sentence of {count} words, and it may have {MAX_WORDS}: {start} .."
 
 
-def pages_of(pattern):
-    return {str(path.relative_to(TOP)) for path in TOP.glob(pattern)}
+def all_pages():
+    return {str(path.relative_to(TOP)) for pattern in PAGES for path in TOP.glob(pattern)}
+
+
+def plain_pages():
+    """The pages whose sentences count."""
+    return all_pages() - WRITTEN_BY_TOOLS
 
 
 def main():
-    plain = {*PLAIN, *pages_of("crates/*/README.md")}
-    narrow = plain | {"CHANGELOG.md", *pages_of("docs/*.md"), *pages_of("examples/*.md")}
     faults = [
         *faults_of_versions(version()),
         *faults_of_tools(),
         *faults_of_words(),
         *faults_of_crates(),
-        *(fault for page in sorted(narrow) for fault in faults_of_columns(page)),
-        *(fault for page in sorted(plain) for fault in faults_of_sentences(page)),
+        *(fault for page in sorted(all_pages()) for fault in faults_of_columns(page)),
+        *(fault for page in sorted(plain_pages()) for fault in faults_of_sentences(page)),
     ]
     for fault in faults:
         print(fault)

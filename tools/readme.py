@@ -1,0 +1,159 @@
+#!/usr/bin/env python3
+"""Runs what README.md shows: the commands of its quick start, and the scripts that stand beside their reports.
+
+Each command but `./test` is run in a folder of links, one after another, as a reader would who copies them; it must end
+with the status of ENDS, write something, and complain of nothing. What the play of a record ends in must be allowed by
+the second reading of the rules. A script that stands on the left of a block must give the report on its right. One
+without events is run in threads, and several times, since the page says that it gives the same whatever the schedule.
+
+Of examples/README.md the scripts are run in threads whose lines tell what each call is answered by.
+"""
+import pathlib
+import re
+import subprocess
+import sys
+import tempfile
+
+import program
+from program import TOP
+
+COMMANDS = ["run", "draw", "record", "check", "explain", "examples", "test"]
+# How a command ends that doesn't end with 0: the history that is shown breaks a rule.
+ENDS = {"./check": 5}
+# What proves everything isn't run here.
+LEFT_OUT = "./test"
+EVENTS = {"send", "deliver", "run", "collect", "take", "tell", "retire"}
+RUNS_IN_THREADS = 20
+MAX_SECONDS = 120
+RECORD = "bank.play"
+SCRIPT_OF_RECORD = "examples/bank.actors"
+
+
+def blocks_of(text):
+    """The blocks of a page that stand four spaces in, each as its lines."""
+    fenced, block = False, []
+    for line in [*text.split("\n"), ""]:
+        fenced ^= line.startswith("```")
+        if not fenced and line.startswith("    "):
+            block.append(line[4:])
+        elif block:
+            yield block
+            block = []
+
+
+def commands_of(text):
+    """The commands that the page shows, without what is said of them."""
+    lines = [line for block in blocks_of(text) for line in block if line.startswith("./")]
+    return [command for line in lines if (command := re.split(r"\s+# ", line)[0].rstrip()) != LEFT_OUT]
+
+
+def columns_of(block):
+    """The lines on the left of a block and those on its right; none on the right where it has one column."""
+    begins = [found.start(1) for line in block if (found := re.match(r"\S.*?   +(\S)", line))]
+    if not begins:
+        return [line for line in block if line.strip()], []
+    at = min(begins)
+    return [line[:at].rstrip() for line in block if line[:at].strip()], [line[at:] for line in block if line[at:]]
+
+
+def scripts_of(text):
+    """The scripts that stand beside something: their lines, and those on the right."""
+    pairs = [columns_of(block) for block in blocks_of(text) if not block[0].startswith("./")]
+    return [(script, beside) for script, beside in pairs if beside]
+
+
+def mode_of(script):
+    return "play" if EVENTS & {line.split()[0] for line in script} else "threads"
+
+
+def faults_of_reports(text, run):
+    """The scripts of README.md that don't give the report beside them; `run` plays one or runs it in threads."""
+    pairs = scripts_of(text)
+    if [mode_of(script) for script, _ in pairs] != ["play", "threads"]:
+        yield "README.md shows no script of events and one for threads, each beside its report"
+    for script, report in pairs:
+        mode = mode_of(script)
+        for _ in range(RUNS_IN_THREADS if mode == "threads" else 1):
+            if (got := run(mode, script)) != report:
+                yield f"the script that begins with {script[0]!r} gives {got}, and not {report}"
+                break
+
+
+def faults_of_answers(text, run):
+    """The calls of examples/README.md that are answered by something else than is told beside them."""
+    told = 0
+    for script, beside in scripts_of(text):
+        if not script[0].startswith("actor"):
+            continue
+        report = "\n".join(run("threads", script))
+        for number, answer in re.findall(r"the call (\d+), answered by (\d+)", "\n".join(beside)):
+            told += 1
+            if not re.search(rf"^c1\.{number} a\d = {answer}$", report, re.M):
+                yield f"the call {number} isn't answered by {answer}: {report!r}"
+    if not told:
+        yield "examples/README.md tells no answer"
+
+
+def run_script(mode, script):
+    """The lines of the report of a script."""
+    text = "".join(line + "\n" for line in script)
+    done = subprocess.run([TOP / "run", mode], input=text, capture_output=True, text=True, timeout=MAX_SECONDS, check=False)
+    return done.stdout.splitlines()
+
+
+def fault_of_command(command, done):
+    """What is wrong with how a command ended, or None."""
+    wanted = ENDS.get(command.split()[0], 0)
+    # Which program is taken, or that one is built, is told on the standard error, in lines with the tool's name.
+    notes = [line for line in done.stderr.splitlines() if not re.match(r"\w+: ", line)]
+    if done.returncode != wanted or "Traceback" in done.stderr or notes:
+        return f"{command}: it ended with {done.returncode} and not {wanted}: {done.stderr!r:.300}"
+    return None
+
+
+def faults_of_commands(text, folder):
+    """The commands of README.md that don't do what they are shown for, run in this folder."""
+    for name in COMMANDS:
+        (folder / name).symlink_to(TOP / name)
+    commands = commands_of(text)
+    if len(commands) < len(COMMANDS) - 2:
+        yield f"README.md shows {len(commands)} commands"
+    for command in commands:
+        done = subprocess.run(["bash", "-c", command], cwd=folder, capture_output=True, text=True, timeout=MAX_SECONDS, check=False)
+        if fault := fault_of_command(command, done):
+            yield fault
+        into = re.search(r" > (\S+)$", command)
+        written = (folder / into[1]).read_text() if into and (folder / into[1]).exists() else done.stdout
+        if not written.strip():
+            yield f"{command}: it wrote nothing"
+        if command.endswith(f" {RECORD}"):
+            yield from faults_of_end(command, done.stdout)
+
+
+def faults_of_end(command, report):
+    """Whether the rules don't allow what the play of a record ends in."""
+    if not command.startswith("./run play"):
+        return
+    summary = "".join(line + "\n" for line in report.splitlines() if not re.match(r"\d+: ", line))
+    reading = [sys.executable, TOP / "tools/reading_of_rules.py", TOP / SCRIPT_OF_RECORD]
+    done = subprocess.run(reading, input=summary, capture_output=True, text=True, timeout=MAX_SECONDS, check=False)
+    if done.returncode != 0 or not summary:
+        yield f"{command}: the rules don't allow its end: {done.stdout!r:.300}"
+
+
+def main():
+    readme = (TOP / "README.md").read_text()
+    with tempfile.TemporaryDirectory(prefix="readme-") as folder:
+        faults = [
+            *faults_of_commands(readme, pathlib.Path(folder)),
+            *faults_of_reports(readme, run_script),
+            *faults_of_answers((TOP / "examples/README.md").read_text(), run_script),
+        ]
+    for fault in faults:
+        print(fault)
+    print(f"readme: {len(commands_of(readme))} commands and {len(scripts_of(readme))} scripts run: {len(faults)} failed")
+    return 1 if faults else 0
+
+
+if __name__ == "__main__":
+    program.ended("readme", main)

@@ -1,0 +1,180 @@
+#!/usr/bin/env python3
+"""Tests of tools/claims.py, tools/pages.py and tools/readme.py: what is wrong on a page must be told.
+
+Each plant is put into a page as it stands, and must be told, and not be told without it.
+"""
+import functools
+import types
+import unittest
+from unittest import mock
+
+import claims
+import pages
+import program
+import readme
+
+TEXTS = claims.texts_there()
+SOURCES = claims.Sources(TEXTS)
+CRATES = set(program.listed())
+
+# A page, what is put behind its first heading, and what must be told of it.
+PLANTS = [
+    ("README.md", "`run_the_plans` runs them.", "no source has run_the_plans"),
+    ("README.md", "`World::fly` does it.", "World has no fly"),
+    ("README.md", "`Session::submit` and `Session::soar` do it.", "Session has no soar"),
+    ("README.md", "`IsJoined.winged` says it.", "IsJoined has no field winged"),
+    ("README.md", "See [there](docs/nowhere.md).", "leads to no file"),
+    ("README.md", "See [there](docs/rules.md#no-such-heading).", "has no #no-such-heading"),
+    ("README.md", "See [there](#no-such-heading).", "has no #no-such-heading"),
+    ("docs/rules.md", "See crates/act_world/src/wings.rt.", "no file crates/act_world/src/wings.rt"),
+    ("docs/rules.md", "See `specs/Wings.antt`.", "no file specs/Wings.antt"),
+    ("docs/rules.md", "The rule (`IsJoined`, act_world/specs/Refines.antt).", "act_world/specs/Refines.antt has no IsJoined"),
+    ("docs/rules.md", "It is `IsJoined` of `act_types`.", "act_types has no IsJoined"),
+    ("docs/rules.md", "| `run_plans` | `act_types` |", "`act_types` has no run_plans"),
+    ("docs/rules.md", "Call `tools/fuzz.py --winged` for it.", "tools/fuzz.py has no option --winged"),
+    ("docs/rules.md", "Call `./draw --winged FILE` for it.", "tools/draw.py has no option --winged"),
+    ("docs/measures.md", "The plan had it in another way.", "whom no reader knows: The plan had"),
+    ("docs/measures.md", "It is more than was asked.", "whom no reader knows: more than was asked"),
+    ("docs/measures.md", "It holds 64, as users were told.", "whom no reader knows: users were told"),
+    ("crates/act_world/README.md", "- **Carried by**: `serve`.", "the crate has no serve"),
+]
+
+# A page, what stands there, what is put in its place, and what must be told.
+CHANGES = [
+    ("examples/README.md", "The first nine list events", "The first ten list events", "it says ten where the sources have 9"),
+    ("examples/README.md", "in sixty lines", "in thirty lines", "it says thirty"),
+    ("docs/rules.md", "holds 65,535 copies", "holds 65,536 copies", "it says 65,536 where the sources have 65535"),
+    ("README.md", "`crates/own_kinds` has four", "`crates/own_kinds` has five", "it says five where the sources have 4"),
+    ("docs/rules.md", "The five laws again", "The laws again", "no number stands where one is counted"),
+]
+LISTS = [
+    ("README.md", "`thiserror`, `anyhow`", "`anyhow`", "the crates of the kit are"),
+    ("README.md", "`act_mailbox`, `act_tasks`", "`act_tasks`", "crates with handles"),
+    ("README.md", "Handles allowed: Threads, Wait;", "Handles allowed: Threads;", "it doesn't say"),
+    ("docs/rules.md", "| `NoKill` | no caller", "| `NoWing` | no caller", "differ in NoKill, NoWing"),
+    ("docs/architecture.md", "act_resolver", "act_wings", "it doesn't name act_resolver"),
+    ("examples/README.md", "(bank.actors) | threads", "(purse.actors) | threads", "differ in bank.actors, purse.actors"),
+]
+
+
+def planted(page, line):
+    """A page with a line put behind its first heading."""
+    head, _, rest = TEXTS[page].partition("\n")
+    return f"{head}\n\n{line}\n{rest}"
+
+
+@functools.lru_cache(maxsize=None)
+def told(page, text):
+    return [fault for _, fault in claims.faults_of_page(page, text, SOURCES, {**TEXTS, page: text}, CRATES)]
+
+
+class Pages(unittest.TestCase):
+    def test_each_plant_is_told(self):
+        for page, line, wanted in PLANTS:
+            with self.subTest(line):
+                self.assertFalse([fault for fault in told(page, TEXTS[page]) if wanted in fault])
+                self.assertEqual(len([fault for fault in told(page, planted(page, line)) if wanted in fault]), 1)
+
+    def test_what_is_there_is_not_told(self):
+        line = "`World::apply`, `IsJoined.submitted`, `run_plans`, docs/rules.md, [rules](docs/rules.md#order), `./draw --events 0..4 FILE`."
+        self.assertEqual(told("README.md", planted("README.md", line)), told("README.md", TEXTS["README.md"]))
+
+    def test_a_word_of_a_comment_is_none_of_the_code(self):
+        sources = claims.Sources({"a.rt": "fn one() {} // winged", "b.antt": "-- feathered\nx = 1", "c.py": '"""Beaked."""\ny = 2  # clawed'})
+        self.assertFalse({"winged", "feathered", "Beaked", "clawed"} & sources.words)
+        self.assertTrue({"one", "x", "y"} <= sources.words)
+
+    def test_blocks_are_passed_over(self):
+        text = "# Page\n\n```text\n`no_such_name`\n```\n\n    `no_other_name`\n"
+        self.assertEqual(told("docs/rules.md", text), [])
+
+
+class Numbers(unittest.TestCase):
+    def faults_with(self, faults, page, old, new):
+        self.assertIn(old, TEXTS[page])
+        return [fault for _, fault in faults({**TEXTS, page: TEXTS[page].replace(old, new)})]
+
+    def test_each_wrong_number_is_told(self):
+        for page, old, new, wanted in CHANGES:
+            with self.subTest(new):
+                self.assertEqual(list(claims.faults_of_numbers(SOURCES, TEXTS)), [])
+                found = self.faults_with(lambda texts: claims.faults_of_numbers(SOURCES, texts), page, old, new)
+                self.assertTrue(any(wanted in fault for fault in found), found)
+
+    def test_each_list_that_lacks_something_is_told(self):
+        crates = program.listed()
+        self.assertEqual(list(claims.faults_of_lists(SOURCES, TEXTS, crates)), [])
+        for page, old, new, wanted in LISTS:
+            with self.subTest(new):
+                found = self.faults_with(lambda texts: claims.faults_of_lists(SOURCES, texts, crates), page, old, new)
+                self.assertEqual(len([fault for fault in found if wanted in fault]), 1, found)
+
+    def test_another_kit_is_told(self):
+        for is_there, kit, count in (True, "rattle-kit-1 logic 2", 0), (True, "rattle-kit-3 logic 4", 1), (False, "rattle-kit-3", 0):
+            done = types.SimpleNamespace(returncode=0, stdout=kit + "\n")
+            with mock.patch.object(claims.shutil, "which", lambda _: is_there), mock.patch.object(claims.subprocess, "run", lambda *_, **__: done):
+                self.assertEqual(len(list(claims.faults_of_kit("Proved with `rattle-kit-1\nlogic 2`."))), count)
+
+
+class Sentences(unittest.TestCase):
+    def test_a_long_sentence_is_told_on_each_page(self):
+        sentence = " ".join(["word"] * (pages.MAX_WORDS + 1)) + "."
+        for page in sorted(pages.plain_pages()):
+            with self.subTest(page), mock.patch.object(pages, "lines_of_prose", lambda _: [(1, sentence, False)]):
+                self.assertEqual(len(list(pages.faults_of_sentences(page))), 1)
+
+    def test_all_pages_of_docs_are_held_to_it(self):
+        there = {path for path in TEXTS if path.startswith("docs/") and path.endswith(".md")}
+        self.assertEqual(there - pages.plain_pages(), pages.WRITTEN_BY_TOOLS)
+
+
+PAGE = """# Page
+
+    ./run play one.actors      # plays it
+    ./test                     # all of it
+
+Left and right:
+
+    actor a1 counter c1        0: future c1.0
+    send c1 0                  1: mail 0
+
+And in threads:
+
+    actor a1 table c1 c2       a1 retired table
+                               a1.0 c1.0 get
+"""
+
+
+class Readme(unittest.TestCase):
+    def test_commands_and_columns(self):
+        self.assertEqual(readme.commands_of(PAGE), ["./run play one.actors"])
+        first = (["actor a1 counter c1", "send c1 0"], ["0: future c1.0", "1: mail 0"])
+        second = (["actor a1 table c1 c2"], ["a1 retired table", "a1.0 c1.0 get"])
+        self.assertEqual(readme.scripts_of(PAGE), [first, second])
+
+    def test_another_report_is_told(self):
+        right = {mode: report for mode, (_, report) in zip(["play", "threads"], readme.scripts_of(PAGE))}
+        self.assertEqual(list(readme.faults_of_reports(PAGE, lambda mode, _: right[mode])), [])
+        for mode in right:
+            wrong = {**right, mode: right[mode][:-1]}
+            self.assertEqual(len(list(readme.faults_of_reports(PAGE, lambda mode, _: wrong[mode]))), 1)
+        turns = iter([right["play"], right["threads"], ["a1 dead"]])
+        self.assertEqual(len(list(readme.faults_of_reports(PAGE, lambda *_: next(turns)))), 1)
+
+    def test_a_missing_script_is_told(self):
+        self.assertEqual(len(list(readme.faults_of_reports("# Page\n", lambda *_: []))), 1)
+
+    def test_a_command_that_ends_otherwise_is_told(self):
+        for status, notes, is_told in (0, "run: the proved program", False), (1, "", True), (0, "usage", True):
+            done = types.SimpleNamespace(returncode=status, stderr=notes)
+            self.assertEqual(readme.fault_of_command("./run play", done) is not None, is_told)
+        self.assertIsNone(readme.fault_of_command("./check x", types.SimpleNamespace(returncode=5, stderr="")))
+
+    def test_another_answer_is_told(self):
+        text = "# Page\n\n    actor a1 account c1        text\n    submit c1 a1 deposit 1     the call 0, answered by 1\n"
+        self.assertEqual(list(readme.faults_of_answers(text, lambda *_: ["c1.0 a1 = 1"])), [])
+        self.assertEqual(len(list(readme.faults_of_answers(text, lambda *_: ["c1.0 a1 = 2"]))), 1)
+
+
+if __name__ == "__main__":
+    unittest.main()
