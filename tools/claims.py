@@ -19,11 +19,12 @@ Names that no source has are those of ELSEWHERE, each with its reason.
 """
 import fnmatch
 import functools
+import os
+import pathlib
 import re
 import shutil
 import subprocess
 
-import pages
 import program
 from program import TOP
 
@@ -321,6 +322,7 @@ def number_in(word):
     return NUMBERS.index(word) if word in NUMBERS else TENS.get(word)
 
 
+@functools.lru_cache(maxsize=None)
 def constant(sources, name):
     """The value of a constant of the code."""
     texts = (text for path, text in sources.texts.items() if path.endswith(".rt"))
@@ -332,6 +334,7 @@ def paths_of(sources, pattern):
     return [path for path in sources.texts if re.fullmatch(pattern, path)]
 
 
+@functools.lru_cache(maxsize=None)
 def examples(sources, mode):
     """How many examples say in their first line that they run so."""
     texts = (sources.texts[path] for path in paths_of(sources, r"examples/\w+\.actors"))
@@ -342,6 +345,7 @@ def matches_in(sources, path, pattern):
     return len(re.findall(pattern, sources.texts.get(path, ""), re.M))
 
 
+@functools.lru_cache(maxsize=None)
 def structs_with(sources, crate, trait):
     """How many structs of a crate have an impl of this trait."""
     text = "\n".join(sources.texts[path] for path in paths_of(sources, rf"crates/{crate}/src/.*\.rt"))
@@ -349,6 +353,7 @@ def structs_with(sources, crate, trait):
     return sum(bool(re.search(rf"^pub struct {name}\b", text, re.M)) for name in names)
 
 
+@functools.lru_cache(maxsize=None)
 def laws_of(sources, crate):
     """How many laws a crate has: public functions without arguments and results."""
     paths = paths_of(sources, rf"crates/{crate}/src/.*\.rt")
@@ -373,6 +378,7 @@ def counted():
     five = r"^ +Event::"
     yield "crates/first_program/README.md", r"the (\w+) events of one call", lambda it: matches_in(it, "crates/first_program/src/main.rt", five)
     yield rules, r"The (\w+) laws again", lambda it: matches_in(it, "crates/act_world/src/laws.rt", r"^pub fn l\d")
+    yield "docs/DECISIONS.md", r"stand in (\w+) slots", lambda it: constant(it, "MAX_ACTORS") + 1
     for page, words, name in CONSTANTS:
         yield page, words, functools.partial(lambda it, name: constant(it, name), name=name)
     yield library, r"(\w+) kinds do so", lambda it: laws_of(it, "own_kinds")
@@ -388,8 +394,29 @@ CONSTANTS = [
     ("docs/rules.md", r"holds ([\d,]+) copies", "MAX_COPIES"),
     ("docs/rules.md", r"may be pending, from 1 to ([\d,]+)", "MAX_CALLS"),
     ("docs/rules.md", r"All of it has ([\d,]+) bytes at most", "MAX_SCRIPT_BYTES"),
+    ("docs/rules.md", r"list of bytes of at most ([\d,]+)", "MAX_SCRIPT_BYTES"),
+    ("docs/rules.md", r"the script has more than ([\d,]+) bytes", "MAX_SCRIPT_BYTES"),
+    ("docs/rules.md", r"A line has at most (\d+) bytes", "MAX_LINE_BYTES"),
+    ("docs/rules.md", r"good where it has 1 to (\d+) bytes", "MAX_TEXT_BYTES"),
+    ("docs/rules.md", r"A name has 1 to (\d+) ASCII", "MAX_NAME_BYTES"),
+    ("docs/rules.md", r"`KindFull`: ([\d,]+) keys", "MAX_KEYS"),
+    ("docs/rules.md", r"there are ([\d,]+) items", "MAX_ITEMS"),
+    ("docs/rules.md", r"`c1` to `c(\d+)`,", "MAX_CALLERS"),
+    ("docs/rules.md", r"`c1` to `c\d+`, `a1` to `a(\d+)`", "MAX_ACTORS"),
+    ("docs/rules.md", r"LIMIT \| 1 to (\d+)", "MAX_CALLS"),
+    ("docs/rules.md", r"after each (\d+) steps of its plan", "STEPS_BETWEEN_TURNS"),
+    ("docs/rules.md", r"A session asks ([\d,]+) kills", "MAX_KILLS"),
     ("docs/DECISIONS.md", r"\*\*A line holds (\d+) letters or notices", "MAIL_CAPACITY"),
     ("docs/DECISIONS.md", r"\*\*A line holds \d+ letters or notices, and (\d+) kills", "CONTROL_CAPACITY"),
+    ("docs/DECISIONS.md", r"(\d+) of each at most, which is what a line holds", "MAX_IN_A_TURN"),
+    ("docs/DECISIONS.md", r"takes such a turn after each (\d+) steps", "STEPS_BETWEEN_TURNS"),
+    ("docs/DECISIONS.md", r"(\d+) short pauses are longer than most waits", "SHORT_PAUSES"),
+    ("docs/DECISIONS.md", r"tried at one wait of (\w+)", "WAITS_BETWEEN_TRIALS"),
+    ("docs/DECISIONS.md", r"(\d+) letters cost a method", "MAX_NAME_BYTES"),
+    ("docs/architecture.md", r"(\d+) pauses are short at first", "SHORT_PAUSES"),
+    ("docs/architecture.md", r"with a turn after each (\d+)", "STEPS_BETWEEN_TURNS"),
+    ("docs/architecture.md", r"Each (\d+) submissions bring a turn", "STEPS_BETWEEN_TURNS"),
+    ("docs/architecture.md", r"(\d+) of each at most", "MAX_IN_A_TURN"),
     ("docs/architecture.md", r"a line of (\d+)", "REPLY_CAPACITY"),
     ("docs/architecture.md", r"control line holds (\d+) kills", "CONTROL_CAPACITY"),
     ("docs/library.md", r"`CallerId`, `ActorId` \| 1 to (\d+)", "MAX_CALLERS"),
@@ -434,7 +461,11 @@ def faults_of_lists(sources, texts, crates):
     scripts = {path.rpartition("/")[2] for path in paths_of(sources, r"examples/\w+\.actors")}
     if table != scripts:
         yield "examples/README.md", f"the table and the folder differ in {', '.join(sorted(table ^ scripts))}"
+    named = set(code_of(re.search(r"stand in crates of tests\*\* \((.*?)\)", " ".join(texts["docs/DECISIONS.md"].split()))[1]))
+    if named != (of_tests := {crate for crate in crates if crate.startswith("tests_of_")}):
+        yield "docs/DECISIONS.md", f"the crates of tests are {', '.join(sorted(of_tests))}"
     yield from faults_of_refusals(sources, texts["docs/rules.md"])
+    yield from faults_of_methods(sources, texts["docs/rules.md"])
 
 
 REFUSALS = ["WorldRefusal", "SubmitRefusal", "HandleRefusal", "SendRefusal"]
@@ -452,6 +483,21 @@ def faults_of_refusals(sources, rules):
         yield "docs/rules.md", f"the table of refusals and the code differ in {', '.join(sorted(told ^ there))}"
 
 
+# Methods that no kind of the table has: the actor's own, and those of kinds of one's own.
+NOT_IN_TABLE = {"terminate", "own"}
+
+
+def faults_of_methods(sources, rules):
+    """The methods of the code that the table of kinds hasn't, and the other way round."""
+    block = re.search(r"pub enum Method \{(.*?)^\}", sources.texts["crates/act_types/src/call.rt"], re.S | re.M)[1]
+    there = {name.lower() for name in re.findall(r"^    (\w+)", block, re.M)} - NOT_IN_TABLE
+    table = rules.partition("| Kind, opening state | Method |")[2].partition("\n\n")[0]
+    told = set(re.findall(r"^\|[^|]*\| `(\w+)[^`|]*` \|", table, re.M))
+    if told != there:
+        yield "docs/rules.md", f"the table of kinds and the code differ in {', '.join(sorted(told ^ there))}"
+
+
+@functools.lru_cache(maxsize=None)
 def uses_threads(sources, crate):
     """Whether the code of a crate names a handle for threads, or to wait."""
     texts = (text for path, text in sources.texts.items() if path.startswith(f"crates/{crate}/src/"))
@@ -466,11 +512,20 @@ def faults_of_kit(readme):
             yield "README.md", f"the kit is {done.stdout.strip()}, and another is named"
 
 
+# What runs and builds leave.
+LEFT_BY_RUNS = {".git", ".ci", ".built", "out", "__pycache__"}
+
+
 def texts_there():
-    """Each file of the repository with its text, pictures and results of runs left out."""
-    listed = subprocess.run(["git", "ls-files", "-co", "--exclude-standard"], cwd=TOP, capture_output=True, text=True, check=True)
-    paths = (path for path in listed.stdout.splitlines() if (TOP / path).is_file())
-    return {path: (TOP / path).read_text(errors="replace") if not path.endswith(".svg") else "" for path in paths}
+    """Each file of the repository with its text, but the texts of pictures."""
+    texts = {}
+    for folder, folders, names in os.walk(TOP):
+        folders[:] = sorted(set(folders) - LEFT_BY_RUNS)
+        for name in sorted(names):
+            path = pathlib.Path(folder, name)
+            text = "" if name.endswith(".svg") else path.read_text(errors="replace")
+            texts[str(path.relative_to(TOP))] = text
+    return texts
 
 
 def faults(texts):
