@@ -13,7 +13,8 @@ CHANGELOG.md has names of earlier versions, and docs/edits.md is written by a to
   - What a crate's README names under "Carried by" stands in that crate.
   - README.md names the kit as `rt version` does, where `rt` is there, and the crates of the kit that crates.txt names.
   - Each number of COUNTED is what the sources say.
-  - No page has a word of SPOKEN: none speaks of somebody who asked for something, or who was told.
+  - No page, and no other text of the repository, has a word of SPOKEN: none speaks of somebody who asked for something,
+    or who was told.
 
 Names that no source has are those of ELSEWHERE, each with its reason.
 """
@@ -292,10 +293,10 @@ def faults_of_carried(page, text, sources):
 
 
 def faults_of_speech(text):
-    """The places that speak of somebody who asked, planned or was told."""
-    for number, paragraph in paragraphs_of(text):
-        if found := SPOKEN.search(paragraph):
-            yield number, f"whom no reader knows: {found[0]}"
+    """The places of a page or of another text that speak of somebody who asked, planned or was told."""
+    # A line may end within, and the next one begin as a comment does.
+    for found in SPOKEN.finditer(re.sub(r"\n *(?:///?!?|--|#)? ?", " ", text)):
+        yield f"whom no reader knows: {found[0]}"
 
 
 def faults_of_page(page, text, sources, texts, crates):
@@ -306,7 +307,6 @@ def faults_of_page(page, text, sources, texts, crates):
     yield from faults_of_files(text, sources)
     yield from faults_of_names(text, sources)
     yield from faults_of_homes(text, sources, crates)
-    yield from faults_of_speech(text)
     if re.match(r"crates/\w+/README", page):
         yield from faults_of_carried(page, text, sources)
 
@@ -346,6 +346,12 @@ def matches_in(sources, path, pattern):
 
 
 @functools.lru_cache(maxsize=None)
+def in_code(sources, pattern):
+    """How often this stands in the code of all crates."""
+    return sum(matches_in(sources, path, pattern) for path in paths_of(sources, r"crates/\w+/src/.*\.rt"))
+
+
+@functools.lru_cache(maxsize=None)
 def structs_with(sources, crate, trait):
     """How many structs of a crate have an impl of this trait."""
     text = "\n".join(sources.texts[path] for path in paths_of(sources, rf"crates/{crate}/src/.*\.rt"))
@@ -378,6 +384,7 @@ def counted():
     five = r"^ +Event::"
     yield "crates/first_program/README.md", r"the (\w+) events of one call", lambda it: matches_in(it, "crates/first_program/src/main.rt", five)
     yield rules, r"The (\w+) laws again", lambda it: matches_in(it, "crates/act_world/src/laws.rt", r"^pub fn l\d")
+    yield "docs/DECISIONS.md", r"\*\*(\w+) calls are `unsafe`\*\*", lambda it: in_code(it, r"\bunsafe \{")
     yield "docs/DECISIONS.md", r"stand in (\w+) slots", lambda it: constant(it, "MAX_ACTORS") + 1
     for page, words, name in CONSTANTS:
         yield page, words, functools.partial(lambda it, name: constant(it, name), name=name)
@@ -534,6 +541,8 @@ def faults(texts):
     for page in sorted(path for path in texts if path.endswith(".md")):
         for number, fault in faults_of_page(page, texts[page], sources, texts, set(crates)):
             yield f"{page}:{number}", fault
+    for path in sorted(set(texts) - NO_SOURCES):
+        yield from ((path, fault) for fault in faults_of_speech(texts[path]))
     yield from faults_of_numbers(sources, texts)
     yield from faults_of_lists(sources, texts, crates)
     yield from faults_of_kit(texts["README.md"])

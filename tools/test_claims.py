@@ -33,10 +33,15 @@ PLANTS = [
     ("docs/rules.md", "| `run_plans` | `act_types` |", "`act_types` has no run_plans"),
     ("docs/rules.md", "Call `tools/fuzz.py --winged` for it.", "tools/fuzz.py has no option --winged"),
     ("docs/rules.md", "Call `./draw --winged FILE` for it.", "tools/draw.py has no option --winged"),
-    ("docs/measures.md", "The plan had it in another way.", "whom no reader knows: The plan had"),
-    ("docs/measures.md", "It is more than was asked.", "whom no reader knows: more than was asked"),
-    ("docs/measures.md", "It holds 64, as users were told.", "whom no reader knows: users were told"),
     ("crates/act_world/README.md", "- **Carried by**: `serve`.", "the crate has no serve"),
+]
+
+SPEECH = [
+    "What was left out. The plan had it in another way.",
+    "It is more than was\nasked of it.",
+    "/// It holds 64, as users were\n    /// told.",
+    "# Where what we were\n# asked for was silent.",
+    "The limit is 60.",
 ]
 
 # A page, what stands there, what is put in its place, and what must be told.
@@ -91,6 +96,17 @@ class Pages(unittest.TestCase):
     def test_blocks_are_passed_over(self):
         text = "# Page\n\n```text\n`no_such_name`\n```\n\n    `no_other_name`\n"
         self.assertEqual(told("docs/rules.md", text), [])
+
+
+class Speech(unittest.TestCase):
+    def test_whoever_asked_or_planned_is_told(self):
+        for text in SPEECH:
+            with self.subTest(text):
+                self.assertEqual(len(list(claims.faults_of_speech(text))), 1)
+
+    def test_callers_who_ask_are_not(self):
+        text = "A caller asked for the kill, and was told its death. A plan had a step. What is asked for is given."
+        self.assertEqual(list(claims.faults_of_speech(text)), [])
 
 
 class Numbers(unittest.TestCase):
