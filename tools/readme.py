@@ -142,6 +142,8 @@ def faults_of_end(command, report):
 
 
 def main():
+    for each in program.RUNS, program.RECORDS, program.CHECKS:
+        program.kept("readme", each)
     readme = (TOP / "README.md").read_text()
     with tempfile.TemporaryDirectory(prefix="readme-") as folder:
         faults = [

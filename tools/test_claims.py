@@ -9,12 +9,14 @@ import unittest
 from unittest import mock
 
 import claims
+import counted
+import named
 import pages
 import program
 import readme
 
-TEXTS = claims.texts_there()
-SOURCES = claims.Sources(TEXTS)
+TEXTS = named.texts_there()
+SOURCES = named.Sources(TEXTS)
 CRATES = set(program.listed())
 
 # A page, what is put behind its first heading, and what must be told of it.
@@ -33,6 +35,8 @@ PLANTS = [
     ("docs/rules.md", "| `run_plans` | `act_types` |", "`act_types` has no run_plans"),
     ("docs/rules.md", "Call `tools/fuzz.py --winged` for it.", "tools/fuzz.py has no option --winged"),
     ("docs/rules.md", "Call `./draw --winged FILE` for it.", "tools/draw.py has no option --winged"),
+    ("docs/rules.md", "It is told by `run_plans` (`joined`, `winged`).", "run_plans has no clause winged"),
+    ("docs/library.md", "| `World::play` | `act_world` | | `ok`: all; `winged`: more |", "play has no clause winged"),
     ("crates/act_world/README.md", "- **Carried by**: `serve`.", "the crate has no serve"),
 ]
 
@@ -89,7 +93,7 @@ class Pages(unittest.TestCase):
         self.assertEqual(told("README.md", planted("README.md", line)), told("README.md", TEXTS["README.md"]))
 
     def test_a_word_of_a_comment_is_none_of_the_code(self):
-        sources = claims.Sources({"a.rt": "fn one() {} // winged", "b.antt": "-- feathered\nx = 1", "c.py": '"""Beaked."""\ny = 2  # clawed'})
+        sources = named.Sources({"a.rt": "fn one() {} // winged", "b.antt": "-- feathered\nx = 1", "c.py": '"""Beaked."""\ny = 2  # clawed'})
         self.assertFalse({"winged", "feathered", "Beaked", "clawed"} & sources.words)
         self.assertTrue({"one", "x", "y"} <= sources.words)
 
@@ -115,25 +119,25 @@ class Numbers(unittest.TestCase):
         return [fault for _, fault in faults({**TEXTS, page: TEXTS[page].replace(old, new)})]
 
     def test_each_wrong_number_is_told(self):
-        self.assertEqual(list(claims.faults_of_numbers(SOURCES, TEXTS)), [])
+        self.assertEqual(list(counted.faults_of_numbers(SOURCES, TEXTS)), [])
         for page, old, new, wanted in CHANGES:
             with self.subTest(new):
-                found = self.faults_with(lambda texts: claims.faults_of_numbers(SOURCES, texts), page, old, new)
+                found = self.faults_with(lambda texts: counted.faults_of_numbers(SOURCES, texts), page, old, new)
                 self.assertTrue(any(wanted in fault for fault in found), found)
 
     def test_each_list_that_lacks_something_is_told(self):
         crates = program.listed()
-        self.assertEqual(list(claims.faults_of_lists(SOURCES, TEXTS, crates)), [])
+        self.assertEqual(list(counted.faults_of_lists(SOURCES, TEXTS, crates)), [])
         for page, old, new, wanted in LISTS:
             with self.subTest(new):
-                found = self.faults_with(lambda texts: claims.faults_of_lists(SOURCES, texts, crates), page, old, new)
+                found = self.faults_with(lambda texts: counted.faults_of_lists(SOURCES, texts, crates), page, old, new)
                 self.assertEqual(len([fault for fault in found if wanted in fault]), 1, found)
 
     def test_another_kit_is_told(self):
         for is_there, kit, count in (True, "rattle-kit-1 logic 2", 0), (True, "rattle-kit-3 logic 4", 1), (False, "rattle-kit-3", 0):
             done = types.SimpleNamespace(returncode=0, stdout=kit + "\n")
-            with mock.patch.object(claims.shutil, "which", lambda _: is_there), mock.patch.object(claims.subprocess, "run", lambda *_, **__: done):
-                self.assertEqual(len(list(claims.faults_of_kit("Proved with `rattle-kit-1\nlogic 2`."))), count)
+            with mock.patch.object(counted.shutil, "which", lambda _: is_there), mock.patch.object(counted.subprocess, "run", lambda *_, **__: done):
+                self.assertEqual(len(list(counted.faults_of_kit("Proved with `rattle-kit-1\nlogic 2`."))), count)
 
 
 class Sentences(unittest.TestCase):
