@@ -8,6 +8,7 @@ CHANGELOG.md has names of earlier versions, and docs/edits.md is written by a to
   - Each file that is named, in backticks or not, ends as some file of the repository does.
   - Each word in backticks stands in a source, comments left out. `Type::name` is a function, a variant or a constant
     of that type, `Record.field` a field of that record, and an option of a tool stands in that tool.
+  - Each crate that a block names is there, too, as in the figures of docs/architecture.md.
   - Where a name comes with its file (`IsJoined`, act_executor/specs/Joined.antt), or with its crate (`Page` of
     `act_mailbox`, or a row of a table whose next cell is a crate), that file or crate has it.
   - A clause that is told behind a function, as `run_plans` (`joined`), or in its row of a table, is one of its clauses.
@@ -44,7 +45,9 @@ FILE = r"(?<![\w./{*-])[\w{][\w./{}*-]*\.(?:rt|antt|py|actors|play|history|md|c|
 # Words that tell of somebody who asked, planned or was told, whom no reader knows.
 SPOKEN = re.compile(
     r"\b(?:we|us|users?|readers?) (?:were|was) (?:asked|told)\b|\bmore than was asked\b|\b[Tt]he plan had\b"
-    r"|\bwas left free\b|\b[Tt]he (?:task|brief|issue|request) (?:says|asks|wants|had)\b|\b[Tt]he limit is \d"
+    r"|\bwas left free\b|\b[Tt]he (?:task|brief|issue|request) (?:says|asks|wants|had)\b"
+    # An aim without somebody whose it is.
+    r"|\b[Tt]he (?:limit|goal|aim|target) is (?:at most )?\d"
 )
 
 
@@ -113,6 +116,15 @@ def faults_of_names(text, sources):
                 if record in sources.declared and field not in sources.members[record]:
                     yield number, f"{record} has no field {field}, of `{code}`"
             yield from ((number, fault) for fault in faults_of_options(code, sources))
+
+
+def faults_of_blocks(text, sources):
+    """The crates in figures and calls that aren't there."""
+    prose = {number for number, _ in lines_of_page(text)}
+    for number, line in enumerate(text.split("\n"), 1):
+        for word in re.findall(r"(?<![\w.])(?:act|ray|own|tests_of)_\w+", line) if number not in prose else ():
+            if word not in sources.words:
+                yield number, f"no source has {word}"
 
 
 def faults_of_options(code, sources):
@@ -191,6 +203,7 @@ def faults_of_page(page, text, sources, texts, crates):
         return
     yield from faults_of_files(text, sources)
     yield from faults_of_names(text, sources)
+    yield from faults_of_blocks(text, sources)
     yield from faults_of_homes(text, sources, crates)
     yield from faults_of_clauses(text, sources, crates)
     if re.match(r"crates/\w+/README", page):

@@ -2,8 +2,9 @@
 """Checks what pages say twice: the version, and which tools there are.
 
 The version is the newest of CHANGELOG.md, and each place of VERSIONED must name it and no other. tools/README.md must
-have a line for each tool, and for nothing else. Each line of docs/glossary.md ends with a name and its file, which
-must have that name. Each crate of crates.txt has a README.md of at most 30 lines, which tells on which crates it stands.
+have a line for each tool, and for nothing else, with a star where ./test runs it. Each line of docs/glossary.md ends
+with a name and its file, which must have that name. Each crate of crates.txt has a README.md of at most 30 lines, which
+tells on which crates it stands.
 
 No page, and none of those READMEs, has a line over 120 columns, but where a block quotes a file, or a sentence of over
 30 words. Of docs/audit.md the sentences before its second heading count, since its lists hold none, and of docs/edits.md,
@@ -53,10 +54,14 @@ def faults_of_versions(wanted):
 def faults_of_tools():
     """The tools without a line, and the lines without a tool."""
     lines = re.findall(r"^\| (`.*?) \|", (TOP / "tools/README.md").read_text(), re.MULTILINE)
-    listed = {name.rstrip("/") for line in lines for name in re.findall(r"`([^`]+)`", line)}
+    names = {line: [name.rstrip("/") for name in re.findall(r"`([^`]+)`", line)] for line in lines}
+    listed = {name for line in lines for name in names[line]}
     there = {path.name for path in (TOP / "tools").iterdir()} - NOT_TOOLS
     yield from (f"tools/README.md has no line for {name}" for name in sorted(there - listed))
     yield from (f"tools/README.md has {name}, which isn't there" for name in sorted(listed - there))
+    starred = {name for line in lines if line.endswith("*") for name in names[line]}
+    run = set(re.findall(r"python3 tools/(\w+\.py)", (TOP / "test").read_text()))
+    yield from (f"tools/README.md: {name} has a star, or ./test runs it, and not both" for name in sorted(starred ^ run))
 
 
 def faults_of_words():

@@ -29,6 +29,7 @@ PLANTS = [
     ("README.md", "See [there](docs/rules.md#no-such-heading).", "has no #no-such-heading"),
     ("README.md", "See [there](#no-such-heading).", "has no #no-such-heading"),
     ("docs/rules.md", "See crates/act_world/src/wings.rt.", "no file crates/act_world/src/wings.rt"),
+    ("docs/rules.md", "    +- act_wings -+", "no source has act_wings"),
     ("docs/rules.md", "See `specs/Wings.antt`.", "no file specs/Wings.antt"),
     ("docs/rules.md", "The rule (`IsJoined`, act_world/specs/Refines.antt).", "act_world/specs/Refines.antt has no IsJoined"),
     ("docs/rules.md", "It is `IsJoined` of `act_types`.", "act_types has no IsJoined"),
@@ -46,6 +47,7 @@ SPEECH = [
     "/// It holds 64, as users were\n    /// told.",
     "# Where what we were\n# asked for was silent.",
     "The limit is 60.",
+    "The goal is at most 2.0 in each shape.",
 ]
 
 # A page, what stands there, what is put in its place, and what must be told.
@@ -98,7 +100,7 @@ class Pages(unittest.TestCase):
         self.assertTrue({"one", "x", "y"} <= sources.words)
 
     def test_blocks_are_passed_over(self):
-        text = "# Page\n\n```text\n`no_such_name`\n```\n\n    `no_other_name`\n"
+        text = "# Page\n\n```text\n`no_such_name` of `World::fly`\n```\n\n    `no_other_name`\n"
         self.assertEqual(told("docs/rules.md", text), [])
 
 
