@@ -168,6 +168,9 @@ def faults_of_lists(sources, texts, crates):
     named = set(code_of(re.search(r"stand in crates of tests\*\* \((.*?)\)", decisions)[1]))
     if named != (of_tests := {crate for crate in crates if crate.startswith("tests_of_")}):
         yield "docs/DECISIONS.md", f"the crates of tests are {', '.join(sorted(of_tests))}"
+    laws = re.findall(r"^pub fn (\w+)\(\)", sources.texts["crates/act_rules/src/laws.rt"], re.M)
+    for law in sorted(set(laws) - set(code_of(texts["docs/rules.md"]))):
+        yield "docs/rules.md", f"it doesn't tell the law {law}"
     yield from faults_of_refusals(sources, texts["docs/rules.md"])
     yield from faults_of_methods(sources, texts["docs/rules.md"])
 

@@ -64,6 +64,7 @@ LISTS = [
     ("README.md", "`thiserror`, `anyhow`", "`anyhow`", "the crates of the kit are"),
     ("README.md", "`act_mailbox`, `act_tasks`", "`act_tasks`", "crates with handles"),
     ("README.md", "Handles allowed: Threads, Wait;", "Handles allowed: Threads;", "it doesn't say"),
+    ("docs/rules.md", "- `retired_ran_all`: a", "- A", "it doesn't tell the law retired_ran_all"),
     ("docs/rules.md", "| `NoKill` | no caller", "| `NoWing` | no caller", "differ in NoKill, NoWing"),
     ("docs/rules.md", "| `withdraw n` |", "| `draw n` |", "differ in draw, withdraw"),
     ("docs/DECISIONS.md", "`tests_of_parts`, `tests_of_threads`", "`tests_of_threads`", "the crates of tests are"),
