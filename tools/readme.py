@@ -6,7 +6,9 @@ with the status of ENDS, write something, and complain of nothing. What the play
 the second reading of the rules. A script that stands on the left of a block must give the report on its right. One
 without events is run in threads, and several times, since the page says that it gives the same whatever the schedule.
 
-Of examples/README.md the scripts are run in threads whose lines tell what each call is answered by.
+Of examples/README.md the scripts are run in threads whose lines tell what each call is answered by. Of the examples
+that are played each text in the quotes of a comment must stand in the script or in its report. What a comment says of a
+run in threads depends on the schedule; tools/threads.py judges such runs.
 """
 import pathlib
 import re
@@ -94,10 +96,27 @@ def faults_of_answers(text, run):
         yield "examples/README.md tells no answer"
 
 
+def faults_of_example(name, text, run):
+    """The texts that the comments of a played example quote, and that stand neither in it nor in its report."""
+    comments = " ".join(line.lstrip("# ") for line in text.splitlines() if line.startswith("#"))
+    lines = [line for line in text.splitlines() if not line.startswith("#")]
+    given = "\n".join([*lines, *run("play", lines)])
+    for quoted in re.findall(r"(?<!\w)'([^']+)'(?!\w)", comments):
+        if quoted not in given:
+            yield f"{name}: neither the script nor its report has '{quoted}'"
+
+
+def played_examples():
+    """Name and text of the examples whose first lines say that they are played."""
+    texts = {path.name: path.read_text() for path in sorted((TOP / "examples").glob("*.actors"))}
+    return {name: text for name, text in texts.items() if "./run play " in text.split("\n")[0]}
+
+
 def run_script(mode, script):
     """The lines of the report of a script."""
     text = "".join(line + "\n" for line in script)
-    done = subprocess.run([TOP / "run", mode], input=text, capture_output=True, text=True, timeout=MAX_SECONDS, check=False)
+    how = {"capture_output": True, "text": True, "timeout": MAX_SECONDS, "check": False}
+    done = subprocess.run([TOP / "run", mode], input=text, **how)
     return done.stdout.splitlines()
 
 
@@ -119,7 +138,8 @@ def faults_of_commands(text, folder):
     if len(commands) < len(COMMANDS) - 2:
         yield f"README.md shows {len(commands)} commands"
     for command in commands:
-        done = subprocess.run(["bash", "-c", command], cwd=folder, capture_output=True, text=True, timeout=MAX_SECONDS, check=False)
+        how = {"cwd": folder, "capture_output": True, "text": True, "timeout": MAX_SECONDS, "check": False}
+        done = subprocess.run(["bash", "-c", command], **how)
         if fault := fault_of_command(command, done):
             yield fault
         into = re.search(r" > (\S+)$", command)
@@ -136,7 +156,7 @@ def faults_of_end(command, report):
         return
     summary = "".join(line + "\n" for line in report.splitlines() if not re.match(r"\d+: ", line))
     reading = [sys.executable, TOP / "tools/reading_of_rules.py", TOP / SCRIPT_OF_RECORD]
-    done = subprocess.run(reading, input=summary, capture_output=True, text=True, timeout=MAX_SECONDS, check=False)
+    done = subprocess.run(reading, input=summary, capture_output=True, text=True, check=False)
     if done.returncode != 0 or not summary:
         yield f"{command}: the rules don't allow its end: {done.stdout!r:.300}"
 
@@ -150,10 +170,12 @@ def main():
             *faults_of_commands(readme, pathlib.Path(folder)),
             *faults_of_reports(readme, run_script),
             *faults_of_answers((TOP / "examples/README.md").read_text(), run_script),
+            *(fault for each in played_examples().items() for fault in faults_of_example(*each, run_script)),
         ]
     for fault in faults:
         print(fault)
-    print(f"readme: {len(commands_of(readme))} commands and {len(scripts_of(readme))} scripts run: {len(faults)} failed")
+    counts = f"{len(commands_of(readme))} commands, {len(scripts_of(readme))} scripts and {len(played_examples())} examples"
+    print(f"readme: {counts} run: {len(faults)} failed")
     return 1 if faults else 0
 
 

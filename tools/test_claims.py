@@ -197,6 +197,12 @@ class Readme(unittest.TestCase):
             self.assertEqual(readme.fault_of_command("./run play", done) is not None, is_told)
         self.assertIsNone(readme.fault_of_command("./check x", types.SimpleNamespace(returncode=5, stderr="")))
 
+    def test_what_an_example_quotes_is_looked_for(self):
+        text = "# It isn't so: look for 'a1 live', and at 'send c1 0'.\nsend c1 0\n"
+        self.assertEqual(list(readme.faults_of_example("one", text, lambda *_: ["a1 live counter 5"])), [])
+        self.assertEqual(len(list(readme.faults_of_example("one", text, lambda *_: ["a1 dead"]))), 1)
+        self.assertGreater(len(readme.played_examples()), 1)
+
     def test_another_answer_is_told(self):
         text = "# Page\n\n    actor a1 account c1        text\n    submit c1 a1 deposit 1     the call 0, answered by 1\n"
         self.assertEqual(list(readme.faults_of_answers(text, lambda *_: ["c1.0 a1 = 1"])), [])
