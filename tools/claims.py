@@ -14,6 +14,7 @@ CHANGELOG.md has names of earlier versions, and docs/edits.md is written by a to
   - A clause that is told behind a function, as `run_plans` (`joined`), or in its row of a table, is one of its clauses.
   - What a crate's README names under "Carried by" stands in that crate.
   - README.md names the kit as `rt version` does, where `rt` is there, and the crates of the kit that crates.txt names.
+    Each command of `rt` that a page calls, and each flag, stands in `rt --help`.
   - Each number that tools/counted.py knows is what the sources say, and so are some lists.
   - No page, and no other text of the repository, has a word of SPOKEN: none speaks of somebody who asked for something,
     or who was told.
@@ -103,8 +104,8 @@ def faults_of_files(text, sources):
 
 def faults_of_names(text, sources):
     """The names in backticks that no source has."""
-    for number, line in lines_of_page(text):
-        for code in code_of(re.sub(KIT, "", line)):
+    for number, paragraph in paragraphs_of(text):
+        for code in code_of(re.sub(KIT, "", paragraph)):
             bare = re.sub(FILE, " ", code)
             for word in re.findall(r"(?<![\w/.])[A-Za-z_]\w{2,}", bare):
                 if word not in sources.words and word not in ALSO_THERE:
@@ -220,7 +221,7 @@ def faults(texts):
         yield from ((path, fault) for fault in faults_of_speech(texts[path]))
     yield from faults_of_numbers(sources, texts)
     yield from faults_of_lists(sources, texts, crates)
-    yield from faults_of_kit(texts["README.md"])
+    yield from faults_of_kit(texts)
 
 
 def main():

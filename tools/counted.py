@@ -4,7 +4,7 @@ import re
 import shutil
 import subprocess
 
-from named import code_of, words_of
+from named import code_of, paragraphs_of, words_of
 
 NUMBERS = "no one two three four five six seven eight nine ten eleven twelve thirteen fourteen fifteen sixteen"
 TENS = {"twenty": 20, "thirty": 30, "forty": 40, "fifty": 50, "sixty": 60}
@@ -169,8 +169,9 @@ def faults_of_lists(sources, texts, crates):
     if named != (of_tests := {crate for crate in crates if crate.startswith("tests_of_")}):
         yield "docs/DECISIONS.md", f"the crates of tests are {', '.join(sorted(of_tests))}"
     laws = re.findall(r"^pub fn (\w+)\(\)", sources.texts["crates/act_rules/src/laws.rt"], re.M)
-    for law in sorted(set(laws) - set(code_of(texts["docs/rules.md"]))):
-        yield "docs/rules.md", f"it doesn't tell the law {law}"
+    for law in laws:
+        if f"`{law}`" not in texts["docs/rules.md"]:
+            yield "docs/rules.md", f"it doesn't tell the law {law}"
     yield from faults_of_refusals(sources, texts["docs/rules.md"])
     yield from faults_of_methods(sources, texts["docs/rules.md"])
 
@@ -212,9 +213,22 @@ def uses_threads(sources, crate):
     return any(re.search(rf"{handle}|HostRuntime\b.*\n[\s\S]*run_(?:plans|callers)", text) for text in texts)
 
 
-def faults_of_kit(readme):
-    """Whether README.md names another kit than the one that is there."""
-    if shutil.which("rt"):
-        done = subprocess.run(["rt", "version"], capture_output=True, text=True, check=False)
-        if done.returncode == 0 and f"`{done.stdout.strip()}`" not in " ".join(readme.split()):
-            yield "README.md", f"the kit is {done.stdout.strip()}, and another is named"
+def said_by(*words):
+    """What a command of the kit prints; nothing where it isn't there."""
+    if not shutil.which("rt"):
+        return ""
+    done = subprocess.run(["rt", *words], capture_output=True, text=True, check=False)
+    return done.stdout.strip() if done.returncode == 0 else ""
+
+
+def faults_of_kit(texts):
+    """Whether README.md names another kit than the one that is there, and what it has no command or flag for."""
+    if (kit := said_by("version")) and f"`{kit}`" not in " ".join(texts["README.md"].split()):
+        yield "README.md", f"the kit is {kit}, and another is named"
+    told = set(re.findall(r"--[\w-]+|[\w-]+", said_by("--help")))
+    for page in sorted(path for path in texts if path.endswith(".md") and told):
+        spans = (code for _, paragraph in paragraphs_of(texts[page]) for code in code_of(paragraph))
+        for call in (code for code in spans if code.startswith("rt ")):
+            for word in [call.split()[1], *re.findall(r"(?<=\s)--[\w-]+", call)]:
+                if word not in told:
+                    yield page, f"the kit has no {word}, of `{call}`"

@@ -137,10 +137,16 @@ class Numbers(unittest.TestCase):
                 self.assertEqual(len([fault for fault in found if wanted in fault]), 1, found)
 
     def test_another_kit_is_told(self):
-        for is_there, kit, count in (True, "rattle-kit-1 logic 2", 0), (True, "rattle-kit-3 logic 4", 1), (False, "rattle-kit-3", 0):
-            done = types.SimpleNamespace(returncode=0, stdout=kit + "\n")
-            with mock.patch.object(counted.shutil, "which", lambda _: is_there), mock.patch.object(counted.subprocess, "run", lambda *_, **__: done):
-                self.assertEqual(len(list(counted.faults_of_kit("Proved with `rattle-kit-1\nlogic 2`."))), count)
+        page = "Proved with `rattle-kit-1\nlogic 2`."
+        for said, count in ("rattle-kit-1 logic 2", 0), ("rattle-kit-3 logic 4", 1), ("", 0):
+            with mock.patch.object(counted, "said_by", lambda word, said=said: said if word == "version" else ""):
+                self.assertEqual(len(list(counted.faults_of_kit({"README.md": page}))), count)
+
+    def test_a_command_that_the_kit_lacks_is_told(self):
+        with mock.patch.object(counted, "said_by", lambda word: "rt check [--only NAME]" if word == "--help" else ""):
+            for call, count in ("rt check --only NAME", 0), ("rt fly", 1), ("rt check --winged", 1), ("run", 0):
+                texts = {"README.md": "", "docs/page.md": f"Call `{call}`."}
+                self.assertEqual(len(list(counted.faults_of_kit(texts))), count)
 
 
 class Sentences(unittest.TestCase):
