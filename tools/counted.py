@@ -62,6 +62,11 @@ def laws_of(sources, crate):
     return sum(matches_in(sources, path, r"^pub fn \w+(?:<.*>)?\(\)\n") for path in paths)
 
 
+def longest_loop(sources, path):
+    """Over how many thousands the longest loop of a file goes that counts and names nothing."""
+    return max(int(count.replace("_", "")) for count in re.findall(r"for _ in 0\.\.([\d_]+)", sources.texts[path])) // 1000
+
+
 def lines_of_history(sources, path):
     """The lines of a history that are neither empty nor a comment."""
     return sum(bool(line.strip()) and not line.startswith("#") for line in sources.texts.get(path, "").split("\n"))
@@ -80,6 +85,11 @@ def counted():
     first = "crates/first_program"
     yield f"{first}/README.md", r"the (\w+) events of", lambda it: matches_in(it, f"{first}/src/main.rt", r"^ +Event::")
     yield rules, r"The (\w+) laws again", lambda it: matches_in(it, "crates/act_world/src/laws.rt", r"^pub fn l\d")
+    kind = "crates/act_kinds/src/actor.rt"
+    yield library, r"the (\w+) clauses of `Actor`", lambda it: matches_in(it, kind, r"^ {8}ensures ")
+    thousands = r"on (\w+) thousand and (?:\w+) thousand random", r"on \w+ thousand and (\w+) thousand random"
+    for words, part in zip([*thousands, r"one run of (\w+) thousand steps"], ["inbox", "resolver", "replies"]):
+        yield "docs/proved.md", words, functools.partial(longest_loop, path=f"crates/tests_of_parts/src/{part}.rt")
     yield "docs/DECISIONS.md", r"\*\*(\w+) calls are `unsafe`\*\*", lambda it: in_code(it, r"\bunsafe \{")
     yield "docs/DECISIONS.md", r"stand in (\w+) slots", lambda it: constant(it, "MAX_ACTORS") + 1
     for page, words, name in CONSTANTS:
