@@ -116,6 +116,10 @@ def faults_of_names(text, sources):
             for record, field in re.findall(r"(?<![\w.])([A-Z]\w+)\.([a-z]\w*)", bare):
                 if record in sources.declared and field not in sources.members[record]:
                     yield number, f"{record} has no field {field}, of `{code}`"
+            for crate, part, module in re.findall(r"\bRattle\.(\w+)\.(specs|proofs)\.(\w+)", code):
+                is_module = f"crates/{crate}/{part}/{module}.antt" in sources.texts or module in sources.declared
+                if crate != "std" and module != "declared" and not is_module:
+                    yield number, f"{crate} has no module {module}, of `{code}`"
             yield from ((number, fault) for fault in faults_of_options(code, sources))
 
 

@@ -29,6 +29,7 @@ PLANTS = [
     ("README.md", "See [there](docs/rules.md#no-such-heading).", "has no #no-such-heading"),
     ("README.md", "See [there](#no-such-heading).", "has no #no-such-heading"),
     ("docs/rules.md", "See crates/act_world/src/wings.rt.", "no file crates/act_world/src/wings.rt"),
+    ("docs/library.md", "Take it from `Rattle.actors.specs.Wings`.", "actors has no module Wings"),
     ("docs/rules.md", "    +- act_wings -+", "no source has act_wings"),
     ("docs/rules.md", "See `specs/Wings.antt`.", "no file specs/Wings.antt"),
     ("docs/rules.md", "The rule (`IsJoined`, act_world/specs/Refines.antt).", "act_world/specs/Refines.antt has no IsJoined"),
