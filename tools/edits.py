@@ -2,6 +2,9 @@
 
 An edit has a line `file: PATH`, and then pairs of lines `old: TEXT` and `new: TEXT`. The old text stands
 once in that file, as the pairs before it left it.
+
+After a pair there may be a line `same: TEXT`, which `rt` doesn't read. With these texts in place of the new ones the
+edit makes an equivalent body of the same shape, or an equivalent definition, which has to be accepted.
 """
 import re
 from pathlib import Path
@@ -16,6 +19,10 @@ PARTS = ("src/", "specs/", "proofs/")
 FUNCTION = re.compile(r"( *)(?:pub(?:\([a-z]+\))? )?(?:unsafe )?fn (\w+)")
 CLAUSE = re.compile(r" *(?:ghost|requires|ensures)\b")
 BLOCK = re.compile(r"(?:pub )?(?:impl|trait)\b(.*)\{")
+# The first line of a definition in specs/, or of a further part of one.
+DEFINITION = re.compile(r"(?!use |open |end$|--|\s)(?:(?:pub|abbrev|record|data) )*([A-Za-z_][\w'-]*)|end$")
+WORD = re.compile(r"[A-Za-z_][\w'-]*")
+IMPORT, PATH = re.compile(r"^ghost use ([^;]*);", re.M), re.compile(r"\b(\w+)\.(\w+)")
 
 
 class BadEdit(Exception):
@@ -26,6 +33,7 @@ class Pair(NamedTuple):
     file: str
     old: Optional[str]
     new: str
+    same: Optional[str] = None
 
 
 class Place(NamedTuple):
@@ -69,11 +77,22 @@ class Edit:
             elif word == "new" or line == "new:":
                 found.append(Pair(file, old, text))
                 old = None
+            elif word == "same" and found:
+                found[-1] = found[-1]._replace(same=text)
         return found
 
-    def applied(self, texts):
+    def has_same(self):
+        """Whether it has an equivalent body, or an equivalent definition."""
+        return any(pair.same is not None for pair in self.pairs())
+
+    def same(self, texts):
+        """These texts with what is equivalent, and not with the edit."""
+        pairs = [pair if pair.same is None else pair._replace(new=pair.same) for pair in self.pairs()]
+        return self.applied(texts, pairs)
+
+    def applied(self, texts, pairs=None):
         """These texts, by file, after the edit. Those that it doesn't find among them are the crate's own."""
-        texts, pairs = dict(texts), self.pairs()
+        texts, pairs = dict(texts), self.pairs() if pairs is None else pairs
         for pair in pairs:
             texts[pair.file] = self._replaced(pair, texts)
         if not pairs:
@@ -124,15 +143,42 @@ class Edit:
         return all(file == place.file and place.first <= row <= place.last for file, row in steps)
 
     def is_for_a_copy(self, places):
-        """Whether it changes one function alone, and so that it can be made in a copy of that: no method of a trait, and
+        """Whether it changes one function alone, and so that it can be made in a copy of it: no method of a trait, and
         not a program's first function."""
-        place, *others = places
-        is_plain = not others and place.name != "main" and len(place.owner) < 2 and self.is_within(place)
+        if len(places) != 1:
+            return False
+        place, = places
+        is_plain = place.name != "main" and len(place.owner) < 2 and self.is_within(place)
         return is_plain and not is_of_trait((self.folder / place.file).read_text(), place)
 
     def is_of_definitions(self):
         """Whether it changes what stands in specs/."""
         return any(pair.file.startswith("specs/") for pair in self.pairs())
+
+    def definitions(self):
+        """The names of the definitions that it changes, and of all of the crate's that speak of these."""
+        files = sorted(self.folder.glob("specs/**/*.antt"))
+        speaking = {}
+        for name, text in (found for path in files for found in definitions_in(path.read_text())):
+            speaking[name] = speaking.get(name, set()) | {*WORD.findall(text)}
+        found = {name for pair, text, at in self._steps() if pair.file.startswith("specs/")
+                 for name in [definition_at(text, at)] if name}
+        while True:
+            more = {name for name, words in speaking.items() if words & found} - found
+            if not more:
+                return found
+            found |= more
+
+    def speaking(self):
+        """The functions of its crate whose clauses speak of the definitions that it changes."""
+        names = self.definitions()
+        for path in sorted(self.folder.glob("src/**/*.rt")):
+            text = path.read_text()
+            imported = {*WORD.findall(" ".join(IMPORT.findall(text)))}
+            for place, head in heads_in(str(path.relative_to(self.folder)), text):
+                of_modules = {name for module, name in PATH.findall(head) if module in imported}
+                if ({*WORD.findall(head)} & imported | of_modules) & names:
+                    yield place
 
     def is_of_bodies(self):
         """Whether it changes bodies of functions and their proofs, and not what a function takes, asks or promises."""
@@ -142,6 +188,25 @@ class Edit:
             if pair.file.startswith("src/") and not is_of_body:
                 return False
         return True
+
+
+def definitions_in(text):
+    """The definitions of a file of specs, each as its name and its lines; one may have several parts."""
+    name, block = "", []
+    for line in [*text.split("\n"), "end"]:
+        started = DEFINITION.match(line)
+        if started:
+            if name:
+                yield name, "\n".join(block)
+            name, block = started[1], []
+        block.append(line)
+
+
+def definition_at(text, at):
+    """The name of the definition that stands around this place of a file of specs, or nothing."""
+    above = text[:at].split("\n")[:-1] + [text[text.rfind("\n", 0, at) + 1 :].partition("\n")[0]]
+    started = [DEFINITION.match(line) for line in above]
+    return next((it[1] for it in reversed(started) if it), "")
 
 
 def place_at(file, text, at):
@@ -194,6 +259,14 @@ def functions_in(file, text):
             begin, end = rows_of(lines, row)
             if begin + 1 < end:
                 yield place_of(file, lines, row)
+
+
+def heads_in(file, text):
+    """All functions of a file of src, each as its place, with what it takes, asks and promises."""
+    lines = text.split("\n")
+    for row, line in enumerate(lines):
+        if FUNCTION.match(line):
+            yield place_of(file, lines, row), "\n".join(lines[row : max(rows_of(lines, row)[0], row + 1)])
 
 
 def without_bodies(text, places):
@@ -259,8 +332,24 @@ def fault_of(edit):
         changed = edit.applied({})
     except (BadEdit, UnicodeDecodeError) as fault:
         return str(fault)
-    same = all(text == (edit.folder / file).read_text() for file, text in changed.items())
-    return "it leaves each file as it was" if same else None
+    if is_as_before(edit, changed):
+        return "it leaves each file as it was"
+    return fault_of_same(edit, changed) if edit.has_same() else None
+
+
+def is_as_before(edit, texts):
+    """Whether these texts are those of the edit's crate."""
+    return all(text == (edit.folder / file).read_text() for file, text in texts.items())
+
+
+def fault_of_same(edit, changed):
+    """Why what it has as equivalent can't be tried, or None."""
+    same = edit.same({})
+    if same == changed or is_as_before(edit, same):
+        return "what it has as equivalent is the wrong one, or that which stands there"
+    if not edit.is_of_definitions() and not edit.is_for_a_copy([*(edit.places() or ())]):
+        return "its equivalent body has no place: it has to change one function alone, which can be copied"
+    return None
 
 
 def strangers():

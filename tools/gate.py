@@ -9,10 +9,10 @@ are out of its sight meanwhile, in crates/NAME/must-fail-aside, and this tool tr
 proved its crate. With them it tries a twentieth of the further edits that docs/edits.md lists as refused, which the
 commit draws.
 
-An edit counts as refused where a message names an error in its own function, or where `rt` says of it alone that it
-is refused, for an error and not for a lost name (tools/trying.py). Each that wasn't refused, or wasn't tried, is a
-failure. Checks of edits take the processor time that `rt ci` leaves, and all of it once that has ended. Where it
-passed, COMMAND runs beside the last of them: what tries the programs, as they are proved by then.
+An edit counts as refused where a message tells of a goal that doesn't follow of its function (tools/trying.py). Each
+that wasn't refused, or only by its shape, or wasn't tried, is a failure, and named at the end. Checks of edits take
+the processor time that `rt ci` leaves, and all of it once that has ended. Where it passed, COMMAND runs beside the last
+of them: what tries the programs, as they are proved by then.
 """
 import collections
 import os
@@ -28,7 +28,7 @@ from pathlib import Path
 
 from edits import GATE, MORE, TOP, edits_in
 from more_edits import check, listed_as_refused, output_of, share_of
-from trying import Tried, kit, symbols_in, try_crate
+from trying import UNTRIED, Tried, kit, symbols_in, try_crate
 
 ASIDE = "must-fail-aside"
 # What ./test --help asks for each core.
@@ -134,7 +134,7 @@ class Lanes:
         began = time.monotonic()
         for each in try_crate(crate, edits, wait_for_memory, lambda trial: trial.knows(symbols)):
             self.tried.append(each)
-            say(f"{each.edit.name}: {'refused' if each.is_refused else 'NOT REFUSED'}: {each.told}")
+            say(f"{each.edit.name}: {each.came}: {each.told}")
         say(f"gate: the {len(edits)} edits of {crate} took {time.monotonic() - began:.0f} s")
 
     def end(self):
@@ -144,7 +144,8 @@ class Lanes:
         for thread in self.threads:
             thread.join()
         missed = {edit.name for edit in self.edits} - {each.edit.name for each in self.tried}
-        return self.tried + [Tried(edit, False, "it was not tried") for edit in self.edits if edit.name in missed]
+        lacking = [edit for edit in self.edits if edit.name in missed]
+        return self.tried + [Tried(edit, UNTRIED, "its crate isn't proved, or a check failed") for edit in lacking]
 
 
 # The gate.
@@ -196,7 +197,7 @@ def gate(command):
     tried = lanes.end()
     failed = [each for each in tried if not each.is_refused]
     for each in failed:
-        print(f"gate: {each.edit.name}: not refused: {each.told}")
+        print(f"gate: {each.edit.name}: {each.came}: {each.told}")
     if status:
         print("gate: rt ci failed, or what runs after it")
     print(f"gate: {len(tried)} edits tried: {len(failed)} failed")

@@ -1,5 +1,6 @@
 #!/usr/bin/env python3
 """Tests of the tools that read and try must-fail edits, in a second: what is damaged must be told."""
+import os
 import tempfile
 import unittest
 from pathlib import Path
@@ -8,8 +9,10 @@ from unittest import mock
 import gate
 import gate_time
 import more_edits
+import refusals
 import trying
-from edits import GATE, MORE, Edit, Place, fault_of, functions_in, place_at
+from edits import GATE, MORE, Edit, Place, definitions_in, fault_of, functions_in, place_at
+from trying import BY_SHAPE, PROVED, REFUSED, UNTRIED, Tried
 
 SOURCE = """use std::fmt;
 
@@ -34,6 +37,7 @@ fn first(list: &[u8]) -> u8 {
 }
 """
 GOOD = "file: src/few.rt\nold: self.list.len()\nnew: self.list.len() + 1\n"
+SAME = "same: 0 + self.list.len()\n"
 OF_TRAIT = "file: src/few.rt\nold: self.len() > 1\nnew: true\n"
 LEN = "low::few::Few::len"
 FMT = "low::few::FewDisplay::fmt"
@@ -83,6 +87,37 @@ class Edits(Scratch):
         for text in damaged:
             self.assertIsNotNone(fault_of(self.edit(text)), text)
 
+    def test_an_equivalent_body_is_read_and_its_damages_are_told(self):
+        edit = self.edit(GOOD + "same: 0 + self.list.len()\n")
+        self.assertIsNone(fault_of(edit))
+        self.assertIn("        0 + self.list.len()\n", edit.same({})["src/few.rt"])
+        self.assertIn("self.list.len() + 1\n", edit.applied({})["src/few.rt"])
+        self.assertFalse(self.edit(GOOD).has_same())
+        of_trait = OF_TRAIT + "same: 1 < self.len()\n"
+        for text in GOOD + "same: self.list.len()\n", GOOD + "same: self.list.len() + 1\n", of_trait:
+            self.assertIsNotNone(fault_of(self.edit(text)), text)
+
+    def test_what_rt_reads_of_an_edit_is_without_its_equivalent(self):
+        texts = [trying.kit().read_edit(str(self.edit(GOOD + more).path), str(self.crate)) for more in ("", SAME)]
+        self.assertEqual(texts[0], texts[1])
+        self.assertIsNone(texts[0][1])
+
+    def test_the_functions_whose_clauses_speak_of_a_definition_are_found(self):
+        specs = self.crate / "specs/Few.antt"
+        specs.parent.mkdir()
+        parts = ["use Rattle.x.{y}", "", "-- few", "abbrev pub is_few : N → Bool", "is_few n = n < 3", ""]
+        parts += ["pub record IsFew (n : N) : Type 0 where", "  pub fits : is_few n ≡ true", "", "data Other where"]
+        specs.write_text("\n".join(parts))
+        found = [name for name, _ in definitions_in(specs.read_text())]
+        self.assertEqual(found, ["is_few", "is_few", "IsFew", "Other"])
+        edit = self.edit("file: specs/Few.antt\nold: n < 3\nnew: n < 4\n")
+        self.assertEqual(edit.definitions(), {"is_few", "IsFew"})
+        head = "fn {}()\n    ensures {{ {} }}\n{{}}\n\n"
+        text = "ghost use Rattle.low.specs.Few.{\n    IsFew, Other};\nghost use Rattle.low.specs.Few as few;\n"
+        text += "".join(head.format(*each) for each in zip("abcd", ("IsFew 2", "Other", "few.is_few 2", "is_few")))
+        (self.crate / "src/few.rt").write_text(text)
+        self.assertEqual([place.name for place in edit.speaking()], ["a", "c"])
+
     def test_a_name_in_both_folders_is_told(self):
         self.edit(GOOD, GATE)
         self.assertIsNotNone(fault_of(self.edit(GOOD)))
@@ -109,19 +144,22 @@ class Trying(Scratch):
         places = self.edit(text).places()
         return {symbol: place for place in places for symbol in trying.symbols_of([LEN, FMT], "low", place)}
 
+    def own(self, said, text, may_rest):
+        return trying.first_of(trying.own_messages_of(said, self.places(text), may_rest))
+
     def test_a_refusal_of_its_own_is_told(self):
         for may_rest in (True, False):
-            self.assertIn("src/few.rt:5:5", trying.own_error(SAID, self.places(GOOD), may_rest))
+            self.assertIn("src/few.rt:5:5", *self.own(SAID, GOOD, may_rest))
 
     def test_a_refusal_for_another_function_is_not(self):
         for may_rest in (True, False):
-            self.assertIsNone(trying.own_error(SAID, self.places(OF_TRAIT), may_rest))
+            self.assertEqual(self.own(SAID, OF_TRAIT, may_rest), [])
 
     def test_a_refusal_of_its_own_beside_another_counts_where_it_may_rest(self):
         rests = f"fn {FMT}: no proof: `search` did not prove `returns`; it calls `{LEN}`, which is not proved"
         said = [*SAID[:2], "note: src/few.rt:15:9: it is not proved that .. (`returns`)", rests]
-        self.assertIn("src/few.rt:15:9", trying.own_error(said, self.places(OF_TRAIT), True))
-        self.assertIsNone(trying.own_error(said, self.places(OF_TRAIT), False))
+        self.assertIn("src/few.rt:15:9", *self.own(said, OF_TRAIT, True))
+        self.assertEqual(self.own(said, OF_TRAIT, False), [])
 
     def test_an_error_elsewhere_is_seen(self):
         self.assertFalse(trying.is_told_elsewhere(SAID, self.places(GOOD)))
@@ -139,17 +177,80 @@ class Trying(Scratch):
         self.assertEqual(trying.groups(edits, lambda edit: self.places(edit.content.decode())), [[it] for it in edits])
 
     def test_a_proved_function_is_not_refused(self):
-        proved = [SAID[0], f"fn {LEN}: proved"]
-        self.assertIsNone(trying.own_error(proved, self.places(GOOD), True))
+        self.assertEqual(self.own([SAID[0], f"fn {LEN}: proved"], GOOD, True), [])
 
-    def test_a_lost_name_is_no_refusal(self):
-        lost = ["./proofs/few/Few/len/Answers.antt:3:5: error: `c` has no field `len`", f"fn {LEN}: not proved"]
-        self.assertIsNone(trying.own_error(lost, self.places(GOOD), True))
+    def test_with_an_equivalent_that_is_accepted_each_message_counts(self):
+        plain, same = self.edit(GOOD), self.edit(GOOD + SAME, name="with.edit")
+        cases = [(plain, "of a goal", True, REFUSED), (plain, None, True, BY_SHAPE), (same, None, True, REFUSED),
+                 (same, None, False, BY_SHAPE), (same, "of a goal", False, BY_SHAPE)]
+        for edit, goal, fits, came in cases:
+            self.assertEqual(trying.judged(edit, goal, "other", fits).came, came)
 
     def test_edits_of_one_method_of_a_trait_are_apart(self):
         edits = [self.edit(OF_TRAIT, name=name) for name in ("a.edit", "b.edit")]
         found = trying.groups(edits, lambda edit: self.places(OF_TRAIT))
         self.assertEqual(found, [[edit] for edit in edits])
+
+
+class Refusals(unittest.TestCase):
+    """Messages as the prover writes them."""
+
+    FILE = "./proofs/few/Few/len/Answers.antt:9:5: error: "
+    NOTE = "note: src/few.rt:5:1: it is not proved that what the function ensures holds when it returns (`{}`)"
+    NO_FIELD = FILE + "`invariant_of-self`: record `low.Few.len.Lts.After` has no field `keep` (nearest: .kept)"
+    LOST = "returns-gt0-clause-ok"
+    GONE = FILE + f"`{LOST}`: `goal.{LOST}`: module `Rattle.low.proofs.few.Few.len.Goals` has no `{LOST}` that can"
+    OMEGA = FILE + "`loop-smaller`: `omega`: the goal does not follow from what it read. All of that holds"
+    WRITTEN = "returns c = lemma c.args.list c.kept.result"
+
+    def kinds(self, *said):
+        """Whether a goal refuses, by these lines."""
+        place = Place("src/few.rt", ("Few",), "len", 5, 10)
+        messages = [*refusals.own_messages(said, LEN, place)]
+        self.assertEqual(len(messages), len([line for line in said if not line.startswith("  ")]))
+        return bool(refusals.of_a_goal(messages, self.WRITTEN))
+
+    def differ(self, expected, found="`c.kept.result`", words="as printed, the two types differ only where one has"):
+        first = f"{self.FILE}`returns`: {words} {expected} (expected), right after `IfSome`"
+        return first, f"  and the other has {found} (found)"
+
+    def test_a_goal_that_is_not_found_refuses(self):
+        self.assertTrue(self.kinds(self.NOTE.format("returns")))
+        self.assertTrue(self.kinds(self.NO_FIELD, self.NOTE.format("returns-clause-value")))
+        self.assertTrue(self.kinds(self.OMEGA))
+
+    def test_what_no_longer_fits_does_not(self):
+        expected = f"{self.FILE}`returns`: expected type `IsFew c.self-3`", "  but this has type `IsFew c.kept`"
+        occurrence = self.FILE + "`returns`: `rw`: no occurrence of the path's left-hand side"
+        admitted = self.FILE + "`returns`: `lemma` was not admitted"
+        for said in [self.NO_FIELD], expected, [occurrence], [admitted], [self.GONE], [self.NO_FIELD, self.GONE]:
+            self.assertFalse(self.kinds(*said))
+
+    def test_a_goal_that_may_have_lost_its_answer_refuses_only_where_it_is_false(self):
+        false = "; the facts known there allow values at which this goal is false"
+        for name, ending, is_by_goal in [("returns-gt1-clause-ok", "", False), ("returns-gt1-clause-ok", false, True),
+                                         ("returns-clause-value", "", True), ("invariant_of-self", "", True)]:
+            self.assertEqual(self.kinds(self.GONE, self.NOTE.format(name) + ending), is_by_goal)
+
+    def test_another_value_of_the_same_steps_refuses_and_another_step_does_not(self):
+        first = "as printed, the two types first differ where one has"
+        for expected, is_by_goal in [("`0`", True), ("`c.args.list`", True), ("`c.filter.result`", False),
+                                     ("`c.kept-in-Some.result`", False)]:
+            self.assertEqual(self.kinds(*self.differ(expected)), is_by_goal)
+            self.assertEqual(self.kinds(*self.differ(expected, words=first)), is_by_goal)
+        whole = [*self.differ("`0`"), "  expected type `IfSome 0 c.filter.result`"]
+        self.assertFalse(self.kinds(*whole))
+        self.assertTrue(self.kinds(*self.differ("`c.other.result`", "`c.other.result + c.kept.result`")))
+
+    def test_a_correct_twin_is_refused_by_its_shape(self):
+        """An equivalent body whose index has a step more, as the prover told of it."""
+        said = [self.FILE + "`invariant_of-self-2`: expected type `holds_asked the_row 19 1 (λ x. x) c.self-3-1.given`",
+                "  but this has type `IsHandles (set c.kept.items c.args.place record {copies = ?5 c})`",
+                self.FILE + "`returns`: as printed, the two types first differ where one has `(set c.kept 0 c.kept.now)`",
+                "  (expected), right after `◌≡◌ (set`, and the other has `c.kept.items` (found)",
+                "  expected type `set (set c.kept.items 0 c.kept.now) 0 record {actor = c.index_mut.result.now.actor}`",
+                "  but this has type `set c.kept.items c.args.place record {actor = c.kept.now.actor}`"]
+        self.assertFalse(self.kinds(*said))
 
 
 class Bare(Scratch):
@@ -159,6 +260,7 @@ class Bare(Scratch):
         trial = trying.Trial.__new__(trying.Trial)
         trial.crate = mock.Mock(folder=str(self.crate))
         trial.crate.name, trial.symbols = "low", [LEN, FMT, FIRST, "low::fn::first::map"]
+        trial.controlled = set()
         trial.check = mock.Mock(return_value=(1, [*said]))
         return trial
 
@@ -201,17 +303,28 @@ class Bare(Scratch):
             asked = [word for word in trial.check.call_args.args[1:] if word.startswith("low::")]
             self.assertEqual(asked[:1] + [len(asked)], [LEN, 2])
 
-    def test_an_edit_of_definitions_counts_where_a_lemma_fails_by_it_alone(self):
-        edit, ended = self.edit("file: src/few.rt\nold: use std::fmt;\nnew: use std::io;\n"), "holes=2"
-        error, lost = (f"./proofs/Few.antt:3:5: error: {text}" for text in ("they differ", "`x` is not in scope"))
-        cases = [([ended], [error, ended], 1), ([error, ended], [error, ended], 0), ([ended], [ended], 0)]
-        cases += [([ended], [error], 0), ([ended], [lost, ended], 0), ([], [error, ended], 0)]
-        unread = "./specs/Few.antt:3:5: error: expected the end"
-        cases += [([ended], [error, unread, ended], 0), ([unread, ended], [error, ended], 0)]
-        for before, after, count in cases:
+    def test_an_edit_of_definitions_counts_where_a_clause_refuses_it(self):
+        (self.crate / "specs").mkdir()
+        (self.crate / "specs/Few.antt").write_text("abbrev pub few : N\nfew = 3\n")
+        source = f"ghost use Rattle.low.specs.Few.{{few}};\n{SOURCE.replace('result', 'few')}"
+        (self.crate / "src/few.rt").write_text(source)
+        text = "file: specs/Few.antt\nold: few = 3\nnew: few = 4\n"
+        plain, same = self.edit(text), self.edit(text + "same: few = 2 + 1\n", name="same.edit")
+        note, refused = SAID[0].replace(":5:5", ":7:5"), f"fn {LEN}: not proved; it stands on `lemma`"
+        lemma, unread = "./proofs/Few.antt:3:5: error: they differ", "./specs/Few.antt:3:5: error: expected the end"
+        ended = "only=1 proved=0"
+        proved, of_lemma = [f"fn {LEN}: proved", ended], [lemma, refused, ended]
+        cases = [(plain, [[note, refused, ended]], [REFUSED]), (plain, [of_lemma], [BY_SHAPE]), (plain, [proved], []),
+                 (plain, [[lemma, *proved]], []), (plain, [[note, refused]], []),
+                 (plain, [[unread, note, refused, ended]], []), (same, [of_lemma, proved], [REFUSED]),
+                 (same, [of_lemma, of_lemma], [BY_SHAPE]),
+                 (same, [[note, refused, ended], [lemma, *proved]], [BY_SHAPE])]
+        for edit, said, came in cases:
             trial = self.trial()
-            trial.check.side_effect = [(1, before), (1, after)]
-            self.assertEqual(len([*trial.try_over_lemmas([edit])]), count)
+            trial.check.side_effect = [(1, lines) for lines in said]
+            self.assertEqual([each.came for each in trial.try_definitions([edit])], came)
+            asked = [word for word in trial.check.call_args.args if str(word).startswith("low::")]
+            self.assertEqual(asked, [LEN])
 
 
 class Copies(Scratch):
@@ -254,15 +367,35 @@ class Copies(Scratch):
         renamed = text.replace("Few.len.", "Few.len_of_b.").replace("len_spec", "len_of_b_spec")
         self.assertEqual(found, {"proofs/few/Few/len_of_b/Answers.antt": renamed})
 
-    def test_the_control_of_copies_is_a_copy_as_it_is(self):
-        said = [f"fn {FIRST}: no proof: `x`", "note: src/few.rt:20:5: it is not proved", "only=5 holes=1"]
-        for control, count in ("no holes", 1), ("no proof: `x`", 0), (None, 0):
-            names = ("few::Few::len_as_it_is", "few::first_as_it_is")
-            lines = [f"fn low::{name}: {control}" for name in names if control]
-            self.trial.check.return_value = (1, [*said, *lines])
-            self.assertEqual(len(self.trial.try_together(self.edits)[0]), count)
-            asked = [word for word in self.trial.check.call_args.args if str(word).startswith("low::")]
-            self.assertEqual([len(asked), asked[4].endswith("_as_it_is")], [5, True])
+    def asked(self, trial):
+        return [word for word in trial.check.call_args.args if str(word).startswith("low::")]
+
+    def test_each_function_that_is_copied_has_a_copy_as_it_is_once(self):
+        said = [f"fn {FIRST}: no proof: `x`", "note: src/few.rt:20:5: it is not proved that .. (`x`)", "only=6 holes=1"]
+        names = ("low::few::Few::len_as_it_is", "low::few::first_as_it_is")
+        proved = "no holes"
+        for controls, count in ([proved, proved], 1), ([proved, "no proof: `x`"], 0), ([proved, None], 0):
+            lines = [f"fn {name}: {control}" for name, control in zip(names, controls) if control]
+            trial = Bare.trial(self, *said, *lines)
+            self.assertEqual(len(trial.try_together(self.edits)[0]), count)
+            self.assertEqual((len(self.asked(trial)), {*self.asked(trial)[4:]}), (6, {*names}))
+            self.assertEqual(trial.controlled, {LEN, FIRST} if count else set())
+        trial.controlled = {LEN, FIRST}
+        trial.try_together(self.edits)
+        self.assertEqual(len(self.asked(trial)), 5)
+
+    def test_an_equivalent_body_stands_in_a_copy_and_has_to_be_accepted(self):
+        edit = self.edit(GOOD + SAME, name="e.edit")
+        lost = "./proofs/few/Few/len/Answers.antt:3:5: error: `c` has no field `len`"
+        same, control = "low::few::Few::len_same_as_e", "low::few::Few::len_as_it_is"
+        for verdict, came in ("no holes", REFUSED), ("no proof: `x`", BY_SHAPE), (None, BY_SHAPE):
+            lines = [lost, f"fn {LEN}: not proved; it stands on `x`, which antt refuses", "only=3 holes=1"]
+            lines += [f"fn {control}: no holes", *([f"fn {same}: {verdict}"] if verdict else [])]
+            trial = Bare.trial(self, *lines)
+            self.assertEqual([each.came for each in trial.try_together([edit])[0].values()], [came])
+            self.assertEqual(self.asked(trial), [LEN, same, control])
+            text = trial.check.call_args.args[0]["src/few.rt"]
+            self.assertEqual((text.count("0 + self.list.len()"), text.count("self.list.len() + 1")), (1, 1))
 
     def test_a_method_of_a_trait_and_an_edit_of_more_than_one_function_have_no_copy(self):
         both = self.edit(GOOD + "old: list[0]\nnew: list[1]\n", name="both.edit")
@@ -290,12 +423,13 @@ class Rounds(Scratch):
     def tried(self, edits, *answers):
         trial = trying.Trial.__new__(trying.Trial)
         checks, answers = [], [*answers]
-        says = lambda group: checks.append([edit.path.stem for edit in group]) or answers.pop(0)
-        alone = lambda edit: trying.Tried(edit, False, "alone")
+        says = lambda group: checks.append([edit.path.stem for edit in group]) or of_each(*answers.pop(0))
+        alone = lambda edit: Tried(edit, PROVED, "alone")
+        of_each = lambda told, resting: ({edit: Tried(edit, REFUSED, text) for edit, text in told.items()}, resting)
         functions = lambda edit: {} if edit.path.stem == "d" else {edit.path.stem: edit}
         together = mock.patch.object(trying, "groups", lambda edits, _: [edits])
         patches = {"functions": functions, "try_together": says, "try_alone": alone, "is_proved": lambda: True}
-        patches["try_over_lemmas"] = lambda edits: []
+        patches["try_definitions"] = lambda edits: []
         with together, mock.patch.multiple(trial, create=True, **patches):
             return [(each.edit.path.stem, each.told) for each in trial.try_all(edits)], checks
 
@@ -355,12 +489,50 @@ class Gate(Scratch):
     def test_an_edit_of_a_crate_that_is_not_proved_is_not_refused(self):
         low, high = self.edit(GOOD, GATE), Edit(self.edit(GOOD, name="other.edit").path)
         high.crate = "high"
-        tries = lambda crate, edits, *_: [trying.Tried(edit, True, "..") for edit in edits]
+        tries = lambda crate, edits, *_: [Tried(edit, REFUSED, "..") for edit in edits]
         with mock.patch.multiple(gate, create=True, try_crate=tries, print=lambda *_, **__: None):
             lanes = gate.Lanes([low, high])
             lanes.add("low", [LEN])
             lanes.begin(2)
-            self.assertEqual([(each.edit, each.is_refused) for each in lanes.end()], [(low, True), (high, False)])
+            self.assertEqual([(each.edit, each.came) for each in lanes.end()], [(low, REFUSED), (high, UNTRIED)])
+
+    def verdict(self, status=0, came=(REFUSED, REFUSED), command=()):
+        """What the gate says with a fake `rt`, which proves the crate and ends with this status, where this comes of
+        the edits: whether it passes, and its lines."""
+        rt = self.crate.parent / "bin/rt"
+        rt.parent.mkdir(exist_ok=True)
+        said = "\n".join([*self.SAID[:5], ""])
+        rt.write_text(f"#!/bin/sh\ncat << 'END'\n{said}END\nexit {status}\n")
+        rt.chmod(0o755)
+        edits, lines = [self.edit(GOOD, GATE, f"{name}.edit") for name in "ab"], []
+        tries = lambda crate, edits, *_: [Tried(edit, each, "..") for edit, each in zip(edits, came)]
+        patches = {"TOP": self.crate.parent, "edits_in": lambda kind: edits if kind == GATE else [], "try_crate": tries,
+                   "kit": lambda: None, "listed_as_refused": set, "output_of": lambda *_: "commit",
+                   "print": lambda *words, **_: lines.extend(words)}
+        path = mock.patch.dict(os.environ, {"PATH": f"{rt.parent}:{os.environ['PATH']}"})
+        with path, mock.patch.multiple(gate, create=True, **patches):
+            return gate.gate([*command]), lines
+
+    def test_the_gate_passes_where_all_is_refused_and_rt_ci_passes(self):
+        passes, lines = self.verdict()
+        self.assertTrue(passes)
+        self.assertEqual(lines[-1], "gate: 2 edits tried: 0 failed")
+        self.assertTrue(self.verdict(command=["true"])[0])
+
+    def test_the_gate_fails_where_rt_ci_does_or_what_runs_after_it(self):
+        for status, command in (1, ["true"]), (0, ["false"]):
+            passes, lines = self.verdict(status, command=command)
+            self.assertFalse(passes)
+            self.assertEqual(lines[-2:], ["gate: rt ci failed, or what runs after it", "gate: 2 edits tried: 0 failed"])
+
+    def test_the_gate_fails_and_names_each_edit_that_is_not_refused_for_what_it_does(self):
+        for other in PROVED, BY_SHAPE, UNTRIED:
+            passes, lines = self.verdict(came=(REFUSED, other))
+            self.assertFalse(passes)
+            self.assertEqual(lines[-2:], [f"gate: low/b.edit: {other}: ..", "gate: 2 edits tried: 1 failed"])
+        passes, lines = self.verdict(came=(REFUSED,))
+        self.assertFalse(passes)
+        self.assertIn(f"gate: low/b.edit: {UNTRIED}: ", lines[-2])
 
 
 class GateTime(Scratch):
@@ -386,20 +558,41 @@ class Page(Scratch):
         other.write_text(GOOD)
         patches = {"PAGE": page, "edits_in": lambda _: [edit, Edit(other)]}
         with mock.patch.multiple(more_edits, output_of=lambda *_: "abc", **patches):
-            more_edits.write_section("low", [trying.Tried(edit, False, "still proved")])
-            self.assertIn("In all 0 of 1 were refused. Not tried yet: those of high.", page.read_text())
+            more_edits.write_section("low", [Tried(edit, PROVED, "still proved")])
+            untried = "were refused for what they do, and none by its shape alone. Not tried yet: those of high."
+            self.assertIn(f"In all 0 of 1 {untried}", page.read_text().replace("\n", " "))
             self.assertIn("- longer: `len` in src/few.rt, **not refused**", page.read_text())
-            more_edits.write_section("low", [trying.Tried(edit, True, "src/few.rt:5:5: ..")])
-        self.assertIn("In all 1 of 1 were refused.", page.read_text())
-        self.assertNotIn("not refused", page.read_text())
+            more_edits.write_section("low", [Tried(edit, BY_SHAPE, "src/few.rt:5:5: ..")])
+            self.assertIn("and 1 by its shape alone.", page.read_text())
+            self.assertIn("- longer: `len` in src/few.rt, **by its shape**", page.read_text())
+            self.assertEqual(more_edits.listed_as_refused(), set())
+            more_edits.write_section("low", [Tried(edit, REFUSED, "src/few.rt:5:5: ..")])
+        self.assertIn("In all 1 of 1 were refused", page.read_text())
+        self.assertNotIn("**", page.read_text())
+
+    def test_a_page_that_is_older_than_a_crates_sources_is_told(self):
+        top = self.crate.parent
+        (top / "crates").mkdir()
+        self.crate.rename(top / "crates/low")
+        path = top / "crates/low" / MORE / "longer.edit"
+        path.write_text(GOOD)
+        patches = {"PAGE": top / "edits.md", "TOP": top, "edits_in": lambda *_: [Edit(path)]}
+        with mock.patch.multiple(more_edits, output_of=lambda *_: "abc", **patches):
+            self.assertEqual(more_edits.stale(), ["low"])
+            for file in "src/few.rt", f"{MORE}/longer.edit":
+                more_edits.write_section("low", [Tried(Edit(path), REFUSED, "..")])
+                self.assertEqual(more_edits.stale(), [])
+                changed = top / "crates/low" / file
+                changed.write_text(changed.read_text() + "\n")
+                self.assertEqual(more_edits.stale(), ["low"])
 
     def test_what_came_of_a_crates_own_edits_is_told_and_not_written(self):
         edit, page = self.edit(GOOD, kind=GATE), self.crate / "edits.md"
-        for is_refused in (True, False):
+        for came in REFUSED, BY_SHAPE, PROVED, UNTRIED:
             patches = {"PAGE": page, "kit": lambda: None, "edits_in": lambda kind, crates: [edit] if kind == GATE else [],
-                       "try_crate": lambda crate, edits: [trying.Tried(each, is_refused, "..") for each in edits]}
+                       "try_crate": lambda crate, edits: [Tried(each, came, "..") for each in edits]}
             with mock.patch.multiple(more_edits, print=lambda *_, **__: None, create=True, **patches):
-                self.assertIs(more_edits.try_all_of(["low"], GATE, 1), is_refused)
+                self.assertIs(more_edits.try_all_of(["low"], GATE, 1), came == REFUSED)
         self.assertFalse(page.exists())
 
 

@@ -8,14 +8,21 @@ as it takes a function that it refuses, and no edit of a group changes that. As 
 more, which is as it was: where that is refused, the check tells nothing.
 
 Two edits of one function are tried in one check, too: the second is made in a copy, below it and under another name,
-with what is written of its proof. So is one that changes what a function promises. The control is such a copy then.
+with what is written of its proof. So is one that changes what a function promises. As a control, each function that is
+copied is copied once as it stands, too, and accepted.
 
-An edit counts as refused where a message names an error in its own function, and each message of that check names one
-in a function that was edited. Else something that an edit did not change is refused, too: then a function counts only
-where nothing that it calls is refused beside it, and is else tried in a group again, without those that were.
+An edit counts as refused where its own function has a message that tells of a goal; one that has others alone is
+refused by its shape, and counts for nothing (tools/refusals.py). Each message of the check has to name a function that
+was edited. Else something that an edit did not change is refused, too: then a function counts only where nothing that
+it calls is refused beside it, and is else tried in a group again, without those that were.
 
-An edit of definitions is tried over the lemmas, where all functions are bare, and counts where an error is told of one
-of these; none is told there without it. Every other edit is tried alone, over the whole crate, as `rt ci` does it.
+An edit may have an equivalent body, by its lines `same:`. That is tried in a copy beside it, and must be accepted; then
+what is written of the proof fits bodies of that shape, and each message of the edit's own tells of what it does.
+
+An edit of definitions is tried over the functions whose clauses speak of these, where all others are bare. It counts
+where one of them has a message of a goal, or a worked example has an error. Where only lemmas fail on which they stand,
+it is refused by its shape, unless it has an equivalent definition that is accepted. Every other edit is tried alone,
+over the whole crate, as `rt ci` does it.
 """
 import functools
 import importlib.machinery
@@ -29,7 +36,8 @@ import tempfile
 from pathlib import Path
 from typing import NamedTuple
 
-from edits import TOP, BadEdit, functions_in, with_copy, without_bodies
+from edits import TOP, BadEdit, functions_in, heads_in, with_copy, without_bodies
+from refusals import ERROR, UNPROVED, is_in, of_a_goal, own_messages, plain, written_of
 
 ONE_JOB = ["--jobs", "1"]
 HOLES = "--allow-holes"
@@ -48,23 +56,24 @@ PROOF, PARTS_OF_A_PROOF = "Proof.antt", ("Answers.antt", "Invariants.antt")
 VERDICT = re.compile(r"fn (\S+): (.*)")
 # A closure, what a type's end runs, or one of a cycle: each has its proof elsewhere.
 OF_ANOTHER = re.compile(r"[+]|::fn::")
-REFUSED = re.compile(r"(not proved|no proof)\b")
+REFUSED_VERDICT = re.compile(r"(not proved|no proof)\b")
 # The function may be refused only because another one is.
 RESTS = re.compile(r"(is|are) not proved|it waits for")
-UNPROVED = re.compile(r"note: (?:\./)?(src/\S+?):(\d+):\d+: (.*)")
-ERROR = re.compile(r"(?:\./)?(\S+?):(\d+):\d+: error: (.*)")
-# What `rt` says of an edit where the prover told an error, and not only that it doesn't cover a function.
-REFUSED_BY_THE_RULES = re.compile(r"refused, as it must be: (note: |\S+: error: )")
-TELLS_NOTHING = "the check tells nothing"
 NOT_TOLD = "no proof"
-# What a proof says where an edit took away a name of which it speaks, which tells nothing of the contract.
-NAMES = re.compile(r"has no field|is not in scope|has no `|was not admitted")
+# The first alone is what has to come of an edit.
+REFUSED, BY_SHAPE, PROVED, UNTRIED = "refused", "REFUSED BY ITS SHAPE", "NOT REFUSED", "NOT TRIED"
 
 
 class Tried(NamedTuple):
+    """What came of an edit: one of the words below."""
+
     edit: object
-    is_refused: bool
+    came: str
     told: str
+
+    @property
+    def is_refused(self):
+        return self.came == REFUSED
 
 
 @functools.lru_cache(maxsize=None)
@@ -140,7 +149,7 @@ class Trial:
         self.wait = wait
         self.crate = next(it for it in kit().rtlib.crates_below(str(TOP)) if it.name == name)
         self.kept = f"{room}/{name}"
-        self.symbols = []
+        self.symbols, self.controlled = [], set()
         Path(self.kept).mkdir()
 
     def check(self, texts, *words):
@@ -196,23 +205,34 @@ class Trial:
         return named if len({*named.values()}) == len({*places}) else {}
 
     def control(self, group):
-        """A function as it is, which the edits of a group draw: a copy of one where that has copies, or else one that no
-        edit changes. None where each is changed."""
-        copied = [(symbol, place) for edit in group.copied for symbol, place in self.functions(edit).items()]
-        drawn = copied or self.others({symbol for named in group.functions.values() for symbol in named})
-        found = random.Random("".join(edit.name for edit in group.functions)).sample(drawn, min(len(drawn), 1))
-        return [group.add_copy(self.crate.folder, *one)[0] for one in found] if copied else found
+        """Functions as they are: a copy of each that the group copies and that none before it did, or else one that no
+        edit of it changes, drawn by the edits. None where each is changed."""
+        copied = dict(one for edit in group.has_copies() for one in self.functions(edit).items())
+        new = [one for one in copied.items() if one[0] not in self.controlled] or [*copied.items()][:1]
+        if new:
+            return {group.add_copy(self.crate.folder, *one)[0]: one[0] for one in new}
+        others = self.others({symbol for named in group.functions.values() for symbol in named})
+        drawn = random.Random("".join(edit.name for edit in group.functions)).sample(others, min(len(others), 1))
+        return dict.fromkeys(drawn)
 
     def check_edited(self, group):
         """The lines of a check of a group of edits, or none where it tells nothing."""
         control = self.control(group)
-        asked = [*(symbol for named in group.functions.values() for symbol in named), *control]
-        _, said = self.check(self.bare(group.texts, asked), HOLES, *(word for it in asked for word in ("--only", it)))
-        is_whole = any(line.startswith("only=") for line in said)
-        return said if is_whole and not any(is_refused(verdicts_in(said).get(it, NOT_TOLD)) for it in control) else []
+        asked = [*(it for named in (*group.functions.values(), *group.same.values()) for it in named), *control]
+        said = self.said_of(group.texts, asked)
+        if not said or any(is_refused(verdicts_in(said).get(it, NOT_TOLD)) for it in control):
+            return []
+        self.controlled |= {*control.values()}
+        return said
+
+    def said_of(self, texts, asked):
+        """The lines of a check of these functions, where the crate has these texts and all others are bare; none where
+        it did not end."""
+        _, said = self.check(self.bare(texts, asked), HOLES, *(word for it in asked for word in ("--only", it)))
+        return said if any(line.startswith("only=") for line in said) else []
 
     def try_together(self, edits):
-        """Tries these edits in one check. Returns those that are refused, with a message, and those of which it can't be
+        """Tries these edits in one check. Returns what came of those that are refused, and those of which it can't be
         told, since what their functions call is refused."""
         group = Group()
         for edit in edits:
@@ -224,35 +244,66 @@ class Trial:
         if not said:
             return {}, edits
         is_mixed = len(edits) > 1 and is_told_elsewhere(said, every)
-        told = {edit: own_error(said, functions[edit], not is_mixed) for edit in edits}
         verdicts = verdicts_in(said)
         resting = [edit for edit in edits if any(RESTS.search(verdicts.get(symbol, "")) for symbol in functions[edit])]
-        return {edit: error for edit, error in told.items() if error}, resting
+        told = {}
+        for edit in edits:
+            own = own_messages_of(said, functions[edit], not is_mixed)
+            if own:
+                fits = not any(is_refused(verdicts.get(it, NOT_TOLD)) for it in group.same.get(edit, ()))
+                told[edit] = judged(edit, self.goal_of(own, group.texts), *first_of(own), fits)
+        return told, resting
 
-    def lemma_error(self, texts):
-        """The first error of a lemma, where the crate has these texts, or that the check tells nothing: it did not end,
-        or what is stated can't be read."""
-        _, said = self.check(self.bare(texts, ()), HOLES)
-        is_whole = any(line.startswith("holes=") for line in said) and not any(map(is_of_statements, said))
-        return next((line for line in said if is_of_proofs(line)), None) if is_whole else TELLS_NOTHING
+    def goal_of(self, own, texts):
+        """The first message of a goal, among these of each function, where the crate has these texts; or None."""
+        written = lambda symbol: written_of(self.crate.folder, texts, symbol)
+        return next(filter(None, (of_a_goal(messages, written(symbol)) for symbol, messages in own.items())), None)
 
-    def try_over_lemmas(self, edits):
-        """Tries these edits of definitions, and yields what came of each that an error of a lemma refuses."""
-        if edits and self.lemma_error({}) is None:
-            for edit in edits:
-                error = self.lemma_error(edit.applied({}))
-                if error not in (None, TELLS_NOTHING):
-                    yield Tried(edit, True, plain(error))
+    def try_definitions(self, edits):
+        """Tries these edits of definitions over the functions whose clauses speak of them, and yields what came of each
+        that is refused there."""
+        for edit in edits:
+            asked = {it: place for place in edit.speaking() for it in symbols_of(self.symbols, self.crate.name, place)}
+            said = asked and self.said_of(edit.applied({}), asked)
+            if said and not any(map(is_of_statements, said)) and not are_accepted(said, asked):
+                own = own_messages_of(said, asked, True)
+                # A function may be refused only for a lemma on which it stands.
+                others = [*first_of(own), *filter(is_of_proofs, said)]
+                if others:
+                    yield judged(edit, self.goal_of(own, {}), others[0], self.takes_same(edit, asked))
+
+    def takes_same(self, edit, asked):
+        """Whether an edit's equivalent definition is accepted with these functions, if there is one."""
+        said = self.said_of(edit.same({}), asked) if edit.has_same() else []
+        return not edit.has_same() or are_accepted(said, asked) and not any(map(is_of_proofs, said))
 
     def try_alone(self, edit):
         """Tries it over the whole crate, as `rt ci` does, and leaves what is kept as it was."""
+        texts = edit.applied({})
+        status, said = self.check_alone(texts)
+        if status == 0:
+            return Tried(edit, PROVED, "the crate is still proved with it")
+        unread = next((line for line in said if kit().unread(line, texts)), None)
+        every = dict(self.every())
+        own = {} if unread or status != 1 else own_messages_of(said, every, True)
+        if not own or not said[-1].startswith("logic=not-proved"):
+            return Tried(edit, UNTRIED, plain(unread or said[0]))
+        fits = not edit.has_same() or self.check_alone(edit.same({}))[0] == 0
+        return judged(edit, self.goal_of(own, texts), *first_of(own), fits)
+
+    def check_alone(self, texts):
+        """The status of a check of the whole crate with these texts, and its lines. What is kept stays as it was."""
         with tempfile.TemporaryDirectory(prefix="edit-alone-") as room:
-            path = Path(room, edit.path.name)
-            path.write_bytes(edit.content)
             self.wait()
             kit().linked(self.kept, f"{room}/kept")
-            said = kit().must_fail(self.crate, str(path), ONE_JOB, f"{room}/kept")[1].partition(": ")[2]
-        return Tried(edit, bool(REFUSED_BY_THE_RULES.match(said)), said)
+            ran = checked(self.crate, texts, ONE_JOB, f"{room}/kept")
+        return ran.returncode, ran.stdout.rstrip("\n").split("\n")
+
+    def every(self):
+        """The functions of the crate, each with its place."""
+        for path in sorted(Path(self.crate.folder, "src").rglob("*.rt")):
+            for place, _ in heads_in(str(path.relative_to(self.crate.folder)), path.read_text()):
+                yield from ((it, place) for it in symbols_of(self.symbols, self.crate.name, place))
 
     def try_all(self, edits):
         """Tries each, and yields what came of it."""
@@ -261,14 +312,14 @@ class Trial:
         while waiting:
             group = waiting.pop(0)
             refused, resting = self.try_together(group)
-            yield from (Tried(edit, True, told) for edit, told in refused.items())
+            yield from refused.values()
             others = [edit for edit in group if edit not in refused]
             # Without what was refused there, these can be told apart; where nothing was, the group is halved.
             again = [edit for edit in others if edit in resting] if refused else others if len(group) > 1 else []
             left += [edit for edit in others if edit not in again]
             half = len(again) if refused else len(again) // 2
             waiting += filter(None, [again[:half], again[half:]])
-        for each in self.try_over_lemmas([edit for edit in left if edit.is_of_definitions()]):
+        for each in self.try_definitions([edit for edit in left if edit.is_of_definitions()]):
             left.remove(each.edit)
             yield each
         if len(left) > 1 and not self.is_proved():
@@ -295,7 +346,7 @@ class Group:
     """Edits that are tried in one check. No two change one function: a second one changes a copy of it."""
 
     def __init__(self):
-        self.functions, self.copied, self.texts, self.is_full = {}, [], {}, False
+        self.functions, self.copied, self.same, self.texts, self.is_full = {}, [], {}, {}, False
 
     def takes(self, edit, functions):
         """Adds the edit, of these functions, where it fits. Returns whether it does."""
@@ -321,18 +372,30 @@ class Group:
             return False
         return True
 
-    def make_copies(self, folder, functions):
-        """Makes the edits that are made in copies. All others are made before, as each finds its text once."""
-        for edit in self.copied:
-            (symbol, place), = functions(edit).items()
-            self.functions[edit] = dict([self.add_copy(folder, symbol, place, edit)])
+    def has_copies(self):
+        """The edits of whose function there is a copy."""
+        return [edit for edit in self.functions if edit in self.copied or edit in self.same]
 
-    def add_copy(self, folder, symbol, place, edit=None):
-        """Adds a copy of a function, as it is or as the edit has it. Returns what the prover names it, and its place."""
+    def make_copies(self, folder, functions):
+        """Makes the edits that are made in copies, and what is equivalent. All others are made before, as each finds
+        its text once."""
+        for edit in self.functions:
+            if edit in self.copied or edit.has_same():
+                (symbol, place), = functions(edit).items()
+            if edit in self.copied:
+                copy = self.add_copy(folder, symbol, place, f"of_{edit.path.stem}", edit.applied({}))
+                self.functions[edit] = dict([copy])
+            if edit.has_same():
+                copy = self.add_copy(folder, symbol, place, f"same_as_{edit.path.stem}", edit.same({}))
+                self.same[edit] = dict([copy])
+
+    def add_copy(self, folder, symbol, place, ending="as_it_is", texts=None):
+        """Adds a copy of a function, as it is or as these texts have it. Returns what the prover names it, and its
+        place."""
         above, _, old = symbol.rpartition("::")
-        name = f"{old}_of_{edit.path.stem}" if edit else f"{old}_as_it_is"
+        name = f"{old}_{ending}"
         as_it_is = Path(folder, place.file).read_text()
-        edited = edit.applied({})[place.file] if edit else as_it_is
+        edited = texts[place.file] if texts else as_it_is
         text, placed = with_copy(self.texts.get(place.file, as_it_is), edited, place, name)
         self.texts = {**self.texts, place.file: text, **dict(proof_of_copy(folder, symbol, name))}
         return f"{above}::{name}", placed
@@ -353,23 +416,41 @@ def verdicts_in(said):
     return dict(found.groups() for found in map(VERDICT.match, said) if found)
 
 
-def own_error(said, functions, may_rest):
-    """The first message that names an error in one of these functions, where the prover refuses it by itself. If it may
-    rest on another one, that can be refused, too."""
-    verdicts = verdicts_in(said)
+def own_messages_of(said, functions, may_rest):
+    """The messages of errors in each of these functions that the prover refuses by itself. If it may rest on another
+    one, that can be refused, too."""
+    verdicts, found = verdicts_in(said), {}
     for symbol, place in functions.items():
         verdict = verdicts.get(symbol, "")
-        if is_refused(verdict) or may_rest and REFUSED.match(verdict):
-            for line in said:
-                if is_in(line, symbol, place) and not NAMES.search(line):
-                    return plain(line)
-    return None
+        if is_refused(verdict) or may_rest and REFUSED_VERDICT.match(verdict):
+            found[symbol] = [*own_messages(said, symbol, place)]
+    return {symbol: messages for symbol, messages in found.items() if messages}
+
+
+def first_of(own):
+    """The first line of these messages of functions, or nothing."""
+    return [message[0] for messages in own.values() for message in messages][:1]
+
+
+def are_accepted(said, functions):
+    """Whether a check tells of each of these functions, and refuses none."""
+    verdicts = verdicts_in(said)
+    return not any(REFUSED_VERDICT.match(verdicts.get(it, NOT_TOLD)) for it in functions)
+
+
+def judged(edit, goal, other, fits):
+    """What came of an edit that is refused with this message of a goal, or None, or else with another. Where it has an
+    equivalent, and that fits what is written of the proof, any message counts."""
+    if not fits:
+        return Tried(edit, BY_SHAPE, "what it has as equivalent is refused, too")
+    is_by_goal = goal or edit.has_same()
+    return Tried(edit, REFUSED if is_by_goal else BY_SHAPE, plain(goal or other))
 
 
 def is_of_proofs(line):
-    """Whether an error is told of a file of proofs, and not only of a name that is lost."""
+    """Whether an error is told of a file of proofs."""
     found = ERROR.match(line)
-    return bool(found) and found[1].startswith("proofs/") and not NAMES.search(line)
+    return bool(found) and found[1].startswith("proofs/")
 
 
 def is_of_statements(line):
@@ -380,12 +461,7 @@ def is_of_statements(line):
 
 def is_refused(verdict):
     """Whether a function is refused by itself, and not only since another one is."""
-    return bool(REFUSED.match(verdict)) and not RESTS.search(verdict)
-
-
-def plain(line):
-    """A message without the marks before it."""
-    return re.sub(r"^(note: )?(\./)?", "", line)
+    return bool(REFUSED_VERDICT.match(verdict)) and not RESTS.search(verdict)
 
 
 def is_told_elsewhere(said, functions):
@@ -393,15 +469,6 @@ def is_told_elsewhere(said, functions):
     proved by what that promises."""
     told = [line for line in said if UNPROVED.match(line) or ERROR.match(line)]
     return not all(any(is_in(line, *function) for function in functions.items()) for line in told)
-
-
-def is_in(line, symbol, place):
-    """Whether this message tells of an error in that function, or in what is written of its proof."""
-    note, error = UNPROVED.match(line), ERROR.match(line)
-    if note:
-        return note[1] == place.file and place.first <= int(note[2]) <= place.last
-    proofs = "/".join(["proofs", *symbol.split("::")[1:], ""])
-    return bool(error) and error[1].startswith(proofs)
 
 
 def try_crate(name, edits, wait=lambda: None, prepare=Trial.prepare):
