@@ -26,9 +26,11 @@ NOT_PROVED, FALSE = "it is not proved that", "allow values at which this goal is
 SEARCHED = re.compile(r"`(omega|search|grind)`: ")
 # Where two types differ, as an answer's message shows them: what is expected there, and what the answer has.
 DIFFER = re.compile(r"the two types (?:first )?differ (?:only )?where one has `")
-EXPECTED = re.compile(r"has `([^`]*)` \(expected\)|expected type `([^`]*)`|are `([^`]*)` \(expected\)")
-# A step of the function, as what is written of its proof names it.
+EXPECTED = re.compile(r"`([^`]*)` \(expected\)|expected type `([^`]*)`")
+FOUND = re.compile(r"`([^`]*)` \(found\)|this has type `([^`]*)`")
+# A step of the function, as what is written of its proof names it, and those that each function has.
 STEP = re.compile(r"\b[cl]\.([A-Za-z_][\w-]*)")
+ALWAYS = {"args", "before", "requires", "self", "well_formed"}
 WRITTEN = ("Answers.antt", "Invariants.antt")
 
 
@@ -73,10 +75,9 @@ def tells_of_a_goal(message, written, lost):
 
 
 def differs_in_a_value(text, written):
-    """Whether two types differ, and the expected one speaks of no step but those of which the written proof does."""
-    expected = " ".join("".join(found) for found in EXPECTED.findall(text))
-    others = EXPECTED.sub("", text)
-    return {*STEP.findall(expected)} <= {*STEP.findall(written), *STEP.findall(others)}
+    """Whether the steps of which only one of these two types speaks are such of which the written proof does."""
+    expected, found = ({*STEP.findall(str(form.findall(text)))} for form in (EXPECTED, FOUND))
+    return expected ^ found <= {*STEP.findall(written), *ALWAYS}
 
 
 def written_of(folder, texts, symbol):

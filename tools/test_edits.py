@@ -241,6 +241,7 @@ class Refusals(unittest.TestCase):
         whole = [*self.differ("`0`"), "  expected type `IfSome 0 c.filter.result`"]
         self.assertFalse(self.kinds(*whole))
         self.assertTrue(self.kinds(*self.differ("`c.other.result`", "`c.other.result + c.kept.result`")))
+        self.assertFalse(self.kinds(*self.differ("`c.args.list`", "`c.another.result`")))
 
     def test_a_correct_twin_is_refused_by_its_shape(self):
         """An equivalent body whose index has a step more, as the prover told of it."""
