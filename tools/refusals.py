@@ -25,12 +25,14 @@ GOAL = re.compile(r"\(`([^`]+)`")
 NOT_PROVED, FALSE = "it is not proved that", "allow values at which this goal is false"
 SEARCHED = re.compile(r"`(omega|search|grind)`: ")
 # Where two types differ, as an answer's message shows them: what is expected there, and what the answer has.
-DIFFER = re.compile(r"the two types (?:first )?differ (?:only )?where one has `")
+DIFFER = re.compile(r"the two types (?:(?:first )?differ (?:only )?where one has|are) `")
+# What is expected where nothing is.
+NOTHING = re.compile(r"`Unit \{0\}` \(expected\)")
 EXPECTED = re.compile(r"`([^`]*)` \(expected\)|expected type `([^`]*)`")
 FOUND = re.compile(r"`([^`]*)` \(found\)|this has type `([^`]*)`")
 # A step of the function, as what is written of its proof names it, and those that each function has.
 STEP = re.compile(r"\b[cl]\.([A-Za-z_][\w-]*)")
-ALWAYS = {"args", "before", "requires", "self", "well_formed"}
+ALWAYS = {"args", "before", "lifetimes", "requires", "self", "well_formed"}
 WRITTEN = ("Answers.antt", "Invariants.antt")
 
 
@@ -76,6 +78,8 @@ def tells_of_a_goal(message, written, lost):
 
 def differs_in_a_value(text, written):
     """Whether the steps of which only one of these two types speaks are such of which the written proof does."""
+    if NOTHING.search(text):
+        return False
     expected, found = ({*STEP.findall(str(form.findall(text)))} for form in (EXPECTED, FOUND))
     return expected ^ found <= {*STEP.findall(written), *ALWAYS}
 

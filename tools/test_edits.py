@@ -242,6 +242,9 @@ class Refusals(unittest.TestCase):
         self.assertFalse(self.kinds(*whole))
         self.assertTrue(self.kinds(*self.differ("`c.other.result`", "`c.other.result + c.kept.result`")))
         self.assertFalse(self.kinds(*self.differ("`c.args.list`", "`c.another.result`")))
+        words = "computed as far as they go, the two types are"
+        self.assertTrue(self.kinds(*self.differ("`0 ≡ 1`", words=words)))
+        self.assertFalse(self.kinds(*self.differ("`Unit {0}`", words=words)))
 
     def test_a_correct_twin_is_refused_by_its_shape(self):
         """An equivalent body whose index has a step more, as the prover told of it."""
