@@ -5,8 +5,9 @@ A wrong body is worth something only if it is refused for what it does. So two k
 *by a goal*: a clause, a premise, an invariant or a fact of a loop doesn't follow of this body. The prover looked for
 a proof and found none, or a written answer proves it of another value than the one that stands there now;
 
-*by its shape*: what is written of the proof no longer fits the code. It names a goal or a step that is gone, or speaks
-of other steps than those that this body has. A correct body of that shape would be refused, too.
+*by its shape*: what is written of the proof no longer fits the code. It names a goal or a step that is gone, or proves
+something else altogether. A correct body of that shape would be refused, too. Where one answer doesn't fit, another that
+differs counts only if both types speak of the same steps.
 
 A goal whose name is new may be one whose answer is lost. So where an answer of the function has lost its goal, another
 goal of the same clause counts only where the prover has values at which it is false.
@@ -56,7 +57,8 @@ def own_messages(said, symbol, place):
 def of_a_goal(messages, written):
     """The first line of a message that tells of a goal, where this is written of the proof; or None."""
     lost = {clause_of(name) for message in messages for name in LOST_GOAL.findall(message[0])}
-    return next((message[0] for message in messages if tells_of_a_goal(message, written, lost)), None)
+    fits = not any(tells_of_the_shape(message) for message in messages)
+    return next((message[0] for message in messages if tells_of_a_goal(message, written, lost, fits)), None)
 
 
 def clause_of(goal):
@@ -64,24 +66,32 @@ def clause_of(goal):
     return goal.rpartition("-clause-")[2] if "-clause-" in goal else goal.partition("-")[0]
 
 
-def tells_of_a_goal(message, written, lost):
+def tells_of_the_shape(message):
+    """Whether an answer speaks of what is gone, or proves something else altogether."""
+    is_by_value = SEARCHED.search(message[0]) or DIFFER.search(joined(message))
+    return not UNPROVED.match(message[0]) and bool(NAMES.search(message[0]) or not is_by_value)
+
+
+def tells_of_a_goal(message, written, lost, fits):
     """Whether the message tells of a goal. Where one of these clauses lost its answer, another that isn't found may be
-    the same."""
+    the same. Where some answer doesn't fit, others may differ for that, and not in a value."""
     if UNPROVED.match(message[0]):
         is_of_lost = bool({*map(clause_of, GOAL.findall(message[0]))} & lost)
         return NOT_PROVED in message[0] and (FALSE in message[0] or not is_of_lost)
-    if NAMES.search(message[0]):
+    if tells_of_the_shape(message) or NOTHING.search(joined(message)):
         return False
-    text = " ".join(line.strip() for line in message)
-    return differs_in_a_value(text, written) if DIFFER.search(text) else bool(SEARCHED.search(message[0]))
+    return bool(SEARCHED.search(message[0])) or fits or differs_in_a_value(joined(message), written)
 
 
 def differs_in_a_value(text, written):
     """Whether the steps of which only one of these two types speaks are such of which the written proof does."""
-    if NOTHING.search(text):
-        return False
     expected, found = ({*STEP.findall(str(form.findall(text)))} for form in (EXPECTED, FOUND))
     return expected ^ found <= {*STEP.findall(written), *ALWAYS}
+
+
+def joined(message):
+    """A message in one line."""
+    return " ".join(line.strip() for line in message)
 
 
 def written_of(folder, texts, symbol):

@@ -192,6 +192,9 @@ class Trying(Scratch):
         self.assertEqual(found, [[edit] for edit in edits])
 
 
+ONLY = "as printed, the two types differ only where one has"
+
+
 class Refusals(unittest.TestCase):
     """Messages as the prover writes them."""
 
@@ -210,7 +213,7 @@ class Refusals(unittest.TestCase):
         self.assertEqual(len(messages), len([line for line in said if not line.startswith("  ")]))
         return bool(refusals.of_a_goal(messages, self.WRITTEN))
 
-    def differ(self, expected, found="`c.kept.result`", words="as printed, the two types differ only where one has"):
+    def differ(self, expected, found="`c.kept.result`", words=ONLY):
         first = f"{self.FILE}`returns`: {words} {expected} (expected), right after `IfSome`"
         return first, f"  and the other has {found} (found)"
 
@@ -236,12 +239,13 @@ class Refusals(unittest.TestCase):
         first = "as printed, the two types first differ where one has"
         for expected, is_by_goal in [("`0`", True), ("`c.args.list`", True), ("`c.filter.result`", False),
                                      ("`c.kept-in-Some.result`", False)]:
-            self.assertEqual(self.kinds(*self.differ(expected)), is_by_goal)
-            self.assertEqual(self.kinds(*self.differ(expected, words=first)), is_by_goal)
-        whole = [*self.differ("`0`"), "  expected type `IfSome 0 c.filter.result`"]
+            for words in ONLY, first:
+                self.assertTrue(self.kinds(*self.differ(expected, words=words)))
+                self.assertEqual(self.kinds(*self.differ(expected, words=words), self.NO_FIELD), is_by_goal)
+        whole = [*self.differ("`0`"), "  expected type `IfSome 0 c.filter.result`", self.NO_FIELD]
         self.assertFalse(self.kinds(*whole))
-        self.assertTrue(self.kinds(*self.differ("`c.other.result`", "`c.other.result + c.kept.result`")))
-        self.assertFalse(self.kinds(*self.differ("`c.args.list`", "`c.another.result`")))
+        self.assertTrue(self.kinds(*self.differ("`c.other.result`", "`c.other.result + c.kept.result`"), self.NO_FIELD))
+        self.assertFalse(self.kinds(*self.differ("`c.args.list`", "`c.another.result`"), self.NO_FIELD))
         words = "computed as far as they go, the two types are"
         self.assertTrue(self.kinds(*self.differ("`0 ≡ 1`", words=words)))
         self.assertFalse(self.kinds(*self.differ("`Unit {0}`", words=words)))
