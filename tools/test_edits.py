@@ -329,7 +329,8 @@ class Bare(Scratch):
                  (same, [[note, refused, ended], [lemma, *proved]], [BY_SHAPE])]
         for edit, said, came in cases:
             trial = self.trial()
-            trial.check.side_effect = [(1, lines) for lines in said]
+            # (what is equivalent comes first)
+            trial.check.side_effect = [(1, lines) for lines in reversed(said)]
             self.assertEqual([each.came for each in trial.try_definitions([edit])], came)
             asked = [word for word in trial.check.call_args.args if str(word).startswith("low::")]
             self.assertEqual(asked, [LEN])

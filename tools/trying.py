@@ -262,20 +262,33 @@ class Trial:
     def try_definitions(self, edits):
         """Tries these edits of definitions over the functions whose clauses speak of them, and yields what came of each
         that is refused there."""
+        fit = self.fitting([edit for edit in edits if edit.has_same()])
         for edit in edits:
-            asked = {it: place for place in edit.speaking() for it in symbols_of(self.symbols, self.crate.name, place)}
+            asked = self.speaking(edit)
             said = asked and self.said_of(edit.applied({}), asked)
             if said and not any(map(is_of_statements, said)) and not are_accepted(said, asked):
                 own = own_messages_of(said, asked, True)
                 # A function may be refused only for a lemma on which it stands.
                 others = [*first_of(own), *filter(is_of_proofs, said)]
                 if others:
-                    yield judged(edit, self.goal_of(own, {}), others[0], self.takes_same(edit, asked))
+                    yield judged(edit, self.goal_of(own, {}), others[0], edit in fit or not edit.has_same())
 
-    def takes_same(self, edit, asked):
-        """Whether an edit's equivalent definition is accepted with these functions, if there is one."""
-        said = self.said_of(edit.same({}), asked) if edit.has_same() else []
-        return not edit.has_same() or are_accepted(said, asked) and not any(map(is_of_proofs, said))
+    def speaking(self, edit):
+        """The functions whose clauses speak of the definitions that an edit changes, each with its place."""
+        return {it: place for place in edit.speaking() for it in symbols_of(self.symbols, self.crate.name, place)}
+
+    def fitting(self, edits):
+        """Those of these edits whose equivalent definitions are accepted: all of them in one check, or else each alone."""
+        texts, asked = {}, {}
+        try:
+            for edit in edits:
+                texts, asked = edit.same(texts), {**asked, **self.speaking(edit)}
+            said = self.said_of(texts, asked) if edits else []
+        except BadEdit:
+            said = []
+        if said and are_accepted(said, asked) and not any(map(ERROR.match, said)):
+            return edits
+        return [it for edit in edits for it in self.fitting([edit])] if len(edits) > 1 else []
 
     def try_alone(self, edit):
         """Tries it over the whole crate, as `rt ci` does, and leaves what is kept as it was."""
