@@ -37,7 +37,7 @@ ELSEWHERE = {
     "other programs'": "chrt perf strace memchr",
     "what docs/measures.md calls forms that were tried": "bits lots",
     "parts of names": "MAX_ tests_ tests_of_",
-    "what a reader puts in": "NAME CRATE FILE SCRIPT REPORT",
+    "what a reader puts in": "NAME CRATE FILE SCRIPT REPORT TEXT",
 }
 STAND_INS = {"NAME", "FILE", "CRATE"}
 ALSO_THERE = {name for names in ELSEWHERE.values() for name in names.split()}
