@@ -1,5 +1,5 @@
 -- A plan that is done, and the opening.
-use Rattle.std.proofs.Common.{◌≡◌, ◌≢◌, ℕ, zero, suc, ◌+◌, ◌-◌, ◌<◌, ◌==◌, ◌⊎◌, Bool, true, false, if◌then◌else◌, ◌||◌, List, [], ◌∷◌, ◌++◌, length, replicate, Option, Some, None, is_some, get_or, refl, sym, ◌∙◌, ap, subst, arith, rules, All, AllPairs, Contains, append-nil, option_to_list, inl, inr}
+use Rattle.std.proofs.Common.{◌≡◌, ℕ, zero, suc, ◌+◌, ◌-◌, ◌<◌, ◌==◌, ◌⊎◌, Bool, true, false, if◌then◌else◌, ◌||◌, List, [], ◌∷◌, ◌++◌, length, replicate, Option, Some, None, is_some, get_or, refl, sym, ◌∙◌, ap, subst, arith, rules, All, AllPairs, Contains, append-nil, option_to_list, inl, inr}
 use Rattle.std.specs.List.{list_any, list_all}
 use Rattle.std.proofs.lemmas.Bool.{or_right}
 use Rattle.std.proofs.lemmas.Bool.Decides.{leb_tells}
@@ -25,7 +25,7 @@ use Rattle.act_mailbox.specs.declared.thread.Endpoint.{Endpoint}
 use Rattle.act_drive.specs.declared.driver.CallerLines.{CallerLines}
 use Rattle.act_drive.specs.declared.driver.Driver.{Driver}
 use Rattle.act_drive.specs.declared.driver.CallerPasses.{CallerPasses}
-use Rattle.act_drive.specs.Driven.{IsEndpoint, IsPosting, IsCalling, Stays, Waits, FollowsSteps, HasAsked, OnlyReleases, IsFreshCaller, IsFreshEndpoint, HasDone, HasDriven, HasEndedAt, HasPosted, AreDistinct, futures_in, last_note, IsKeeping, posted_in, IsIdle, IsDue, actor_of_letter}
+use Rattle.act_drive.specs.Driven.{AreTwo, IsEndpoint, IsPosting, IsCalling, Stays, Waits, FollowsSteps, HasAsked, OnlyReleases, IsFreshCaller, IsFreshEndpoint, HasDone, HasDriven, HasEndedAt, HasPosted, AreDistinct, last_note, IsKeeping, posted_in, IsIdle, IsDue, actor_of_letter}
 use Rattle.act_drive.specs.Tracing.{IsTracingClosed}
 use Rattle.act_drive.proofs.Keeps.{keeps_opened}
 use Rattle.act_drive.proofs.Drivers.{posting_less}
@@ -134,7 +134,7 @@ have_posted lines driver calling k s below d =
     let posting = (calling.letters k s below).posting d in
     let less = posting_less driver.owner _ (option_to_list driver.outbox) _ posting in (
       less.sent,
-      subst (λ (l : List Letter). AllPairs (λ one other. one ≢ other) (futures_in l)) (append-nil (get_or driver.passes.letters.items k s).pass.put) less.distinct,
+      subst (AllPairs AreTwo) (append-nil (get_or driver.passes.letters.items k s).pass.put) less.distinct,
     )
 
 pub driven_of : (lines : CallerLines) (plan : List Step) (starved : Bool) (start new : Driver) → AreDistinct lines.mails.now start.passes.letters.items → IsCalling lines new → Stays start new → (starved ≡ false → HasDone lines (actors_in start.owner.handles) plan new.owner new.passes)

@@ -1,11 +1,11 @@
 -- What stays while a caller goes on.
-use Rattle.std.proofs.Common.{◌≡◌, ◌≢◌, ℕ, zero, suc, ◌+◌, ◌<◌, Bool, true, false, if◌then◌else◌, not, ◌&&◌, List, [], ◌∷◌, ◌++◌, length, get_or, set, Option, Some, None, is_some, refl, sym, ◌∙◌, ap, subst, arith, All, AllPairs, Contains, append-nil, option_to_list, length-append}
+use Rattle.std.proofs.Common.{◌≡◌, ℕ, zero, suc, ◌+◌, ◌<◌, Bool, true, false, if◌then◌else◌, not, ◌&&◌, List, [], ◌∷◌, ◌++◌, length, get_or, set, Option, Some, None, is_some, refl, sym, ◌∙◌, ap, subst, arith, All, AllPairs, Contains, append-nil, option_to_list, length-append}
 use Rattle.std.proofs.lemmas.Option.{slice_get_within}
 use Rattle.std.proofs.Math.Seq.{map-set_same}
 use Rattle.act_mailbox.specs.Passes.{TakerView}
 use Rattle.std.specs.Prelude.{map, slice_get, slice_set, unwrap_or, option_map}
 use Rattle.std.specs.List.{range_with_len}
-use Rattle.std.proofs.lemmas.List.Elements.{All-push, All-set, All-weaker, Contains-append_left, filter_map-append}
+use Rattle.std.proofs.lemmas.List.Elements.{All-nil, All-cons, All-head, All-tail, All-push, All-set, All-weaker, Contains-append_left, filter_map-append}
 use Rattle.std.proofs.lemmas.List.Quantifiers.{all_pairs_push}
 use Rattle.std.proofs.lemmas.List.{get_or_append_left, length-set}
 use Rattle.act_types.specs.declared.call.Packet.{Packet}
@@ -32,7 +32,7 @@ use Rattle.act_mailbox.specs.declared.thread.Endpoint.{Endpoint}
 use Rattle.act_drive.specs.declared.driver.CallerLines.{CallerLines}
 use Rattle.act_drive.specs.declared.driver.Driver.{Driver}
 use Rattle.act_drive.specs.declared.driver.CallerPasses.{CallerPasses}
-use Rattle.act_drive.specs.Driven.{actor_of_letter, future_of_letter, futures_in, IsSent, MayBeSent, IsPosting, IsEndpoint, AreKillEndpoints, IsCalling, Stays, Waits, OwnerGoesOn, bare_post, bare_ask, IsIdle, IsKeeping, is_note_letter, AreNoted}
+use Rattle.act_drive.specs.Driven.{actor_of_letter, future_of_letter, futures_in, AreTwo, IsSent, MayBeSent, IsPosting, IsEndpoint, AreKillEndpoints, IsCalling, Stays, Waits, OwnerGoesOn, bare_post, bare_ask, IsIdle, IsKeeping, is_note_letter, AreNoted}
 use Rattle.act_drive.specs.Tracing.{OnlyWaits}
 use Rattle.act_drive.proofs.Keeps.{keeps_on, same_returns, keeps_taken, keeps_dropped, keeps_posted}
 use Rattle.act_drive.proofs.Noted.{noted_on, noted_same, noted_posted}
@@ -234,15 +234,23 @@ known_call : (owner : OwnerView) (k : ℕ) (found : Option Submission) → slice
 known_call owner k None is known = absurd (cc known)
 known_call owner k (Some call) is known = slice_get_within owner.calls k call is
 
+-- a call that isn't marked sent is in no letter that was put
+unmarked : (owner : OwnerView) (packet : Packet) → is_sent owner packet.future ≡ false → (put : List Letter) → All (λ k. is_sent owner k ≡ true) (futures_in put) → All (λ letter. AreTwo letter (Call packet)) put
+unmarked owner packet fresh [] marked = All-nil (λ letter. AreTwo letter (Call packet))
+unmarked owner packet fresh (Call other ∷ put) marked =
+    let first : is_sent owner other.future ≡ true = All-head (λ k. is_sent owner k ≡ true) other.future (futures_in put) marked in
+    All-cons (λ letter. AreTwo letter (Call packet)) (Call other) put (λ same. cc (first, fresh, ap (is_sent owner) same)) (unmarked owner packet fresh put (All-tail (λ k. is_sent owner k ≡ true) other.future (futures_in put) marked))
+unmarked owner packet fresh (Note note ∷ put) marked = All-cons (λ letter. AreTwo letter (Call packet)) (Note note) put tt (unmarked owner packet fresh put marked)
+
 -- a letter more is held
 posting_held : (owner later : OwnerView) (a : ℕ) (put : List Letter) (packet : Packet) → OwnerGoesOn owner later → is_sent owner packet.future ≡ false → is_sent later packet.future ≡ true → IsPosting owner a [] put → IsPosting later a (Call packet ∷ []) put
 posting_held owner later a put packet on fresh now is =
     let before = posting_on owner later a [] put on is in
     let all : futures_in (put ++ Call packet ∷ []) ≡ futures_in (put ++ []) ++ packet.future ∷ [] = filter_map-append future_of_letter put (Call packet ∷ []) ∙ ap (λ (l : List Letter). futures_in l ++ packet.future ∷ []) (sym (append-nil put)) in
+    let marked : All (λ k. is_sent owner k ≡ true) (futures_in put) = subst (λ (l : List Letter). All (λ k. is_sent owner k ≡ true) (futures_in l)) (append-nil put) is.marked in
     record {
       sent = before.sent;
-      distinct = subst (λ (l : List ℕ). AllPairs (λ one other. one ≢ other) l) (sym all)
-          (all_pairs_push (λ one other. one ≢ other) (futures_in (put ++ [])) packet.future is.distinct (λ j d below same. cc (is.marked j d below, fresh, ap (is_sent owner) same)));
+      distinct = all_pairs_push AreTwo put (Call packet) (subst (AllPairs AreTwo) (append-nil put) is.distinct) (unmarked owner packet fresh put marked);
       marked = subst (λ (l : List ℕ). All (λ k. is_sent later k ≡ true) l) (sym all) (All-push (λ k. is_sent later k ≡ true) (futures_in (put ++ [])) packet.future before.marked now);
     }
 
@@ -281,10 +289,12 @@ calling_taken lines old new k packet ready at empty is passes outbox flags calli
 
 -- ---- a letter that is posted, or dropped
 
-pairs_front : (xs ys : List ℕ) → AllPairs (λ one other. one ≢ other) (xs ++ ys) → AllPairs (λ one other. one ≢ other) xs
+pairs_front : (xs ys : List Letter) → AllPairs AreTwo (xs ++ ys) → AllPairs AreTwo xs
 pairs_front xs ys all i j d lt below =
     let long : length (xs ++ ys) ≡ length xs + length ys = length-append xs ys in
-    λ same. all i j d lt (omega (arith, below, long)) (get_or_append_left xs ys d i (omega (arith, lt, below)) ∙ same ∙ sym (get_or_append_left xs ys d j below))
+    let one = get_or_append_left xs ys d i (omega (arith, lt, below)) in
+    let other = get_or_append_left xs ys d j below in
+    subst (λ (l : Letter). AreTwo l (get_or xs j d)) one (subst (AreTwo (get_or (xs ++ ys) i d)) other (all i j d lt (omega (arith, below, long))))
 
 all_front : (P : ℕ → Type 0) (xs ys : List ℕ) → All P (xs ++ ys) → All P xs
 all_front P xs ys all k d below =
@@ -296,14 +306,14 @@ posting_less owner a held put is =
     let all : futures_in (put ++ held) ≡ futures_in (put ++ []) ++ futures_in held = filter_map-append future_of_letter put held ∙ ap (λ (l : List Letter). futures_in l ++ futures_in held) (sym (append-nil put)) in
     record {
       sent = is.sent;
-      distinct = pairs_front (futures_in (put ++ [])) (futures_in held) (subst (λ (l : List ℕ). AllPairs (λ one other. one ≢ other) l) all is.distinct);
+      distinct = subst (AllPairs AreTwo) (sym (append-nil put)) (pairs_front put held is.distinct);
       marked = all_front (λ k. is_sent owner k ≡ true) (futures_in (put ++ [])) (futures_in held) (subst (λ (l : List ℕ). All (λ k. is_sent owner k ≡ true) l) all is.marked);
     }
 
 posting_put : (owner : OwnerView) (a : ℕ) (put : List Letter) (letter : Letter) → IsSent owner a letter → IsPosting owner a (letter ∷ []) put → IsPosting owner a [] (put ++ letter ∷ [])
 posting_put owner a put letter mine is = record {
   sent = All-push (IsSent owner a) put letter is.sent mine;
-  distinct = subst (λ (l : List Letter). AllPairs (λ one other. one ≢ other) (futures_in l)) (sym (append-nil (put ++ letter ∷ []))) is.distinct;
+  distinct = subst (AllPairs AreTwo) (sym (append-nil (put ++ letter ∷ []))) is.distinct;
   marked = subst (λ (l : List Letter). All (λ k. is_sent owner k ≡ true) (futures_in l)) (sym (append-nil (put ++ letter ∷ []))) is.marked;
 }
 

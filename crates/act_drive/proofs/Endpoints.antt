@@ -2,7 +2,7 @@
 use Rattle.std.proofs.Common.{◌≡◌, ◌≢◌, ℕ, zero, suc, ◌<◌, List, [], ◌∷◌, ◌++◌, length, map, get_or, Some, sym, ◌∙◌, ap, subst, arith, All, AllPairs, Contains, inl, inr}
 use Rattle.std.proofs.lemmas.Bool.Decides.{eqb_tells, leb_tells}
 use Rattle.std.proofs.lemmas.List.{get_or-map, length-map}
-use Rattle.std.proofs.lemmas.List.Elements.{All-contains, All-nil, All-cons, All-head, All-tail, All-append, All-weaker, Contains-append_cases, filter_map-append}
+use Rattle.std.proofs.lemmas.List.Elements.{All-contains, All-nil, All-cons, All-head, All-tail, All-append, All-weaker, Contains-append_cases}
 use Rattle.std.proofs.lemmas.List.Kept.{AllPairs-cons}
 use Rattle.act_types.specs.declared.call.Packet.{Packet}
 use Rattle.act_types.specs.declared.call.ReleaseNote.{ReleaseNote}
@@ -12,7 +12,7 @@ use Rattle.act_mailbox.specs.declared.mail.Letter.{Letter}
 use Rattle.act_mailbox.specs.declared.mail.Letter.TheVariants.{Call, Note}
 use Rattle.act_mailbox.specs.declared.thread.Endpoint.{Endpoint}
 use Rattle.act_mailbox.specs.Mails.{MailView}
-use Rattle.act_drive.specs.Driven.{actor_of_letter, future_of_letter, futures_in, bare_post, IsSent, HasPosted, AreDistinct, IsPostedOnce, posted_in, LettersStandAtTheirEndpoints}
+use Rattle.act_drive.specs.Driven.{actor_of_letter, futures_in, AreTwo, bare_post, IsSent, HasPosted, AreDistinct, IsPostedOnce, posted_in, LettersStandAtTheirEndpoints}
 
 -- the letter stands at an endpoint
 endpoint_of : (endpoints : List (Endpoint (PutterView Letter Unit))) (letter : Letter) → Contains (posted_in endpoints) letter → (k : ℕ) × (k < length endpoints) × ((s : Endpoint (PutterView Letter Unit)) → Contains (get_or endpoints k s).pass.put letter)
@@ -41,7 +41,7 @@ letters_stand_at_their_endpoints mails owner endpoints letter distinct posted he
       ])
     ]
 
--- ---- no call is posted twice
+-- ---- no letter is posted twice
 
 abbrev LetterEndpoint : Type 0
 LetterEndpoint = Endpoint (PutterView Letter Unit)
@@ -55,42 +55,32 @@ distinct_stays mails old new same distinct i j d lt below =
     λ m same_actor. distinct i j d lt (omega (arith, below, long)) m
     (ap (λ (n : ℕ). (get_or mails n m).actor) (sym (place i (omega (arith, lt, below)))) ∙ same_actor ∙ ap (λ (n : ℕ). (get_or mails n m).actor) (place j below))
 
--- whose call a future is
-abbrev IsOf : OwnerView → ℕ → ℕ → Type 0
-IsOf owner a k = (packet : Packet) × (packet_at owner k ≡ Some packet) × (packet.actor ≡ a)
+-- letters to two actors are two
+letters_apart : (owner : OwnerView) (a b : ℕ) (one other : Letter) → a ≢ b → IsSent owner a one → IsSent owner b other → AreTwo one other
+letters_apart owner a b (Call one) (Call other) apart mine its = λ same.
+    let packets : Some one ≡ Some other = sym mine.0 ∙ ap (packet_at owner) same ∙ its.0 in
+    let packet : one ≡ other = cc packets in
+    apart (sym mine.2 ∙ ap (λ (p : Packet). p.actor) packet ∙ its.2)
+letters_apart owner a b (Call one) (Note other) apart mine its = tt
+letters_apart owner a b (Note one) (Call other) apart mine its = tt
+letters_apart owner a b (Note one) (Note other) apart mine its = λ same. apart (sym (sent_to owner a (Note one) mine) ∙ same ∙ sent_to owner b (Note other) its)
 
-futures_of : (owner : OwnerView) (a : ℕ) (letters : List Letter) → All (IsSent owner a) letters → All (IsOf owner a) (futures_in letters)
-futures_of owner a [] sent = All-nil (IsOf owner a)
-futures_of owner a (Call packet ∷ letters) sent =
-    let first = All-head (IsSent owner a) (Call packet) letters sent in
-    All-cons (IsOf owner a) packet.future (futures_in letters) (packet, first.0, first.2) (futures_of owner a letters (All-tail (IsSent owner a) (Call packet) letters sent))
-futures_of owner a (Note note ∷ letters) sent = futures_of owner a letters (All-tail (IsSent owner a) (Note note) letters sent)
-
--- a future of one actor is none of another
-futures_apart : (owner : OwnerView) (a b j k : ℕ) → a ≢ b → IsOf owner a j → IsOf owner b k → j ≢ k
-futures_apart owner a b j k apart mine other same =
-    let one : Some mine.0 ≡ Some other.0 = sym mine.1 ∙ ap (packet_at owner) same ∙ other.1 in
-    let packet : mine.0 ≡ other.0 = cc one in
-    apart (sym mine.2 ∙ ap (λ (p : Packet). p.actor) packet ∙ other.2)
-
-pairs_append : (xs ys : List ℕ) → AllPairs (λ one other. one ≢ other) xs → AllPairs (λ one other. one ≢ other) ys → All (λ x. All (λ y. x ≢ y) ys) xs → AllPairs (λ one other. one ≢ other) (xs ++ ys)
+pairs_append : (xs ys : List Letter) → AllPairs AreTwo xs → AllPairs AreTwo ys → All (λ x. All (AreTwo x) ys) xs → AllPairs AreTwo (xs ++ ys)
 pairs_append [] ys first second apart = second
 pairs_append (x ∷ xs) ys first second apart =
-    let R : ℕ → ℕ → Type 0 = λ one other. one ≢ other in
-    let later : All (R x) xs = λ k d below. first 0 (suc k) d (omega arith) (omega (arith, below)) in
-    let rest : AllPairs R xs = λ i j d lt below. first (suc i) (suc j) d (omega (arith, lt)) (omega (arith, below)) in
-    AllPairs-cons R x (xs ++ ys) (All-append (R x) xs ys later (All-head (λ n. All (R n) ys) x xs apart)) (pairs_append xs ys rest second (All-tail (λ n. All (R n) ys) x xs apart))
+    let later : All (AreTwo x) xs = λ k d below. first 0 (suc k) d (omega arith) (omega (arith, below)) in
+    let rest : AllPairs AreTwo xs = λ i j d lt below. first (suc i) (suc j) d (omega (arith, lt)) (omega (arith, below)) in
+    AllPairs-cons AreTwo x (xs ++ ys) (All-append (AreTwo x) xs ys later (All-head (λ l. All (AreTwo l) ys) x xs apart)) (pairs_append xs ys rest second (All-tail (λ l. All (AreTwo l) ys) x xs apart))
 
--- what was posted at the other endpoints is of other actors
-others_apart : (mails : List MailView) (owner : OwnerView) (a : ℕ) (d : MailView) (endpoints : List LetterEndpoint) (k : ℕ) → IsOf owner a k → All (λ (s : LetterEndpoint). a ≢ (get_or mails s.place d).actor) endpoints → All (HasPosted mails owner) endpoints → All (λ other. k ≢ other) (futures_in (posted_in endpoints))
-others_apart mails owner a d [] k mine apart posted = All-nil (λ other. k ≢ other)
-others_apart mails owner a d (endpoint ∷ endpoints) k mine apart posted =
+-- what was posted at the other endpoints goes to other actors
+others_apart : (mails : List MailView) (owner : OwnerView) (a : ℕ) (d : MailView) (endpoints : List LetterEndpoint) (letter : Letter) → IsSent owner a letter → All (λ (s : LetterEndpoint). a ≢ (get_or mails s.place d).actor) endpoints → All (HasPosted mails owner) endpoints → All (AreTwo letter) (posted_in endpoints)
+others_apart mails owner a d [] letter mine apart posted = All-nil (AreTwo letter)
+others_apart mails owner a d (endpoint ∷ endpoints) letter mine apart posted =
     let here = All-head (λ (s : LetterEndpoint). a ≢ (get_or mails s.place d).actor) endpoint endpoints apart in
     let these = All-head (HasPosted mails owner) endpoint endpoints posted in
     let b = (get_or mails endpoint.place d).actor in
-    let first : All (λ other. k ≢ other) (futures_in endpoint.pass.put) = All-weaker (IsOf owner b) (λ other. k ≢ other) (λ other of. futures_apart owner a b k other here mine of) (futures_in endpoint.pass.put) (futures_of owner b endpoint.pass.put (these d).0) in
-    let rest = others_apart mails owner a d endpoints k mine (All-tail (λ (s : LetterEndpoint). a ≢ (get_or mails s.place d).actor) endpoint endpoints apart) (All-tail (HasPosted mails owner) endpoint endpoints posted) in
-    subst (λ (l : List ℕ). All (λ other. k ≢ other) l) (sym (filter_map-append future_of_letter endpoint.pass.put (posted_in endpoints))) (All-append (λ other. k ≢ other) (futures_in endpoint.pass.put) (futures_in (posted_in endpoints)) first rest)
+    let first : All (AreTwo letter) endpoint.pass.put = All-weaker (IsSent owner b) (AreTwo letter) (λ other its. letters_apart owner a b letter other here mine its) endpoint.pass.put (these d).0 in
+    All-append (AreTwo letter) endpoint.pass.put (posted_in endpoints) first (others_apart mails owner a d endpoints letter mine (All-tail (λ (s : LetterEndpoint). a ≢ (get_or mails s.place d).actor) endpoint endpoints apart) (All-tail (HasPosted mails owner) endpoint endpoints posted))
 
 once_at : (mails : List MailView) (owner : OwnerView) (d : MailView) (endpoints : List LetterEndpoint) → AreDistinct mails endpoints → All (HasPosted mails owner) endpoints → IsPostedOnce endpoints
 once_at mails owner d [] distinct posted = λ i j e lt below. absurd (omega (arith, below))
@@ -100,11 +90,23 @@ once_at mails owner d (endpoint ∷ endpoints) distinct posted =
     let rest : AreDistinct mails endpoints = λ i j e lt below. distinct (suc i) (suc j) e (omega (arith, lt)) (omega (arith, below)) in
     let these = All-head (HasPosted mails owner) endpoint endpoints posted in
     let others = All-tail (HasPosted mails owner) endpoint endpoints posted in
-    let crossing : All (λ k. All (λ other. k ≢ other) (futures_in (posted_in endpoints))) (futures_in endpoint.pass.put) =
-    All-weaker (IsOf owner a) (λ k. All (λ other. k ≢ other) (futures_in (posted_in endpoints))) (λ k of. others_apart mails owner a d endpoints k of apart others) (futures_in endpoint.pass.put) (futures_of owner a endpoint.pass.put (these d).0) in
-    subst (λ (l : List ℕ). AllPairs (λ one other. one ≢ other) l) (sym (filter_map-append future_of_letter endpoint.pass.put (posted_in endpoints)))
-    (pairs_append (futures_in endpoint.pass.put) (futures_in (posted_in endpoints)) (these d).1 (once_at mails owner d endpoints rest others) crossing)
+    let crossing : All (λ letter. All (AreTwo letter) (posted_in endpoints)) endpoint.pass.put = All-weaker (IsSent owner a) (λ letter. All (AreTwo letter) (posted_in endpoints)) (λ letter mine. others_apart mails owner a d endpoints letter mine apart others) endpoint.pass.put (these d).0 in
+    pairs_append endpoint.pass.put (posted_in endpoints) (these d).1 (once_at mails owner d endpoints rest others) crossing
 
 pub posted_once : (mails : List MailView) (owner : OwnerView) (endpoints : List LetterEndpoint) → AreDistinct mails endpoints → All (HasPosted mails owner) endpoints → IsPostedOnce endpoints
 posted_once mails owner [] distinct posted = λ i j e lt below. absurd (omega (arith, below))
 posted_once mails owner (endpoint ∷ endpoints) distinct posted = once_at mails owner (record { line = endpoint.pass.line; actor = 0 }) (endpoint ∷ endpoints) distinct posted
+
+-- letters that are two by two carry futures that differ
+pub futures_differ : (letters : List Letter) → AllPairs AreTwo letters → AllPairs (λ one other. one ≢ other) (futures_in letters)
+futures_differ [] two = λ i j e lt below. absurd (omega (arith, below))
+futures_differ (letter ∷ letters) two = go letter (λ k e below. two 0 (suc k) e (omega arith) (omega (arith, below))) (futures_differ letters (λ i j e lt below. two (suc i) (suc j) e (omega (arith, lt)) (omega (arith, below))))
+  where
+    others : (packet : Packet) (later : List Letter) → All (AreTwo (Call packet)) later → All (λ k. packet.future ≢ k) (futures_in later)
+    others packet [] apart = All-nil (λ k. packet.future ≢ k)
+    others packet (Call other ∷ later) apart = All-cons (λ k. packet.future ≢ k) other.future (futures_in later) (All-head (AreTwo (Call packet)) (Call other) later apart) (others packet later (All-tail (AreTwo (Call packet)) (Call other) later apart))
+    others packet (Note note ∷ later) apart = others packet later (All-tail (AreTwo (Call packet)) (Note note) later apart)
+
+    go : (first : Letter) → All (AreTwo first) letters → AllPairs (λ one other. one ≢ other) (futures_in letters) → AllPairs (λ one other. one ≢ other) (futures_in (first ∷ letters))
+    go (Call packet) apart rest = AllPairs-cons (λ one other. one ≢ other) packet.future (futures_in letters) (others packet letters apart) rest
+    go (Note note) apart rest = rest

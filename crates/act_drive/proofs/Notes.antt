@@ -1,8 +1,9 @@
 -- The mark of a call that is submitted, and the note of a last release.
-use Rattle.std.proofs.Common.{◌≡◌, ◌≢◌, ℕ, ◌-◌, ◌==◌, Bool, true, false, if◌then◌else◌, List, [], ◌∷◌, ◌++◌, length, Option, Some, None, Ok, refl, sym, ◌∙◌, ap, subst, arith, All, AllPairs, append-nil, option_to_list, length-append, inl, inr}
+use Rattle.std.proofs.Common.{◌≡◌, ℕ, ◌-◌, ◌==◌, Bool, true, false, if◌then◌else◌, List, [], ◌∷◌, ◌++◌, length, get_or, Option, Some, None, Ok, refl, sym, ◌∙◌, ap, subst, arith, All, AllPairs, append-nil, option_to_list, length-append, inl, inr}
 use Rattle.std.specs.Prelude.{option_map}
 use Rattle.std.proofs.lemmas.Bool.Decides.{eqb_tells}
 use Rattle.std.proofs.lemmas.List.Elements.{All-weaker, filter_map-append}
+use Rattle.std.proofs.lemmas.List.Quantifiers.{all_pairs_push}
 use Rattle.act_types.specs.declared.call.Method.{Method}
 use Rattle.act_types.specs.declared.call.Arg.{Arg}
 use Rattle.act_types.specs.declared.call.ReleaseNote.{ReleaseNote}
@@ -15,13 +16,13 @@ use Rattle.act_owner.specs.Owner.{OwnerView, is_sent, with_submission, with_hand
 use Rattle.act_owner.specs.Life.{Released, Hears}
 use Rattle.act_owner.proofs.Told.{hears_step}
 use Rattle.act_mailbox.specs.declared.mail.Letter.{Letter}
-use Rattle.act_mailbox.specs.declared.mail.Letter.TheVariants.{Note}
+use Rattle.act_mailbox.specs.declared.mail.Letter.TheVariants.{Call, Note}
 use Rattle.act_drive.specs.declared.driver.CallerLines.{CallerLines}
 use Rattle.act_drive.specs.declared.driver.Driver.{Driver}
-use Rattle.act_drive.specs.Driven.{IsSent, IsEndpoint, IsPosting, IsCalling, Waits, OwnerGoesOn, futures_in, future_of_letter, IsKeeping}
+use Rattle.act_drive.specs.Driven.{AreTwo, IsSent, IsEndpoint, IsPosting, IsCalling, Waits, OwnerGoesOn, futures_in, future_of_letter, IsKeeping}
 use Rattle.act_drive.proofs.Keeps.{keeps_noted}
 use Rattle.act_drive.proofs.Noted.{noted_on}
-use Rattle.act_drive.proofs.Drivers.{change_on, endpoints_on, driver_same}
+use Rattle.act_drive.proofs.Drivers.{change_on, posting_on, driver_same}
 use Rattle.act_drive.proofs.OwnChanges.{ended_released}
 
 pub ok_of : {X : Type 0} (refusal : Option HandleRefusal) (value x : X) → Ok x ≡ or_else refusal value → refusal ≡ None
@@ -42,13 +43,21 @@ one_less : (copies : Option ℕ) → copies_held copies ≡ 1 → copies_held (o
 one_less None is = omega (arith, is)
 one_less (Some n) is = omega (arith, is)
 
-posting_note : (owner : OwnerView) (a : ℕ) (put : List Letter) (note : ReleaseNote) → IsPosting owner a [] put → IsPosting owner a (Note note ∷ []) put
-posting_note owner a put note is =
+-- the note of an actor of which a handle is held is none of the letters sent
+unnoted : (owner : OwnerView) (a : ℕ) (note : ReleaseNote) (letter : Letter) → copies_held (copies_in note.actor owner.handles) ≡ 1 → IsSent owner a letter → AreTwo letter (Note note)
+unnoted owner a note (Call packet) one sent = tt
+unnoted owner a note (Note other) one sent = λ same.
+    let none : copies_held (copies_in note.actor owner.handles) ≡ 0 = ap (λ (n : ℕ). copies_held (copies_in n owner.handles)) (sym same ∙ ap (λ (n : ReleaseNote). n.actor) sent.0) ∙ sent.1 in
+    absurd (omega (arith, one, none))
+
+posting_note : (owner later : OwnerView) (a : ℕ) (put : List Letter) (note : ReleaseNote) → OwnerGoesOn owner later → copies_held (copies_in note.actor owner.handles) ≡ 1 → IsPosting owner a [] put → IsPosting later a (Note note ∷ []) put
+posting_note owner later a put note on one is =
+    let before = posting_on owner later a [] put on is in
     let all : futures_in (put ++ []) ≡ futures_in (put ++ Note note ∷ []) = ap (λ (l : List Letter). futures_in l) (append-nil put) ∙ sym (filter_map-append future_of_letter put (Note note ∷ []) ∙ append-nil (futures_in put)) in
     record {
-      sent = is.sent;
-      distinct = subst (λ (l : List ℕ). AllPairs (λ one other. one ≢ other) l) all is.distinct;
-      marked = subst (λ (l : List ℕ). All (λ k. is_sent owner k ≡ true) l) all is.marked;
+      sent = before.sent;
+      distinct = all_pairs_push AreTwo put (Note note) (subst (AllPairs AreTwo) (append-nil put) is.distinct) (λ j d below. unnoted owner a note (get_or put j d) one (is.sent j d below));
+      marked = subst (λ (l : List ℕ). All (λ k. is_sent later k ≡ true) l) all before.marked;
     }
 
 -- the last handle is let go, and its note is in the outbox
@@ -62,13 +71,14 @@ calling_noted lines old new a note is passes empty outbox flags told given one c
     let last : note ≡ record { caller = old.owner.id; actor = a; after = length (calls_to a old.owner.calls) } = told ∙ ap (λ (n : ℕ). record { caller = old.owner.id; actor = a; after = n }) given in
     let mine : IsSent now note.actor (Note note) = subst (λ (n : ReleaseNote). IsSent now n.actor (Note n)) (sym told)
     (ap (λ (n : ℕ). record { caller = old.owner.id; actor = a; after = n }) given, ap copies_held (copies-without_copy a old.owner.handles) ∙ one_less (copies_in a old.owner.handles) one) in
+    let held : copies_held (copies_in note.actor old.owner.handles) ≡ 1 = ap (λ (n : ReleaseNote). copies_held (copies_in n.actor old.owner.handles)) last ∙ one in
     let good : IsCalling lines (record { owner = now; passes = old.passes; outbox = Some (Note note); noted = new.noted }) = record {
       places = calling.places;
       flags = calling.flags;
       hears = subst (Hears now) (append-nil old.passes.collects.taken) (hears_step old.owner old.passes.collects.taken (Released a) calling.places calling.hears);
       collects = calling.collects;
       held = mine;
-      letters = All-weaker (IsEndpoint lines.mails.now now []) (IsEndpoint lines.mails.now now (Note note ∷ [])) (λ endpoint s. record { below = s.below; line = s.line; number = s.number; posting = λ d. posting_note now _ endpoint.pass.put note (s.posting d) }) old.passes.letters.items (endpoints_on lines.mails.now old.owner now [] old.passes.letters.items on endpoints);
+      letters = All-weaker (IsEndpoint lines.mails.now old.owner []) (IsEndpoint lines.mails.now now (Note note ∷ [])) (λ endpoint s. record { below = s.below; line = s.line; number = s.number; posting = λ d. posting_note old.owner now _ endpoint.pass.put note on held (s.posting d) }) old.passes.letters.items endpoints;
       kills = calling.kills;
       keeps = keeps_noted lines.mails.now old.owner old.passes.collects.taken old.passes.letters.items a note (ap Note last) kept;
       names = calling.names;

@@ -46,6 +46,13 @@ IsSent owner a (Call packet) = (packet_at owner packet.future ≡ Some packet) �
 IsSent owner a (Note note) = (note ≡ record { caller = owner.id; actor = a; after = length (calls_to a owner.calls) })
     × (copies_held (copies_in a owner.handles) ≡ 0)
 
+-- two letters carry two calls, or are the notes of two actors, or one carries a call and one is a note
+abbrev pub AreTwo : Letter → Letter → Type 0
+AreTwo (Call one) (Call other) = one.future ≢ other.future
+AreTwo (Call packet) (Note note) = Unit {0}
+AreTwo (Note note) (Call packet) = Unit {0}
+AreTwo (Note one) (Note other) = one.actor ≢ other.actor
+
 -- whether a letter is a note
 abbrev pub is_note_letter : Letter → Bool
 is_note_letter (Call packet) = false
@@ -56,10 +63,11 @@ abbrev pub MayBeSent : OwnerView → Option Letter → Type 0
 MayBeSent owner None = Unit {0}
 MayBeSent owner (Some letter) = IsSent owner (actor_of_letter letter) letter
 
--- what was put into an actor's mail line, and what is held beside: no call twice, and each is marked sent
+-- what was put into an actor's mail line, and what is held beside: no call and no note twice, and each call is marked
+-- sent
 pub record IsPosting (owner : OwnerView) (a : ℕ) (held : List Letter) (put : List Letter) : Type 0 where
   pub sent : All (IsSent owner a) put
-  pub distinct : AllPairs (λ one other. one ≢ other) (futures_in (put ++ held))
+  pub distinct : AllPairs AreTwo (put ++ held)
   pub marked : All (λ k. is_sent owner k ≡ true) (futures_in (put ++ held))
 
 -- a pass is of the mail line at its place
@@ -311,11 +319,11 @@ abbrev pub EndsSteps : CallerLines → Driver → Driver → Type 0
 EndsSteps lines old new = (actors : List ℕ) (steps : List Step) → FollowsSteps lines actors steps old →
     HasDone lines actors steps new.owner new.passes
 
--- the letters at an endpoint are the owner's, and no call is there twice
+-- the letters at an endpoint are the owner's, and no call is there twice, nor the note
 abbrev pub HasPosted : List MailView → OwnerView → Endpoint (PutterView Letter Unit) → Type 0
 HasPosted mails owner endpoint = (d : MailView) →
     All (IsSent owner (slice_index_or mails endpoint.place d).actor) endpoint.pass.put
-    × AllPairs (λ one other. one ≢ other) (futures_in endpoint.pass.put)
+    × AllPairs AreTwo endpoint.pass.put
 
 -- what was posted among such endpoints was posted at the one of its actor
 abbrev pub LettersStandAtTheirEndpoints : Type 0
@@ -325,9 +333,9 @@ LettersStandAtTheirEndpoints = (mails : List MailView) (owner : OwnerView)
     → All (λ endpoint. (d : MailView) → (slice_index_or mails endpoint.place d).actor ≡ actor_of_letter letter →
     Contains endpoint.pass.put letter) endpoints
 
--- no call was posted twice among these endpoints, be it to one actor or to two
+-- no call was posted twice among these endpoints, be it to one actor or to two, and no actor's note
 abbrev pub IsPostedOnce : List (Endpoint (PutterView Letter Unit)) → Type 0
-IsPostedOnce endpoints = AllPairs (λ one other. one ≢ other) (futures_in (posted_in endpoints))
+IsPostedOnce endpoints = AllPairs AreTwo (posted_in endpoints)
 
 -- what a caller's thread leaves, of the owner and the passes that it was given and its plan
 pub record HasDriven (lines : CallerLines) (owner : OwnerView) (before : CallerPasses) (plan : List Step)
