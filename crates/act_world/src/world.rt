@@ -305,6 +305,29 @@ impl<K: Actor> World<K> {
         let Ok(()) = told.reserve(events.len()) else {
             return Err(0);
         };
+        self.play_reserved(events, told)
+    }
+
+    /// Does events in order, as `play` does, where the list has room for what is told of them. So it
+    /// stops only at an event that wants memory.
+    pub fn play_reserved(&mut self, events: &[Event], told: &mut Vec<Outcome>) -> Result<(), u32>
+        requires room { HasRoom (length events.now) (world_view K.state self.old).network }
+        requires reserved { vec_len told.old + length events.now ≤ vec_capacity told.old }
+        ensures ok { OnOk result (HasPlayed events.now (world_view K.state self.old)
+            (world_view K.state self.new) told.old.items told.new.items) }
+        ensures grown { IsGrownBy (length events.now) (world_view K.state self.old).network
+            (world_view K.state self.new).network }
+        ensures place { IfErr result (λ i. i < length events.now) }
+        ensures err { IfErr result (λ i. HasPlayed (take i events.now) (world_view K.state self.old)
+            (world_view K.state self.new) told.old.items told.new.items) }
+        ensures first { result ≡ Err 0 →
+            (world_view K.state self.new ≡ world_view K.state self.old) × (told.new.items ≡ told.old.items) }
+
+        // Nothing refuses the event that it stops at, and that event takes memory.
+        ensures memory_last { IfErr result (λ i. IsUnrefusedAt i events.now (world_view K.state self.new)) }
+        ensures memory { IfErr result (λ i. TakesMemoryAt i events.now (world_view K.state self.new)) }
+        ensures capacity { vec_capacity told.old ≤ vec_capacity told.new }
+    {
         for (i, event) in events.iter().enumerate() {
             let Ok(outcome) = self.step(event) else {
                 return Err(i as u32);
