@@ -310,6 +310,7 @@ impl<K: Actor> World<K> {
 
     /// Does events in order, as `play` does, where the list has room for what is told of them. So it
     /// stops only at an event that wants memory.
+    #[tactic(auto, using(crate::proofs::Playing::unrefused_at, crate::proofs::Playing::memory_at, crate::proofs::Playing::grown_within))]
     pub fn play_reserved(&mut self, events: &[Event], told: &mut Vec<Outcome>) -> Result<(), u32>
         requires room { HasRoom (length events.now) (world_view K.state self.old).network }
         requires reserved { vec_len told.old + length events.now ≤ vec_capacity told.old }
