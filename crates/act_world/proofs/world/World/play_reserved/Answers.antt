@@ -1,4 +1,4 @@
-use Rattle.std.proofs.Common.{rules, ◌≡◌, ◌+◌, ◌-◌, List, length, subst, arith}
+use Rattle.std.proofs.Common.{rules, ◌+◌, ◌-◌, List, length, subst, arith}
 use Rattle.std.proofs.lemmas.List.{take_all}
 use Rattle.act_rules.specs.declared.event.Event.{Event}
 use Rattle.act_world.specs.View.{world_view}
