@@ -6,8 +6,8 @@ A wrong body is worth something only if it is refused for what it does. So two k
 a proof and found none, or a written answer proves it of another value than the one that stands there now;
 
 *by its shape*: what is written of the proof no longer fits the code. It names a goal or a step that is gone, or proves
-something else altogether. A correct body of that shape would be refused, too. Where one answer doesn't fit, another that
-differs counts only if both types speak of the same steps.
+something else altogether. A correct body of that shape would be refused, too. Where one answer doesn't fit, another
+that differs counts only if both types speak of the same steps.
 
 A goal whose name is new may be one whose answer is lost. So where an answer of the function has lost its goal, another
 goal of the same clause counts only where the prover has values at which it is false.

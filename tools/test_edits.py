@@ -254,7 +254,7 @@ class Refusals(unittest.TestCase):
         """An equivalent body whose index has a step more, as the prover told of it."""
         said = [self.FILE + "`invariant_of-self-2`: expected type `holds_asked the_row 19 1 (λ x. x) c.self-3-1.given`",
                 "  but this has type `IsHandles (set c.kept.items c.args.place record {copies = ?5 c})`",
-                self.FILE + "`returns`: as printed, the two types first differ where one has `(set c.kept 0 c.kept.now)`",
+                self.FILE + "`returns`: as printed, the two types first differ where one has `set (set c.kept 0)`",
                 "  (expected), right after `◌≡◌ (set`, and the other has `c.kept.items` (found)",
                 "  expected type `set (set c.kept.items 0 c.kept.now) 0 record {actor = c.index_mut.result.now.actor}`",
                 "  but this has type `set c.kept.items c.args.place record {actor = c.kept.now.actor}`"]
@@ -311,7 +311,7 @@ class Bare(Scratch):
             asked = [word for word in trial.check.call_args.args[1:] if word.startswith("low::")]
             self.assertEqual(asked[:1] + [len(asked)], [LEN, 2])
 
-    def test_an_edit_of_definitions_counts_where_a_clause_refuses_it(self):
+    def test_an_edit_of_definitions_counts_where_a_clause_refuses_it_and_not_its_equivalent(self):
         (self.crate / "specs").mkdir()
         (self.crate / "specs/Few.antt").write_text("abbrev pub few : N\nfew = 3\n")
         source = f"ghost use Rattle.low.specs.Few.{{few}};\n{SOURCE.replace('result', 'few')}"
@@ -322,9 +322,10 @@ class Bare(Scratch):
         lemma, unread = "./proofs/Few.antt:3:5: error: they differ", "./specs/Few.antt:3:5: error: expected the end"
         ended = "only=1 proved=0"
         proved, of_lemma = [f"fn {LEN}: proved", ended], [lemma, refused, ended]
-        cases = [(plain, [[note, refused, ended]], [REFUSED]), (plain, [of_lemma], [BY_SHAPE]), (plain, [proved], []),
+        cases = [(plain, [[note, refused, ended]], [BY_SHAPE]), (plain, [of_lemma], [BY_SHAPE]), (plain, [proved], []),
                  (plain, [[lemma, *proved]], []), (plain, [[note, refused]], []),
                  (plain, [[unread, note, refused, ended]], []), (same, [of_lemma, proved], [REFUSED]),
+                 (same, [[note, refused, ended], proved], [REFUSED]), (same, [proved, proved], []),
                  (same, [of_lemma, of_lemma], [BY_SHAPE]),
                  (same, [[note, refused, ended], [lemma, *proved]], [BY_SHAPE])]
         for edit, said, came in cases:
@@ -334,6 +335,11 @@ class Bare(Scratch):
             self.assertEqual([each.came for each in trial.try_definitions([edit])], came)
             asked = [word for word in trial.check.call_args.args if str(word).startswith("low::")]
             self.assertEqual(asked, [LEN])
+        for lines, came in ([note, refused, ended], REFUSED), (of_lemma, BY_SHAPE):
+            trial = self.trial(*lines)
+            trial.speaking = lambda _: {LEN: Place("src/few.rt", ("Few",), "len", 6, 11)}
+            trial.crate.name = trying.WORKED_EXAMPLES
+            self.assertEqual([each.came for each in trial.try_definitions([plain])], [came])
 
 
 class Copies(Scratch):

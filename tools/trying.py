@@ -20,9 +20,9 @@ An edit may have an equivalent body, by its lines `same:`. That is tried in a co
 what is written of the proof fits bodies of that shape, and each message of the edit's own tells of what it does.
 
 An edit of definitions is tried over the functions whose clauses speak of these, where all others are bare. It counts
-where one of them has a message of a goal, or a worked example has an error. Where only lemmas fail on which they stand,
-it is refused by its shape, unless it has an equivalent definition that is accepted. Every other edit is tried alone,
-over the whole crate, as `rt ci` does it.
+where it has an equivalent definition with which they are accepted, and one of them is refused. It counts, too, where a
+worked example is no longer what the rules compute. Every other edit is tried alone, over the whole crate, as `rt ci`
+does it.
 """
 import functools
 import importlib.machinery
@@ -41,6 +41,8 @@ from refusals import ERROR, UNPROVED, is_in, of_a_goal, own_messages, plain, wri
 
 ONE_JOB = ["--jobs", "1"]
 HOLES = "--allow-holes"
+# The crate whose laws are computed by the definitions.
+WORKED_EXAMPLES = "act_rows"
 # More take more memory: 2 GB for these.
 MAX_TOGETHER = 48
 
@@ -268,17 +270,18 @@ class Trial:
             said = asked and self.said_of(edit.applied({}), asked)
             if said and not any(map(is_of_statements, said)) and not are_accepted(said, asked):
                 own = own_messages_of(said, asked, True)
-                # A function may be refused only for a lemma on which it stands.
+                # A function may be refused only for a lemma on which it stands, or since `search` finds it in one form.
                 others = [*first_of(own), *filter(is_of_proofs, said)]
+                goal = self.goal_of(own, {}) if self.crate.name == WORKED_EXAMPLES else None
                 if others:
-                    yield judged(edit, self.goal_of(own, {}), others[0], edit in fit or not edit.has_same())
+                    yield judged(edit, goal, others[0], edit in fit or not edit.has_same())
 
     def speaking(self, edit):
         """The functions whose clauses speak of the definitions that an edit changes, each with its place."""
         return {it: place for place in edit.speaking() for it in symbols_of(self.symbols, self.crate.name, place)}
 
     def fitting(self, edits):
-        """Those of these edits whose equivalent definitions are accepted: all of them in one check, or else each alone."""
+        """Those of these edits whose equivalent definitions are accepted, in one check or else each alone."""
         texts, asked = {}, {}
         try:
             for edit in edits:
