@@ -40,7 +40,7 @@ with the function that it changes. Each run of `./test` tries a twentieth of tho
 the commit. The edits of `must-fail/` aren't listed: the gate tries them all.
 """
 COUNTS = re.compile(r"Refused: (\d+) of (\d+)\.")
-SOURCES = re.compile(r", sources (\w+)\.")
+SOURCES = re.compile(r",\s+sources (\w+)\.")
 
 
 def output_of(*command):
