@@ -10,8 +10,9 @@ proved its crate. With them it tries a twentieth of the further edits that docs/
 commit draws.
 
 An edit counts as refused where a message tells of a goal that doesn't follow of its function (tools/trying.py). Each
-that wasn't refused, or only by its shape, or wasn't tried, is a failure, and named at the end. Checks of edits take
-the processor time that `rt ci` leaves, and all of it once that has ended. Where it passed, COMMAND runs beside the last
+that wasn't refused, or only by its shape, or wasn't tried, is a failure, and named at the end. tools/by_shape.txt
+lists those that are known to be refused by their shape alone: one that isn't there fails, and so does one that needn't
+be there. Checks of edits take the processor time that `rt ci` leaves, and all of it once that has ended. Where it passed, COMMAND runs beside the last
 of them: what tries the programs, as they are proved by then.
 """
 import collections
@@ -28,9 +29,10 @@ from pathlib import Path
 
 from edits import GATE, MORE, TOP, edits_in
 from more_edits import check, listed_as_refused, output_of, share_of
-from trying import UNTRIED, Tried, kit, symbols_in, try_crate
+from trying import BY_SHAPE, UNTRIED, Tried, kit, symbols_in, try_crate
 
 ASIDE = "must-fail-aside"
+KNOWN = TOP / "tools/by_shape.txt"
 # What ./test --help asks for each core.
 MEMORY_OF_A_CHECK = 4 << 30
 PROVED = re.compile(r"rt: (\w+) (proved$|is kept: )")
@@ -183,6 +185,20 @@ def run(lanes):
     return ran.returncode
 
 
+def known_by_shape():
+    """The edits that are known to be refused by their shape alone. The list may only become shorter."""
+    return {line for line in KNOWN.read_text().splitlines() if line and not line.startswith("#")}
+
+
+def fault_of(tried, known):
+    """What is wrong with what came of an edit, or None."""
+    if tried.is_refused and tried.edit.name in known:
+        return f"{tried.edit.name}: is refused for what it does, so {KNOWN.name} is not to have it"
+    if tried.is_refused or tried.came == BY_SHAPE and tried.edit.name in known:
+        return None
+    return f"{tried.edit.name}: {tried.came}: {tried.told}"
+
+
 def gate(command):
     """Whether the gate passes, then this command, and each edit of must-fail and of the share is refused."""
     commit = output_of("git", "rev-parse", "HEAD") or "none"
@@ -191,13 +207,16 @@ def gate(command):
     share = share_of(further, commit)
     print(f"gate: tries {len(share)} of the {len(further)} edits that docs/edits.md has, by the commit {commit[:12]}:")
     print("\n".join(f"    {edit.name}" for edit in share), flush=True)
-    lanes = Lanes([*edits_in(GATE), *share])
+    lanes, known = Lanes([*edits_in(GATE), *share]), known_by_shape()
     kit()
     status = run(lanes) or command and subprocess.run(command, cwd=TOP).returncode
     tried = lanes.end()
-    failed = [each for each in tried if not each.is_refused]
-    for each in failed:
-        print(f"gate: {each.edit.name}: {each.came}: {each.told}")
+    failed = [fault for each in tried if (fault := fault_of(each, known))]
+    for fault in failed:
+        print(f"gate: {fault}")
+    by_shape = sum(each.came == BY_SHAPE for each in tried)
+    if by_shape:
+        print(f"gate: {by_shape} of these edits are refused by their shape alone, and count for nothing")
     if status:
         print("gate: rt ci failed, or what runs after it")
     print(f"gate: {len(tried)} edits tried: {len(failed)} failed")

@@ -511,9 +511,9 @@ class Gate(Scratch):
             lanes.begin(2)
             self.assertEqual([(each.edit, each.came) for each in lanes.end()], [(low, REFUSED), (high, UNTRIED)])
 
-    def verdict(self, status=0, came=(REFUSED, REFUSED), command=()):
+    def verdict(self, status=0, came=(REFUSED, REFUSED), command=(), known=()):
         """What the gate says with a fake `rt`, which proves the crate and ends with this status, where this comes of
-        the edits: whether it passes, and its lines."""
+        the edits and these are listed as refused by their shape: whether it passes, and its lines."""
         rt = self.crate.parent / "bin/rt"
         rt.parent.mkdir(exist_ok=True)
         said = "\n".join([*self.SAID[:5], ""])
@@ -523,6 +523,7 @@ class Gate(Scratch):
         tries = lambda crate, edits, *_: [Tried(edit, each, "..") for edit, each in zip(edits, came)]
         patches = {"TOP": self.crate.parent, "edits_in": lambda kind: edits if kind == GATE else [], "try_crate": tries,
                    "kit": lambda: None, "listed_as_refused": set, "output_of": lambda *_: "commit",
+                   "known_by_shape": lambda: {*known},
                    "print": lambda *words, **_: lines.extend(words)}
         path = mock.patch.dict(os.environ, {"PATH": f"{rt.parent}:{os.environ['PATH']}"})
         with path, mock.patch.multiple(gate, create=True, **patches):
@@ -544,10 +545,23 @@ class Gate(Scratch):
         for other in PROVED, BY_SHAPE, UNTRIED:
             passes, lines = self.verdict(came=(REFUSED, other))
             self.assertFalse(passes)
-            self.assertEqual(lines[-2:], [f"gate: low/b.edit: {other}: ..", "gate: 2 edits tried: 1 failed"])
+            self.assertIn(f"gate: low/b.edit: {other}: ..", lines)
+            self.assertEqual(lines[-1], "gate: 2 edits tried: 1 failed")
         passes, lines = self.verdict(came=(REFUSED,))
         self.assertFalse(passes)
         self.assertIn(f"gate: low/b.edit: {UNTRIED}: ", lines[-2])
+
+    def test_an_edit_that_is_known_to_be_refused_by_its_shape_is_told_and_no_failure(self):
+        passes, lines = self.verdict(came=(REFUSED, BY_SHAPE), known=["low/b.edit"])
+        self.assertTrue(passes)
+        self.assertIn("gate: 1 of these edits are refused by their shape alone, and count for nothing", lines)
+        for other in PROVED, UNTRIED:
+            self.assertFalse(self.verdict(came=(REFUSED, other), known=["low/b.edit"])[0])
+
+    def test_an_edit_that_is_refused_for_what_it_does_is_not_to_be_listed(self):
+        passes, lines = self.verdict(known=["low/b.edit"])
+        self.assertFalse(passes)
+        self.assertIn("gate: low/b.edit: is refused for what it does, so by_shape.txt is not to have it", lines)
 
 
 class GateTime(Scratch):
