@@ -275,7 +275,7 @@ class Judged:
 def left_by(script, report):
     """The world that a report tells, judged as a report of plans is."""
     world = reading.judged(script, report, 0)
-    for why in itertools.chain(threads.survivors(world), threads.answers_after_deaths(world), threads.circles(script, world)):
+    for why in threads.survivors(world):
         raise Wrong(why)
     return world
 

@@ -4,10 +4,11 @@
 It was written from the rules and not from the program, and shares no code with it; tools/fuzz.py
 compares the two. Alone it plays a script:  python3 tools/reading_of_rules.py < examples/one_call.actors
 
-A script for threads has no single report. Of it this reading gives the fault, and judges a report: whether
-the rules allow it. tools/threads.py judges the program so. Alone it judges one report:
-python3 tools/reading_of_rules.py SCRIPT < REPORT
+A script for threads has no single report. Of it this reading gives the fault, and judges a report: whether the
+rules allow it, which is so where a play of the script's plans ends as it tells. tools/threads.py judges the program
+so. Alone it judges one report:  python3 tools/reading_of_rules.py SCRIPT < REPORT
 """
+import collections
 import re
 import sys
 from dataclasses import dataclass, field
@@ -693,10 +694,15 @@ class Planned(World):
     def __init__(self, roles):
         super().__init__(roles)
         self.to_be_killed = set()
+        self.steps = {caller: [] for caller in self.callers}  # those done: the word, and its call, or its actor
 
     def step(self, verb, spelt):
         """Does a step, or raises Refused."""
-        return self.await_answer(*spelt) if verb == "await" else getattr(self, verb)(*spelt)
+        gave = self.await_answer(*spelt) if verb == "await" else getattr(self, verb)(*spelt)
+        caller, other = spelt[:2]
+        calls = {"submit": -1, "await": other}
+        self.steps[caller].append((verb, self.callers[caller].calls[calls[verb]] if verb in calls else other))
+        return gave
 
     def meet_limit(self):
         """The step waits until the limit lets it through, so it's never refused for that."""
@@ -731,7 +737,8 @@ def read_plans(data):
 
 
 # The judge of a report of threads. It takes from the report what a schedule may choose, which is the kept answers, the
-# ends and the run lists, and holds each line of it against the plans and the rules.
+# ends and the run lists, and holds each line of it against the plans and the rules. Then it asks whether a play of the
+# plans ends so.
 
 
 class NotAllowed(Exception):
@@ -763,11 +770,146 @@ def fault_of(call):
     return str(call.kept) if isinstance(call.kept, Fault) else None
 
 
+def submission(call):
+    return f"{call.spelled_future()} is submitted"
+
+
+def run_of(call):
+    return f"{call.spelled_future()} runs"
+
+
+def death_of(name):
+    return f"a{name} dies"
+
+
+def giver_of(call):
+    """What gave a call its answer: its run, or its actor's death."""
+    return death_of(call.actor) if fault_of(call) == "ActorDied" else run_of(call)
+
+
+class Ways:
+    """What callers and actors have to do so that all ends as a report tells, and what holds each of it back.
+
+    The report has the calls that ran, in order, and by each answer what gave it. So what must come before an event is
+    known, but for one thing: of several who asked a kill, whose was taken. And no event, once it is done, holds another
+    one back. So each is done as soon as it can be; where some can't be done that way, no play ends so. A call is sent
+    and delivered just before it runs, and what answers it is collected at once: those are no events here.
+    """
+
+    def __init__(self, world, of_plans):
+        self.world = world
+        self.of_plans = of_plans
+        self.befores = {}  # of each event those that hold it back,
+        self.needed = {}  # and how many of these must be done before it
+        self.kills = collections.defaultdict(list)  # of each actor the steps that ask its kill
+        self.answered = collections.defaultdict(list)  # of a caller and an actor the calls that a run answered
+        for call in (call for caller in world.callers.values() for call in caller.calls if giver_of(call) == run_of(call)):
+            self.answered[call.caller, call.actor].append(call)
+        for caller, steps in world.steps.items():
+            self.add_steps(caller, steps)
+        for name, actor in world.actors.items():
+            self.add_runs(actor)
+            if actor.stage == "dead":
+                self.add_death(name, actor)
+
+    def add(self, event, befores):
+        """An event that comes after all of these."""
+        self.befores[event], self.needed[event] = befores, len(befores)
+
+    def after_one(self, event, befores):
+        """The same of one that comes after any of these."""
+        self.befores[event], self.needed[event] = befores, 1
+        return [event]
+
+    def add_steps(self, caller, steps):
+        """A caller does its steps in order. In a play that needs to be no play of plans its calls alone are told."""
+        before = []
+        for place, (verb, other) in enumerate(steps):
+            if verb != "submit" and not self.of_plans:
+                continue
+            event = submission(other) if verb == "submit" else f"c{caller} does its step {place}, {verb}"
+            holds = {"submit": self.room_for, "await": self.awaited, "kill": self.looked_for}.get(verb)
+            self.add(event, before + (holds(other) if holds else []))
+            before = [event]
+            if verb == "kill":
+                self.kills[other].append(event)
+
+    def room_for(self, call):
+        """A limit holds a call back until enough of the caller's calls to the actor have an answer. They are answered in
+        order, but by the actor's death all at once."""
+        actor = self.world.actors[call.actor]
+        if actor.limit is None or call.number < actor.limit:
+            return []
+        answered, last = self.answered[call.caller, call.actor], call.number - actor.limit
+        befores = [run_of(answered[last])] if last < len(answered) and answered[last].number < call.number else []
+        befores += [death_of(call.actor)] if actor.stage == "dead" else []
+        return self.after_one(f"the limit of a{call.actor} lets {call.spelled_future()} through", befores)
+
+    def awaited(self, call):
+        """A step `await` is done when the call has its answer."""
+        return [giver_of(call)]
+
+    def looked_for(self, name):
+        """An actor that retired found no kill after its last run."""
+        actor = self.world.actors[name]
+        return [run_of(item.call) for item in actor.ran[-1:]] if actor.stage == "retired" else []
+
+    def add_runs(self, actor):
+        """An actor runs its calls in order, each after it was submitted."""
+        before = []
+        for item in actor.ran:
+            self.add(run_of(item.call), [submission(item.call), *before, *self.arguments_of(item.call)])
+            before = [run_of(item.call)]
+
+    def arguments_of(self, call):
+        """A call isn't sent before its arguments have answers."""
+        calls = self.world.callers[call.caller].calls
+        return [giver_of(calls[each.number]) for each in call.arguments if isinstance(each, Future)]
+
+    def add_death(self, name, actor):
+        """An actor dies after its last run: by that, or by a kill that was asked."""
+        last = actor.ran[-1:]
+        by_itself = any(item.ends_actor() for item in last)
+        asked = [] if by_itself or not self.of_plans else self.asked(name)
+        self.add(death_of(name), [run_of(item.call) for item in last] + asked)
+
+    def asked(self, name):
+        """One asked kill is enough."""
+        return self.after_one(f"a kill of a{name} is asked", self.kills[name])
+
+    # Whether all can be done.
+
+    def undone(self):
+        """The events that are never done."""
+        after = collections.defaultdict(list)
+        for event, befores in self.befores.items():
+            for before in befores:
+                after[before].append(event)
+        left = dict(self.needed)
+        ready = [event for event, count in left.items() if count == 0]
+        while ready:
+            for event in after[ready.pop()]:
+                left[event] -= 1
+                if left[event] == 0:
+                    ready.append(event)
+        return {event for event, count in left.items() if count > 0}
+
+    def circle(self):
+        """Events each of which waits for the next one, and the last for the first; none where all can be done."""
+        undone = self.undone()
+        event, path = min(undone, default=None), {}
+        while event is not None and event not in path:
+            path[event] = len(path)
+            event = next((before for before in self.befores[event] if before in undone), None)
+        return list(path)[path.get(event, 0) :]
+
+
 class Judge:
     """Holds the report of a run in threads against the world of its plans, line by line."""
 
-    def __init__(self, world, report):
+    def __init__(self, world, report, of_plans):
         self.world = world
+        self.of_plans = of_plans
         self.lines = lines_of_report(report)
         self.place = 0
         self.ran = set()  # the calls that stand in a run list, by caller and future
@@ -796,6 +938,9 @@ class Judge:
         for caller in self.world.callers.values():
             for call in caller.calls:
                 self.judge_call(call)
+        circle = Ways(self.world, self.of_plans).circle()
+        if circle:
+            raise NotAllowed(f"no play ends so, since each of these waits for the next, in a circle: {'; '.join(circle)}")
 
     # What a schedule may choose, as the report tells it.
 
@@ -811,23 +956,25 @@ class Judge:
         """The lines of an actor: how it ended, and its run list."""
         self.ends[name] = self.next_line(f"a{name} ")
         actor.stage = self.ends[name].partition(" ")[0]
+        ran_of = collections.Counter()
         while self.place < len(self.lines) and self.lines[self.place].startswith(f"a{name}."):
             words = self.next_line(f"a{name}.{len(actor.ran)} ")
-            actor.ran.append(self.read_item(name, actor, words))
+            actor.ran.append(self.read_item(name, ran_of, words))
 
-    def read_item(self, name, actor, words):
-        """The call of a line of a run list: the next one of its caller to this actor, as it was submitted."""
+    def read_item(self, name, ran_of, words):
+        """The call of a line of a run list: the next one of its caller to this actor, as it was submitted. Before it so
+        many calls of each caller ran."""
         found = re.match(r"c([1-9][0-9]?)\.", words)
         caller = self.world.callers.get(int(found[1])) if found else None
         if caller is None:
             raise NotAllowed(f"a{name} ran '{words}', of no caller")
-        before = sum(item.call.caller == int(found[1]) for item in actor.ran)
-        due = caller.calls_to(name)[before:]
-        if not due:
+        calls, before = caller.calls_to(name), ran_of[int(found[1])]
+        if before == len(calls):
             raise NotAllowed(f"a{name} ran '{words}', and c{found[1]} has no further call to it")
-        item = Item(due[0], list(caller.settled(due[0])), None)
+        item = Item(calls[before], list(caller.settled(calls[before])), None)
         if item.spelled() != words:
             raise NotAllowed(f"a{name} ran '{words}' where '{item.spelled()}' is the next call of c{found[1]}")
+        ran_of[item.call.caller] += 1
         self.ran.add((item.call.caller, item.call.future))
         return item
 
@@ -854,20 +1001,26 @@ class Judge:
     def judge_dead(self, name, actor):
         if self.ends[name] != "dead":
             raise NotAllowed(f"'a{name} {self.ends[name]}' says more than a death")
-        if name not in self.world.to_be_killed and not any(item.ends_actor() for item in actor.ran):
+        is_killed = name in self.world.to_be_killed or not self.of_plans
+        if not is_killed and not any(item.ends_actor() for item in actor.ran):
             raise NotAllowed(f"a{name} is dead, no plan has a kill of it, and it ran no terminate")
 
     def judge_call(self, call):
-        """An answer comes of a run, and a death of a dead actor."""
-        if fault_of(call) == "ActorDied":
-            if self.world.actors[call.actor].stage != "dead":
-                raise NotAllowed(f"{call.spelled_future()} = ActorDied, and a{call.actor} is not dead")
-        elif (call.caller, call.future) not in self.ran:
-            raise NotAllowed(f"{call.spelled_future()} = {spelled(call.kept)}, and it never ran")
+        """An answer comes of a run, and a death of a dead actor: in threads only where the call didn't run, since the
+        answer of one that did is collected before the death."""
+        has_run = (call.caller, call.future) in self.ran
+        if fault_of(call) != "ActorDied":
+            if not has_run:
+                raise NotAllowed(f"{call.spelled_future()} = {spelled(call.kept)}, and it never ran")
+        elif self.world.actors[call.actor].stage != "dead":
+            raise NotAllowed(f"{call.spelled_future()} = ActorDied, and a{call.actor} is not dead")
+        elif has_run and self.of_plans:
+            raise NotAllowed(f"{call.spelled_future()} = ActorDied, and it ran")
 
 
-def judged(data, report, status):
-    """The world that the report of a script for threads tells, or none of a script with a fault; raises NotAllowed."""
+def judged(data, report, status, of_plans=True):
+    """The world that the report of a script for threads tells, or none of a script with a fault; raises NotAllowed. A
+    play of the plans must end so; or, not `of_plans`, any play in which callers submit what the plans do."""
     try:
         world = read_plans(data)
     except ScriptFault as fault:
@@ -876,14 +1029,14 @@ def judged(data, report, status):
         raise NotAllowed(f"'{str(fault)[:-1]}' and status 1 are due") from None
     if status != 0:
         raise NotAllowed(f"the plans are good, and the status is {status}")
-    Judge(world, report).judge()
+    Judge(world, report, of_plans).judge()
     return world
 
 
-def judge(data, report, status):
+def judge(data, report, status, of_plans=True):
     """Why the rules don't allow the report of a script for threads with this status; nothing where they do."""
     try:
-        judged(data, report, status)
+        judged(data, report, status, of_plans)
     except NotAllowed as why:
         return str(why)
     return None

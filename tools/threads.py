@@ -6,28 +6,29 @@
 A seed gives the same scripts each time. Without `--seed` there are two: one that stays, and one that changes with the
 commit and is printed. Most scripts are plans of up to 16 callers and 8 actors, without a
 bad step; some have one, or a fault of the script. The judge (tools/reading_of_rules.py) says whether the rules
-allow the report, and is tried itself: it must allow the worked reports, and refuse every report that was
-tampered with. A run of more than 60 seconds is a failure. So are three things that the rules leave open: an actor
-of which a kill was asked and that retired, an answer of an actor after its death was collected, and a call or a kill that
-came before the answers for which it had to wait, as an argument, by an `await`, or at a limit. Fails also where the
-scripts of the first seed came too seldom to what they should try. The worked script of a kill is run many times, and the shares of its
-outcomes are printed. So are those of an end that waits its turn and of a limit on pending calls: but for one, where
-a kill waits at the limit, they must always leave the same.
+allow the report: whether a play of the plans ends so. It is tried itself: it must allow the worked reports, refuse
+every report that was tampered with, and refuse others for one rule each, without which it allows them; and of small
+plans it must allow just what is left by their plays, all of which are tried. A run of more than 60 seconds is a failure. So is an actor of which a kill was asked and that retired, which the rules leave open where
+the kill was asked after its last run. Fails also where the scripts of the first seed came too seldom to what they
+should try. The worked script of a kill is run many times, and the shares of its outcomes are printed. So are those of
+an end that waits its turn and of a limit on pending calls: but for one, where a kill waits at the limit, they must
+always leave the same.
 """
 import argparse
 import collections
 import concurrent.futures
-import graphlib
 import pathlib
 import random
 import re
 import subprocess
 import sys
 import tempfile
+import unittest.mock
 
 import fuzz
 import reading_of_rules as reading
 import seeds
+import small_plans
 from program import TOP, program_of
 
 ROWS = TOP / "crates/ray_actors/thread_rows"
@@ -39,6 +40,7 @@ LIMITS = [ROWS / f"limit_{name}.actors" for name in ["of_one", "and_a_chain_over
 AT_ONCE = 4
 MAX_SECONDS = 60
 MAX_SHOWN = 5
+SMALL_PLANS, MAX_STATES = 60, 2500  # so many small plans of each seed; those with more states are passed over
 
 # Each step: how often it is tried, and what follows its word: a caller, an actor or a number.
 STEPS = {"submit": (60, "ca"), "await": (8, "cn"), "copy": (3, "ca"), "release": (2, "ca"), "kill": (1, "ca")}
@@ -233,73 +235,13 @@ def survivors(world):
             yield f"a{name} retired, and a kill of it was asked"
 
 
-def answers_after_deaths(world):
-    """An actor's death is the last notice to a caller, and its answers come in the order of the calls."""
-    for caller in world.callers.values():
-        for actor in caller.copies:
-            calls = caller.calls_to(actor)
-            for before, call in zip(calls, calls[1:]):
-                if reading.fault_of(before) == "ActorDied" != reading.fault_of(call):
-                    yield f"{call.spelled_future()} has an answer, and {before.spelled_future()} was answered by a death"
-
-
-def answered(world, caller, future):
-    """What gave a call its answer: its run, or its actor's death. A run is told by its call's caller and future."""
-    call = world.callers[caller].calls[future]
-    return (call.actor, "death") if reading.fault_of(call) == "ActorDied" else (caller, future)
-
-
-def deaths(world, kills):
-    """For the death of each dead actor what came before it: its last run, and the kill where one caller alone asked for
-    it. By actor and caller `kills` has the caller's last wait before it asked."""
-    for name, actor in world.actors.items():
-        if actor.stage == "dead":
-            last = {(item.call.caller, item.call.future) for item in actor.ran[-1:]}
-            asked = [wait for (victim, _), wait in kills.items() if victim == name]
-            by_kill = len(asked) == 1 and not any(item.ends_actor() for item in actor.ran)
-            yield (name, "death"), last | set(asked if by_kill else [])
-
-
-def befores(script, world):
-    """For each call, each death, and each wait of a caller, what came before it: the answers that it needed, the waits
-    before its submission, and the call before it in the run list. A caller waits at an `await`, and where a limit may
-    hold back its submission."""
-    before, kills, submitted, waited = collections.defaultdict(set), {}, collections.Counter(), collections.Counter()
-    held = {(call.caller, call.future): before.future for before, call in waits(world)}
-    for verb, (caller, *rest) in reading.read_script(script, reading.THREAD_FORMS).events:
-        future = (caller, submitted[caller])
-        if verb == "await" or verb == "submit" and future in held:
-            needed = rest[0] if verb == "await" else held[future]
-            before[(caller, "wait", waited[caller] + 1)] |= {(caller, "wait", waited[caller]), answered(world, caller, needed)}
-            waited[caller] += 1
-        if verb == "submit":
-            needed = {answered(world, caller, each.number) for each in rest[2] if isinstance(each, reading.Future)}
-            before[future] |= {(caller, "wait", waited[caller])} | needed
-            submitted[caller] += 1
-        if verb == "kill":
-            kills.setdefault((rest[0], caller), (caller, "wait", waited[caller]))
-    for actor in world.actors.values():
-        for one, item in zip(actor.ran, actor.ran[1:]):
-            before[(item.call.caller, item.call.future)].add((one.call.caller, one.call.future))
-    return before | dict(deaths(world, kills))
-
-
-def circles(script, world):
-    """The rules compare a run with no schedule, but it had one, in which each answer came before it was needed."""
-    try:
-        graphlib.TopologicalSorter(befores(script, world)).prepare()
-    except graphlib.CycleError as circle:
-        yield f"each of these came before the next, in a circle: {circle.args[1]}"
-
-
 def complaint(script, report, status):
     """What is wrong with a run, if anything is: by the rules, or in what they leave open and the program doesn't."""
     try:
         world = reading.judged(script, report, status)
     except reading.NotAllowed as why:
         return str(why)
-    found = [*survivors(world), *answers_after_deaths(world), *circles(script, world)] if world else []
-    return found[0] if found else None
+    return next(survivors(world), None) if world else None
 
 
 def show(name, script, report, status, why):
@@ -559,19 +501,17 @@ RAN_ONE = RAN_NONE + "a1.0 c1.0 add 1\n"
 RAN_TWO = RAN_ONE + "a1.1 c1.1 add 2\n"
 RAN_OTHER = RAN_NONE + "a1.0 c1.1 add 2\n"
 RETIRED = RAN_TWO.replace("dead", "retired counter 3")
-# What the worked kill leaves, and what else the rules allow: a first answer that comes after a death, and a kill that the
-# actor doesn't find before it retires.
+# What the worked kill leaves. The rules allow one thing more: an actor that retires, where the kill came after its last
+# look for one.
 KILLED = {
     "neither answered, none ran": DIED + RAN_NONE,
-    "neither answered, one ran": DIED + RAN_ONE,
-    "neither answered, both ran": DIED + RAN_TWO,
     "the first answered, one ran": FIRST + RAN_ONE,
-    "the first answered, both ran": FIRST + RAN_TWO,
     "both answered, both ran": BOTH + RAN_TWO,
 }
-ALSO_ALLOWED = [SECOND + RAN_TWO, BOTH + RETIRED]
 NOT_ALLOWED = [FIRST + RAN_NONE, SECOND + RAN_NONE, BOTH + RAN_NONE, SECOND + RAN_ONE, BOTH + RAN_ONE, DIED + RAN_OTHER]
 NOT_ALLOWED += [DIED + RETIRED, FIRST + RETIRED, SECOND + RETIRED, RAN_NONE, DIED, DIED + RAN_NONE + RAN_NONE]
+
+RAN_AND_DIED = [DIED + RAN_ONE, DIED + RAN_TWO, FIRST + RAN_TWO, SECOND + RAN_TWO]
 
 # Two callers, each of which adds the answer of the one counter to the other; and runs of it, of one with an await in
 # the place of the argument, and of one with a limit, in which each answer is needed before it is there.
@@ -597,28 +537,66 @@ AFTER_AN_AWAIT = KILL_AFTER.format("", "submit c1 a1 add 2\nawait c1 0\n")
 AFTER_A_LIMIT = KILL_AFTER.format(" max 1", "submit c1 a1 add 2\n")
 AFTER_NOTHING = KILL_AFTER.format(" max 2", "submit c1 a1 add 2\n")
 
+# Each of two callers asks a kill once its own call is answered; so one of the two calls ran.
+TWO_KILLS = "actor a1 counter c1 c2\n" + "".join(f"submit c{n} a1 add {n}\nawait c{n} 0\nkill c{n} a1\n" for n in (1, 2))
+ONE_KILLED = "c1.0 a1 = ActorDied\nc2.0 a1 = 2\na1 dead\na1.0 c2.0 add 2\n"
+BOTH_KILLED = "c1.0 a1 = ActorDied\nc2.0 a1 = ActorDied\na1 dead\n"
 
-def runs_with_a_schedule():
-    """Scripts and reports that the rules allow, and whether a schedule leads there."""
-    for script in WITH_ARGUMENTS, WITH_AWAITS:
-        for run_lists, is_well in (IN_ORDER, True), (HALF_ORDER, True), (NO_ORDER, False):
-            yield script, ANSWERS_CROSSED + run_lists, is_well
-    yield WITH_LIMITS, LIMITED.format(LATE_AT_A1, LATE_AT_A2), True
-    yield WITH_LIMITS, LIMITED.format(EARLY_AT_A1, LATE_AT_A2), True
-    yield WITH_LIMITS, LIMITED.format(EARLY_AT_A1, EARLY_AT_A2), False
-    for script, is_early in (AFTER_AN_AWAIT, False), (AFTER_A_LIMIT, False), (AFTER_NOTHING, True):
-        yield script, FIRST + RAN_ONE, True
-        yield script, BOTH + RAN_TWO, True
-        yield script, DIED + RAN_NONE, is_early
-        yield script, DIED + RAN_TWO, is_early
+# A kill is asked before the one call that could run after it, or after that.
+KILL_BEFORE = "actor a1 counter c1\nactor a2 counter c1 c2\nkill c1 a1\nsubmit c1 a1 add 1\n"
+KILL_BEHIND = "actor a1 counter c1\nactor a2 counter c1 c2\nsubmit c1 a1 add 1\nkill c1 a1\n"
+RETIRED_AT_ONE = "c1.0 a1 = 1\na1 retired counter 1\na1.0 c1.0 add 1\na2 retired counter 0\n"
+# The same over another caller: its call to a1 waits for an answer that comes of a call behind the kill.
+KILL_TOLD = "actor a1 counter c1 c2\nactor a2 list c1 c2\nkill c1 a1\nsubmit c1 a2 push 5\nsubmit c2 a2 pop\nsubmit c2 a1 add @0\n"
+TOLD = "c1.0 a2 = 1\nc2.0 a2 = {}\nc2.1 a1 = {}\na1 retired counter {}\na1.0 c2.1 add {}\na2 retired list{}\n{}"
+TOLD_AFTER = TOLD.format("5", "5", "5", "5", "", "a2.0 c1.0 push 5\na2.1 c2.0 pop\n")
+TOLD_BEFORE = TOLD.format("NoItems", "Dependency(0)", "0", "!0", " 5", "a2.0 c2.0 pop\na2.1 c1.0 push 5\n")
+
+# What each rule alone keeps from being a play of the plans: without it the report is allowed.
+BY_ONE_RULE = {
+    "a call is sent once its arguments have answers": ("arguments_of", WITH_ARGUMENTS, ANSWERS_CROSSED + NO_ORDER),
+    "a step behind an await comes after the answer": ("awaited", WITH_AWAITS, ANSWERS_CROSSED + NO_ORDER),
+    "a limit holds a call back": ("room_for", WITH_LIMITS, LIMITED.format(EARLY_AT_A1, EARLY_AT_A2)),
+    "a kill is asked in its turn, behind an await": ("asked", AFTER_AN_AWAIT, DIED + RAN_NONE),
+    "a kill is asked in its turn, behind a call held back": ("asked", AFTER_A_LIMIT, DIED + RAN_NONE),
+    "one of several kills comes first": ("asked", TWO_KILLS, BOTH_KILLED),
+    "a kill that was asked before the last run is found": ("looked_for", KILL_BEFORE, RETIRED_AT_ONE),
+    "the same of another caller's run": ("looked_for", KILL_TOLD, TOLD_AFTER),
+}
+ALLOWED = [
+    (WITH_ARGUMENTS, ANSWERS_CROSSED + IN_ORDER), (WITH_ARGUMENTS, ANSWERS_CROSSED + HALF_ORDER),
+    (WITH_AWAITS, ANSWERS_CROSSED + IN_ORDER), (WITH_AWAITS, ANSWERS_CROSSED + HALF_ORDER),
+    (WITH_LIMITS, LIMITED.format(LATE_AT_A1, LATE_AT_A2)), (WITH_LIMITS, LIMITED.format(EARLY_AT_A1, LATE_AT_A2)),
+    *((script, report) for script in (AFTER_AN_AWAIT, AFTER_A_LIMIT, AFTER_NOTHING) for report in (FIRST + RAN_ONE, BOTH + RAN_TWO)),
+    (AFTER_NOTHING, DIED + RAN_NONE), (TWO_KILLS, ONE_KILLED), (KILL_BEHIND, RETIRED_AT_ONE), (KILL_TOLD, TOLD_BEFORE),
+]  # fmt: skip
 
 
-def trial_by_schedules():
-    """Whether a run is found in which something needs what comes after it."""
-    for script, report, is_well in runs_with_a_schedule():
-        told = script.encode(), report.encode(), 0
-        yield f"the rules allow {told!r}", reading.judge(*told) is None
-        yield f"this {'had' if is_well else 'had no'} schedule: {told!r}", (complaint(*told) is None) == is_well
+def trial_by_plants():
+    """Whether the judge allows what a play of the plans leaves, and refuses for one rule what it allows without that."""
+    for script, report in ALLOWED:
+        yield f"{report!r} is allowed of {script!r}", reading.judge(script.encode(), report.encode(), 0) is None
+    for name, (rule, *told) in BY_ONE_RULE.items():
+        script, report = (text.encode() for text in told)
+        yield f"{name}: {report!r} is refused of {script!r}", reading.judge(script, report, 0) is not None
+        with unittest.mock.patch.object(reading.Ways, rule, lambda self, of: []):
+            yield f"{name}: nothing else is wrong with {report!r} of {script!r}", reading.judge(script, report, 0) is None
+
+
+def trial_by_plays(seed):
+    """Whether the judge allows of small plans what their plays leave, and nothing else."""
+    tallies = collections.Counter()
+    for place in range(SMALL_PLANS):
+        plans = small_plans.Plans(random.Random(f"small plans {seed}.{place}"))
+        left = small_plans.Plays(plans).reports(MAX_STATES)
+        reports = set() if left is None else {*left, *small_plans.all_reports(plans)}
+        for report in sorted(reports):
+            why = reading.judge(plans.script(), report, 0)
+            tallies.update(["allowed"] if why is None else ["refused", "in a circle"] if "circle" in why else ["refused"])
+            how = "left" if report in left else "not left"
+            yield f"{report!r} is {how} by the plays of {plans.script()!r}, and not {why!r}", (why is None) == (report in left)
+    for sort, floor in {"allowed": 150, "refused": 500, "in a circle": 10}.items():
+        yield f"of reports of small plans {floor} are {sort}, and not {tallies[sort]}", tallies[sort] >= floor
 
 
 def trial_by_rows():
@@ -628,10 +606,13 @@ def trial_by_rows():
         told = path.read_bytes(), int(status.read_text()) if status.exists() else 0
         yield f"the report of {path.stem} is allowed", reading.judge(path.with_suffix(".actors").read_bytes(), *told) is None
     script = KILL.read_bytes()
-    for report in [*KILLED.values(), *ALSO_ALLOWED]:
+    for report in [*KILLED.values(), BOTH + RETIRED]:
         yield f"{report!r} is allowed of a kill", reading.judge(script, report.encode(), 0) is None
-    for report in NOT_ALLOWED:
+    yield "the program leaves no actor alive of which a kill was asked", complaint(script, (BOTH + RETIRED).encode(), 0) is not None
+    for report in NOT_ALLOWED + RAN_AND_DIED:
         yield f"{report!r} is refused of a kill", reading.judge(script, report.encode(), 0) is not None
+    for report in RAN_AND_DIED:
+        yield f"{report!r} is allowed of some play", reading.judge(script, report.encode(), 0, of_plans=False) is None
 
 
 def trial_by_tampering(seed, gots):
@@ -747,7 +728,8 @@ def main():
     seldom = list(too_seldom(right))
     print("".join(f"{failure}\n" for failure in seldom), end="")
     more_right, more_wrong = judge_scripts(program, more)
-    passed, failed = tell_trial([*trial_by_rows(), *trial_by_schedules(), *trial_by_tampering(first, right | more_right)])
+    small = [check for seed in (first, *further) for check in trial_by_plays(seed)]
+    passed, failed = tell_trial([*trial_by_rows(), *trial_by_plants(), *small, *trial_by_tampering(first, right | more_right)])
     wrong_kills = judge_kills(program, chosen.kills)
     often = {END: chosen.ends} | {path: chosen.limits for path in LIMITS}
     wrong_often = sum(judge_often(program, path, count) for path, count in often.items())
