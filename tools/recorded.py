@@ -16,9 +16,10 @@ these on one processor (taskset -c 0). Without `--seed` there are two seeds, as 
 
 Of a script with a fault the line of the fault and the status 1 must come. A run of more than 60 seconds fails. A script
 whose play is too long for a script must be recorded all the same, and a line must say so. Then, of one worked script,
-each request for memory and each thread is refused in turn: the run must say `no memory` or `no thread`, end with 3
-and write nothing, or leave a record that is good. The checks are tried themselves: a record of the bank from which a
-line is taken, or in which two lines change places, must fail, but where the rules say that it means the same.
+each request for memory is refused in turn, alone and with all that come after, and each thread: the run must say `no
+memory`, or `no thread` where the start of one was refused, end with 3 and write nothing, or leave a record that is good.
+The checks are tried themselves: a record of the bank from which a line is taken, or in which two lines change places,
+must fail, but where the rules say that it means the same.
 """
 import argparse
 import concurrent.futures
@@ -32,7 +33,7 @@ import reading_of_rules as reading
 import seeds
 import threads
 from program import RECORDS, TOP, program_of
-from refusing import HANGS, Refusing
+from refusing import HANGS, WAYS, Refusing
 
 EXAMPLES = TOP / "examples"
 ROWS = TOP / "crates/ray_actors/thread_rows"
@@ -172,27 +173,38 @@ def long_failures(program):
 def swept(program, player):
     """Of each request and each thread that is refused in turn, what is wrong with what comes."""
     script = SWEPT.read_bytes()
-    refused = 0
     with tempfile.TemporaryDirectory() as folder:
         refusing = Refusing(folder)
         whole = refusing.run([program], 0, SWEPT)
         yield "no request refused", script, complaint(player, script, whole)
-        most, count_of_threads, nth = refusing.requests(), refusing.threads(), 0
-        while nth < most:
-            nth += 1
-            got = refusing.run([program], nth, SWEPT)
-            most = max(most, refusing.requests())
-            is_refused = got in (NO_MEMORY, NO_THREAD)
-            refused += is_refused
-            why = None if is_refused else complaint(player, script, got)
-            yield f"request {nth} of {most}", script, why
-            if got == HANGS:
-                return
-        for nth in range(1, count_of_threads + 1):
+        requests, threads_to_start = refusing.requests(), refusing.threads()
+        for way in WAYS:
+            yield from requests_refused(refusing, program, player, way, requests)
+        for nth in range(1, threads_to_start + 1):
             got = refusing.run([program], 0, SWEPT, thread=nth)
             yield f"thread {nth}", script, None if got == NO_THREAD else f"it ends with {got!r:.600}"
-        yield "some request is refused", script, None if refused else "none was"
-        yield "some thread is refused", script, None if count_of_threads else "none was to start"
+        yield "some thread is refused", script, None if threads_to_start else "none was to start"
+
+
+def requests_refused(refusing, program, player, way, most):
+    """The same of the requests, in one way."""
+    script = SWEPT.read_bytes()
+    nth = refused = starts = 0
+    while nth < most:
+        nth += 1
+        got = refusing.run([program], nth, SWEPT, way=way)
+        most = max(most, refusing.requests())
+        is_start = refusing.has_refused_a_start()
+        is_refused = got == (NO_THREAD if is_start else NO_MEMORY)
+        refused, starts = refused + is_refused, starts + is_start
+        why = None if is_refused else complaint(player, script, got)
+        if is_start and not is_refused:
+            why = f"the start of a thread is refused, and it ends with {got!r:.600}"
+        yield f"request {nth} of {most} {WAYS[way]}", script, why
+        if got == HANGS:
+            return
+    yield f"some request is {WAYS[way]}", script, None if refused else "none was"
+    yield f"some start of a thread is {WAYS[way]}", script, None if starts else "none was"
 
 
 # The checks are tried.

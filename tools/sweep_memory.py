@@ -3,11 +3,12 @@
 
     tools/sweep_memory.py [--program PATH]
 
-Each play must write nothing, say `no memory` and end with status 3, or write the whole report. So must
-each run in threads, which may also say `no thread`, since the start of a thread asks for memory, and
-always says so where a thread is refused; where it writes a report, the rules must allow it, and it must be
-the whole one where that is fixed. The number of requests may vary in threads, so the sweep goes on until
-no run that it saw made so many. All is refused from outside, by tools/refuse.c.
+Each request is refused alone, and with it all that come after, so that callers and actors starve together. Each
+play must write nothing, say `no memory` and end with status 3, or write the whole report. So must each run in
+threads; but where a thread is refused, or memory for its start, it must say `no thread`, and nowhere else. Where it
+writes a report, the rules must allow it, and it must be the whole one where that is fixed. The number of requests may
+vary in threads, so the sweep goes on until no run that it saw made so many. All is refused from outside, by
+tools/refuse.c.
 """
 import argparse
 import pathlib
@@ -16,7 +17,7 @@ import tempfile
 
 import reading_of_rules as reading
 from program import PROVED, TOP, proved
-from refusing import HANGS, Refusing
+from refusing import ALONE, AND_ALL_AFTER, HANGS, WAYS, Refusing
 
 ROWS = TOP / "crates/ray_actors/rows"
 THREAD_ROWS = TOP / "crates/ray_actors/thread_rows"
@@ -40,10 +41,12 @@ class Sweep:
         report, status = script.with_suffix(".report"), script.with_suffix(".status")
         self.report = report.read_bytes() if report.exists() else None
         self.status = int(status.read_text()) if status.exists() else 0
-        self.refusals = 0
+        self.refusals = dict.fromkeys(WAYS, 0)  # how many runs were refused memory, by the way in which they were
+        self.at_once = dict.fromkeys(WAYS, 0)  # and how many requests one of them at most
+        self.starts = 0  # how many runs were refused the start of a thread
 
-    def run(self, nth, thread=0):
-        return self.refusing.run(self.command, nth, self.script, thread)
+    def run(self, nth, **how):
+        return self.refusing.run(self.command, nth, self.script, **how)
 
     def is_whole(self, got):
         """Whether a run ended as if nothing were refused."""
@@ -52,26 +55,29 @@ class Sweep:
             return got == (self.status, self.report, b"")
         return not told and reading.judge(self.data, report, status) is None
 
-    def refuse_requests(self):
-        """Which request was refused, what came of it, and whether that is well."""
-        most = self.refusing.requests()
+    def refuse_requests(self, way, most):
+        """Which request was refused in this way, what came of it, and whether that is well."""
         nth = 0
         while nth < most:
             nth += 1
-            got = self.run(nth)
+            got = self.run(nth, way=way)
             most = max(most, self.refusing.requests()) if self.is_threaded else most
-            is_refused = got == NO_MEMORY or self.is_threaded and got == NO_THREAD
-            self.refusals += is_refused
-            yield f"request {nth} of {most}", got, is_refused or self.is_whole(got)
+            is_start = self.refusing.has_refused_a_start()
+            is_refused = got == (NO_THREAD if is_start else NO_MEMORY)
+            self.refusals[way] += is_refused
+            self.at_once[way] = max(self.at_once[way], self.refusing.refused())
+            self.starts += is_start
+            yield f"request {nth} of {most} {WAYS[way]}", got, is_refused or not is_start and self.is_whole(got)
 
     def refuse_threads(self, threads):
         """The same of threads."""
         for nth in range(1, threads + 1):
             got = self.run(0, thread=nth)
-            yield f"thread {nth} of {threads}", got, got == NO_THREAD
+            yield f"thread {nth} of {threads} refused", got, got == NO_THREAD
 
-    def refuse_all(self, threads):
-        yield from self.refuse_requests()
+    def refuse_all(self, requests, threads):
+        for way in WAYS:
+            yield from self.refuse_requests(way, requests)
         yield from self.refuse_threads(threads)
 
     def sweep(self):
@@ -80,16 +86,20 @@ class Sweep:
         whole = self.run(0)
         if not self.is_whole(whole):
             sys.exit(f"sweep_memory: {self.script.name} goes wrong with ample memory: {whole!r:.600}")
-        threads = self.refusing.threads()
+        requests, threads = self.refusing.requests(), self.refusing.threads()
         passed, wrong = 0, []
-        for refused, got, is_well in self.refuse_all(threads):
+        for refused, got, is_well in self.refuse_all(requests, threads):
             passed += is_well
             if not is_well:
-                wrong.append(f"{refused} refused: got {got!r:.600}")
+                wrong.append(f"{refused}: got {got!r:.600}")
             if got == HANGS:
                 break
-        if not self.refusals:
+        if not all(self.refusals.values()):
             wrong.append("no request was refused")
+        if self.at_once[ALONE] > 1 or threads and self.at_once[AND_ALL_AFTER] < 2:
+            wrong.append(f"so many requests of one run were refused: {self.at_once}")
+        if threads and self.starts < 2 * threads:
+            wrong.append(f"of {threads} threads the start was refused {self.starts} times alone: they ask for memory twice each")
         if (threads > 0) != (self.is_threaded and not self.status):
             wrong.append(f"{threads} threads were to start")
         return passed, wrong

@@ -8,10 +8,10 @@ error that says so, and no other. An actor or a caller in a thread of its own en
 by then what is due. Anything else is a failure, as a run is that doesn't end, and so is a test of which
 no call is refused.
 
-Each of the others is a run of callers and actors in threads, by plans or by code. It ends, whatever is refused: as if
-nothing were, or the test's result is want of memory or, since the start of a thread asks for memory, of
-a thread; and always want of a thread where one is refused. The number of requests may vary there, so
-the sweep goes on until no run that it saw made so many.
+Each of the others is a run of callers and actors in threads, by plans or by code. There each request is also refused
+with all that come after, so that callers and actors starve together. The run ends, whatever is refused: as if nothing
+were, or the test's result is want of memory; but always want of a thread where one is refused, or memory for its start,
+and nowhere else. The number of requests may vary there, so the sweep goes on until no run that it saw made so many.
 
 All is refused from outside, by tools/refuse.c.
 """
@@ -21,7 +21,7 @@ import tempfile
 from itertools import chain
 
 from program import TOP
-from refusing import HANGS, Refusing
+from refusing import HANGS, WAYS, Refusing
 
 PARTS = [("tests_of_parts", part) for part in ["inbox", "actor", "handles", "replies", "resolver", "owner"]]
 TESTS = [(crate, f"{part}::refused_memory_changes_nothing") for crate, part in PARTS]
@@ -78,22 +78,25 @@ def sweep(refusing, crate, test):
     return passed, wrong
 
 
-def refuse_requests(refusing, command, whole):
-    """Which request a run of threads was refused, what came of it, and whether that is well."""
-    most = refusing.requests()
+def refuse_requests(refusing, command, whole, way, most):
+    """Which request a run of threads was refused in this way, what came of it, and whether that is well."""
     nth = 0
     while nth < most:
         nth += 1
-        got = refusing.run(command, nth)
+        got = refusing.run(command, nth, way=way)
         most = max(most, refusing.requests())
-        yield f"request {nth}", got, got == whole or is_error(got, NO_MEMORY + NO_THREAD)
+        if refusing.has_refused_a_start():
+            is_well = is_error(got, NO_THREAD)
+        else:
+            is_well = got == whole or is_error(got, NO_MEMORY)
+        yield f"request {nth} {WAYS[way]}", got, is_well
 
 
 def refuse_threads(refusing, command, threads):
     """Which thread a run was refused, what came of it, and whether that is well."""
     for nth in range(1, threads + 1):
         got = refusing.run(command, 0, thread=nth)
-        yield f"thread {nth} of {threads}", got, is_error(got, NO_THREAD)
+        yield f"thread {nth} of {threads} refused", got, is_error(got, NO_THREAD)
 
 
 def sweep_run(refusing, crate, test):
@@ -101,15 +104,14 @@ def sweep_run(refusing, crate, test):
     does not end, no more are made."""
     whole = whole_of(refusing, crate, test)
     command = command_of(crate, test)
-    threads = refusing.threads()
+    requests, threads = refusing.requests(), refusing.threads()
     passed = 0
     wrong = [] if threads else ["no thread was to start"]
-    for refused, got, is_well in chain(
-        refuse_requests(refusing, command, whole), refuse_threads(refusing, command, threads)
-    ):
+    tries = [refuse_requests(refusing, command, whole, way, requests) for way in WAYS]
+    for refused, got, is_well in chain(*tries, refuse_threads(refusing, command, threads)):
         passed += is_well
         if not is_well:
-            wrong.append(f"{refused} refused: got {got!r:.600}")
+            wrong.append(f"{refused}: got {got!r:.600}")
         if got == HANGS:
             break
     return passed, wrong
