@@ -12,6 +12,7 @@ pub mod Inboxes
 pub mod Taking
 pub mod Running
 pub mod Opening
+pub mod Fronts
 pub mod Replaying
 pub mod Example
 pub mod ByPlaces

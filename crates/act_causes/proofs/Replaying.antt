@@ -1,12 +1,14 @@
 -- Each deed is an event that a play takes, and so are all of them.
 use Rattle.std.proofs.Common.{◌≡◌, List, [], ◌∷◌, ◌++◌, None, refl, ap, sym, ◌∙◌, subst}
 use Rattle.std.specs.Prelude.{Option, IsOk}
-use Rattle.std.specs.List.{AllByRecursion, AllZip}
+use Rattle.std.specs.List.{AllByRecursion, AllZip, cons_option}
 use Rattle.std.proofs.lemmas.List.{append-nil, append_assoc}
-use Rattle.std.proofs.lemmas.List.Elements.{All-from_recursion}
+use Rattle.std.proofs.lemmas.List.Elements.{All-from_recursion, filter_map-append}
 use Rattle.act_types.specs.declared.call.Notice.TheVariants.{Answered, Death}
 use Rattle.act_rules.specs.declared.event.Event.{Event}
+use Rattle.act_rules.specs.declared.history.Letter.{Letter}
 use Rattle.act_rules.specs.declared.history.Letter.TheVariants.{Call as CallLetter, Note as NoteLetter}
+use Rattle.act_rules.specs.declared.history.Post.{Post}
 use Rattle.act_rules.specs.declared.history.Post.TheVariants.{Reply as ReplyPost, Death as DeathPost}
 use Rattle.act_rules.specs.declared.outcome.WorldRefusal.{WorldRefusal}
 use Rattle.act_rules.specs.History.{ActorSpec, History, opening}
@@ -17,10 +19,11 @@ use Rattle.act_rules.proofs.Lists.{All_more, slice_get_front}
 use Rattle.act_rules.proofs.Steps.{after_all-append, outcomes-append}
 use Rattle.act_owner.specs.Life.{Copied, Released, Submitted, Sent, Noticed}
 use Rattle.act_causes.specs.Deeds.{Deed, Changed, AskedKill, TookCall, TookNote, Ran, TookKill, ToldDeath, Retired, IsCaused, AreCaused}
-use Rattle.act_causes.specs.Plays.{SpecsFit, IsEventOf, IsPlayOfDeeds}
+use Rattle.act_causes.specs.Plays.{SpecsFit, IsEventOf}
 use Rattle.act_causes.proofs.Changing.{copied, released, submitted, sent, asked}
 use Rattle.act_causes.proofs.Collecting.{heard_death, heard_reply}
 use Rattle.act_causes.proofs.Ending.{took_kill, told_death, retired}
+use Rattle.act_causes.proofs.Fronts.{EachFront, IsInOrder, IsStepwisePlay, post_of, letter_of, keeps_answers, one_front, collected_more, arrived_more}
 use Rattle.act_causes.proofs.Keeping.{Keeps, GoesOn, told_of}
 use Rattle.act_causes.proofs.Made.{dead_is}
 use Rattle.act_causes.proofs.Opening.{keeps_opening}
@@ -78,6 +81,8 @@ pub record IsReplayed (casts : List ActorSpec) (deeds : List Deed) : Type 0 wher
   pub steps : AllZip (IsEventOf (history casts events)) deeds events
   pub accepted : AllByRecursion IsOk (outcomes (opening casts) events)
   pub keeps : Keeps casts deeds (history casts events)
+  pub fronts : EachFront casts [] [] deeds events
+  pub in_order : IsInOrder casts deeds events
 
 -- one event more, which nothing refuses
 one_event : (casts : List ActorSpec) (deeds : List Deed) (deed : Deed) (before : IsReplayed casts deeds) → GoesOn casts deeds (history casts before.events) deed → IsReplayed casts (deeds ++ deed ∷ [])
@@ -87,6 +92,7 @@ one_event casts deeds deed before on =
     let ok : IsOk (outcome_of h on.event) = subst (λ (o : Outcome). IsOk o) (sym told) refl in
     let reached : history casts (before.events ++ on.event ∷ []) ≡ add_event h on.event =
     after_all-append (opening casts) before.events (on.event ∷ []) ∙ ap (λ (r : Option WorldRefusal). after_by h on.event r) on.accepted in
+    let keeps : Keeps casts (deeds ++ deed ∷ []) (history casts (before.events ++ on.event ∷ [])) = subst (λ (g : History). Keeps casts (deeds ++ deed ∷ []) g) (sym reached) on.keeps in
     record {
       events = before.events ++ on.event ∷ [];
       steps = subst (λ (g : History). AllZip (IsEventOf g) (deeds ++ deed ∷ []) (before.events ++ on.event ∷ [])) (sym reached)
@@ -95,7 +101,12 @@ one_event casts deeds deed before on =
           (event_stays h (add_event h on.event) deed on.event (added_grows h on.event) on.is));
       accepted = subst (λ (l : List Outcome). AllByRecursion IsOk l) (sym (outcomes-append (opening casts) before.events (on.event ∷ [])))
           (All_more IsOk (outcomes (opening casts) before.events) (outcome_of h on.event) before.accepted ok);
-      keeps = subst (λ (g : History). Keeps casts (deeds ++ deed ∷ []) g) (sym reached) on.keeps;
+      keeps = keeps;
+      fronts = one_front casts [] [] deeds before.events deed on.event before.fronts (keeps_answers casts (deeds ++ deed ∷ []) (before.events ++ on.event ∷ []) keeps);
+      in_order = record {
+        collected = ap (λ (g : History). g.collected) reached ∙ collected_more h deed on.event on.is ∙ ap (λ (l : List Post). l ++ cons_option (post_of deed) []) before.in_order.collected ∙ sym (filter_map-append post_of deeds (deed ∷ []));
+        arrived = ap (λ (g : History). g.arrived) reached ∙ arrived_more h deed on.event on.is ∙ ap (λ (l : List Letter). l ++ cons_option (letter_of deed) []) before.in_order.arrived ∙ sym (filter_map-append letter_of deeds (deed ∷ []));
+      };
     }
 
 -- all deeds after those that were replayed
@@ -105,17 +116,28 @@ replays casts deeds (deed ∷ later) fitting before caused =
     let next = one_event casts deeds deed before (goes_on casts deeds (history casts before.events) deed fitting before.keeps caused.0) in
     subst (IsReplayed casts) (append_assoc deeds (deed ∷ []) later) (replays casts (deeds ++ deed ∷ []) later fitting next caused.1)
 
-pub play_of : (casts : List ActorSpec) (deeds : List Deed) → SpecsFit casts → AreCaused casts [] deeds → (events : List Event) × IsPlayOfDeeds casts deeds events
+pub play_of : (casts : List ActorSpec) (deeds : List Deed) → SpecsFit casts → AreCaused casts [] deeds → (events : List Event) × IsStepwisePlay casts deeds events
 play_of casts deeds fitting caused =
-    let all = replays casts [] deeds fitting (record { events = []; steps = tt; accepted = tt; keeps = keeps_opening casts fitting }) caused in (
+    let all = replays casts [] deeds fitting (record {
+      events = [];
+      steps = tt;
+      accepted = tt;
+      keeps = keeps_opening casts fitting;
+      fronts = keeps_answers casts [] [] (keeps_opening casts fitting);
+      in_order = record { collected = refl; arrived = refl };
+    }) caused in (
       all.events,
       record {
-        steps = all.steps;
-        accepted = All-from_recursion IsOk (outcomes (opening casts) all.events) all.accepted;
-        calls = λ c. (told_of casts deeds (history casts all.events) c all.keeps).calls;
-        kept = λ c. (told_of casts deeds (history casts all.events) c all.keeps).kept;
-        runs = all.keeps.actors.runs;
-        dead = λ a. dead_is deeds (history casts all.events) a all.keeps.actors;
-        retired = all.keeps.actors.retired;
+        play = record {
+          steps = all.steps;
+          accepted = All-from_recursion IsOk (outcomes (opening casts) all.events) all.accepted;
+          calls = λ c. (told_of casts deeds (history casts all.events) c all.keeps).calls;
+          kept = λ c. (told_of casts deeds (history casts all.events) c all.keeps).kept;
+          runs = all.keeps.actors.runs;
+          dead = λ a. dead_is deeds (history casts all.events) a all.keeps.actors;
+          retired = all.keeps.actors.retired;
+        };
+        fronts = all.fronts;
+        in_order = all.in_order;
       },
     )

@@ -1,0 +1,151 @@
+-- What each front of a play keeps of the same front of the deeds that it stands for, and what it collects and delivers.
+use Rattle.std.proofs.Common.{◌≡◌, ℕ, zero, suc, Bool, true, false, List, [], ◌∷◌, ◌++◌, Option, Some, None, refl, ap, sym, ◌∙◌, subst}
+use Rattle.std.specs.Prelude.{filter_map, slice_get, unwrap_or, replicate}
+use Rattle.std.specs.List.{list_any, cons_option}
+use Rattle.std.proofs.lemmas.List.{append-nil, append_assoc}
+use Rattle.act_types.specs.declared.call.Notice.TheVariants.{Answered, Death}
+use Rattle.act_rules.specs.declared.event.Event.{Event}
+use Rattle.act_rules.specs.declared.history.Letter.{Letter}
+use Rattle.act_rules.specs.declared.history.Letter.TheVariants.{Call as CallLetter, Note as NoteLetter}
+use Rattle.act_rules.specs.declared.history.Post.{Post}
+use Rattle.act_rules.specs.declared.history.Post.TheVariants.{Reply as ReplyPost, Death as DeathPost}
+use Rattle.act_rules.specs.declared.history.RunItem.{RunItem}
+use Rattle.act_rules.specs.History.{ActorSpec, History, kept_of, next_item}
+use Rattle.act_rules.specs.Laws.{history}
+use Rattle.act_rules.specs.Rules.{add_event, after_run, and_also}
+use Rattle.act_owner.specs.Owner.{is_known_dead}
+use Rattle.act_owner.specs.Life.{Change, Copied, Released, Submitted, Sent, Noticed}
+use Rattle.act_world.specs.Refines.{is_death_to}
+use Rattle.act_causes.specs.Deeds.{Deed, Changed, AskedKill, TookCall, TookNote, Ran, TookKill, ToldDeath, Retired, owner_by, owner_after}
+use Rattle.act_causes.specs.Plays.{IsEventOf, IsPlayOfDeeds}
+use Rattle.act_causes.proofs.Keeping.{Keeps, told_of, owner_of, is_named}
+
+-- each caller's answers are kept as the deeds leave them, and of each actor that it knows to be dead it collected that
+pub record KeepsAnswers (casts : List ActorSpec) (deeds : List Deed) (events : List Event) : Type 0 where
+  pub kept : (c : ℕ) → kept_of c (history casts events) ≡ (owner_by casts c deeds).kept
+  pub deaths : (c a : ℕ) → is_known_dead (owner_by casts c deeds) a ≡ true →
+      list_any (is_death_to c a) (history casts events).collected ≡ true
+
+-- what is collected in a deed
+abbrev pub post_of : Deed → Option Post
+post_of (Changed c (Copied a)) = None
+post_of (Changed c (Released a)) = None
+post_of (Changed c (Submitted a method args)) = None
+post_of (Changed c (Sent k)) = None
+post_of (Changed c (Noticed (Answered reply))) = Some (ReplyPost c reply.actor reply.place)
+post_of (Changed c (Noticed (Death a))) = Some (DeathPost c a)
+post_of (AskedKill c a) = None
+post_of (TookCall a packet) = None
+post_of (TookNote a note) = None
+post_of (Ran a item) = None
+post_of (TookKill a) = None
+post_of (ToldDeath a c) = None
+post_of (Retired a) = None
+
+-- the letter that arrives in a deed
+abbrev pub letter_of : Deed → Option Letter
+letter_of (Changed c change) = None
+letter_of (AskedKill c a) = None
+letter_of (TookCall a packet) = Some (CallLetter packet.caller a packet.number)
+letter_of (TookNote a note) = Some (NoteLetter note.caller a note.after)
+letter_of (Ran a item) = None
+letter_of (TookKill a) = None
+letter_of (ToldDeath a c) = None
+letter_of (Retired a) = None
+
+-- the play collected, and brought, what the deeds did, in their order
+pub record IsInOrder (casts : List ActorSpec) (deeds : List Deed) (events : List Event) : Type 0 where
+  pub collected : (history casts events).collected ≡ filter_map post_of deeds
+  pub arrived : (history casts events).arrived ≡ filter_map letter_of deeds
+
+-- after the deeds `before`, which are the events `first`: so does each front of these deeds and events
+abbrev pub EachFront : List ActorSpec → List Deed → List Event → List Deed → List Event → Type 0
+EachFront casts before first [] [] = KeepsAnswers casts before first
+EachFront casts before first [] (event ∷ events) = ⊥
+EachFront casts before first (deed ∷ deeds) [] = ⊥
+EachFront casts before first (deed ∷ deeds) (event ∷ events) = KeepsAnswers casts before first
+    × EachFront casts (before ++ deed ∷ []) (first ++ event ∷ []) deeds events
+
+-- the events are a play of the deeds, each front of which keeps what the deeds' front leaves
+pub record IsStepwisePlay (casts : List ActorSpec) (deeds : List Deed) (events : List Event) : Type 0 where
+  pub play : IsPlayOfDeeds casts deeds events
+  pub fronts : EachFront casts [] [] deeds events
+  pub in_order : IsInOrder casts deeds events
+
+-- ---- one event more
+
+none_known : (a : ℕ) → unwrap_or (slice_get (replicate 9 false) a) false ≡ true → ⊥
+none_known a e = go 9 a e
+  where
+    go : (n k : ℕ) → unwrap_or (slice_get (replicate n false) k) false ≡ true → ⊥
+    go zero k e = cc
+    go (suc n) zero e = cc
+    go (suc n) (suc k) e = go n k e
+
+pub keeps_answers : (casts : List ActorSpec) (deeds : List Deed) (events : List Event) → Keeps casts deeds (history casts events) → KeepsAnswers casts deeds events
+keeps_answers casts deeds events keeps = record {
+  kept = λ c. (told_of casts deeds (history casts events) c keeps).kept;
+  deaths = λ c a known. go c a known (is_named casts c) refl;
+}
+  where
+    go : (c a : ℕ) → is_known_dead (owner_by casts c deeds) a ≡ true → (b : Bool) → is_named casts c ≡ b → list_any (is_death_to c a) (history casts events).collected ≡ true
+    go c a known true named =
+        let is = owner_of casts deeds (history casts events) c keeps named in
+        sym (is.deaths a) ∙ known
+    go c a known false stranger =
+        let same = keeps.strangers c stranger in
+        let bad : is_known_dead (owner_after casts c []) a ≡ true = sym (ap (λ (changes : List Change). is_known_dead (owner_after casts c changes) a) same) ∙ known in
+        absurd (none_known a bad)
+
+pub one_front : (casts : List ActorSpec) (before : List Deed) (first : List Event) (deeds : List Deed) (events : List Event) (deed : Deed) (event : Event)
+    → EachFront casts before first deeds events → KeepsAnswers casts (before ++ (deeds ++ deed ∷ [])) (first ++ (events ++ event ∷ []))
+    → EachFront casts before first (deeds ++ deed ∷ []) (events ++ event ∷ [])
+one_front casts before first [] [] deed event fronts last = (fronts, last)
+one_front casts before first [] (other ∷ events) deed event fronts last = absurd fronts
+one_front casts before first (one ∷ deeds) [] deed event fronts last = absurd fronts
+one_front casts before first (one ∷ deeds) (other ∷ events) deed event fronts last = (
+  fronts.0,
+  one_front casts (before ++ one ∷ []) (first ++ other ∷ []) deeds events deed event fronts.1
+      (subst (λ (l : List Deed). KeepsAnswers casts l ((first ++ other ∷ []) ++ (events ++ event ∷ []))) (sym (append_assoc before (one ∷ []) (deeds ++ deed ∷ [])))
+      (subst (λ (l : List Event). KeepsAnswers casts (before ++ (one ∷ (deeds ++ deed ∷ []))) l) (sym (append_assoc first (other ∷ []) (events ++ event ∷ []))) last)),
+)
+
+-- ---- what is collected and what arrives
+
+run_collected : (a c : ℕ) (h : History) (o : Option RunItem) → (after_run a c h o).collected ≡ h.collected
+run_collected a c h None = refl
+run_collected a c h (Some item) = refl
+
+pub collected_more : (h : History) (deed : Deed) (event : Event) → IsEventOf h deed event → (add_event h event).collected ≡ h.collected ++ cons_option (post_of deed) []
+collected_more h (Changed c (Copied a)) event is = ap (λ (e : Event). (add_event h e).collected) is ∙ sym (append-nil h.collected)
+collected_more h (Changed c (Released a)) event is = ap (λ (e : Event). (add_event h e).collected) is ∙ sym (append-nil h.collected)
+collected_more h (Changed c (Submitted a method args)) event is = ap (λ (e : Event). (add_event h e).collected) is ∙ sym (append-nil h.collected)
+collected_more h (Changed c (Sent k)) event is = ap (λ (e : Event). (add_event h e).collected) is ∙ sym (append-nil h.collected)
+collected_more h (Changed c (Noticed (Answered reply))) event is = ap (λ (e : Event). (add_event h e).collected) is.1 ∙ ap (and_also h.collected) is.2
+collected_more h (Changed c (Noticed (Death a))) event is = ap (λ (e : Event). (add_event h e).collected) is.1 ∙ ap (and_also h.collected) is.2
+collected_more h (AskedKill c a) event is = ap (λ (e : Event). (add_event h e).collected) is ∙ sym (append-nil h.collected)
+collected_more h (TookCall a packet) event is = ap (λ (e : Event). (add_event h e).collected) is.1 ∙ sym (append-nil h.collected)
+collected_more h (TookNote a note) event is = ap (λ (e : Event). (add_event h e).collected) is.1 ∙ sym (append-nil h.collected)
+collected_more h (Ran a item) event is = ap (λ (e : Event). (add_event h e).collected) is ∙ run_collected a item.caller h (next_item a item.caller h) ∙ sym (append-nil h.collected)
+collected_more h (TookKill a) event is = ap (λ (e : Event). (add_event h e).collected) is ∙ sym (append-nil h.collected)
+collected_more h (ToldDeath a c) event is = ap (λ (e : Event). (add_event h e).collected) is ∙ sym (append-nil h.collected)
+collected_more h (Retired a) event is = ap (λ (e : Event). (add_event h e).collected) is ∙ sym (append-nil h.collected)
+
+run_arrived : (a c : ℕ) (h : History) (o : Option RunItem) → (after_run a c h o).arrived ≡ h.arrived
+run_arrived a c h None = refl
+run_arrived a c h (Some item) = refl
+
+pub arrived_more : (h : History) (deed : Deed) (event : Event) → IsEventOf h deed event → (add_event h event).arrived ≡ h.arrived ++ cons_option (letter_of deed) []
+arrived_more h (Changed c (Copied a)) event is = ap (λ (e : Event). (add_event h e).arrived) is ∙ sym (append-nil h.arrived)
+arrived_more h (Changed c (Released a)) event is = ap (λ (e : Event). (add_event h e).arrived) is ∙ sym (append-nil h.arrived)
+arrived_more h (Changed c (Submitted a method args)) event is = ap (λ (e : Event). (add_event h e).arrived) is ∙ sym (append-nil h.arrived)
+arrived_more h (Changed c (Sent k)) event is = ap (λ (e : Event). (add_event h e).arrived) is ∙ sym (append-nil h.arrived)
+arrived_more h (Changed c (Noticed (Answered reply))) event is = ap (λ (e : Event). (add_event h e).arrived) is.1 ∙ sym (append-nil h.arrived)
+arrived_more h (Changed c (Noticed (Death a))) event is = ap (λ (e : Event). (add_event h e).arrived) is.1 ∙ sym (append-nil h.arrived)
+arrived_more h (AskedKill c a) event is = ap (λ (e : Event). (add_event h e).arrived) is ∙ sym (append-nil h.arrived)
+arrived_more h (TookCall a packet) event is = ap (λ (e : Event). (add_event h e).arrived) is.1 ∙ ap (and_also h.arrived) is.2
+arrived_more h (TookNote a note) event is = ap (λ (e : Event). (add_event h e).arrived) is.1 ∙ ap (and_also h.arrived) is.2
+arrived_more h (Ran a item) event is = ap (λ (e : Event). (add_event h e).arrived) is ∙ run_arrived a item.caller h (next_item a item.caller h) ∙ sym (append-nil h.arrived)
+arrived_more h (TookKill a) event is = ap (λ (e : Event). (add_event h e).arrived) is ∙ sym (append-nil h.arrived)
+arrived_more h (ToldDeath a c) event is = ap (λ (e : Event). (add_event h e).arrived) is ∙ sym (append-nil h.arrived)
+arrived_more h (Retired a) event is = ap (λ (e : Event). (add_event h e).arrived) is ∙ sym (append-nil h.arrived)
