@@ -7,7 +7,6 @@ use Rattle.std.proofs.lemmas.Bool.{eq-eqb, eqb-true}
 use Rattle.std.proofs.lemmas.Option.{slice_get-map}
 use Rattle.std.proofs.lemmas.List.Kept.{AllPairs-filter}
 use Rattle.act_rules.specs.declared.event.Event.{Event}
-use Rattle.act_rules.specs.declared.script.Step.{Step}
 use Rattle.act_rules.specs.Laws.{history}
 use Rattle.act_rules.specs.History.{ActorSpec, History, opening, contains, calls_of, kept_of, runs_of, is_dead, is_retired}
 use Rattle.act_rules.specs.Report.{one_to}
@@ -19,9 +18,10 @@ use Rattle.act_rules.proofs.Growth.{added_grows}
 use Rattle.act_rules.proofs.Steps.{after_all_keeps}
 use Rattle.act_owner.specs.Owner.{OwnerView}
 use Rattle.act_serve.specs.Served.{EndView, Killed, Retired, Starved, end_id}
+use Rattle.act_plans.specs.Runs.{callers_of_casts, actors_of_casts}
 use Rattle.act_plans.proofs.Keys.{pairs_of_map}
 use Rattle.act_plans.proofs.Matching.{numbers_differ}
-use Rattle.act_executor.specs.Joined.{is_starved, owner_of, end_of, calls_of_owner, kept_of_owner, log_of_end, is_killed_end, calls_in, kept_in, log_in, killed_in, IsJoined}
+use Rattle.act_executor.specs.Joined.{is_starved, owner_of, end_of, calls_of_owner, kept_of_owner, log_of_end, is_killed_end, calls_in, kept_in, log_in, killed_in}
 use Rattle.act_executor.specs.Plays.{IsOwnerIn, HasEndedIn, IsEndIn, IsPlayOf}
 use Rattle.act_executor.proofs.Elements.{all_in, all_by_places, found_is, finds, any_is}
 use Rattle.act_executor.proofs.Found.{one_of}
@@ -52,8 +52,8 @@ pub record LeavesAll (casts : List ActorSpec) (owners : List OwnerView) (ends : 
 pub casts_stay : (casts : List ActorSpec) (events : List Event) → (history casts events).casts ≡ casts
 casts_stay casts events = after_all_keeps (λ (h : History). h.casts ≡ casts) (λ h event same accepted. (added_grows h event).casts ∙ same) (opening casts) events refl
 
-module _ (casts : List ActorSpec) (plans : List (ℕ × List Step)) (owners : List OwnerView) (ends : List EndView)
-    (joined : IsJoined casts plans owners ends) (left : LeavesAll casts owners ends) where
+module _ (casts : List ActorSpec) (owners : List OwnerView) (ends : List EndView) (owners_are : map (λ (owner : OwnerView). owner.id) owners ≡ callers_of_casts casts) (ends_are : map end_id ends ≡ actors_of_casts casts)
+    (fed : All (λ (end : EndView). is_starved end ≡ false) ends) (left : LeavesAll casts owners ends) where
   abbrev h : History
   h = history casts left.events
 
@@ -61,7 +61,7 @@ module _ (casts : List ActorSpec) (plans : List (ℕ × List Step)) (owners : Li
 
   owners_differ : AllPairs (λ one other. one.id ≢ other.id) owners
   owners_differ = pairs_of_map (λ (owner : OwnerView). owner.id) owners
-      (subst (AllPairs (λ one other. one ≢ other)) (sym joined.callers)
+      (subst (AllPairs (λ one other. one ≢ other)) (sym owners_are)
       (AllPairs-filter (λ (one other : ℕ). one ≢ other) (λ c. list_any (λ (cast : ActorSpec). contains c cast.callers) casts) (one_to 16) (numbers_differ 16)))
 
   owner_found : (k : ℕ) (owner : OwnerView) → slice_get owners k ≡ Some owner → owner_of owner.id owners ≡ Some owner
@@ -74,7 +74,7 @@ module _ (casts : List ActorSpec) (plans : List (ℕ × List Step)) (owners : Li
   owner_named : (k : ℕ) (owner : OwnerView) → slice_get owners k ≡ Some owner → list_any (λ (cast : ActorSpec). contains owner.id cast.callers) casts ≡ true
   owner_named k owner at =
       let there : slice_get (map (λ (o : OwnerView). o.id) owners) k ≡ Some owner.id = slice_get-map (λ (o : OwnerView). o.id) owners k ∙ ap (option_map (λ (o : OwnerView). o.id)) at in
-      (filter-slice_get (λ (c : ℕ). list_any (λ (cast : ActorSpec). contains c cast.callers) casts) (one_to 16) k owner.id (subst (λ (ns : List ℕ). slice_get ns k ≡ Some owner.id) joined.callers there)).passes
+      (filter-slice_get (λ (c : ℕ). list_any (λ (cast : ActorSpec). contains c cast.callers) casts) (one_to 16) k owner.id (subst (λ (ns : List ℕ). slice_get ns k ≡ Some owner.id) owners_are there)).passes
 
   owner_in : (k : ℕ) (owner : OwnerView) → slice_get owners k ≡ Some owner → IsOwnerIn h owner
   owner_in k owner at =
@@ -89,7 +89,7 @@ module _ (casts : List ActorSpec) (plans : List (ℕ × List Step)) (owners : Li
 
   ends_differ : AllPairs (λ one other. end_id one ≢ end_id other) ends
   ends_differ = pairs_of_map end_id ends
-      (subst (AllPairs (λ one other. one ≢ other)) (sym joined.actors)
+      (subst (AllPairs (λ one other. one ≢ other)) (sym ends_are)
       (AllPairs-filter (λ (one other : ℕ). one ≢ other) (λ a. list_any (λ (cast : ActorSpec). cast.actor == a) casts) (one_to 8) (numbers_differ 8)))
 
   end_found : (k : ℕ) (end : EndView) → slice_get ends k ≡ Some end → end_of (end_id end) ends ≡ Some end
@@ -102,21 +102,21 @@ module _ (casts : List ActorSpec) (plans : List (ℕ × List Step)) (owners : Li
   end_cast : (k : ℕ) (end : EndView) → slice_get ends k ≡ Some end → is_some (find (λ (cast : ActorSpec). cast.actor == end_id end) casts) ≡ true
   end_cast k end at =
       let there : slice_get (map end_id ends) k ≡ Some (end_id end) = slice_get-map end_id ends k ∙ ap (option_map end_id) at in
-      let named = (filter-slice_get (λ (a : ℕ). list_any (λ (cast : ActorSpec). cast.actor == a) casts) (one_to 8) k (end_id end) (subst (λ (ns : List ℕ). slice_get ns k ≡ Some (end_id end)) joined.actors there)).passes in
+      let named = (filter-slice_get (λ (a : ℕ). list_any (λ (cast : ActorSpec). cast.actor == a) casts) (one_to 8) k (end_id end) (subst (λ (ns : List ℕ). slice_get ns k ≡ Some (end_id end)) ends_are there)).passes in
       let any = any_is (λ (cast : ActorSpec). cast.actor == end_id end) casts named in
       let found = finds (λ (cast : ActorSpec). cast.actor == end_id end) casts any.1.inside.place any.0 any.1.inside.at any.1.passes in
       ap is_some found.is
 
   ended : (end : EndView) → end_of (end_id end) ends ≡ Some end → is_starved end ≡ false → HasEndedIn h end
-  ended (Killed dead) found fed = left.killed dead.id ∙ ap is_killed_end found
-  ended (Retired retired) found fed = (left.killed retired.id ∙ ap is_killed_end found, left.retired retired.id ∙ ap is_retired_end found)
-  ended (Starved dead) found fed = absurd (true≢false fed)
+  ended (Killed dead) found is_fed = left.killed dead.id ∙ ap is_killed_end found
+  ended (Retired retired) found is_fed = (left.killed retired.id ∙ ap is_killed_end found, left.retired retired.id ∙ ap is_retired_end found)
+  ended (Starved dead) found is_fed = absurd (true≢false is_fed)
 
   end_in : (k : ℕ) (end : EndView) → slice_get ends k ≡ Some end → IsEndIn h end
   end_in k end at = record {
     known = ap (λ (xs : List ActorSpec). is_some (find (λ (cast : ActorSpec). cast.actor == end_id end) xs)) (casts_stay casts left.events) ∙ end_cast k end at;
     runs = sym (left.runs (end_id end) ∙ ap log_of_end (end_found k end at));
-    ended = ended end (end_found k end at) (all_in (λ (e : EndView). is_starved e ≡ false) ends end joined.fed (record { place = k; at = at }));
+    ended = ended end (end_found k end at) (all_in (λ (e : EndView). is_starved e ≡ false) ends end fed (record { place = k; at = at }));
   }
 
   pub is_play : IsPlayOf casts left.events owners ends

@@ -1,5 +1,5 @@
 -- Callers by plans and by code: the steps that each did make plans.
-use Rattle.std.proofs.Common.{◌≡◌, ◌≢◌, ℕ, zero, suc, Bool, true, false, List, [], ◌∷◌, length, Some, None, refl, ap, sym, ◌∙◌, subst, arith, rules, AllPairs, get_or, ◌<◌}
+use Rattle.std.proofs.Common.{◌≡◌, ◌≢◌, ℕ, zero, suc, Bool, true, false, List, [], ◌∷◌, length, Some, None, refl, ap, sym, ◌∙◌, subst, arith, rules, All, AllPairs, get_or, ◌<◌}
 use Rattle.std.specs.Prelude.{Option, ◌==◌, map, find, slice_get, option_map, if◌then◌else◌}
 use Rattle.std.specs.List.{list_any}
 use Rattle.std.proofs.lemmas.Bool.{ne_eqb, eqb-true, eq-eqb}
@@ -14,6 +14,8 @@ use Rattle.act_drive.specs.declared.caller.Driven.{Driven}
 use Rattle.act_drive.specs.Sessions.{SessionView}
 use Rattle.act_drive.specs.Coded.{HasConcluded}
 use Rattle.act_plans.specs.Runs.{plan_of, steps_of_plan}
+use Rattle.act_serve.specs.Served.{EndView}
+use Rattle.act_executor.specs.Joined.{CallsThatDiedNeverRan, kept_in, log_in}
 use Rattle.act_executor.specs.Left.{ServedView, IsDriven, AreJoined}
 use Rattle.act_executor.specs.ByCode.{code_of, opened_of, HasTold, IsDrivenBy, AreJoinedBy, IsJoinedBy}
 use Rattle.act_executor.proofs.Elements.{all_in, all_by_places, found_is, finds, any_is, contains_is}
@@ -70,27 +72,28 @@ found_code {C = C} codes k given differ at =
 -- ---- a joined run
 
 module _ {C : Type 0} (tells : C → SessionView → SessionView → Type 0) (mails : List MailView) (controls : List ControlView) (replies : List RepliesView) (casts : List ActorSpec) (plans : List (ℕ × List Step)) (codes : List (ℕ × C))
-    (driven : List Driven) (served : List ServedView) (j : AreJoinedBy tells mails controls replies casts plans codes driven served) where
-  -- a caller did these steps, and they are as it was given
+    (driven : List Driven) (served : List ServedView) (j : AreJoinedBy tells mails controls replies casts plans codes driven served)
+    (Traced : Driven → List Step → Type 0) (traced : All (λ (d : Driven). (by : IsDrivenBy tells mails controls casts plans codes d) × Traced d by.steps) driven) where
+  -- a caller did these steps, its thread's trace tells them, and they are as it was given
   record DidBy (d : Driven) (steps : List Step) : Type 0 where
     did : IsDriven mails controls (actors_naming d.owner.id casts) steps d
     planned : code_of d.owner.id codes ≡ None → steps ≡ plan_of d.owner.id plans
     told : (code : C) → code_of d.owner.id codes ≡ Some code → HasConcluded (tells code) steps (opened_of d.owner.id casts) d.owner
-
-  driver_at : (i : ℕ) (d : Driven) → slice_get driven i ≡ Some d → IsDrivenBy tells mails controls casts plans codes d
-  driver_at i d at = all_in (IsDrivenBy tells mails controls casts plans codes) driven d j.all_driven (record { place = i; at = at })
+    trace : Traced d steps
 
   each : (i : ℕ) (d : Driven) → slice_get driven i ≡ Some d → Did DidBy d
-  each i d at = let is = driver_at i d at in record { steps = is.steps; is = record { did = is.did; planned = is.planned; told = is.told } }
+  each i d at =
+      let is = all_in (λ (x : Driven). (by : IsDrivenBy tells mails controls casts plans codes x) × Traced x by.steps) driven d traced (record { place = i; at = at }) in
+      record { steps = is.0.steps; is = record { did = is.0.did; planned = is.0.planned; told = is.0.told; trace = is.1 } }
 
-  steps : List (ℕ × List Step)
+  pub steps : List (ℕ × List Step)
   steps = made DidBy plans driven each
 
   theirs : (i : ℕ) (d : Driven) → slice_get driven i ≡ Some d → DidBy d (plan_of d.owner.id steps)
   unfolding steps
   theirs i d at = own DidBy plans driven each j.differ i d at
 
-  as_planned : (c : ℕ) → code_of c codes ≡ None → plan_of c steps ≡ plan_of c plans
+  pub as_planned : (c : ℕ) → code_of c codes ≡ None → plan_of c steps ≡ plan_of c plans
   unfolding steps
   as_planned c none = go (driven_of c driven) refl
     where
@@ -101,7 +104,8 @@ module _ {C : Type 0} (tells : C → SessionView → SessionView → Type 0) (ma
           let id : d.owner.id ≡ c = eqb-true d.owner.id c found.passes in
           subst (λ (n : ℕ). plan_of n steps ≡ plan_of n plans) id ((theirs found.inside.place d found.inside.at).planned (subst (λ (n : ℕ). code_of n codes ≡ None) (sym id) none))
 
-  are_joined : AreJoined mails controls replies casts steps driven served
+  -- with the steps that each did for plans, they are joined as any are
+  pub are_joined : AreJoined mails controls replies casts steps driven served
   are_joined = record {
     casts_are = j.casts_are;
     callers = j.callers;
@@ -114,14 +118,17 @@ module _ {C : Type 0} (tells : C → SessionView → SessionView → Type 0) (ma
     fed = j.fed;
   }
 
-  -- with the steps that each did for plans, they are joined as any are
-  pub joined_so : (did : List (ℕ × List Step)) × AreJoined mails controls replies casts did driven served
-  joined_so = (steps, are_joined)
+  -- and traced
+  pub are_traced : All (λ (d : Driven). Traced d (plan_of d.owner.id steps)) driven
+  are_traced = all_by_places (λ (d : Driven). Traced d (plan_of d.owner.id steps)) driven (λ i d at. (theirs i d at).trace)
 
   abbrev owners : List OwnerView
   owners = map (λ (d : Driven). d.owner) driven
 
-  told : (k : ℕ) (given : ℕ × C) → slice_get codes k ≡ Some given → HasTold tells casts steps owners given
+  abbrev ends : List EndView
+  ends = map (λ (s : ServedView). s.end) served
+
+  pub told : (k : ℕ) (given : ℕ × C) → slice_get codes k ≡ Some given → HasTold tells casts steps owners given
   told k given at =
       let named = any_is (λ (cast : ActorSpec). contains given.0 cast.callers) casts (all_in (λ (g : ℕ × C). list_any (λ (cast : ActorSpec). contains g.0 cast.callers) casts ≡ true) codes given j.codes_named (record { place = k; at = at })) in
       let found = driven_named are_joined named.0 given.0 named.1.inside (contains_is given.0 named.0.callers named.1.passes) in
@@ -136,10 +143,10 @@ module _ {C : Type 0} (tells : C → SessionView → SessionView → Type 0) (ma
         told = subst (λ (n : ℕ). HasConcluded (tells given.1) (plan_of n steps) (opened_of n casts) d.owner) id says;
       }
 
-  pub is_joined_by : IsJoinedBy tells casts plans codes owners (map (λ (s : ServedView). s.end) served)
-  is_joined_by = record {
+  abbrev pub is_joined_by : CallsThatDiedNeverRan (kept_in owners) (log_in ends) → IsJoinedBy tells casts plans codes owners ends
+  is_joined_by ran = record {
     steps = steps;
-    joined = joined_is are_joined;
+    joined = joined_is are_joined ran;
     planned = as_planned;
     told = all_by_places (HasTold tells casts steps owners) codes told;
   }

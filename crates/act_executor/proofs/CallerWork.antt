@@ -96,7 +96,7 @@ module _ (actors : List ℕ) where
     | inr f ↦ copies-without_copy-other a b handles f.1 ∙ none
   ]
 
-  change_holds : (owner : OwnerView) (change : Change) → HoldsThese owner → MayChange owner change → HoldsThese (after_change owner change)
+  pub change_holds : (owner : OwnerView) (change : Change) → HoldsThese owner → MayChange owner change → HoldsThese (after_change owner change)
   change_holds owner (Copied a) holds may = record { strangers = λ b none. copied_none a b owner.handles (holds.strangers b none); calls = holds.calls }
   change_holds owner (Released a) holds may = record { strangers = λ b none. released_none a b owner.handles (holds.strangers b none); calls = holds.calls }
   change_holds owner (Submitted a method args) holds may = record {

@@ -31,8 +31,8 @@ use Rattle.act_serve.specs.declared.turn.ExecPasses.{ExecPasses}
 use Rattle.act_serve.specs.Served.{EndView, Killed, Retired, Starved, end_id, end_log, IfRetired, note_in, first_note, IsTakenAt, KillsOfDead, KillsTaken}
 use Rattle.act_drive.specs.declared.caller.Driven.{Driven}
 use Rattle.act_drive.specs.Driven.{IsSent, AreAsked, HasAsked}
-use Rattle.act_plans.specs.Runs.{limits_naming, plan_of}
-use Rattle.act_executor.specs.Joined.{is_killed, is_starved, owner_of, calls_of_owner, kept_of_owner, log_of_end, is_killed_end, calls_in, kept_in, log_in, killed_in, RanAll, IsJoined}
+use Rattle.act_plans.specs.Runs.{limits_naming, plan_of, callers_of_casts, actors_of_casts}
+use Rattle.act_executor.specs.Joined.{is_killed, is_starved, owner_of, calls_of_owner, kept_of_owner, log_of_end, is_killed_end, calls_in, kept_in, log_in, killed_in, RanAll, IsJoined, CallsThatDiedNeverRan}
 use Rattle.act_executor.specs.Left.{ServedView, AreJoined}
 use Rattle.act_executor.proofs.Elements.{IsIn, in_from_contains, all_in, in_filter, in_front, all_by_places, is_contained, empty_by_places, whole_by_length, enumerated, in_none, in_first, some_long}
 use Rattle.act_executor.proofs.Found.{naming, same_cast, planned_known, planned_none, driven_named}
@@ -125,7 +125,7 @@ module _ {mails : List MailView} {controls : List ControlView} {replies : List R
           let short : k < length d.owner.calls = subst (λ (x : Option OwnerView). k < length (calls_of_owner x)) is below in
           subst (λ (x : Option OwnerView). is_some (kept_at (kept_of_owner x) k) ≡ true) (sym is) ((driver j c d f).driving.answered k short)
 
-  fed : All (λ end. is_starved end ≡ false) ends
+  pub fed : All (λ end. is_starved end ≡ false) ends
   fed = all_by_places (λ (end : EndView). is_starved end ≡ false) ends (λ k end at.
       let found = map-slice_get (λ (s : ServedView). s.end) served k end at in
       subst (λ (e : EndView). is_starved e ≡ false) found.2 (all_in (λ (s : ServedView). is_starved s.end ≡ false) served found.0 j.fed (record { place = k; at = found.1 })))
@@ -261,10 +261,16 @@ module _ {mails : List MailView} {controls : List ControlView} {replies : List R
 
   -- ---- the whole
 
-  pub joined : IsJoined casts plans owners ends
-  joined = record {
-    callers = map-map (λ (owner : OwnerView). owner.id) (λ (d : Driven). d.owner) driven ∙ j.callers;
-    actors = map-map end_id (λ (s : ServedView). s.end) served ∙ j.actors;
+  pub owners_are : map (λ (owner : OwnerView). owner.id) owners ≡ callers_of_casts casts
+  owners_are = map-map (λ (owner : OwnerView). owner.id) (λ (d : Driven). d.owner) driven ∙ j.callers
+
+  pub ends_are : map end_id ends ≡ actors_of_casts casts
+  ends_are = map-map end_id (λ (s : ServedView). s.end) served ∙ j.actors
+
+  pub joined : CallsThatDiedNeverRan (kept_in owners) (log_in ends) → IsJoined casts plans owners ends
+  joined ran = record {
+    callers = owners_are;
+    actors = ends_are;
     limits = limits;
     submitted = submitted;
     answered = answered;
@@ -274,4 +280,5 @@ module _ {mails : List MailView} {controls : List ControlView} {replies : List R
     last = last;
     retired = retired;
     fed = fed;
+    ran = ran;
   }

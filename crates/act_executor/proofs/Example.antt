@@ -3,6 +3,7 @@ use Rattle.std.proofs.Common.{◌≡◌, ◌≢◌, ℕ, zero, suc, ◌<◌, Boo
 use Rattle.std.specs.Prelude.{◌==◌, slice_get, map, is_some, Ok, All, AllPairs, Contains, pos}
 use Rattle.std.specs.List.{range_with_len}
 use Rattle.std.specs.Global.{Vec, Global}
+use Rattle.std.proofs.lemmas.List.Kept.{AllPairs-cons}
 use denote.RawPtr.{Ptr}
 use Rattle.atomic_table.specs.Seated.{TableId}
 use Rattle.act_types.specs.KindState.{CounterAt}
@@ -34,7 +35,7 @@ use Rattle.act_mailbox.specs.declared.thread.Endpoint.{Endpoint}
 use Rattle.act_actor.specs.Actor.{packet_of_item}
 use Rattle.act_serve.specs.Served.{Retired, end_id, first_note, replies_to, deaths, caller_at}
 use Rattle.act_drive.specs.declared.caller.Driven.{Driven}
-use Rattle.act_drive.specs.Driven.{HasPosted, HasAsked, IsSent}
+use Rattle.act_drive.specs.Driven.{HasPosted, HasAsked, IsSent, AreTwo}
 use Rattle.act_plans.specs.Runs.{limits_naming, cast_at, plan_of}
 use Rattle.act_executor.specs.Joined.{is_starved}
 use Rattle.act_executor.specs.Left.{ServedView, IsServed, IsDriven, AreAudited, AreCasts, AreJoined}
@@ -99,8 +100,14 @@ item = record { caller = 1; number = 0; future = 0; method = method.Get; args = 
 
 -- ---- what was done
 
+abbrev sent : Letter
+sent = Call (packet_of_item 1 item)
+
+abbrev noted : Letter
+noted = Note (record { caller = 1; actor = 1; after = 1 })
+
 abbrev letters : List Letter
-letters = Call (packet_of_item 1 item) ∷ Note (record { caller = 1; actor = 1; after = 1 }) ∷ []
+letters = sent ∷ noted ∷ []
 
 abbrev answer : Answer
 answer = Ok (value.Int (pos 0))
@@ -170,9 +177,13 @@ module _ (mail control reply : TableId) (ptr : Ptr) (alloc : Global) where
       notes : (c : ℕ) → contains c (1 ∷ []) ≡ true → first_note 1 c letters ≡ Some (length (items_of c log))
       notes c names = subst (λ (n : ℕ). first_note 1 n letters ≡ Some (length (items_of n log))) (is_one c names) refl
 
+  -- a call, and a note
+  two_letters : AllPairs AreTwo letters
+  two_letters = AllPairs-cons AreTwo sent (noted ∷ []) (all_one (AreTwo sent) noted tt) (pairs_one AreTwo noted)
+
   drives : IsDriven (mails mail) (controls control) (1 ∷ []) plan d
   drives = record {
-    letters = all_one (HasPosted (mails mail) owner) _ (λ m. (All-two (IsSent owner 1) _ _ (refl, refl, refl) (refl, refl), pairs_one (λ (x y : ℕ). x ≢ y) 0));
+    letters = all_one (HasPosted (mails mail) owner) _ (λ m. (All-two (IsSent owner 1) _ _ (refl, refl, refl) (refl, refl), two_letters));
     hears = record { answers = answers; deaths = λ a e. cc };
     calls = refl;
     answered = answered;

@@ -1,5 +1,5 @@
 -- A run that meets all premises and ends by a kill: the call was posted and never taken.
-use Rattle.std.proofs.Common.{◌≡◌, ◌≢◌, ℕ, zero, suc, ◌<◌, true, false, List, [], ◌∷◌, ◌++◌, Some, inl, refl, subst, arith}
+use Rattle.std.proofs.Common.{◌≡◌, ℕ, zero, suc, ◌<◌, true, false, List, [], ◌∷◌, ◌++◌, Some, inl, refl, subst, arith}
 use Rattle.std.specs.Prelude.{is_some, Err, Contains, pos}
 use Rattle.std.specs.Global.{Global}
 use Rattle.std.proofs.lemmas.List.Elements.{All-nil}
@@ -28,7 +28,7 @@ use Rattle.act_mailbox.specs.declared.thread.Endpoint.{Endpoint}
 use Rattle.act_actor.specs.Actor.{packet_of_item}
 use Rattle.act_serve.specs.Served.{Killed, end_id, replies_to, deaths, caller_at}
 use Rattle.act_drive.specs.declared.caller.Driven.{Driven}
-use Rattle.act_drive.specs.Driven.{HasPosted, HasAsked, IsSent}
+use Rattle.act_drive.specs.Driven.{HasPosted, HasAsked, IsSent, AreTwo}
 use Rattle.act_plans.specs.Runs.{limits_naming, cast_at, plan_of}
 use Rattle.act_executor.specs.Joined.{is_starved}
 use Rattle.act_executor.specs.Left.{ServedView, IsServed, IsDriven, AreAudited, AreJoined}
@@ -93,7 +93,7 @@ module _ (mail control reply : TableId) (ptr : Ptr) (alloc : Global) where
 
   drives : IsDriven (mails mail) (controls control) (1 ∷ []) plan d
   drives = record {
-    letters = all_one (HasPosted (mails mail) owner) _ (λ m. (all_one (IsSent owner 1) _ (refl, refl, refl), pairs_one (λ (x y : ℕ). x ≢ y) 0));
+    letters = all_one (HasPosted (mails mail) owner) _ (λ m. (all_one (IsSent owner 1) _ (refl, refl, refl), pairs_one AreTwo (Call (packet_of_item 1 item))));
     hears = record { answers = answers; deaths = dies };
     calls = refl;
     answered = answered;

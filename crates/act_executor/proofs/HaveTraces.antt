@@ -3,6 +3,7 @@ use Rattle.std.proofs.Common.{◌≡◌, ℕ, List, [], ◌++◌, All, ap, ◌�
 use Rattle.std.specs.Prelude.{flat_map}
 use Rattle.std.specs.List.{AllZip}
 use Rattle.act_rules.specs.declared.history.RunItem.{RunItem}
+use Rattle.act_rules.specs.declared.script.Step.{Step}
 use Rattle.act_rules.specs.History.{ActorSpec}
 use Rattle.act_mailbox.specs.Controls.{ControlView, ControlExecView}
 use Rattle.act_mailbox.specs.Notices.{RepliesView, ReplyExecView}
@@ -15,15 +16,16 @@ use Rattle.act_serve.specs.Served.{EndView, Killed, Retired, Starved, end_id, ca
 use Rattle.act_serve.specs.ActorSteps.{ActorStep, letter_taken, kill_taken, ActorMayDoAll}
 use Rattle.act_serve.specs.ActorTraces.{exec_clock, IsGivenAfter, IsActorTrace, IsActorTraced}
 use Rattle.act_drive.specs.declared.caller.Driven.{Driven}
-use Rattle.act_drive.specs.CallerTraces.{IsCallerTraced}
+use Rattle.act_drive.specs.PlanTraces.{HasDonePlan}
+use Rattle.act_plans.specs.Runs.{plan_of}
 use Rattle.act_executor.specs.ByCode.{opened_of}
 use Rattle.act_executor.specs.Left.{ServedView}
 
 -- each thread did its steps in order and in time
 pub record HaveTraces (controls : List ControlView) (replies : List RepliesView) (casts : List ActorSpec)
-    (driven : List Driven) (served : List ServedView) : Type 0 where
+    (plans : List (ℕ × List Step)) (driven : List Driven) (served : List ServedView) : Type 0 where
   pub actors : All (λ s. IsActorTraced (end_id s.end) replies s.end s.passes) served
-  pub callers : All (λ d. IsCallerTraced controls (opened_of d.owner.id casts) d.owner d.passes) driven
+  pub callers : All (λ d. HasDonePlan controls (opened_of d.owner.id casts) d.owner (plan_of d.owner.id plans) d.passes) driven
 
 -- ---- the same trace, of passes that show the same
 

@@ -36,19 +36,19 @@ use Rattle.act_plans.specs.Runs.{cast_at}
 use Rattle.act_plans.proofs.Matching.{numbers_differ}
 use Rattle.act_causes.specs.Merge.{deeds_of}
 use Rattle.act_causes.specs.Deeds.{IsNamed, owner_after}
-use Rattle.act_causes.specs.Plays.{SpecsFit}
 use Rattle.act_serve.specs.ActorSteps.{ActorStep, LetterTaken, KillTaken, call_run, is_retirement, log_of_steps, has_died_in, ActorMayDoAll}
 use Rattle.act_serve.specs.ActorTraces.{IsGivenAfter, IsActorTraced}
 use Rattle.act_drive.specs.CallerSteps.{CallerStep, ChangeMade, changes_made, owner_after_steps, CallerMayDoAll}
-use Rattle.act_drive.specs.CallerTraces.{IsPostedAfter, IsAskedAfter, IsCallerTraced}
-use Rattle.act_executor.specs.Traced.{CallerThreads, ActorThreads, opened_by, left_by, log_left, IsPosted, IsKillAsked, IsNoticeGiven, AreTraced, IsPlayOfThreads, TracedRunsArePlayed}
-use Rattle.act_executor.specs.Plays.{IsPlayed}
-use Rattle.act_executor.proofs.Ends.{joined as joined_is}
-use Rattle.act_executor.proofs.Traced.{traced_play}
+use Rattle.act_drive.specs.CallerTraces.{IsPostedAfter, IsAskedAfter}
+use Rattle.act_executor.specs.Traced.{CallerThreads, ActorThreads, opened_by, left_by, log_left, IsPosted, IsKillAsked, IsNoticeGiven, AreTraced, IsPlayOfThreads}
+use Rattle.act_executor.specs.Plays.{IsPlayOf}
+use Rattle.act_executor.proofs.Ends.{owners_are, ends_are, fed as ends_fed}
 use Rattle.act_executor.proofs.AsPlay.{is_retired_end, retired_in, LeavesAll, is_play}
 use Rattle.act_executor.specs.Joined.{is_starved, calls_of_owner, kept_of_owner, log_of_end, is_killed_end, calls_in, kept_in, log_in, killed_in}
 use Rattle.act_executor.specs.ByCode.{opened_of}
 use Rattle.act_executor.proofs.HaveTraces.{HaveTraces}
+use Rattle.act_drive.specs.PlanTraces.{HasDonePlan}
+use Rattle.act_plans.specs.Runs.{plan_of}
 use Rattle.act_executor.specs.Left.{ServedView, NoticesAudited, AreJoined}
 use Rattle.act_executor.proofs.Elements.{IsIn, in_from_contains, all_in, all_by_places, in_filter, in_none, in_first}
 use Rattle.act_executor.proofs.Found.{naming, same_cast, driven_named, served_cast}
@@ -102,14 +102,14 @@ is_posted casts callers a m n (Note note) owner below sent left named posted =
       counts = ap (λ (x : ReleaseNote). x.after) sent.0 ∙ ap (λ (o : OwnerView). length (calls_to a o.calls)) left;
     }
 
-module _ {mails : List MailView} {controls : List ControlView} {replies : List RepliesView} {casts : List ActorSpec} {plans : List (ℕ × List Step)} {driven : List Driven} {served : List ServedView} (j : AreJoined mails controls replies casts plans driven served) (have : HaveTraces controls replies casts driven served) where
+module _ {mails : List MailView} {controls : List ControlView} {replies : List RepliesView} {casts : List ActorSpec} {plans : List (ℕ × List Step)} {driven : List Driven} {served : List ServedView} (j : AreJoined mails controls replies casts plans driven served) (have : HaveTraces controls replies casts plans driven served) where
   -- ---- the threads
 
   abbrev id_of : Driven → ℕ
   id_of d = d.owner.id
 
   abbrev CallerWork : Driven → List (ℕ × CallerStep) → Type 0
-  CallerWork = IsCallerWork casts controls
+  CallerWork = IsCallerWork casts controls plans
 
   named_at : (k : ℕ) (d : Driven) → slice_get driven k ≡ Some d → IsNamed casts d.owner.id
   named_at k d at =
@@ -118,10 +118,10 @@ module _ {mails : List MailView} {controls : List ControlView} {replies : List R
 
   pub all_callers : AllByRecursion (HasWork id_of CallerWork) driven
   all_callers = works id_of CallerWork driven (all_by_places (HasWork id_of CallerWork) driven (λ k d at.
-      let traced = all_in (λ (x : Driven). IsCallerTraced controls (opened_of x.owner.id casts) x.owner x.passes) driven d have.callers (record { place = k; at = at }) in
-      caller_works casts controls d (named_at k d at) traced))
+      let traced = all_in (λ (x : Driven). HasDonePlan controls (opened_of x.owner.id casts) x.owner (plan_of x.owner.id plans) x.passes) driven d have.callers (record { place = k; at = at }) in
+      caller_works casts controls plans d (named_at k d at) traced))
 
-  abbrev callers : CallerThreads
+  abbrev pub callers : CallerThreads
   callers = made_of id_of CallerWork driven all_callers
 
   abbrev number_of_end : ServedView → ℕ
@@ -140,21 +140,21 @@ module _ {mails : List MailView} {controls : List ControlView} {replies : List R
       let traced = all_in (λ (x : ServedView). IsActorTraced (end_id x.end) replies x.end x.passes) served s have.actors inside in
       actor_works casts replies s t.cast.cast t.cast.at t.serving (fed_in s inside) traced))
 
-  abbrev actors : ActorThreads
+  abbrev pub actors : ActorThreads
   actors = made_of number_of_end ActorWork served all_actors
 
   -- ---- look-ups
 
-  caller_found : (c : ℕ) (d : Driven) → driven_of c driven ≡ Some d → IsCallerWork casts controls d (deeds_of c callers)
+  pub caller_found : (c : ℕ) (d : Driven) → driven_of c driven ≡ Some d → IsCallerWork casts controls plans d (deeds_of c callers)
   caller_found c d e = work_found id_of CallerWork c d driven all_callers e
 
-  actor_found : (a : ℕ) (s : ServedView) → served_of a served ≡ Some s → IsActorWork casts replies s (deeds_of a actors)
+  pub actor_found : (a : ℕ) (s : ServedView) → served_of a served ≡ Some s → IsActorWork casts replies s (deeds_of a actors)
   actor_found a s e = work_found number_of_end ActorWork a s served all_actors e
 
-  caller_none : (c : ℕ) → driven_of c driven ≡ None → deeds_of c callers ≡ []
+  pub caller_none : (c : ℕ) → driven_of c driven ≡ None → deeds_of c callers ≡ []
   caller_none c e = work_none id_of CallerWork c driven all_callers e
 
-  actor_none : (a : ℕ) → served_of a served ≡ None → deeds_of a actors ≡ []
+  pub actor_none : (a : ℕ) → served_of a served ≡ None → deeds_of a actors ≡ []
   actor_none a e = work_none number_of_end ActorWork a served all_actors e
 
   owner_left : (c : ℕ) (d : Driven) → driven_of c driven ≡ Some d → d.owner ≡ left_by casts callers c
@@ -163,7 +163,7 @@ module _ {mails : List MailView} {controls : List ControlView} {replies : List R
   named_is : (c : ℕ) (d : Driven) → driven_of c driven ≡ Some d → IsNamed casts c
   named_is c d e = subst (IsNamed casts) (driver j c d e).id (caller_found c d e).named
 
-  log_found : (a : ℕ) (s : ServedView) → served_of a served ≡ Some s → log_left actors a ≡ end_log s.end
+  pub log_found : (a : ℕ) (s : ServedView) → served_of a served ≡ Some s → log_left actors a ≡ end_log s.end
   log_found a s e = sym (found_alone call_run (deeds_of a actors)) ∙ (actor_found a s e).runs
 
   own_cast : (a : ℕ) (s : ServedView) (t : Thread j a s) (cast : ActorSpec) → cast_at (end_id s.end) casts ≡ Some cast → cast ≡ t.cast.cast
@@ -292,7 +292,7 @@ module _ {mails : List MailView} {controls : List ControlView} {replies : List R
 
   -- ---- all together
 
-  callers_differ : AllPairs (λ (one other : ℕ). one ≢ other) (map id_of driven)
+  pub callers_differ : AllPairs (λ (one other : ℕ). one ≢ other) (map id_of driven)
   callers_differ = subst (AllPairs (λ (one other : ℕ). one ≢ other)) (sym j.callers) (AllPairs-filter (λ (one other : ℕ). one ≢ other) (λ (c : ℕ). list_any (λ (cast : ActorSpec). contains c cast.callers) casts) (one_to MAX_CALLERS) (numbers_differ MAX_CALLERS))
 
   actors_differ : AllPairs (λ (one other : ℕ). one ≢ other) (map number_of_end served)
@@ -321,14 +321,14 @@ module _ {mails : List MailView} {controls : List ControlView} {replies : List R
       go None e = ap (λ (l : List (ℕ × CallerStep)). (owner_after casts c (changes_made (steps_in l))).calls) (caller_none c e) ∙ sym (ap calls_of_owner (owner_is j c None e))
       go (Some d) e = ap (λ (o : OwnerView). o.calls) (sym (owner_left c d e)) ∙ sym (ap calls_of_owner (owner_is j c (Some d) e))
 
-  kept_left : (c : ℕ) → (left_by casts callers c).kept ≡ kept_in (map (λ d. d.owner) driven) c
+  pub kept_left : (c : ℕ) → (left_by casts callers c).kept ≡ kept_in (map (λ d. d.owner) driven) c
   kept_left c = go (driven_of c driven) refl
     where
       go : (o : Option Driven) → driven_of c driven ≡ o → (left_by casts callers c).kept ≡ kept_in (map (λ d. d.owner) driven) c
       go None e = ap (λ (l : List (ℕ × CallerStep)). (owner_after casts c (changes_made (steps_in l))).kept) (caller_none c e) ∙ sym (ap kept_of_owner (owner_is j c None e))
       go (Some d) e = ap (λ (o : OwnerView). o.kept) (sym (owner_left c d e)) ∙ sym (ap kept_of_owner (owner_is j c (Some d) e))
 
-  log_is_left : (a : ℕ) → log_left actors a ≡ log_in (map (λ s. s.end) served) a
+  pub log_is_left : (a : ℕ) → log_left actors a ≡ log_in (map (λ s. s.end) served) a
   log_is_left a = go (served_of a served) refl
     where
       go : (o : Option ServedView) → served_of a served ≡ o → log_left actors a ≡ log_in (map (λ s. s.end) served) a
@@ -349,7 +349,7 @@ module _ {mails : List MailView} {controls : List ControlView} {replies : List R
       go None e = ap (λ (l : List (ℕ × ActorStep)). list_any is_retirement (steps_in l)) (actor_none a e) ∙ sym (ap is_retired_end (end_is j a None e))
       go (Some s) e = (actor_found a s e).retired ∙ sym (ap is_retired_end (end_is j a (Some s) e))
 
-  left_by_play : (events : List Event) → IsPlayOfThreads casts callers actors events → LeavesAll casts (map (λ d. d.owner) driven) (map (λ s. s.end) served)
+  abbrev left_by_play : (events : List Event) → IsPlayOfThreads casts callers actors events → LeavesAll casts (map (λ d. d.owner) driven) (map (λ s. s.end) served)
   left_by_play events play = record {
     events = events;
     accepted = play.accepted;
@@ -360,10 +360,6 @@ module _ {mails : List MailView} {controls : List ControlView} {replies : List R
     retired = λ a. play.retired a ∙ retirement_left a;
   }
 
-  -- some play leaves what the threads leave
-  pub leaves_all : TracedRunsArePlayed → SpecsFit casts → LeavesAll casts (map (λ d. d.owner) driven) (map (λ s. s.end) served)
-  leaves_all law fit = let some = law casts callers actors fit are_traced in left_by_play some.0 some.1
-
-  -- and is a play of them
-  pub is_played : SpecsFit casts → IsPlayed casts (map (λ d. d.owner) driven) (map (λ s. s.end) served)
-  is_played fit = let left = leaves_all traced_play fit in (left.events, is_play casts plans (map (λ d. d.owner) driven) (map (λ s. s.end) served) (joined_is j) left)
+  -- such a play is one of them
+  pub is_play_of : (events : List Event) → IsPlayOfThreads casts callers actors events → IsPlayOf casts events (map (λ d. d.owner) driven) (map (λ s. s.end) served)
+  is_play_of events play = is_play casts (map (λ d. d.owner) driven) (map (λ s. s.end) served) (owners_are j) (ends_are j) (ends_fed j) (left_by_play events play)

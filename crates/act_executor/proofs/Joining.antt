@@ -31,7 +31,7 @@ use Rattle.act_serve.specs.declared.turn.Finished.{Finished}
 use Rattle.act_serve.specs.Served.{EndView, end_view, end_id, caller_at}
 use Rattle.act_serve.specs.ActorTraces.{IsActorTraced}
 use Rattle.act_drive.specs.declared.caller.Driven.{Driven}
-use Rattle.act_drive.specs.CallerTraces.{IsCallerTraced}
+use Rattle.act_drive.specs.PlanTraces.{HasDonePlan}
 use Rattle.act_plans.specs.declared.rising.CallerSetup.{CallerSetup}
 use Rattle.act_plans.specs.declared.rising.Prepared.{Prepared}
 use Rattle.act_drive.specs.Sessions.{SessionView}
@@ -43,13 +43,15 @@ use Rattle.act_executor.proofs.HaveTraces.{HaveTraces, traced_moved}
 use Rattle.act_executor.proofs.Places.{as_long, at_other, all_at}
 use Rattle.act_executor.specs.Joined.{IsJoined, is_starved}
 use Rattle.act_executor.specs.Left.{ServedView, IsServed, IsDriven, AreAudited, AreCasts, AreJoined}
-use Rattle.act_executor.specs.ByCode.{code_of, opened_of, IsDrivenBy, AreJoinedBy, IsJoinedBy}
+use Rattle.act_executor.specs.ByCode.{code_of, opened_of, IsDrivenBy, AreJoinedBy, IsJoinedBy, IsPlayedBy}
 use Rattle.act_executor.proofs.Elements.{all_by_places, range_at}
 use Rattle.act_executor.proofs.Ends.{joined as joined_is}
-use Rattle.act_executor.proofs.ByCode.{joined_so, is_joined_by as joined_by_is}
+use Rattle.act_executor.proofs.ByCode.{steps as steps_by, are_joined as joined_by, are_traced as traced_by, is_joined_by as joined_by_is}
 use Rattle.act_executor.specs.Plays.{IsPlayed}
+use Rattle.act_executor.specs.PlanPlays.{IsPlayedAsPlanned}
+use Rattle.act_causes.specs.Plays.{SpecsFit}
 use Rattle.act_executor.proofs.SpecsFit.{specs_fit}
-use Rattle.act_executor.proofs.JoinedTraces.{is_played as played_of_joined}
+use Rattle.act_executor.proofs.PlanPlayed.{never_ran, as_planned}
 use Rattle.act_executor.specs.declared.joined.Joined.{Joined}
 use Rattle.act_executor.specs.Audits.{KillTold, CallerTold, NoticeTold, ActorLeft, left_of}
 use Rattle.act_executor.specs.Work.{IsUnusedStarter}
@@ -167,7 +169,7 @@ module _ {K : Type 0} (state : K → KindState) (does : ℕ → Doing) (casts : 
     pub steps : List Step
     pub did : IsDriven lines.mails.items lines.controls.items (actors_naming d.owner.id seen) steps d
     pub does_so : does d.owner.id (plan_of d.owner.id (map plan_view plans)) steps (opened_of d.owner.id seen) d.owner
-    pub traced : IsCallerTraced lines.controls.items (opened_of d.owner.id seen) d.owner d.passes
+    pub traced : HasDonePlan lines.controls.items (opened_of d.owner.id seen) d.owner steps d.passes
 
   did_at : (i : ℕ) (d : Driven) → slice_get callers i ≡ Some d → Did d
   did_at i d at =
@@ -184,17 +186,18 @@ module _ {K : Type 0} (state : K → KindState) (does : ℕ → Doing) (casts : 
       let steps = drove.driven_is.steps in
       let traced = drove.driven_is.driven_is.traced fed in
       let At : ℕ × List Step × OwnerView → Type 0 = λ x. does x.0 x.1 steps x.2 d.owner in
-      let Traced : List ControlView × OwnerView → Type 0 = λ x. IsCallerTraced x.0 x.1 d.owner d.passes in
+      let Traced : List ControlView × OwnerView → Type 0 = λ x. HasDonePlan x.0 x.1 d.owner steps d.passes in
       record {
         steps = steps;
         did = is_driven lines (does one.setup.caller) one.setup one.caller d one.is drove (actors_naming d.owner.id seen) actors fed;
         does_so = subst At (λ k. (sym id k, plan k, opened_under (limits k) (sym id k) (actors k))) (drove.driven_is.does_so fed);
-        traced = subst Traced (λ k. (drove.controls k, opened_under (limits k) (sym id k) (actors k))) (traced.0, traced.1);
+        traced = subst Traced (λ k. (drove.controls k, opened_under (limits k) (sym id k) (actors k))) traced;
       }
 
   -- each thread did its steps in order and in time
-  have_traces : HaveTraces lines.controls.items lines.replies.items seen callers (map (served_view state) last)
-  have_traces = record {
+  have_traces : (steps : List (ℕ × List Step)) → All (λ (d : Driven). HasDonePlan lines.controls.items (opened_of d.owner.id seen) d.owner (plan_of d.owner.id steps) d.passes) callers
+      → HaveTraces lines.controls.items lines.replies.items seen steps callers (map (served_view state) last)
+  have_traces steps traced = record {
     actors = all_by_places (λ (s : ServedView). IsActorTraced (end_id s.end) lines.replies.items s.end s.passes) (map (served_view state) last) (λ j s at.
         let e = end_at j s at in
         let served = run.served.each j e.there.cast e.there.exec e.a e.there.at_cast e.there.at_exec e.at_a in
@@ -204,7 +207,7 @@ module _ {K : Type 0} (state : K → KindState) (does : ℕ → Doing) (casts : 
         subst (λ (x : ServedView). IsActorTraced (end_id x.end) lines.replies.items x.end x.passes) (sym e.s_is)
         (traced_moved e.a.passes e.f.passes (ap (λ (l : ActorLeft K). l.letters) same) (ap (λ (l : ActorLeft K). l.kills) same) (ap (λ (l : ActorLeft K). l.notices) same)
         e.there.cast.actor (end_id (end_view state e.f.ended)) lines.replies.items (end_view state e.a.ended) (end_view state e.f.ended) (sym name) ended served.traced));
-    callers = all_by_places (λ (d : Driven). IsCallerTraced lines.controls.items (opened_of d.owner.id seen) d.owner d.passes) callers (λ i d at. (did_at i d at).traced);
+    callers = traced;
   }
 
   -- each caller keeps the limits of the casts
@@ -292,11 +295,14 @@ module _ {K : Type 0} (state : K → KindState) (does : ℕ → Doing) (casts : 
   abbrev ends : List EndView
   ends = map (λ (f : Finished K). end_view state f.ended) last
 
-  -- some play leaves what the threads leave
-  played_so : (steps : List (ℕ × List Step)) → AreJoined lines.mails.items lines.controls.items lines.replies.items seen steps callers (map (served_view state) last) → IsPlayed seen joined.owners.items ends
-  played_so steps j =
-      let At : List OwnerView × List EndView → Type 0 = λ p. IsPlayed seen p.0 p.1 in
-      subst At (λ k. (sym run.compared.owners k, map-map (λ (s : ServedView). s.end) (served_view state) last k)) (played_of_joined j have_traces (specs_fit state casts fit is.numbers))
+  -- what is said of the owners and ends that the threads left holds of those that are joined
+  as_joined : (P : List OwnerView → List EndView → Type 0) → P (map (λ (d : Driven). d.owner) callers) (map (λ (s : ServedView). s.end) (map (served_view state) last)) → P joined.owners.items ends
+  as_joined P is =
+      let At : List OwnerView × List EndView → Type 0 = λ p. P p.0 p.1 in
+      subst At (λ k. (sym run.compared.owners k, map-map (λ (s : ServedView). s.end) (served_view state) last k)) is
+
+  fitting : SpecsFit seen
+  fitting = specs_fit state casts fit is.numbers
 
   -- where each did its plan
   module _ (by_plan : (c : ℕ) (plan steps : List Step) (before later : OwnerView) → does c plan steps before later → steps ≡ plan) where
@@ -308,30 +314,44 @@ module _ {K : Type 0} (state : K → KindState) (does : ℕ → Doing) (casts : 
     are_joined : AreJoined lines.mails.items lines.controls.items lines.replies.items seen (map plan_view plans) callers (map (served_view state) last)
     are_joined = record { casts_are = casts_are; callers = owners_are; actors = ends_are; all_served = all_served; all_driven = all_driven; limits = limits; audited = audited; starter = unasked; fed = fed }
 
+    have : HaveTraces lines.controls.items lines.replies.items seen (map plan_view plans) callers (map (served_view state) last)
+    have = have_traces (map plan_view plans) (all_by_places (λ (d : Driven). HasDonePlan lines.controls.items (opened_of d.owner.id seen) d.owner (plan_of d.owner.id (map plan_view plans)) d.passes) callers (λ i d at.
+        let one = did_at i d at in
+        subst (λ (plan : List Step). HasDonePlan lines.controls.items (opened_of d.owner.id seen) d.owner plan d.passes) (by_plan d.owner.id (plan_of d.owner.id (map plan_view plans)) one.steps (opened_of d.owner.id seen) d.owner one.does_so) one.traced))
+
     pub is_joined : IsJoined seen (map plan_view plans) joined.owners.items ends
-    is_joined =
-        let whole = joined_is are_joined in
-        let At : List OwnerView × List EndView → Type 0 = λ p. IsJoined seen (map plan_view plans) p.0 p.1 in
-        subst At (λ k. (sym run.compared.owners k, map-map (λ (s : ServedView). s.end) (served_view state) last k)) whole
+    is_joined = as_joined (λ owners ends. IsJoined seen (map plan_view plans) owners ends) (joined_is are_joined (never_ran are_joined have fitting))
+
+    pub is_played_as_planned : IsPlayedAsPlanned seen (map plan_view plans) joined.owners.items ends
+    is_played_as_planned = as_joined (λ owners ends. IsPlayedAsPlanned seen (map plan_view plans) owners ends) (as_planned are_joined have fitting)
 
     pub is_played : IsPlayed seen joined.owners.items ends
-    is_played = played_so (map plan_view plans) are_joined
+    is_played = let planned = is_played_as_planned in (planned.0, planned.1.play)
 
   -- where some did what their code decided
   module _ {C : Type 0} (tells : C → SessionView → SessionView → Type 0) (codes : List (ℕ × C)) (fits : CodesFit casts plans codes)
       (by_code : (c : ℕ) (plan steps : List Step) (before later : OwnerView) → does c plan steps before later → does_code tells (code_of c codes) plan steps before later) where
-    all_driven_by : All (IsDrivenBy tells lines.mails.items lines.controls.items seen (map plan_view plans) codes) callers
-    all_driven_by = all_by_places (IsDrivenBy tells lines.mails.items lines.controls.items seen (map plan_view plans) codes) callers (λ i d at.
+    -- its trace tells the steps
+    abbrev Traced : Driven → List Step → Type 0
+    Traced d steps = HasDonePlan lines.controls.items (opened_of d.owner.id seen) d.owner steps d.passes
+
+    abbrev DrivenBy : Driven → Type 0
+    DrivenBy d = IsDrivenBy tells lines.mails.items lines.controls.items seen (map plan_view plans) codes d
+
+    driven_by : All (λ (d : Driven). (by : DrivenBy d) × Traced d by.steps) callers
+    driven_by = all_by_places (λ (d : Driven). (by : DrivenBy d) × Traced d by.steps) callers (λ i d at.
         let one = did_at i d at in
         let plan = plan_of d.owner.id (map plan_view plans) in
         let before = opened_of d.owner.id seen in
-        let so = by_code d.owner.id plan one.steps before d.owner one.does_so in
-        record {
-          steps = one.steps;
-          did = one.did;
-          planned = λ none. subst (λ (o : Option C). does_code tells o plan one.steps before d.owner) none so;
-          told = λ code some. subst (λ (o : Option C). does_code tells o plan one.steps before d.owner) some so;
-        })
+        let so = by_code d.owner.id plan one.steps before d.owner one.does_so in (
+          record {
+            steps = one.steps;
+            did = one.did;
+            planned = λ none. subst (λ (o : Option C). does_code tells o plan one.steps before d.owner) none so;
+            told = λ code some. subst (λ (o : Option C). does_code tells o plan one.steps before d.owner) some so;
+          },
+          one.traced,
+        ))
 
     codes_named : All (λ (given : ℕ × C). list_any (λ (cast : ActorSpec). contains given.0 cast.callers) seen ≡ true) codes
     codes_named k d below = list_any-map (λ (cast : ActorSpec). contains (get_or codes k d).0 cast.callers) (actor_spec state) casts ∙ fits.named k d below
@@ -343,7 +363,7 @@ module _ {K : Type 0} (state : K → KindState) (does : ℕ → Doing) (casts : 
       differ = differ;
       actors = ends_are;
       all_served = all_served;
-      all_driven = all_driven_by;
+      all_driven = λ k d below. (driven_by k d below).0;
       limits = limits;
       audited = audited;
       starter = unasked;
@@ -352,13 +372,23 @@ module _ {K : Type 0} (state : K → KindState) (does : ℕ → Doing) (casts : 
       codes_named = codes_named;
     }
 
-    pub is_joined_by : IsJoinedBy tells seen (map plan_view plans) codes joined.owners.items ends
-    is_joined_by =
-        let whole = joined_by_is tells lines.mails.items lines.controls.items lines.replies.items seen (map plan_view plans) codes callers (map (served_view state) last) are_joined_by in
-        let At : List OwnerView × List EndView → Type 0 = λ p. IsJoinedBy tells seen (map plan_view plans) codes p.0 p.1 in
-        subst At (λ k. (sym run.compared.owners k, map-map (λ (s : ServedView). s.end) (served_view state) last k)) whole
+    abbrev steps : List (ℕ × List Step)
+    steps = steps_by tells lines.mails.items lines.controls.items lines.replies.items seen (map plan_view plans) codes callers (map (served_view state) last) are_joined_by Traced driven_by
 
-    pub is_played_by : IsPlayed seen joined.owners.items ends
-    is_played_by =
-        let so = joined_so tells lines.mails.items lines.controls.items lines.replies.items seen (map plan_view plans) codes callers (map (served_view state) last) are_joined_by in
-        played_so so.0 so.1
+    joined_steps : AreJoined lines.mails.items lines.controls.items lines.replies.items seen steps callers (map (served_view state) last)
+    joined_steps = joined_by tells lines.mails.items lines.controls.items lines.replies.items seen (map plan_view plans) codes callers (map (served_view state) last) are_joined_by Traced driven_by
+
+    have_steps : HaveTraces lines.controls.items lines.replies.items seen steps callers (map (served_view state) last)
+    have_steps = have_traces steps (traced_by tells lines.mails.items lines.controls.items lines.replies.items seen (map plan_view plans) codes callers (map (served_view state) last) are_joined_by Traced driven_by)
+
+    pub is_played_by : IsPlayedBy tells seen (map plan_view plans) codes joined.owners.items ends
+    is_played_by = as_joined (λ owners ends. IsPlayedBy tells seen (map plan_view plans) codes owners ends) (
+      joined_by_is tells lines.mails.items lines.controls.items lines.replies.items seen (map plan_view plans) codes callers (map (served_view state) last) are_joined_by Traced driven_by (never_ran joined_steps have_steps fitting),
+      as_planned joined_steps have_steps fitting,
+    )
+
+    pub is_joined_by : IsJoinedBy tells seen (map plan_view plans) codes joined.owners.items ends
+    is_joined_by = is_played_by.0
+
+    pub is_played_of_steps : IsPlayed seen joined.owners.items ends
+    is_played_of_steps = let planned = is_played_by.1 in (planned.0, planned.1.play)

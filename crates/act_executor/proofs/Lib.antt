@@ -40,6 +40,15 @@ pub mod MadeThreads
 pub mod Kept
 pub mod ActorWork
 pub mod CallerWork
+pub mod KeptPlan
+pub mod Own
+pub mod Once
+pub mod Heard
+pub mod Letters
+pub mod Planned
+pub mod Ran
 pub mod TracedActors
 pub mod TracedCallers
+pub mod TracedPlans
 pub mod JoinedTraces
+pub mod PlanPlayed

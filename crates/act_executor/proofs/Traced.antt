@@ -8,8 +8,9 @@ use Rattle.act_rules.specs.declared.event.Event.{Event}
 use Rattle.act_rules.specs.History.{ActorSpec, under}
 use Rattle.act_causes.specs.Deeds.{Deed, IsCaused, AreCaused, owner_after, owner_by}
 use Rattle.act_causes.specs.Merge.{deeds_of, IsMergeOf}
-use Rattle.act_causes.specs.Plays.{IsPlayOfDeeds}
+use Rattle.act_causes.specs.Plays.{SpecsFit, IsPlayOfDeeds}
 use Rattle.act_causes.proofs.Merging.{merge_of}
+use Rattle.act_causes.proofs.Fronts.{IsStepwisePlay}
 use Rattle.act_causes.proofs.Replaying.{play_of}
 use Rattle.act_executor.specs.Traced.{CallerThreads, ActorThreads, left_by, AreTraced, IsPlayOfThreads, TracedRunsArePlayed}
 use Rattle.act_executor.proofs.Cuts.{IsCutOf, cut_of, all_from_under}
@@ -116,8 +117,27 @@ module _ (casts : List ActorSpec) (callers : CallerThreads) (actors : ActorThrea
     retired = λ a. play.retired a ∙ retirement_is a merged (deeds_of a actors) keyed (actor_under a);
   }
 
-pub traced_play : TracedRunsArePlayed
-traced_play casts callers actors fitting traced =
+-- all that the threads did in one order, and a play of it
+pub record IsMergedPlay (casts : List ActorSpec) (callers : CallerThreads) (actors : ActorThreads) : Type 0 where
+  pub merged : List (ℕ × (ℕ × Deed))
+  pub merge : IsMergeOf (all_threads callers actors) merged
+  pub keys : IsKeyed merged
+  pub events : List Event
+  pub stepwise : IsStepwisePlay casts (deeds_in_order merged) events
+  pub left : IsPlayOfThreads casts callers actors events
+
+pub merged_play : (casts : List ActorSpec) (callers : CallerThreads) (actors : ActorThreads) → SpecsFit casts → AreTraced casts callers actors → IsMergedPlay casts callers actors
+merged_play casts callers actors fitting traced =
     let merge = merge_of (all_threads callers actors) (all_apart callers actors traced.callers_apart traced.actors_apart) (all_rise callers actors traced.callers_rise traced.actors_rise) in
     let play = play_of casts (deeds_in_order merge.0) fitting (all_caused casts callers actors traced merge.0 merge.1) in
-    (play.0, play_left casts callers actors traced merge.0 merge.1 play.0 play.1)
+    record {
+      merged = merge.0;
+      merge = merge.1;
+      keys = keyed casts callers actors traced merge.0 merge.1;
+      events = play.0;
+      stepwise = play.1;
+      left = play_left casts callers actors traced merge.0 merge.1 play.0 play.1.play;
+    }
+
+pub traced_play : TracedRunsArePlayed
+traced_play casts callers actors fitting traced = let play = merged_play casts callers actors fitting traced in (play.events, play.left)

@@ -27,6 +27,7 @@ use Rattle.act_executor.specs.Left.{ServedView, IsServed}
 use Rattle.act_executor.proofs.Elements.{IsIn, in_from_contains, contains_from_in, all_in, all_from_places, in_filter, contains_is}
 use Rattle.act_executor.proofs.FoundSteps.{found_is as found_alone}
 use Rattle.act_executor.proofs.Stamped.{IsTakenFrom, mapped_at, found_step, found_taken, zipped}
+use Rattle.act_executor.proofs.Letters.{letter_in_step, letter_from, letters_kept, letters_lost}
 use Rattle.act_executor.proofs.Kept.{keep_stamped, kept_steps, kept_in}
 use Rattle.act_executor.proofs.ActorWork.{is_of_these, lost_run, died_same, retired_same, RunsFor, may_all}
 
@@ -72,6 +73,8 @@ pub record IsActorWork (casts : List ActorSpec) (replies : List RepliesView) (s 
   pub at : cast_at (end_id s.end) casts ≡ Some cast
   pub rising : AllPairs (λ one other. one.0 ≤ other.0) trace
   pub allowed : ActorMayDoAll (end_id s.end) cast.callers [] (steps_in trace)
+  pub letters_taken : (c a : ℕ) → contains c cast.callers ≡ true → filter_map (letter_in_step c a) (steps_in trace) ≡ filter_map (letter_from c a) s.passes.letters.taken
+  pub no_letters : (c a : ℕ) → contains c cast.callers ≡ false → filter_map (letter_in_step c a) (steps_in trace) ≡ []
   pub letters : (m : ℕ) (letter : Letter) → IsIn {A = ℕ × ActorStep} trace (m, LetterTaken letter) →
       IsIn cast.callers (caller_of letter) × IsTakenFrom s.passes.letters.taken s.passes.letters.stamps letter m
   pub kills : (m : ℕ) (kill : Asked) → IsIn {A = ℕ × ActorStep} trace (m, KillTaken kill) → IsTakenFrom s.passes.kills.taken s.passes.kills.stamps kill m
@@ -151,6 +154,8 @@ module _ (casts : List ActorSpec) (replies : List RepliesView) (s : ServedView) 
     at = at;
     rising = AllPairs-filter (λ (one other : ℕ × ActorStep). one.0 ≤ other.0) (keep_stamped keep) t is.timed.rising;
     allowed = allowed;
+    letters_taken = λ c a listed. letters_kept c a cast.callers listed t s.passes.letters.taken is.letters;
+    no_letters = λ c a none. letters_lost c a cast.callers none t;
     letters = letters;
     kills = kills;
     runs = ap (map (λ (x : ℕ × RunItem). x.1)) runs_same ∙ is.runs;

@@ -23,19 +23,32 @@ use Rattle.act_drive.specs.declared.caller.Driven.{Driven}
 use Rattle.act_plans.specs.Runs.{limits_naming}
 use Rattle.act_causes.specs.Deeds.{IsNamed}
 use Rattle.act_drive.specs.CallerSteps.{CallerStep, ChangeMade, KillAsked, notice_collected, owner_after_steps, CallerMayDoAll}
-use Rattle.act_drive.specs.CallerTraces.{IsPostedAfter, IsAskedAfter, IsCallerTrace, IsCallerTraced}
+use Rattle.act_drive.specs.CallerTraces.{IsPostedAfter, IsAskedAfter, IsCallerTrace}
 use Rattle.act_executor.specs.ByCode.{opened_of}
 use Rattle.act_executor.proofs.Elements.{IsIn, in_from_contains, contains_from_in, all_in, in_filter, contains_is}
 use Rattle.act_executor.proofs.Stamped.{IsTakenFrom, found_step, found_taken, zipped}
 use Rattle.act_executor.proofs.Kept.{keep_stamped, kept_steps}
-use Rattle.act_executor.proofs.CallerWork.{is_by_these, may_front, HoldsThese, opened_holds, IsStill, still}
+use Rattle.act_executor.proofs.CallerWork.{is_by_these, is_from_these, may_front, HoldsThese, opened_holds, IsStill, still}
+use Rattle.act_executor.proofs.FoundSteps.{found_is as found_alone}
+use Rattle.act_executor.proofs.Kept.{kept_first}
+use Rattle.act_drive.specs.PlanTraces.{DoesPlan, HasDonePlan}
+use Rattle.act_executor.proofs.KeptPlan.{plan_kept}
+use Rattle.act_plans.specs.Runs.{plan_of}
+use Rattle.act_rules.specs.declared.script.Step.{Step}
+use Rattle.act_rules.specs.declared.script.Step.TheVariants.{Release}
+use Rattle.act_rules.specs.History.{contains}
+use Rattle.std.proofs.Common.{true, false, cond, [], ◌∷◌, Some, None}
+use Rattle.std.specs.Prelude.{Option, map, filter_map}
+use Rattle.std.specs.List.{cons_option}
 
 -- what the run needs of the steps of a caller's thread
-pub record IsCallerWork (casts : List ActorSpec) (controls : List ControlView) (d : Driven) (trace : List (ℕ × CallerStep)) : Type 0 where
+pub record IsCallerWork (casts : List ActorSpec) (controls : List ControlView) (plans : List (ℕ × List Step)) (d : Driven) (trace : List (ℕ × CallerStep)) : Type 0 where
   pub named : IsNamed casts d.owner.id
   pub rising : AllPairs (λ one other. one.0 ≤ other.0) trace
   pub allowed : CallerMayDoAll (opened_of d.owner.id casts) (steps_in trace)
   pub owner_is : d.owner ≡ owner_after_steps (opened_of d.owner.id casts) (steps_in trace)
+  pub heard : filter_map notice_collected (steps_in trace) ≡ filter (λ notice. contains (notice_actor notice) (actors_naming d.owner.id casts)) d.passes.collects.taken
+  pub does : (closing : List ℕ) × DoesPlan (opened_of d.owner.id casts) (plan_of d.owner.id plans ++ map (λ a. Release a) closing) (steps_in trace)
   pub notices : (m : ℕ) (notice : Notice) → IsIn {A = ℕ × CallerStep} trace (m, ChangeMade (Noticed notice)) →
       IsIn (actors_naming d.owner.id casts) (notice_actor notice) × IsTakenFrom d.passes.collects.taken d.passes.collects.stamps notice m
   pub posted : (endpoint : Endpoint (PutterView Letter Unit)) → IsIn d.passes.letters.items endpoint → (letter : Letter) (n : ℕ) → IsIn {A = Letter × ℕ} (zip endpoint.pass.put endpoint.pass.stamps) (letter, n) →
@@ -43,7 +56,7 @@ pub record IsCallerWork (casts : List ActorSpec) (controls : List ControlView) (
   pub asked : (endpoint : Endpoint (PutterView Asked ℕ)) → IsIn d.passes.kills.items endpoint → (k : ControlView) (kill : Asked) (n : ℕ) → IsIn {A = Asked × ℕ} (zip endpoint.pass.put endpoint.pass.stamps) (kill, n) →
       IsAskedAfter trace (slice_index_or controls endpoint.place k).actor kill n
 
-module _ (casts : List ActorSpec) (controls : List ControlView) (d : Driven) (named : IsNamed casts d.owner.id) (t : List (ℕ × CallerStep)) (is : IsCallerTrace controls (opened_of d.owner.id casts) d.owner d.passes t) where
+module _ (casts : List ActorSpec) (controls : List ControlView) (plans : List (ℕ × List Step)) (d : Driven) (named : IsNamed casts d.owner.id) (t : List (ℕ × CallerStep)) (is : IsCallerTrace controls (opened_of d.owner.id casts) d.owner d.passes t) (did : (closing : List ℕ) × DoesPlan (opened_of d.owner.id casts) (plan_of d.owner.id plans ++ map (λ a. Release a) closing) (steps_in t)) where
   abbrev start : OwnerView
   start = opened_of d.owner.id casts
 
@@ -103,17 +116,40 @@ module _ (casts : List ActorSpec) (controls : List ControlView) (d : Driven) (na
       let step : ℕ × CallerStep = (asked.0, KillAsked a) in
       (asked.0, contains_from_in f step (in_filter (keep_stamped keep) t step (in_from_contains t step asked.1) refl), asked.2)
 
-  pub caller_work : IsCallerWork casts controls d f
+  heard_kept : (steps : List CallerStep) → filter_map notice_collected (filter keep steps) ≡ filter (λ notice. contains (notice_actor notice) actors) (filter_map notice_collected steps)
+  heard_kept [] = refl
+  heard_kept (step ∷ steps) = go (notice_collected step) refl (heard_kept steps)
+    where
+      by : (notice : Notice) (b : Bool) → contains (notice_actor notice) actors ≡ b → notice_collected step ≡ Some notice → filter_map notice_collected (filter keep steps) ≡ filter (λ notice. contains (notice_actor notice) actors) (filter_map notice_collected steps)
+          → filter_map notice_collected (cond b (step ∷ filter keep steps) (filter keep steps)) ≡ cond b (notice ∷ filter (λ notice. contains (notice_actor notice) actors) (filter_map notice_collected steps)) (filter (λ notice. contains (notice_actor notice) actors) (filter_map notice_collected steps))
+      by notice true is at rest = ap (λ (o : Option Notice). cons_option o (filter_map notice_collected (filter keep steps))) at ∙ ap (λ (l : List Notice). notice ∷ l) rest
+      by notice false is at rest = rest
+
+      go : (o : Option Notice) → notice_collected step ≡ o → filter_map notice_collected (filter keep steps) ≡ filter (λ notice. contains (notice_actor notice) actors) (filter_map notice_collected steps)
+          → filter_map notice_collected (filter keep (step ∷ steps)) ≡ filter (λ notice. contains (notice_actor notice) actors) (filter_map notice_collected (step ∷ steps))
+      go None at rest =
+          ap (filter_map notice_collected) (kept_first keep step steps (ap (is_from_these actors) at))
+          ∙ ap (λ (o : Option Notice). cons_option o (filter_map notice_collected (filter keep steps))) at
+          ∙ rest
+          ∙ ap (λ (o : Option Notice). filter (λ notice. contains (notice_actor notice) actors) (cons_option o (filter_map notice_collected steps))) (sym at)
+      go (Some notice) at rest =
+          ap (λ (o : Option Notice). filter_map notice_collected (cond (is_from_these actors o) (step ∷ filter keep steps) (filter keep steps))) at
+          ∙ by notice (contains (notice_actor notice) actors) refl at rest
+          ∙ ap (λ (o : Option Notice). filter (λ notice. contains (notice_actor notice) actors) (cons_option o (filter_map notice_collected steps))) (sym at)
+
+  pub caller_work : IsCallerWork casts controls plans d f
   caller_work = record {
     named = named;
     rising = AllPairs-filter (λ (one other : ℕ × CallerStep). one.0 ≤ other.0) (keep_stamped keep) t is.timed.rising;
     allowed = subst (CallerMayDoAll start) (sym (kept_steps keep t)) all_still.may;
     owner_is = is.owner_is ∙ sym all_still.same ∙ ap (owner_after_steps start) (sym (kept_steps keep t));
+    heard = ap (filter_map notice_collected) (kept_steps keep t) ∙ heard_kept (steps_in t) ∙ ap (filter (λ notice. contains (notice_actor notice) actors)) (sym (found_alone notice_collected t) ∙ is.notices);
+    does = (did.0, subst (DoesPlan start (plan_of d.owner.id plans ++ map (λ a. Release a) did.0)) (sym (kept_steps keep t)) (plan_kept actors _ start (steps_in t) holds is.allowed did.1));
     notices = notices;
     posted = posted_at;
     asked = asked_at;
   }
 
 -- a caller that was driven did such steps
-pub caller_works : (casts : List ActorSpec) (controls : List ControlView) (d : Driven) → IsNamed casts d.owner.id → IsCallerTraced controls (opened_of d.owner.id casts) d.owner d.passes → (trace : List (ℕ × CallerStep)) × IsCallerWork casts controls d trace
-caller_works casts controls d named traced = (filter (keep_stamped (is_by_these (actors_naming d.owner.id casts))) traced.0, caller_work casts controls d named traced.0 traced.1)
+pub caller_works : (casts : List ActorSpec) (controls : List ControlView) (plans : List (ℕ × List Step)) (d : Driven) → IsNamed casts d.owner.id → HasDonePlan controls (opened_of d.owner.id casts) d.owner (plan_of d.owner.id plans) d.passes → (trace : List (ℕ × CallerStep)) × IsCallerWork casts controls plans d trace
+caller_works casts controls plans d named traced = (filter (keep_stamped (is_by_these (actors_naming d.owner.id casts))) traced.0, caller_work casts controls plans d named traced.0 traced.1 traced.2)

@@ -13,7 +13,8 @@ use Rattle.act_drive.specs.declared.caller.Driven.{Driven}
 use Rattle.act_drive.specs.Sessions.{SessionView}
 use Rattle.act_drive.specs.Coded.{HasConcluded}
 use Rattle.act_plans.specs.Runs.{limits_naming, callers_of_casts, actors_of_casts, cast_at, plan_of}
-use Rattle.act_executor.specs.Joined.{IsJoined, is_starved, owner_of}
+use Rattle.act_executor.specs.Joined.{IsJoined, CallsThatDiedNeverRan, is_starved, owner_of, kept_in, log_in}
+use Rattle.act_executor.specs.PlanPlays.{IsPlayedAsPlanned}
 use Rattle.act_executor.specs.Left.{ServedView, IsServed, IsDriven, AreAudited, AreCasts}
 
 -- the code of a caller, where it is given one
@@ -40,6 +41,12 @@ pub record IsJoinedBy {C : Type 0} (tells : C → SessionView → SessionView �
   pub joined : IsJoined casts steps owners ends
   pub planned : (c : ℕ) → code_of c codes ≡ None → plan_of c steps ≡ plan_of c plans
   pub told : All (HasTold tells casts steps owners) codes
+
+-- and there is a play of the same steps
+abbrev pub IsPlayedBy : {C : Type 0} → (C → SessionView → SessionView → Type 0) → List ActorSpec →
+    List (ℕ × List Step) → List (ℕ × C) → List OwnerView → List EndView → Type 0
+IsPlayedBy tells casts plans codes owners ends = (run : IsJoinedBy tells casts plans codes owners ends)
+    × IsPlayedAsPlanned casts run.steps owners ends
 
 -- a caller did some steps to the end: its plan where it has no code, and else what its code tells holds
 pub record IsDrivenBy {C : Type 0} (tells : C → SessionView → SessionView → Type 0) (mails : List MailView)
@@ -71,10 +78,11 @@ pub record AreJoinedBy {C : Type 0} (tells : C → SessionView → SessionView �
   pub codes_differ : AllPairs (λ one other. one.0 ≢ other.0) codes
   pub codes_named : All (λ given. list_any (λ cast. contains given.0 cast.callers) casts ≡ true) codes
 
--- what the threads leave, and the audits, make a run that the rules allow
+-- what the threads leave, and the audits, make a run that the rules allow, where no call that died ran
 abbrev pub JoinedCallersAreConsistent : {C : Type 0} → (C → SessionView → SessionView → Type 0) → Type 0
 JoinedCallersAreConsistent {C} tells = (mails : List MailView) (controls : List ControlView)
     (replies : List RepliesView) (casts : List ActorSpec) (plans : List (ℕ × List Step)) (codes : List (ℕ × C))
     (driven : List Driven) (served : List ServedView) →
     AreJoinedBy tells mails controls replies casts plans codes driven served →
+    CallsThatDiedNeverRan (kept_in (map (λ d. d.owner) driven)) (log_in (map (λ s. s.end) served)) →
     IsJoinedBy tells casts plans codes (map (λ d. d.owner) driven) (map (λ s. s.end) served)

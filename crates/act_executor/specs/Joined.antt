@@ -1,5 +1,6 @@
 -- What a run of threads is, once all are joined.
-use Rattle.std.specs.Prelude.{◌≡◌, ℕ, ◌<◌, ◌==◌, Bool, true, false, List, [], length, map, find, Option, Some, None, is_some, All}
+use Rattle.std.specs.Prelude.{◌≡◌, ◌≢◌, ℕ, ◌<◌, ◌==◌, Bool, true, false, List, [], length, map, find, slice_get, Option, Some, None, is_some, Err, All}
+use Rattle.act_types.specs.declared.call.Fault.TheVariants.{ActorDied}
 use Rattle.act_rules.specs.declared.history.RunItem.{RunItem}
 use Rattle.act_rules.specs.declared.history.Submission.{Submission}
 use Rattle.act_rules.specs.declared.script.Step.{Step}
@@ -63,6 +64,11 @@ killed_in ends a = is_killed_end (end_of a ends)
 
 -- ---- a joined run
 
+-- a call whose kept answer is a death was run by no actor
+abbrev pub CallsThatDiedNeverRan : (ℕ → List (Option Answer)) → (ℕ → List RunItem) → Type 0
+CallsThatDiedNeverRan kept logs = (c k : ℕ) → kept_at (kept c) k ≡ Some (Err ActorDied) →
+    (a place : ℕ) (item : RunItem) → slice_get (logs a) place ≡ Some item → item.caller ≡ c → item.future ≢ k
+
 -- the actor ran every call of every caller to it, in order, and is in the state after its log
 pub record RanAll (casts : List ActorSpec) (owners : List OwnerView) (retired : RetiredView) : Type 0 where
   pub calls : (c : ℕ) → map (λ item. item.future) (items_of c retired.log)
@@ -74,7 +80,8 @@ pub record RanAll (casts : List ActorSpec) (owners : List OwnerView) (retired : 
 -- the plans were run with these casts: each caller is left, and each actor, by rising number; each caller was opened
 -- with the limits of the casts; each submitted what was planned and all is answered; calls, logs and answers fit one
 -- another as in any run of the rules; an actor is dead that ran a `terminate`, after which it ran nothing, and any
--- other only where some plan asks for its kill; one that retired ran all; nobody was refused memory
+-- other only where some plan asks for its kill; one that retired ran all; nobody was refused memory; a call that died
+-- never ran
 pub record IsJoined (casts : List ActorSpec) (plans : List (ℕ × List Step)) (owners : List OwnerView)
     (ends : List EndView) : Type 0 where
   pub callers : map (λ owner. owner.id) owners ≡ callers_of_casts casts
@@ -90,3 +97,4 @@ pub record IsJoined (casts : List ActorSpec) (plans : List (ℕ × List Step)) (
   pub last : (a : ℕ) → NothingFollowsAnEnd (log_in ends a)
   pub retired : All (λ end. IfRetired end (RanAll casts owners)) ends
   pub fed : All (λ end. is_starved end ≡ false) ends
+  pub ran : CallsThatDiedNeverRan (kept_in owners) (log_in ends)

@@ -22,7 +22,7 @@ use Rattle.act_serve.specs.Served.{EndView, end_id, end_log, IsLogOf, replies_to
 use Rattle.act_drive.specs.declared.caller.Driven.{Driven}
 use Rattle.act_drive.specs.Driven.{HasPosted, HasAsked}
 use Rattle.act_plans.specs.Runs.{limits_naming, callers_of_casts, actors_of_casts, cast_at, plan_of}
-use Rattle.act_executor.specs.Joined.{IsJoined, is_starved}
+use Rattle.act_executor.specs.Joined.{IsJoined, CallsThatDiedNeverRan, is_starved, kept_in, log_in}
 
 -- an actor at its end, with its executor's passes
 pub record ServedView : Type 0 where
@@ -112,9 +112,10 @@ pub record AreJoined (mails : List MailView) (controls : List ControlView) (repl
   pub starter : All (λ s. items_from asker_of starter s.passes.kills.taken ≡ []) served
   pub fed : All (λ s. is_starved s.end ≡ false) served
 
--- what the threads leave, and the audits, make a run that the rules allow
+-- what the threads leave, and the audits, make a run that the rules allow, where no call that died ran
 abbrev pub JoinedRunsAreConsistent : Type 0
 JoinedRunsAreConsistent = (mails : List MailView) (controls : List ControlView) (replies : List RepliesView)
     (casts : List ActorSpec) (plans : List (ℕ × List Step)) (driven : List Driven) (served : List ServedView) →
     AreJoined mails controls replies casts plans driven served →
+    CallsThatDiedNeverRan (kept_in (map (λ d. d.owner) driven)) (log_in (map (λ s. s.end) served)) →
     IsJoined casts plans (map (λ d. d.owner) driven) (map (λ s. s.end) served)

@@ -10,4 +10,5 @@ pub mod Joins
 pub mod Runs
 pub mod Work
 pub mod Plays
+pub mod PlanPlays
 pub mod Traced

@@ -6,7 +6,7 @@ ghost use Rattle.act_actor.specs.Casts.{actor_spec};
 ghost use Rattle.act_serve.specs.Served.{end_view};
 ghost use Rattle.act_plans.specs.Setups.{PlansFit};
 ghost use Rattle.act_plans.specs.Runs.{first_bad_plan};
-ghost use Rattle.act_executor.specs.ByCode.{IsJoinedBy};
+ghost use Rattle.act_executor.specs.ByCode.{IsJoinedBy, IsPlayedBy};
 ghost use Rattle.act_executor.specs.Plays.{IsPlayed};
 ghost use Rattle.act_executor.specs.Conducts.{CodesFit};
 ghost use Rattle.act_executor.specs.Runs.{plan_view, IsFault};
@@ -46,6 +46,9 @@ pub fn run_callers<R: Threads + Wait + Sync, K: Actor + Send, C: Code + Send, G:
     ensures played { IfOk result (λ joined.
         IsPlayed (map (actor_spec K.state) casts.items) joined.owners.items
         (map (λ actor. end_view K.state actor.ended) joined.actors.items)) }
+    ensures planned { IfOk result (λ joined.
+        IsPlayedBy C.tells (map (actor_spec K.state) casts.items) (map plan_view plans.items) codes.items
+        joined.owners.items (map (λ actor. end_view K.state actor.ended) joined.actors.items)) }
     ensures good { IfOk result (λ _.
         first_bad_plan (map (actor_spec K.state) casts.items) (map plan_view plans.items) ≡ None) }
     ensures fault { IfErr result (IsFault (map (actor_spec K.state) casts.items) (map plan_view plans.items)) }

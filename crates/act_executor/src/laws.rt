@@ -6,7 +6,8 @@ ghost use Rattle.act_executor.specs.Traced.{TracedRunsArePlayed};
 
 use act_drive::Code;
 
-/// What each thread of a run leaves, and the audits of the lines, make a run that the rules allow.
+/// What each thread of a run leaves, and the audits of the lines, make a run that the rules allow,
+/// where no call that died ran. That none did tells each thread's trace.
 #[tactic(none)]
 pub fn joined_runs_are_consistent()
     ensures { JoinedRunsAreConsistent }

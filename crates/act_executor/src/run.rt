@@ -13,6 +13,7 @@ ghost use Rattle.act_plans.specs.Runs.{first_bad_plan};
 ghost use Rattle.act_executor.specs.Opened.{IsExec, IsCaller, AreOpened};
 ghost use Rattle.act_executor.specs.Joined.{IsJoined};
 ghost use Rattle.act_executor.specs.Plays.{IsPlayed};
+ghost use Rattle.act_executor.specs.PlanPlays.{IsPlayedAsPlanned};
 ghost use Rattle.act_executor.specs.Joins.{AreServed, AreDriven, AreStarters};
 ghost use Rattle.act_executor.specs.Work.{CanServe, IsServedBy, CanDrive, IsDrivenTo, CanStop, IsAsked, HasAskedAll};
 ghost use Rattle.act_executor.specs.Runs.{plan_view, HasRunPlans, IsPrepared, IsFault, IsThreadFault, fault_of};
@@ -336,6 +337,9 @@ pub fn run_plans_noting<R: Threads + Wait + Sync, K: Actor + Send, G: Gate, N: N
     ensures played { IfOk result (λ ran.
         IsPlayed (map (actor_spec K.state) casts.items) ran.0.owners.items
         (map (λ actor. end_view K.state actor.ended) ran.0.actors.items)) }
+    ensures planned { IfOk result (λ ran.
+        IsPlayedAsPlanned (map (actor_spec K.state) casts.items) (map plan_view plans.items) ran.0.owners.items
+        (map (λ actor. end_view K.state actor.ended) ran.0.actors.items)) }
     ensures good { IfOk result (λ _.
         first_bad_plan (map (actor_spec K.state) casts.items) (map plan_view plans.items) ≡ None) }
     ensures fault { IfErr result (IsFault (map (actor_spec K.state) casts.items) (map plan_view plans.items)) }
@@ -360,6 +364,9 @@ pub fn run_plans<R: Threads + Wait + Sync, K: Actor + Send, G: Gate>(
         (map (λ actor. end_view K.state actor.ended) joined.actors.items)) }
     ensures played { IfOk result (λ joined.
         IsPlayed (map (actor_spec K.state) casts.items) joined.owners.items
+        (map (λ actor. end_view K.state actor.ended) joined.actors.items)) }
+    ensures planned { IfOk result (λ joined.
+        IsPlayedAsPlanned (map (actor_spec K.state) casts.items) (map plan_view plans.items) joined.owners.items
         (map (λ actor. end_view K.state actor.ended) joined.actors.items)) }
     ensures good { IfOk result (λ _.
         first_bad_plan (map (actor_spec K.state) casts.items) (map plan_view plans.items) ≡ None) }

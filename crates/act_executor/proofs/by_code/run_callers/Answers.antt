@@ -5,7 +5,7 @@ use Rattle.act_executor.specs.ByCode.{code_of}
 use Rattle.act_executor.specs.Conducts.{does_code}
 use Rattle.act_executor.specs.Runs.{plan_view, IsFault, IsThreadFault}
 use Rattle.act_executor.proofs.Faults.{err_only, of_threads}
-use Rattle.act_executor.proofs.Joining.{is_joined_by, is_played_by}
+use Rattle.act_executor.proofs.Joining.{is_joined_by, is_played_by, is_played_of_steps}
 use Rattle.act_executor.proofs.by_code.run_callers.Goals as goal
 
 pub returns-in_err-prepared-clause-fault : goal.returns-in_err-prepared-clause-fault
@@ -28,6 +28,12 @@ returns-clause-joined g c =
 
 pub returns-clause-played : goal.returns-clause-played
 returns-clause-played g c =
+    let codes = c.args.codes.items in
+    is_played_of_steps g.K.Actor.state (λ (caller : ℕ). does_code g.C.Code.tells (code_of caller codes)) c.args.casts.items c.args.plans.items c.in_ok-prepared.prepared c.in_ok-ran.ran.0 c.requires.fit c.in_ok-prepared.ensures.prepared c.in_ok-ran.ensures.joined
+    g.C.Code.tells codes c.requires.codes (λ _ plan steps before later so. so)
+
+pub returns-clause-planned : goal.returns-clause-planned
+returns-clause-planned g c =
     let codes = c.args.codes.items in
     is_played_by g.K.Actor.state (λ (caller : ℕ). does_code g.C.Code.tells (code_of caller codes)) c.args.casts.items c.args.plans.items c.in_ok-prepared.prepared c.in_ok-ran.ran.0 c.requires.fit c.in_ok-prepared.ensures.prepared c.in_ok-ran.ensures.joined
     g.C.Code.tells codes c.requires.codes (λ _ plan steps before later so. so)

@@ -4,7 +4,7 @@ use Rattle.act_executor.specs.declared.run.RunFault.{RunFault}
 use Rattle.act_executor.specs.Conducts.{does_plan}
 use Rattle.act_executor.specs.Runs.{plan_view, IsFault, IsThreadFault}
 use Rattle.act_executor.proofs.Faults.{err_only, of_threads}
-use Rattle.act_executor.proofs.Joining.{is_joined, is_played}
+use Rattle.act_executor.proofs.Joining.{is_joined, is_played, is_played_as_planned}
 use Rattle.act_executor.proofs.run.run_plans_noting.Goals as goal
 
 pub returns-in_err-prepared-clause-fault : goal.returns-in_err-prepared-clause-fault
@@ -24,3 +24,6 @@ returns-clause-joined g c = is_joined g.K.Actor.state (λ _. does_plan) c.args.c
 
 pub returns-clause-played : goal.returns-clause-played
 returns-clause-played g c = is_played g.K.Actor.state (λ _. does_plan) c.args.casts.items c.args.plans.items c.in_ok-prepared.prepared c.in_ok-ran.ran.0 c.requires.fit c.in_ok-prepared.ensures.prepared c.in_ok-ran.ensures.joined (λ _ plan steps before later so. so)
+
+pub returns-clause-planned : goal.returns-clause-planned
+returns-clause-planned g c = is_played_as_planned g.K.Actor.state (λ _. does_plan) c.args.casts.items c.args.plans.items c.in_ok-prepared.prepared c.in_ok-ran.ran.0 c.requires.fit c.in_ok-prepared.ensures.prepared c.in_ok-ran.ensures.joined (λ _ plan steps before later so. so)

@@ -1,0 +1,79 @@
+-- A caller's own deeds in the merged list are its thread's steps, in order.
+use Rattle.std.proofs.Common.{◌≡◌, ◌≢◌, ℕ, ◌==◌, Bool, true, false, cond, List, [], ◌∷◌, Option, Some, None, inl, inr, refl, ap, sym, ◌∙◌}
+use Rattle.std.specs.Prelude.{◌⊎◌, map, filter_map}
+use Rattle.std.specs.List.{cons_option}
+use Rattle.std.proofs.lemmas.Bool.{eq-eqb, ne_eqb}
+use Rattle.std.proofs.lemmas.Bool.Decides.{eqb_tells}
+use Rattle.act_mailbox.specs.Traces.{steps_in}
+use Rattle.act_rules.specs.History.{under}
+use Rattle.act_causes.specs.Deeds.{Deed, Changed, AskedKill, TookCall, TookNote, Ran, TookKill, ToldDeath, Retired}
+use Rattle.act_causes.specs.Merge.{deeds_of, IsMergeOf}
+use Rattle.act_causes.proofs.Merging.{under_here, under_other}
+use Rattle.act_drive.specs.CallerSteps.{CallerStep, ChangeMade, KillAsked}
+use Rattle.act_executor.specs.Traced.{CallerThreads, ActorThreads}
+use Rattle.act_executor.proofs.Threads.{caller_key, key_of, deed_of_caller, as_deeds, all_threads, deeds_of_caller}
+use Rattle.act_executor.proofs.Projections.{deeds_in_order, IsKeyed}
+
+-- the step that the deed is, where the caller does it
+abbrev pub own_step : ℕ → Deed → Option CallerStep
+own_step c (Changed d change) = cond (d == c) (Some (ChangeMade change)) None
+own_step c (AskedKill d a) = cond (d == c) (Some (KillAsked a)) None
+own_step c (TookCall a packet) = None
+own_step c (TookNote a note) = None
+own_step c (Ran a item) = None
+own_step c (TookKill a) = None
+own_step c (ToldDeath a d) = None
+own_step c (Retired a) = None
+
+pub seen_under : {X : Type 0} (t : ℕ) (f : Deed → Option X) → ((deed : Deed) → (key_of deed == t) ≡ false → f deed ≡ None) → (xs : List (ℕ × (ℕ × Deed))) → IsKeyed xs
+    → filter_map f (deeds_in_order xs) ≡ filter_map f (map (λ d. d.1) (under t xs))
+seen_under t f none [] keyed = refl
+seen_under {X = X} t f none (x ∷ xs) keyed = go (seen_under t f none xs keyed.1) (eqb_tells x.0 t)
+  where
+    go : filter_map f (deeds_in_order xs) ≡ filter_map f (map (λ (d : ℕ × Deed). d.1) (under t xs))
+        → (((x.0 == t) ≡ true) × (x.0 ≡ t)) ⊎ (((x.0 == t) ≡ false) × (x.0 ≢ t))
+        → filter_map f (deeds_in_order (x ∷ xs)) ≡ filter_map f (map (λ (d : ℕ × Deed). d.1) (under t (x ∷ xs)))
+    go rest (inl same) =
+        ap (λ (l : List X). cons_option (f x.1.1) l) rest
+        ∙ ap (λ (l : List (ℕ × Deed)). filter_map f (map (λ (d : ℕ × Deed). d.1) l)) (sym (under_here t x xs same.0))
+    go rest (inr other) =
+        ap (λ (o : Option X). cons_option o (filter_map f (deeds_in_order xs))) (none x.1.1 (ap (λ (n : ℕ). n == t) keyed.0 ∙ other.0))
+        ∙ rest
+        ∙ ap (λ (l : List (ℕ × Deed)). filter_map f (map (λ (d : ℕ × Deed). d.1) l)) (sym (under_other t x xs other.0))
+
+pub seen_in_steps : {S X : Type 0} (f : Deed → Option X) (g : S → Option X) (deed_of : S → Deed) → ((step : S) → f (deed_of step) ≡ g step) → (steps : List (ℕ × S))
+    → filter_map f (map (λ d. d.1) (as_deeds deed_of steps)) ≡ filter_map g (steps_in steps)
+seen_in_steps f g deed_of same [] = refl
+seen_in_steps {X = X} f g deed_of same (step ∷ steps) =
+    ap (λ (o : Option X). cons_option o (filter_map f (map (λ (d : ℕ × Deed). d.1) (as_deeds deed_of steps)))) (same step.1)
+    ∙ ap (λ (l : List X). cons_option (g step.1) l) (seen_in_steps f g deed_of same steps)
+
+unkeyed : (m n : ℕ) → (caller_key m == caller_key n) ≡ false → (m == n) ≡ false
+unkeyed m n e = ne_eqb m n (λ same. let bad : true ≡ false = sym (eq-eqb (caller_key m) (caller_key n) (ap caller_key same)) ∙ e in cc)
+
+no_step : (c : ℕ) (deed : Deed) → (key_of deed == caller_key c) ≡ false → own_step c deed ≡ None
+no_step c (Changed d change) e = ap (λ (b : Bool). cond b (Some (ChangeMade change)) None) (unkeyed d c e)
+no_step c (AskedKill d a) e = ap (λ (b : Bool). cond b (Some (KillAsked a)) None) (unkeyed d c e)
+no_step c (TookCall a packet) e = refl
+no_step c (TookNote a note) e = refl
+no_step c (Ran a item) e = refl
+no_step c (TookKill a) e = refl
+no_step c (ToldDeath a d) e = refl
+no_step c (Retired a) e = refl
+
+step_is : (c : ℕ) (step : CallerStep) → own_step c (deed_of_caller c step) ≡ Some step
+step_is c (ChangeMade change) = ap (λ (b : Bool). cond b (Some (ChangeMade change)) None) (eq-eqb c c refl)
+step_is c (KillAsked a) = ap (λ (b : Bool). cond b (Some (KillAsked a)) None) (eq-eqb c c refl)
+
+all_some : {A : Type 0} (xs : List A) → filter_map (λ x. Some x) xs ≡ xs
+all_some [] = refl
+all_some {A = A} (x ∷ xs) = ap (λ (l : List A). x ∷ l) (all_some xs)
+
+-- the piece that decides
+pub own_steps : (callers : CallerThreads) (actors : ActorThreads) (merged : List (ℕ × (ℕ × Deed))) (c : ℕ) → IsMergeOf (all_threads callers actors) merged → IsKeyed merged
+    → filter_map (own_step c) (deeds_in_order merged) ≡ steps_in (deeds_of c callers)
+own_steps callers actors merged c merge keyed =
+    seen_under (caller_key c) (own_step c) (no_step c) merged keyed
+    ∙ ap (λ (l : List (ℕ × Deed)). filter_map (own_step c) (map (λ (d : ℕ × Deed). d.1) l)) (merge.each (caller_key c) ∙ deeds_of_caller callers actors c)
+    ∙ seen_in_steps (own_step c) (λ step. Some step) (deed_of_caller c) (step_is c) (deeds_of c callers)
+    ∙ all_some (steps_in (deeds_of c callers))
