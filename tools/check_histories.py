@@ -2,13 +2,16 @@
 """Checks what `ray_check` says of histories beside the second reading of the rules.
 
 - Random plans are run in threads. What each run left has a play, with the script's submit lines or without them.
-- The same reports are damaged, at one place each. Where no play is found, the second reading doesn't allow the report.
-- Small histories with run lists in any order, which may lead into a circle: a play is found where the second reading
-  finds no circle, and only there.
+- The same reports are damaged, at one place each. A play is found only where the second reading knows of one, and no
+  play only where it knows of none.
+- Small histories with run lists in any order, which may lead into a circle: the same of them.
 - What must be told of a few histories, to the letter: circles, a call skipped, an answer that is another.
 
 Wherever a play is found, the second reading plays it: no event is refused, it has the roles and the submit lines of the
-history, and ends in its lines.
+history, and ends in its lines. Where none is, tools/blamed.py judges what is told: a mistake and its line are found once
+more, and a reason shows at the line of which it speaks; of a damaged report it names what was damaged: with that as it
+was in the run, the fault is gone or another one is told. That judge is tried itself: what was told with another line or
+another status, and a reason that blames another call, must be wrong.
 """
 import argparse
 import collections
@@ -18,13 +21,14 @@ import random
 import subprocess
 import sys
 
+import blamed
 import reading_of_rules as reading
 import seeds
 import threads
+from blamed import MISTAKE, PLAY, REFUSED
 from program import CRATES, proved, program_of
 
 CHECK = CRATES / "ray_check" / "out" / "ray_check"
-PLAY, MISTAKE, REFUSED = 0, 1, 5
 AT_ONCE = 4
 MAX_SECONDS = 60
 MAX_SHOWN = 5
@@ -98,15 +102,37 @@ def unplayed(front, report, got):
     return wrong_play(front, report, text) if status == PLAY else f"no play was found, with status {status}: {text!r:.300}"
 
 
+def lines_in(report):
+    return report.decode("latin-1").removesuffix("\n").split("\n") if report else []
+
+
 def misjudged(script, report, got):
     """Why what was said of a history is wrong that may have a play or not."""
     text, status = got
+    why = blamed.misread(script, lines_in(report), status, text.decode("latin-1"))
+    if why or status == MISTAKE:
+        return why
+    whole = lines_of(line.decode("latin-1") for line in lines_told(report)) if report else report
+    reading_says = reading.judge(script, whole, 0, of_plans=False)
     if status == PLAY:
+        if reading_says and b" ?\n" not in whole and b" live " not in whole:
+            return f"a play is found, and the second reading knows of none: {reading_says}"
         return wrong_play(script, report, text)
-    if status not in (MISTAKE, REFUSED) or not text.startswith(b"line "):
+    if status != REFUSED:
         return f"status {status}, and {text!r:.300}"
-    if threads.complaint(script, report, 0) is None:
-        return f"the second reading allows it, and it was refused: {text!r:.300}"
+    if reading_says is None:
+        return f"the second reading knows of a play, and none was found: {text!r:.300}"
+    return blamed.misplaced(script, lines_in(report), text.decode("latin-1"))
+
+
+def unmended(program, script, report, right, got):
+    """Why the reasons that are told of a damaged report don't name what was damaged."""
+    lines = blamed.mended(script, lines_in(report), lines_in(right), got[0].decode("latin-1"))
+    if lines is None:
+        return f"the reasons name nothing that was damaged: {got[0]!r:.300}"
+    text, status = check(program, script + lines_of(lines))
+    if status != PLAY and text.split(b"\n")[0] == got[0].split(b"\n")[0]:
+        return f"the same is told once what the reasons name is mended: {text!r:.300}"
     return None
 
 
@@ -249,20 +275,54 @@ def try_runs(tally, program, reports):
 
 
 def damaged_reports(seed, reports):
+    """Each with its script, and as it was before."""
     for place, (script, report) in enumerate(reports):
         chance = random.Random(f"damaged {seed}.{place}")
         told = [got for _, (got, status) in threads.tampered_run(chance, script, report) if status == 0]
-        yield from ((with_end(script), got) for got in chance.sample(told, min(DAMAGES, len(told))) if got != report)
+        yield from ((with_end(script), got, report) for got in chance.sample(told, min(DAMAGES, len(told))) if got != report)
 
 
-def try_either(tally, program, name, pairs):
-    """Histories that may have a play or not. How many have one."""
-    found = 0
-    for (script, report), got in zip(pairs, checks(program, [script + report for script, report in pairs])):
-        tally.add(name, script + report, misjudged(script, report, got))
+def try_either(tally, program, name, triples):
+    """Histories that may have a play or not, some with the right report. How many have one."""
+    found, told = 0, []
+    gots = checks(program, [script + report for script, report, _ in triples])
+    for (script, report, right), got in zip(triples, gots):
+        why = misjudged(script, report, got)
+        if why is None and right is not None and got[1] == REFUSED:
+            why = unmended(program, script, report, right, got)
+        tally.add(name, script + report, why)
         found += got[1] == PLAY
-    print(f"check_histories: {found} of {len(pairs)} have a play: {name}")
+        told += [(script, report, got)] if why is None and got[1] != PLAY else []
+    print(f"check_histories: {found} of {len(triples)} have a play: {name}")
+    try_wrongly_told(tally, name, told)
     return found
+
+
+# The judge of what is told on trial.
+
+
+def wrongly_told(script, report, got):
+    """The same with other lines, another status, or another call that is blamed."""
+    text, status = got
+    for more in 1, -1:
+        number = int(text[5 : text.index(b":")]) + more
+        yield f"line {number}", (b"line %d%s" % (number, text[text.index(b":") :]), status)
+    yield "another status", (text, MISTAKE if status == REFUSED else REFUSED)
+    if status == REFUSED:
+        yield "a mistake in the place of a reason", (b"line 1: BadLine: no line of a history has this form\n", MISTAKE)
+        yield "no reason", (b"no play\n", REFUSED)
+
+
+def try_wrongly_told(tally, name, told):
+    """What was rightly told is wrong where it is told with another line or another status."""
+    ways = collections.Counter()
+    for script, report, got in told:
+        for way, other in wrongly_told(script, report, got):
+            why = None if misjudged(script, report, other) else f"{way}: this would be right: {other!r:.300}"
+            tally.add(name, script + report, why)
+            ways[way.partition(" ")[0]] += 1
+    if told and not all(ways[way] for way in ("line", "another")):
+        tally.add(name, b"", f"what was told was changed in too few ways: {dict(ways)}")
 
 
 def try_worked(tally, program):
@@ -292,7 +352,7 @@ def main():
         reports = reports_of(runs, scripts)
         try_runs(tally, program, reports)
         try_either(tally, program, "reports that were damaged", list(damaged_reports(seed, reports)))
-        small = list(small_histories(seed, chosen.lists))
+        small = [(*history, None) for history in small_histories(seed, chosen.lists)]
         if not 0 < try_either(tally, program, "small histories", small) < len(small):
             tally.add("small histories", b"", "all of them have a play, or none has")
     print(f"check_histories: {tally.passed} passed, {tally.failed} failed")
