@@ -5,7 +5,8 @@
 
 A seed gives the same scripts each time. Without `--seed` there are two: one that stays, and one that changes
 with the commit and is printed. Two scripts in three are valid and go where something can happen, the
-others are damaged. Beside them stand scripts with one word nearly right, a worked script cut after
+others are damaged; one in seven is long, so that numbers have two digits and states many parts. Beside them stand
+scripts that fill what has room for so many and no more, scripts with one word nearly right, a worked script cut after
 each of its bytes, and all worked scripts, whose reports the reading itself must give. Fails also where
 the scripts of the first seed came too seldom to what they should try.
 """
@@ -56,20 +57,27 @@ EVENTS = {
 
 
 class Author:
-    """Writes a valid script, with the reading's world beside it to see what can happen next."""
+    """Writes a valid script, with the reading's world beside it to see what can happen next. A long one has few callers
+    and actors, and lets states grow."""
+
+    is_long = False
 
     def __init__(self, chance):
         self.chance = chance
         self.lines = []
         self.limits = chance.choice([0, 0, 0.5, 1])
-        self.pool = chance.sample(range(1, 17), chance.choice([1, 1, 2, 2, 3, 5]))
-        actors = chance.sample(range(1, 9), chance.choice([1, 1, 2, 2, 3, 5]))
+        self.is_long = chance.random() < 1 / 7
+        sizes = [1, 1, 2] if self.is_long else [1, 1, 2, 2, 3, 5]
+        self.pool = chance.sample(range(1, 17), chance.choice(sizes))
+        actors = chance.sample(range(1, 9), chance.choice(sizes))
         self.world = reading.World([self.role(actor) for actor in actors])
         self.pairs = [(caller, actor) for caller, named in self.world.callers.items() for actor in named.copies]
         self.collected = set()
         self.eager = chance.choice([0, 0.2, 0.5, 0.8])
         self.futures = chance.choice([0, 0.1, 0.4])
         self.ends = chance.choice([0, 0.03, 0.1])
+        if self.is_long:
+            self.eager, self.futures, self.ends = 0.95, 0.2, 0
 
     def role(self, actor):
         kind = self.chance.choice(sorted(reading.KINDS))
@@ -144,7 +152,8 @@ class Author:
         """A future of these calls, and rather one that has an answer or even a fault."""
         answered = [call for call in calls if call.kept is not None]
         failed = [call for call in answered if isinstance(call.kept, reading.Fault)]
-        return self.chance.choice(self.chance.choice([calls, answered or calls, failed or calls, failed or calls])).future
+        some = [answered or calls, failed or calls] if self.is_long else [calls, answered or calls, failed or calls, failed or calls]
+        return self.chance.choice(self.chance.choice(some)).future
 
     def argument(self, form, calls):
         """An argument of that form; at times a future, or one of another form."""
@@ -156,7 +165,7 @@ class Author:
         if draw < 0.09:
             return self.chance.choice(["unit", "unit", '"t"', "1"])
         if form == "k" or form == "v" and draw < 0.5:
-            return self.chance.choice(KEYS[:2] if self.chance.random() < 0.7 else KEYS)
+            return self.chance.choice(KEYS[:2] if self.chance.random() < 0.7 and not self.is_long else KEYS)
         return str(self.number())
 
     def end(self, caller, actor):
@@ -171,7 +180,7 @@ class Author:
         methods = self.world.actors[actor].kind.methods if actor in self.world.actors else {}
         known = methods and self.chance.random() < 0.93
         growing = [each for each in ("add", "put", "deposit", "push") if each in methods]
-        method = self.chance.choice(sorted(methods) + 2 * growing if known else sorted(reading.METHODS))
+        method = self.chance.choice(sorted(methods) + (8 if self.is_long else 2) * growing if known else sorted(reading.METHODS))
         forms = methods[method][0] if method in methods else "n"
         if self.chance.random() < 0.08:
             forms += "nkvnkvnkv"[: self.chance.choice([1, 1, 1, 2, 3, 4, 9])]
@@ -191,7 +200,7 @@ class Author:
             future = len(self.world.callers[caller].calls) - 1
             if self.write(f"send c{caller} {future}").startswith("mail"):
                 self.write(f"deliver {len(self.world.mail) - 1}")
-                if self.write(f"run a{actor} c{caller}").startswith("place") and self.chance.random() < 0.8:
+                if self.write(f"run a{actor} c{caller}").startswith("place") and (self.is_long or self.chance.random() < 0.8):
                     self.write(f"collect {len(self.world.notices) - 1}")
 
     def event(self, weights):
@@ -211,6 +220,8 @@ class Author:
     def events(self, count):
         """Up to that many lines; each script likes some sorts of events more than others."""
         weights = {sort: weight * self.chance.choice([0.3, 1, 1, 3]) for sort, (weight, _) in EVENTS.items()}
+        if self.is_long:
+            weights |= dict.fromkeys(["release", "kill", "take"], 0.05)
         while len(self.lines) < count:
             self.event(weights)
             if self.chance.random() < self.eager:
@@ -233,7 +244,7 @@ class Author:
             self.write(f"retire a{actor}")
 
     def script(self):
-        self.events(self.chance.randint(0, 70))
+        self.events(self.chance.randint(150, 400) if self.is_long else self.chance.randint(0, 70))
         if self.chance.random() < 0.15:
             self.closing()
         return "\n".join(self.lines) + ("" if self.chance.random() < 0.1 else "\n")
@@ -437,6 +448,48 @@ def near_misses():
         yield f"a last line of {len(line)} bytes, {line[:6]}", f"{EVERY_FORM}\n{line}\n".encode()
 
 
+# Scripts that fill what has room for so many and no more, and go on.
+
+
+def called(number, line):
+    """A call from its submission to its kept answer, the only caller's call of this number."""
+    return [line, f"send c1 {number}", f"deliver {number}", f"run a1 c1", f"collect {number}"]
+
+
+def filled(chance, kind, fill, more):
+    """A kind that is filled by so many calls, and further calls, some of them where it is full."""
+    calls = [*fill, *(chance.choice(more) for _ in range(40)), more[0]]
+    lines = [line for number, call in enumerate(calls) for line in called(number, f"submit c1 a1 {call}")]
+    return "\n".join([f"actor a1 {kind} c1", *lines, ""]).encode()
+
+
+def full_table(chance):
+    keys = [f'"{place}"' for place in chance.sample(range(10_000), reading.MAX_KEYS + 3)]
+    known = chance.choice(keys[: reading.MAX_KEYS])
+    more = [f"put {key} {chance.randint(0, 9)}" for key in [keys[-1], keys[-2], keys[-3], known]]
+    fill = [f"put {key} {chance.randint(0, 9)}" for key in keys[: reading.MAX_KEYS]]
+    return filled(chance, "table", fill, [*more, f"del {known}", f"get {known}", "size"])
+
+
+def full_list(chance):
+    fill = [f"push {chance.randint(0, 9)}" for _ in range(reading.MAX_ITEMS)]
+    return filled(chance, "list", fill, ["push 1", "push 2", "pop", "len", f"at {reading.MAX_ITEMS - 1}"])
+
+
+def all_copies(chance):
+    """All copies that a caller can hold, and a few steps more."""
+    more = [chance.choice(["copy c1 a1", "release c1 a1"]) for _ in range(20)]
+    return "\n".join(["actor a1 counter c1", *["copy c1 a1"] * reading.MAX_COPIES, *more, "copy c1 a1", ""]).encode()
+
+
+def full_scripts(seed):
+    for make in full_table, full_list, all_copies:
+        yield f"{make.__name__} of seed {seed}", make(random.Random(f"{make.__name__} {seed}"))
+
+
+FULL = {"answer KindFull": 2, "refused TooManyCopies": 1}  # how many of these three come to it
+
+
 # What the scripts come to: of a thousand random ones, at least so many must tell each of these. About half of what they do.
 FLOORS = {
     "future": 400, "copies": 100, "mail": 400, "new": 350, "repeat": 30, "place": 300, "gap": 150, "reply": 60, "kept": 250,
@@ -448,7 +501,13 @@ FLOORS = {
     "answer NoMethod": 20, "answer BadArgs": 50, "answer Overflow": 3, "answer NoKey": 20, "answer BadAmount": 15,
     "answer Insufficient": 8, "answer NoItems": 10, "answer NoItem": 12, "answer Dependency": 10, "answer ActorDied": 30, "answer unit": 30,
     "an end": 30, "an end with an argument": 15, "BadLine of a limit": 8,
+    "a place from 20 on": 10, "a future from 10 on": 80, "a letter from 20 on": 30, "a reply from 20 on": 15,
+    "Dependency from 10 on": 5, "a list of 7 items": 3, "a table of 4 pairs": 2,
 }  # fmt: skip
+
+
+MANY = [("place", 20, "a place"), ("future", 10, "a future"), ("mail", 20, "a letter"), ("reply", 20, "a reply")]
+SIZES = {"list": (7, 1, "items"), "table": (4, 2, "pairs")}
 
 
 def reached(script, report):
@@ -461,18 +520,48 @@ def reached(script, report):
         if rest:
             words = rest.split(" ")
             yield rest if words[0] == "refused" else words[0]
-        elif " = " in line:
-            yield "answer " + line.split(" = ")[1].partition("(")[0]
-        elif line.split(" ")[2:3] == [reading.END]:
-            yield "an end" if line.endswith(reading.END) else "an end with an argument"
+            yield from large_numbers(words)
+        else:
+            yield from reached_in_summary(line)
 
 
-def too_seldom(scripts):
-    """What fewer of the scripts come to than should."""
-    tallies = collections.Counter(sort for script in scripts for sort in set(reached(script, reading.play(script)[0])))
+def large_numbers(words):
+    """Which numbers of an outcome have two digits, or are from 20 on: of a future `c1.10` the 10."""
+    numbers = dict(zip(words[::2], words[1::2]))
+    for word, least, name in MANY:
+        if word in numbers and int(numbers[word].rpartition(".")[2]) >= least:
+            yield f"{name} from {least} on"
+
+
+def reached_in_summary(line):
+    """What a line of a summary comes to."""
+    words = line.split(" ")
+    if words[2:3] == ["="]:
+        yield "answer " + words[3].partition("(")[0]
+        if re.fullmatch(r"Dependency\([0-9]{2,}\)", words[3]):
+            yield "Dependency from 10 on"
+    elif words[2:3] == [reading.END]:
+        yield "an end" if len(words) == 3 else "an end with an argument"
+    elif words[2:3] and words[2] in SIZES:
+        least, width, name = SIZES[words[2]]
+        if len(words[3:]) >= least * width:
+            yield f"a {words[2]} of {least} {name}"
+
+
+def tally(scripts):
+    """How many of the scripts come to each sort."""
+    return collections.Counter(sort for script in scripts for sort in set(reached(script, reading.play(script)[0])))
+
+
+def too_seldom(scripts, full):
+    """What fewer of the scripts come to than should, and what no script comes to that fills something."""
+    tallies, of_full = tally(scripts), tally(full)
     for sort, floor in FLOORS.items():
         if tallies[sort] < floor * len(scripts) // 1000:
             yield f"only {tallies[sort]} of {len(scripts)} scripts came to '{sort}'"
+    for sort, count in FULL.items():
+        if of_full[sort] != count:
+            yield f"{of_full[sort]} of the scripts that fill something came to '{sort}', and not {count}"
 
 
 # The comparison.
@@ -539,14 +628,16 @@ def chosen_options():
 def main():
     chosen = chosen_options()
     rows, failures = worked_rows()
-    first, *further = [random_scripts(seed, chosen.count) for seed in seeds.chosen(chosen.seed, "fuzz")]
+    taken = seeds.chosen(chosen.seed, "fuzz")
+    first, *further = [random_scripts(seed, chosen.count) for seed in taken]
+    full = dict(full_scripts(taken[-1]))
     whole = CUT.read_bytes()
     cuts = {f"{CUT.name} cut after {length} bytes": whole[:length] for length in range(len(whole) + 1)}
-    scripts = {name: script for part in (first, *further, dict(near_misses()), cuts) for name, script in part.items()}
-    failures += too_seldom(first.values())
+    scripts = {name: script for part in (first, *further, full, dict(near_misses()), cuts) for name, script in part.items()}
+    failures += too_seldom(first.values(), full.values())
     print("".join(f"{failure}\n" for failure in failures), end="")
     failed = len(failures) + differences(chosen.program, scripts)
-    passed = rows + len(FLOORS) + len(scripts) - failed
+    passed = rows + len(FLOORS) + len(FULL) + len(scripts) - failed
     print(f"fuzz: {passed} passed, {failed} failed")
     sys.exit(1 if failed else 0)
 

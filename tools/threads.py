@@ -129,7 +129,12 @@ FLOORS = {
     "answer NoMethod": 150, "answer BadArgs": 200, "answer Overflow": 50, "answer NoKey": 80, "answer BadAmount": 80,
     "answer Insufficient": 50, "answer NoItems": 40, "answer NoItem": 60, "answer Dependency": 100, "answer ActorDied": 50,
     "answer unit": 80, "an end": 30, "an end with an argument": 30,
+    "a place from 20 on": 60, "a future from 10 on": 120, "Dependency from 10 on": 30, "a list of 7 items": 20,
+    "a table of 4 pairs": 5,
 }  # fmt: skip
+
+
+TWO_DIGITS = {"a[0-9]+[.]([2-9][0-9]|[0-9]{3})": "a place from 20 on", "c[0-9]+[.][0-9]{2}": "a future from 10 on"}
 
 
 def sorts_of_script(script):
@@ -189,14 +194,12 @@ def sorts_of_report(report):
     lines = report.decode("latin-1").split("\n")
     for line, after in zip(lines, lines[1:]):
         words = line.split(" ")
+        yield from fuzz.reached_in_summary(line)
+        yield from (sort for begins, sort in TWO_DIGITS.items() if re.match(begins, line))
         if words[1:2] in (["dead"], ["retired"]):
             yield words[1]
             if after.startswith(f"{words[0]}."):
                 yield f"{words[1]} after a call"
-        elif words[2:3] == ["="]:
-            yield "answer " + words[3].partition("(")[0]
-        elif words[2:3] == [reading.END]:
-            yield "an end" if len(words) == 3 else "an end with an argument"
 
 
 def too_seldom(gots):
@@ -207,6 +210,29 @@ def too_seldom(gots):
     for sort, floor in FLOORS.items():
         if tallies[sort] < floor * len(gots) // 1000:
             yield f"only {tallies[sort]} of {len(gots)} scripts came to '{sort}'"
+
+
+# Plans that fill what has room for so many and no more, and go on.
+
+
+def full_scripts():
+    pushes, puts = ["push 5"] * (reading.MAX_ITEMS + 1), [f'put "{key}" 5' for key in range(reading.MAX_KEYS + 1)]
+    for kind, calls in ("list", [*pushes, "pop", "push 6"]), ("table", [*puts, 'put "7" 6', 'del "7"', 'put "x" 7']):
+        lines = [f"actor a1 {kind} c1", *(f"submit c1 a1 {call}" for call in calls), ""]
+        yield f"a full {kind}", "\n".join(lines).encode()
+    copies = ["copy c1 a1"] * (reading.MAX_COPIES - 1)  # beside the one that the caller begins with
+    yield "a copy too many", "\n".join(["actor a1 list c1", *copies, "copy c1 a1", "copy c1 a1", ""]).encode()
+
+
+FULL = {"answer KindFull": 2, "refused TooManyCopies": 1}  # how many of these three come to it
+
+
+def not_full(gots):
+    """What not so many of the scripts that fill something came to as should."""
+    came = [{*sorts_of_fault(script), *sorts_of_report(report)} for script, (report, _) in gots.items()]
+    for sort, count in FULL.items():
+        if sum(sort in sorts for sorts in came) != count:
+            yield f"the scripts that fill something didn't come {count} times to '{sort}'"
 
 
 # The runs.
@@ -725,7 +751,9 @@ def main():
     scripts = random_scripts(first, chosen.count) | worked_scripts()
     more = {name: script for seed in further for name, script in random_scripts(seed, chosen.count).items()}
     right, wrong = judge_scripts(program, scripts)
-    seldom = list(too_seldom(right))
+    full = dict(full_scripts())
+    full_right, full_wrong = judge_scripts(program, full)
+    seldom = [*too_seldom(right), *not_full(full_right)]
     print("".join(f"{failure}\n" for failure in seldom), end="")
     more_right, more_wrong = judge_scripts(program, more)
     small = [check for seed in (first, *further) for check in trial_by_plays(seed)]
@@ -733,8 +761,8 @@ def main():
     wrong_kills = judge_kills(program, chosen.kills)
     often = {END: chosen.ends} | {path: chosen.limits for path in LIMITS}
     wrong_often = sum(judge_often(program, path, count) for path, count in often.items())
-    passed += len(scripts) + len(more) + len(FLOORS) + chosen.kills + sum(often.values())
-    wrong += more_wrong + len(seldom) + wrong_kills + wrong_often
+    passed += len(scripts) + len(full) + len(more) + len(FLOORS) + len(FULL) + chosen.kills + sum(often.values())
+    wrong += full_wrong + more_wrong + len(seldom) + wrong_kills + wrong_often
     print(f"threads: {passed - wrong} passed, {failed + wrong} failed")
     sys.exit(1 if failed + wrong else 0)
 
