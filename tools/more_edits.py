@@ -38,6 +38,10 @@ HEAD = """# Further wrong bodies
 `tools/more_edits.py` makes this page. It lists the edits of `more-must-fail/`, for which the gate has no time, each
 with the function that it changes. Each run of `./test` tries a twentieth of those refused here, which changes with
 the commit. The edits of `must-fail/` aren't listed: the gate tries them all.
+
+An edit counts only where it is refused for what it does: a goal doesn't follow of its body. One is marked that is
+refused by its shape alone, since what is written of the proof no longer fits it. The sum of a crate's sources tells
+whether its section is of those that stand there now: `tools/more_edits.py --check` compares.
 """
 COUNTS = re.compile(r"Refused: (\d+) of (\d+)\.")
 SOURCES = re.compile(r",\s+sources (\w+)\.")
