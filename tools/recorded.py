@@ -18,8 +18,8 @@ Of a script with a fault the line of the fault and the status 1 must come. A run
 whose play is too long for a script must be recorded all the same, and a line must say so. Then, of one worked script,
 each request for memory is refused in turn, alone and with all that come after, and each thread: the run must say `no
 memory`, or `no thread` where the start of one was refused, end with 3 and write nothing, or leave a record that is good.
-The checks are tried themselves: a record of the bank from which a line is taken, or in which two lines change places,
-must fail, but where the rules say that it means the same.
+It must start a thread for each caller and each actor. The checks are tried themselves: a record of the bank from which
+a line is taken, or in which two lines change places, must fail, but where the rules say that it means the same.
 """
 import argparse
 import concurrent.futures
@@ -170,6 +170,12 @@ def long_failures(program):
 # Refused requests.
 
 
+def count_of_parties(script):
+    """How many callers and actors a script names."""
+    roles = [line.split() for line in script.decode().splitlines() if line.startswith("actor ")]
+    return len(roles) + len({word for role in roles for word in role[3:] if word.startswith("c")})
+
+
 def swept(program, player):
     """Of each request and each thread that is refused in turn, what is wrong with what comes."""
     script = SWEPT.read_bytes()
@@ -183,7 +189,9 @@ def swept(program, player):
         for nth in range(1, threads_to_start + 1):
             got = refusing.run([program], 0, SWEPT, thread=nth)
             yield f"thread {nth}", script, None if got == NO_THREAD else f"it ends with {got!r:.600}"
-        yield "some thread is refused", script, None if threads_to_start else "none was to start"
+        wanted = count_of_parties(script)
+        why = None if threads_to_start == wanted else f"{threads_to_start} were to start, and not {wanted}"
+        yield "each caller and each actor is run in a thread", script, why
 
 
 def requests_refused(refusing, program, player, way, most):
