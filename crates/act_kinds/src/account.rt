@@ -1,12 +1,13 @@
 //! An account.
 
-ghost use Rattle.std.specs.Prelude.{◌≡◌, [], ◌∷◌, pos, Some};
+ghost use Rattle.std.specs.Prelude.{◌≡◌, [], ◌∷◌, pos, Some, IfOk, OnOk, OnErr, IsOk, IsTrue};
 ghost use Rattle.act_types.specs.KindState.{AccountAt};
 ghost use Rattle.act_types.specs.Texts.{state_text};
 ghost use Rattle.act_types.specs.declared.call.Method.TheVariants.{Deposit, Withdraw};
 ghost use Rattle.act_types.specs.declared.call.Value.TheVariants.{Int};
 ghost use Rattle.act_rules.specs.Kinds.{reply_of};
 ghost use Rattle.act_rules.specs.RunList.{step_of_reply};
+ghost use Rattle.act_kinds.specs.Memory.{takes_memory_of};
 
 use crate::Actor;
 use crate::actor::append;
@@ -72,7 +73,15 @@ impl Account {
 impl Actor for Account {
     ghost state = { AccountAt };
 
-    fn ask(&mut self, method: &Method, args: &[Value]) -> Result<Answer, NoMemory> {
+    fn ask(&mut self, method: &Method, args: &[Value]) -> Result<Answer, NoMemory>
+        ensures answer { IfOk result (λ answer. answer
+            ≡ (step_of_reply (AccountAt self.old) (reply_of (AccountAt self.old) method.now args.now)).1) }
+        ensures moved { OnOk result (AccountAt self.new
+            ≡ (step_of_reply (AccountAt self.old) (reply_of (AccountAt self.old) method.now args.now)).0) }
+        ensures err { OnErr result (AccountAt self.new ≡ AccountAt self.old) }
+        ensures memory_last { OnErr result (IsOk (reply_of (AccountAt self.old) method.now args.now)) }
+        ensures memory { OnErr result (IsTrue (takes_memory_of (AccountAt self.old) method.now)) }
+    {
         match (method, args) {
             (Method::Deposit, [Value::Int(amount)]) => Ok(self.deposit(*amount)),
             (Method::Withdraw, [Value::Int(amount)]) => Ok(self.withdraw(*amount)),

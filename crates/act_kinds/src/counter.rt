@@ -1,12 +1,13 @@
 //! A counter.
 
-ghost use Rattle.std.specs.Prelude.{◌≡◌, [], ◌∷◌, pos, Some};
+ghost use Rattle.std.specs.Prelude.{◌≡◌, [], ◌∷◌, pos, Some, IfOk, OnOk, OnErr, IsOk, IsTrue};
 ghost use Rattle.act_types.specs.KindState.{CounterAt};
 ghost use Rattle.act_types.specs.Texts.{state_text};
 ghost use Rattle.act_types.specs.declared.call.Method.TheVariants.{Add};
 ghost use Rattle.act_types.specs.declared.call.Value.TheVariants.{Int};
 ghost use Rattle.act_rules.specs.Kinds.{reply_of};
 ghost use Rattle.act_rules.specs.RunList.{step_of_reply};
+ghost use Rattle.act_kinds.specs.Memory.{takes_memory_of};
 
 use crate::Actor;
 use crate::actor::append;
@@ -52,7 +53,15 @@ impl Counter {
 impl Actor for Counter {
     ghost state = { CounterAt };
 
-    fn ask(&mut self, method: &Method, args: &[Value]) -> Result<Answer, NoMemory> {
+    fn ask(&mut self, method: &Method, args: &[Value]) -> Result<Answer, NoMemory>
+        ensures answer { IfOk result (λ answer. answer
+            ≡ (step_of_reply (CounterAt self.old) (reply_of (CounterAt self.old) method.now args.now)).1) }
+        ensures moved { OnOk result (CounterAt self.new
+            ≡ (step_of_reply (CounterAt self.old) (reply_of (CounterAt self.old) method.now args.now)).0) }
+        ensures err { OnErr result (CounterAt self.new ≡ CounterAt self.old) }
+        ensures memory_last { OnErr result (IsOk (reply_of (CounterAt self.old) method.now args.now)) }
+        ensures memory { OnErr result (IsTrue (takes_memory_of (CounterAt self.old) method.now)) }
+    {
         match (method, args) {
             (Method::Add, [Value::Int(number)]) => Ok(self.add(*number)),
             (Method::Get, []) => Ok(Ok(Value::Int(self.number))),

@@ -1,12 +1,13 @@
 //! A list.
 
-ghost use Rattle.std.specs.Prelude.{◌≡◌, [], ◌∷◌, Some, IfOk, OnErr, IsOk, length, pos};
+ghost use Rattle.std.specs.Prelude.{◌≡◌, [], ◌∷◌, Some, IfOk, OnErr, IsOk, length, pos, OnOk, IsTrue};
 ghost use Rattle.act_types.specs.KindState.{ItemsOf};
 ghost use Rattle.act_types.specs.Texts.{state_text};
 ghost use Rattle.act_types.specs.declared.call.Method.TheVariants.{Push, Pop, At};
 ghost use Rattle.act_types.specs.declared.call.Value.TheVariants.{Int};
 ghost use Rattle.act_rules.specs.Kinds.{reply_of};
 ghost use Rattle.act_rules.specs.RunList.{step_of_reply};
+ghost use Rattle.act_kinds.specs.Memory.{takes_memory_of};
 
 use crate::Actor;
 use crate::actor::append;
@@ -98,7 +99,15 @@ impl ListKind {
 impl Actor for ListKind {
     ghost state = { ItemsOf };
 
-    fn ask(&mut self, method: &Method, args: &[Value]) -> Result<Answer, NoMemory> {
+    fn ask(&mut self, method: &Method, args: &[Value]) -> Result<Answer, NoMemory>
+        ensures answer { IfOk result (λ answer. answer
+            ≡ (step_of_reply (ItemsOf self.old) (reply_of (ItemsOf self.old) method.now args.now)).1) }
+        ensures moved { OnOk result (ItemsOf self.new
+            ≡ (step_of_reply (ItemsOf self.old) (reply_of (ItemsOf self.old) method.now args.now)).0) }
+        ensures err { OnErr result (ItemsOf self.new ≡ ItemsOf self.old) }
+        ensures memory_last { OnErr result (IsOk (reply_of (ItemsOf self.old) method.now args.now)) }
+        ensures memory { OnErr result (IsTrue (takes_memory_of (ItemsOf self.old) method.now)) }
+    {
         match (method, args) {
             (Method::Push, [value]) => self.push(value),
             (Method::Pop, []) => Ok(self.pop()),

@@ -1,12 +1,13 @@
 //! A table.
 
-ghost use Rattle.std.specs.Prelude.{◌≡◌, [], ◌∷◌, Some, IfOk, OnErr, IsOk, length, pos};
+ghost use Rattle.std.specs.Prelude.{◌≡◌, [], ◌∷◌, Some, IfOk, OnErr, IsOk, length, pos, OnOk, IsTrue};
 ghost use Rattle.act_types.specs.KindState.{TableOf};
 ghost use Rattle.act_types.specs.Texts.{state_text};
 ghost use Rattle.act_types.specs.declared.call.Method.TheVariants.{Put, Get, Del};
 ghost use Rattle.act_types.specs.declared.call.Value.TheVariants.{Text as TextValue};
 ghost use Rattle.act_rules.specs.Kinds.{reply_of};
 ghost use Rattle.act_rules.specs.RunList.{step_of_reply};
+ghost use Rattle.act_kinds.specs.Memory.{takes_memory_of};
 
 use crate::Actor;
 use crate::actor::append;
@@ -111,7 +112,15 @@ impl Table {
 impl Actor for Table {
     ghost state = { TableOf };
 
-    fn ask(&mut self, method: &Method, args: &[Value]) -> Result<Answer, NoMemory> {
+    fn ask(&mut self, method: &Method, args: &[Value]) -> Result<Answer, NoMemory>
+        ensures answer { IfOk result (λ answer. answer
+            ≡ (step_of_reply (TableOf self.old) (reply_of (TableOf self.old) method.now args.now)).1) }
+        ensures moved { OnOk result (TableOf self.new
+            ≡ (step_of_reply (TableOf self.old) (reply_of (TableOf self.old) method.now args.now)).0) }
+        ensures err { OnErr result (TableOf self.new ≡ TableOf self.old) }
+        ensures memory_last { OnErr result (IsOk (reply_of (TableOf self.old) method.now args.now)) }
+        ensures memory { OnErr result (IsTrue (takes_memory_of (TableOf self.old) method.now)) }
+    {
         match (method, args) {
             (Method::Put, [Value::Text(key), value]) => self.put(key, value),
             (Method::Get, [Value::Text(key)]) => self.get(key),
