@@ -10,7 +10,6 @@ import re
 import reading_of_rules as reading
 
 PLAY, MISTAKE, REFUSED = 0, 1, 5
-MISTAKES = "BadLine NoRole OutOfOrder OtherActor OtherKind NotSubmitted NoFuture NoEnd".split()
 NAME = re.compile(r"\b(?:[ac][1-9][0-9]?[.][0-9]+|a[1-9])\b")
 NUMBER = "(0|[1-9][0-9]*)"
 CALL, PLACE = f"c([1-9][0-9]?)[.]{NUMBER}", f"a([1-8])[.]{NUMBER}"
@@ -137,8 +136,9 @@ def misread(front, lines, status, told):
 
 # What is said, and of which line: one that begins with that name, or a future or an item of that call.
 BEGINS = [
-    "(a[1-8])[.][0-9]+ is a terminate, so its actor is dead$", f"({PLACE}) is ", f"({PLACE}) skips ", f"({PLACE}) runs ", f"({PLACE}) isn't ", "(a[1-8]) retired, and didn't run ",
-    f"({CALL}) has an answer, and ", f"({CALL}) has ActorDied, and ", f"({CALL}) has no answer$", f"the arguments at ({PLACE}) are ", f"the answer of ({CALL}) is ",
+    "(a[1-8])[.][0-9]+ is a terminate, so its actor is dead$", "(a[1-8]) retired, and didn't run ", f"({PLACE}) is ",
+    f"({PLACE}) skips ", f"({PLACE}) runs ", f"({PLACE}) isn't ", f"the arguments at ({PLACE}) are ",
+    f"({CALL}) has an answer, and ", f"({CALL}) has ActorDied, and ", f"({CALL}) has no answer$", f"the answer of ({CALL}) is ",
 ]  # fmt: skip
 HAS = [f"({CALL}) takes the answer of ", f"({CALL}) waits for "]
 

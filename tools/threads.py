@@ -4,15 +4,17 @@
     tools/threads.py [--seed N] [--count N] [--kills N] [--ends N] [--limits N] [--program PATH]
 
 A seed gives the same scripts each time. Without `--seed` there are two: one that stays, and one that changes with the
-commit and is printed. Most scripts are plans of up to 16 callers and 8 actors, without a
-bad step; some have one, or a fault of the script. The judge (tools/reading_of_rules.py) says whether the rules
-allow the report: whether a play of the plans ends so. It is tried itself: it must allow the worked reports, refuse
-every report that was tampered with, and refuse others for one rule each, without which it allows them; and of small
-plans it must allow just what is left by their plays, all of which are tried. A run of more than 60 seconds is a failure. So is an actor of which a kill was asked and that retired, which the rules leave open where
-the kill was asked after its last run. Fails also where the scripts of the first seed came too seldom to what they
-should try. The worked script of a kill is run many times, and the shares of its outcomes are printed. So are those of
-an end that waits its turn and of a limit on pending calls: but for one, where a kill waits at the limit, they must
-always leave the same.
+commit and is printed. Most scripts are plans of up to 16 callers and 8 actors, without a bad step; some have one, or a
+fault of the script, and a few fill what has room for so many. The judge (tools/reading_of_rules.py) says whether the
+rules allow the report: whether a play of the plans ends so. It is tried itself. It must allow the worked reports, refuse
+every report that was tampered with, and refuse others for one rule each, without which it allows them. Of small plans
+it must allow just what their plays leave, all of which are tried.
+
+A run of more than 60 seconds is a failure. So is an actor of which a kill was asked and that retired, which the judge
+leaves open where the kill was asked after its last run. Fails also where the scripts of the first seed came too seldom
+to what they should try. The worked script of a kill is run many times, and the shares of its outcomes are printed. So
+are those of an end that waits its turn and of a limit on pending calls: but for one, where a kill waits at the limit,
+they must always leave the same.
 """
 import argparse
 import collections
