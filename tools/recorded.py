@@ -9,6 +9,8 @@ these on one processor (taskset -c 0). Without `--seed` there are two seeds, as 
   - it has other roles than its script, in another order or with another limit;
   - `ray_actors play` ends with a fault, or tells of an event that it was `refused`, a `gap`, a `repeat` or a `stranger`;
   - an actor is `live` at the end;
+  - it was noted, and a caller doesn't do its plan in it: the steps in order, then releases; what an `await` waits for is
+    there before the next step, and a kill is missing only where the caller had collected the actor's death;
   - the summary is not one that the second reading of the rules allows of the script (tools/threads.py tells how), or
     not the worked one, where there is one;
   - something stands on the standard error, but for the line that a play was found and not noted; with `--noted` that
@@ -95,6 +97,45 @@ def complaint_of_play(player, script, play, wanted):
     return threads.complaint(script, summary, 0)
 
 
+class Follower:
+    """Plays a record, and follows each caller's plan in it."""
+
+    def __init__(self, script, play):
+        self.events = reading.read_script(play).events
+        self.world = reading.World(reading.read_script(play).roles)
+        self.left = {caller: [] for caller in self.world.callers}  # the steps that are still to be done, the next one last
+        for verb, spelt in reversed(reading.read_script(script, reading.THREAD_FORMS).events):
+            self.left[spelt[0]].append((verb, spelt))
+
+    def pass_over(self, caller, but_for=None):
+        """Passes over the next steps that are no events, up to this one; or says which of them holds the caller."""
+        left, known = self.left[caller], self.world.callers[caller]
+        while left and left[-1] != but_for and left[-1][0] in ("await", "kill"):
+            verb, (_, other) = left[-1]
+            if verb == "await" and known.calls[other].kept is None or verb == "kill" and other not in known.known_dead:
+                return f"c{caller} goes on before its step '{verb} {other}'"
+            left.pop()
+        return None
+
+    def strays(self, verb, spelt):
+        """Why a caller's event is none of its plan at this place."""
+        why = self.pass_over(spelt[0], (verb, spelt))
+        left = self.left[spelt[0]]
+        if why or not left and verb == "release":
+            return why
+        return None if left and left.pop() == (verb, spelt) else f"'{verb} {spelt}' is not the next step of c{spelt[0]}"
+
+    def stray(self):
+        """The first event that no plan has at its place, or what is left of a plan."""
+        for verb, spelt in self.events:
+            why = self.strays(verb, spelt) if verb in reading.COMMON_FORMS else None
+            if why:
+                return why
+            self.world.after(verb, spelt)
+        held = next(filter(None, map(self.pass_over, self.left)), None)
+        return held or next((f"c{caller} doesn't do {left[-1]}" for caller, left in self.left.items() if left), None)
+
+
 def complaint(player, script, got, wanted=None, notes=(b"", FOUND)):
     """What is wrong with what was recorded of a script, with one of these notes."""
     status, output, told = got
@@ -103,7 +144,7 @@ def complaint(player, script, got, wanted=None, notes=(b"", FOUND)):
         return None if got == (1, fault, b"") else f"the fault is {fault!r}, and it ends with {got!r:.600}"
     if status != 0 or told not in notes:
         return f"it ends with {status} and {told!r:.600}"
-    return complaint_of_play(player, script, output, wanted)
+    return complaint_of_play(player, script, output, wanted) or (Follower(script, output).stray() if not told else None)
 
 
 # The scripts.
@@ -251,6 +292,41 @@ def spoilt(lines):
             yield f"lines {place} and {place + 1} swapped", lines[:place] + [other, one] + lines[place + 2 :]
 
 
+def others_of_one_caller(lines):
+    """Plays in which a caller does its steps in another order: those of the accounts' owners at their neighbours."""
+    steps = [place for place, line in enumerate(lines) if line.startswith("submit ")]
+    for one, other in zip(steps, steps[1:]):
+        if lines[one].split()[1] == lines[other].split()[1]:
+            changed = list(lines)
+            changed[one], changed[other] = lines[other], lines[one]
+            yield changed
+
+
+# A plan, and records of it that plays allow: with the await kept, with the await passed over, and without its kill.
+HELD = b"actor a1 counter c1\nsubmit c1 a1 get\nawait c1 0\nkill c1 a1\n"
+TO_THE_ANSWER = b"actor a1 counter c1\nsubmit c1 a1 get\nsend c1 0\ndeliver 0\nrun a1 c1\ncollect 0\n"
+BEFORE_IT = b"actor a1 counter c1\nsubmit c1 a1 get\nkill c1 a1\nsend c1 0\ndeliver 0\nrun a1 c1\ncollect 0\n"
+DEATH, RELEASE = b"take a1\ntell a1 c1\ncollect 1\n", b"release c1 a1\n"
+FOLLOWED = [
+    (TO_THE_ANSWER + b"kill c1 a1\n" + DEATH + RELEASE, True),
+    (BEFORE_IT + DEATH + RELEASE, False),
+    (TO_THE_ANSWER + RELEASE + b"deliver 1\nretire a1\n", False),
+    (TO_THE_ANSWER + b"copy c1 a1\nkill c1 a1\n" + DEATH + RELEASE, False),
+]
+
+
+def trial_of_plans(program):
+    """Whether it is told that a record is none of its plans."""
+    for play, is_well in FOLLOWED:
+        why = Follower(HELD, play).stray()
+        yield f"follows: {play!r}", HELD, None if (why is None) == is_well else f"it is told: {why}"
+    script = BANK.read_bytes()
+    lines = ran([program], script)[1].decode().splitlines()
+    for others in others_of_one_caller(lines):
+        why = Follower(script, "".join(f"{line}\n" for line in others).encode()).stray()
+        yield "steps in another order", script, None if why else f"nothing is wrong with {others}"
+
+
 def trial(program, player):
     """Each spoilt record of the bank, and whether it passes."""
     script = BANK.read_bytes()
@@ -286,7 +362,7 @@ def main():
         for before, some in ((), scripts[:half]), (ONE_PROCESSOR, scripts[half:]):
             more, wrong = failures_of(record_all(program, player, some, notes, before))
             good, failures = good + more, failures + wrong
-    for more, wrong in long_failures(program), failures_of(swept(program, player)), failures_of(trial(program, player)):
+    for more, wrong in long_failures(program), failures_of(swept(program, player)), failures_of(trial(program, player)), failures_of(trial_of_plans(program)):
         good, failures = good + more, failures + wrong
     print("".join(f"{failure}\n" for failure in failures), end="")
     print(f"recorded: {good} passed, {len(failures)} failed")
