@@ -868,10 +868,13 @@ class Ways:
 
     def add_death(self, name, actor):
         """An actor dies after its last run: by that, or by a kill that was asked."""
-        last = actor.ran[-1:]
-        by_itself = any(item.ends_actor() for item in last)
+        by_itself = any(item.ends_actor() for item in actor.ran[-1:])
         asked = [] if by_itself or not self.of_plans else self.asked(name)
-        self.add(death_of(name), [run_of(item.call) for item in last] + asked)
+        self.add(death_of(name), self.last_run(actor) + asked)
+
+    def last_run(self, actor):
+        """Once an actor is dead nothing runs."""
+        return [run_of(item.call) for item in actor.ran[-1:]]
 
     def asked(self, name):
         """One asked kill is enough."""

@@ -580,6 +580,12 @@ TOLD = "c1.0 a2 = 1\nc2.0 a2 = {}\nc2.1 a1 = {}\na1 retired counter {}\na1.0 c2.
 TOLD_AFTER = TOLD.format("5", "5", "5", "5", "", "a2.0 c1.0 push 5\na2.1 c2.0 pop\n")
 TOLD_BEFORE = TOLD.format("NoItems", "Dependency(0)", "0", "!0", " 5", "a2.0 c2.0 pop\na2.1 c1.0 push 5\n")
 
+# A call runs once a caller was told something by another one, which had been told the actor's death before.
+DEATH_TOLD = "actor a1 counter c1 c2\nactor a2 list c1 c2\nsubmit c1 a2 pop\nsubmit c1 a1 add @0\n"
+DEATH_TOLD += "kill c2 a1\nsubmit c2 a1 get\nawait c2 0\nsubmit c2 a2 push 5\n"
+RAN_DEAD = "c1.0 a2 = 5\nc1.1 a1 = 5\nc2.0 a1 = ActorDied\nc2.1 a2 = 1\na1 dead\na1.0 c1.1 add 5\n"
+RAN_DEAD += "a2 retired list\na2.0 c2.1 push 5\na2.1 c1.0 pop\n"
+
 # What each rule alone keeps from being a play of the plans: without it the report is allowed.
 BY_ONE_RULE = {
     "a call is sent once its arguments have answers": ("arguments_of", WITH_ARGUMENTS, ANSWERS_CROSSED + NO_ORDER),
@@ -588,6 +594,7 @@ BY_ONE_RULE = {
     "a kill is asked in its turn, behind an await": ("asked", AFTER_AN_AWAIT, DIED + RAN_NONE),
     "a kill is asked in its turn, behind a call held back": ("asked", AFTER_A_LIMIT, DIED + RAN_NONE),
     "one of several kills comes first": ("asked", TWO_KILLS, BOTH_KILLED),
+    "nothing runs at a dead actor": ("last_run", DEATH_TOLD, RAN_DEAD),
     "a kill that was asked before the last run is found": ("looked_for", KILL_BEFORE, RETIRED_AT_ONE),
     "the same of another caller's run": ("looked_for", KILL_TOLD, TOLD_AFTER),
 }
