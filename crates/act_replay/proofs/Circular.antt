@@ -9,7 +9,7 @@ use Rattle.act_rules.specs.declared.history.RunItem.{RunItem}
 use Rattle.act_rules.specs.declared.history.Submission.{Submission}
 use Rattle.act_rules.specs.RunList.{Answer, items_of, has_terminated, NothingFollowsAnEnd}
 use Rattle.act_rules.specs.Submissions.{kept_at, calls_to}
-use Rattle.act_rules.specs.Consistent.{IsPrefix, IsAsSubmitted, IsAnswerOfRun, IsCallToDead}
+use Rattle.act_rules.specs.Consistent.{IsPrefix, IsAsSubmitted, IsAnswerOfRun}
 use Rattle.act_rules.specs.History.{History, opening, opening_of, actors_naming}
 use Rattle.act_rules.specs.Laws.{history}
 use Rattle.act_rules.specs.Plans.{planned, kills_to}
@@ -187,15 +187,15 @@ answers (suc (suc zero)) (suc zero) x e alive = let same : answer 1 ≡ x = cc i
 answers (suc (suc zero)) (suc (suc k)) x e alive = cc
 answers (suc (suc (suc c))) k x e alive = absurd (not_kept c k x e)
 
-deaths : (c k : ℕ) → kept_at (kept_in circle_owners c) k ≡ Some (Err ActorDied) → IsCallToDead (calls_in circle_owners) (killed_in circle_ends) c k
-deaths zero k e = cc
-deaths (suc zero) zero e = cc
-deaths (suc zero) (suc zero) e = cc
-deaths (suc zero) (suc (suc k)) e = cc
-deaths (suc (suc zero)) zero e = cc
-deaths (suc (suc zero)) (suc zero) e = cc
-deaths (suc (suc zero)) (suc (suc k)) e = cc
-deaths (suc (suc (suc c))) k e = absurd (not_kept c k (Err ActorDied) e)
+no_deaths : (c k : ℕ) → kept_at (kept_in circle_owners c) k ≡ Some (Err ActorDied) → ⊥
+no_deaths zero k e = cc
+no_deaths (suc zero) zero e = cc
+no_deaths (suc zero) (suc zero) e = cc
+no_deaths (suc zero) (suc (suc k)) e = cc
+no_deaths (suc (suc zero)) zero e = cc
+no_deaths (suc (suc zero)) (suc zero) e = cc
+no_deaths (suc (suc zero)) (suc (suc k)) e = cc
+no_deaths (suc (suc (suc c))) k e = not_kept c k (Err ActorDied) e
 
 killed : (a : ℕ) → killed_in circle_ends a ≡ true → has_terminated (log_in circle_ends a) ≡ false → (c : ℕ) × (0 < kills_to a (plan_of c circle_plans))
 killed zero e f = cc
@@ -239,7 +239,7 @@ circle_joined = record {
   limits = All-two (λ (o : OwnerView). o.limits ≡ limits_naming o.id circle_casts) _ _ refl refl;
   submitted = submitted;
   answered = answered;
-  consistent = record { in_order = in_order; as_submitted = as_submitted; answers = answers; deaths = deaths };
+  consistent = record { in_order = in_order; as_submitted = as_submitted; answers = answers; deaths = λ c k e. absurd (no_deaths c k e) };
   killed = killed;
   terminated = terminated;
   last = last;
@@ -247,6 +247,7 @@ circle_joined = record {
       (record { calls = ran_1; cast = circle_cast 1; at = refl; state = refl })
       (record { calls = ran_2; cast = circle_cast 2; at = refl; state = refl });
   fed = All-two (λ (end : EndView). is_starved end ≡ false) _ _ refl refl;
+  ran = λ c k e. absurd (no_deaths c k e);
 }
 
 -- ---- the circle is no play

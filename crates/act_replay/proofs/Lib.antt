@@ -5,3 +5,4 @@ pub mod Playing
 pub mod Twins
 pub mod Unplayed
 pub mod Circular
+pub mod Awaiting

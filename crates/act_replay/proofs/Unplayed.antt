@@ -38,7 +38,7 @@ after_step h g event so_far accepted =
       calls = λ c. front_trans (calls_of c h) (calls_of c g) (calls_of c (add_event g event)) (so_far.calls c) (calls_grow c g (add_event g event) grows);
     }
 
-is_after : (h : History) (events : List Event) → IsAfter h (after_all h events)
+pub is_after : (h : History) (events : List Event) → IsAfter h (after_all h events)
 is_after h events = after_all_keeps (IsAfter h) (after_step h) h events (record { runs = λ a. whole_front (runs_of a h); calls = λ c. whole_front (calls_of c h) })
 
 -- ---- the first item of a list

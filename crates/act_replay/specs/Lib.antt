@@ -1,3 +1,4 @@
 pub mod Play
 pub mod Faults
 pub mod Circle
+pub mod AwaitCircle

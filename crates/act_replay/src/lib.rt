@@ -12,7 +12,7 @@ mod recorded;
 mod run;
 mod same;
 
-pub use circle::a_circle_is_joined_and_no_play;
+pub use circle::{a_circle_is_joined_and_no_play, a_circle_of_awaits_is_not_as_planned};
 pub use compared::is_play_of;
 pub use recorded::{Recorded, Source, run_recorded};
 pub use run::{RecordFault, play_of};

@@ -9,6 +9,7 @@ ghost use Rattle.act_plans.specs.Runs.{first_bad_plan};
 ghost use Rattle.act_executor.specs.Joined.{IsJoined};
 ghost use Rattle.act_executor.specs.Runs.{plan_view};
 ghost use Rattle.act_executor.specs.Plays.{IsPlayOf};
+ghost use Rattle.act_executor.specs.PlanPlays.{IsPlayedAsPlanned};
 ghost use Rattle.act_replay.specs.Faults.{IsPlayFault, IsRecordFault};
 
 use crate::merged::merge;
@@ -93,6 +94,9 @@ pub fn run_recorded<R: Threads + Wait + Sync, K: Actor + Send, G: Gate>(
     ensures joined { IfOk result (λ recorded.
         IsJoined (map (actor_spec K.state) casts.items) (map plan_view plans.items) recorded.joined.owners.items
         (map (λ actor. end_view K.state actor.ended) recorded.joined.actors.items)) }
+    ensures planned { IfOk result (λ recorded.
+        IsPlayedAsPlanned (map (actor_spec K.state) casts.items) (map plan_view plans.items)
+        recorded.joined.owners.items (map (λ actor. end_view K.state actor.ended) recorded.joined.actors.items)) }
     ensures good { IfOk result (λ _.
         first_bad_plan (map (actor_spec K.state) casts.items) (map plan_view plans.items) ≡ None) }
     ensures played { IfOk result (λ recorded.
