@@ -26,7 +26,7 @@ use Rattle.act_plans.specs.Setups.{PlansFit}
 use Rattle.act_plans.proofs.Keys.{pairs_of_map}
 use Rattle.act_plans.specs.Runs.{first_bad_plan}
 use Rattle.act_executor.specs.Joined.{IsJoined}
-use Rattle.act_executor.specs.Plays.{IsPlayed}
+use Rattle.act_executor.specs.PlanPlays.{IsPlayedAsPlanned}
 use Rattle.act_executor.specs.declared.run.RunFault.{RunFault}
 use Rattle.act_executor.specs.declared.run.RunFault.TheVariants as faults
 use Rattle.act_executor.specs.Runs.{plan_view, IsFault}
@@ -108,24 +108,27 @@ module _ {K : Type 0} (state : K → KindState) (casts : List (Cast K)) (roles :
         subst (λ (casts : List ActorSpec). IsJoined casts (plans_in (script_of roles steps)) owners ends) same
         (subst (λ (plans : List (ℕ × List Step)). IsJoined (map (actor_spec state) casts) plans owners ends) sorted joined)
 
-    -- and a play of it is one of theirs
-    played_same : (owners : List OwnerView) (ends : List EndView) → IsPlayed (map (actor_spec state) casts) owners ends → IsPlayed (map actor_spec_of roles) owners ends
-    played_same owners ends played = subst (λ (casts : List ActorSpec). IsPlayed casts owners ends) same played
+    -- and a play of its plans is one of theirs
+    pub planned_same : (owners : List OwnerView) (ends : List EndView) → IsPlayedAsPlanned (map (actor_spec state) casts) (map plan_view plans) owners ends → IsPlayedAsPlanned (map actor_spec_of roles) (plans_in (script_of roles steps)) owners ends
+    planned_same owners ends planned =
+        subst (λ (casts : List ActorSpec). IsPlayedAsPlanned casts (plans_in (script_of roles steps)) owners ends) same
+        (subst (λ (plans : List (ℕ × List Step)). IsPlayedAsPlanned (map (actor_spec state) casts) plans owners ends) sorted planned)
 
     -- so the text that shows it is a summary of theirs
-    pub is_summary : (owners : List OwnerView) (ends : List EndView) (text : List ℕ) → IsJoined (map (actor_spec state) casts) (map plan_view plans) owners ends → IsPlayed (map (actor_spec state) casts) owners ends
-        → text ≡ joined_summary owners ends → IsSummary (script_of roles steps) text
-    is_summary owners ends text joined played shown =
+    pub is_summary : (owners : List OwnerView) (ends : List EndView) (text : List ℕ) → IsJoined (map (actor_spec state) casts) (map plan_view plans) owners ends
+        → IsPlayedAsPlanned (map (actor_spec state) casts) (map plan_view plans) owners ends → text ≡ joined_summary owners ends → IsSummary (script_of roles steps) text
+    is_summary owners ends text joined planned shown =
         let run : IsJoined (map actor_spec_of roles) (plans_in (script_of roles steps)) owners ends = joined_same owners ends joined in
-        let play : IsPlayed (map actor_spec_of roles) owners ends = played_same owners ends played in
+        let play : IsPlayedAsPlanned (map actor_spec_of roles) (plans_in (script_of roles steps)) owners ends = planned_same owners ends planned in
         record {
           owners = owners;
           ends = ends;
           joined = run;
           shown = shown;
           events = play.0;
-          played = play.1;
-          told = shown ∙ sym (summary_same (map actor_spec_of roles) (plans_in (script_of roles steps)) owners ends play.0 run play.1);
+          played = play.1.play;
+          told = shown ∙ sym (summary_same (map actor_spec_of roles) (plans_in (script_of roles steps)) owners ends play.0 run play.1.play);
+          planned = play;
         }
 
     -- and has the same first bad step

@@ -14,6 +14,7 @@ use Rattle.act_owner.specs.Owner.{OwnerView}
 use Rattle.act_serve.specs.Served.{EndView, Killed, Retired, Starved}
 use Rattle.act_executor.specs.Joined.{IsJoined, end_of, calls_in, kept_in, log_in}
 use Rattle.act_executor.specs.Plays.{IsPlayOf}
+use Rattle.act_executor.specs.PlanPlays.{IsPlayedAsPlanned}
 use Rattle.act_console.specs.declared.streams.Output.{Output}
 use Rattle.act_console.specs.declared.streams.Output.TheVariants as outputs
 use Rattle.act_console.specs.declared.fault.ConsoleFault.{ConsoleFault}
@@ -51,7 +52,8 @@ joined_summary owners ends = summary_of (calls_in owners) (kept_in owners) (end_
 abbrev pub plans_in : Script → List (ℕ × List Step)
 plans_in script = map (λ c. (c, map (λ s. s.1) (plan_in_script c script))) (callers_of_roles script.roles)
 
--- the text is the summary of a run of the script's plans that the rules allow, and that of a play which ends so
+-- the text is the summary of a run of the script's plans that the rules allow, and that of a play which ends so; and a
+-- play of the script's plans ends so
 pub record IsSummary (script : Script) (text : List ℕ) : Type 0 where
   pub owners : List OwnerView
   pub ends : List EndView
@@ -60,6 +62,7 @@ pub record IsSummary (script : Script) (text : List ℕ) : Type 0 where
   pub events : List Event
   pub played : IsPlayOf (map actor_spec_of script.roles) events owners ends
   pub told : text ≡ summary (history (map actor_spec_of script.roles) events)
+  pub planned : IsPlayedAsPlanned (map actor_spec_of script.roles) (plans_in script) owners ends
 
 -- what bytes spell for threads: a script with good plans, or the first fault
 unfoldable pub spelled_threads : List ℕ → Result Script (ℕ × Wrong)
