@@ -13,6 +13,7 @@ the scripts of the first seed came too seldom to what they should try.
 import argparse
 import collections
 import concurrent.futures
+import functools
 import pathlib
 import random
 import re
@@ -506,6 +507,11 @@ FLOORS = {
 }  # fmt: skip
 
 
+@functools.cache
+def played(script):
+    return reading.play(script)
+
+
 MANY = [("place", 20, "a place"), ("future", 10, "a future"), ("mail", 20, "a letter"), ("reply", 20, "a reply")]
 SIZES = {"list": (7, 1, "items"), "table": (4, 2, "pairs")}
 
@@ -550,7 +556,7 @@ def reached_in_summary(line):
 
 def tally(scripts):
     """How many of the scripts come to each sort."""
-    return collections.Counter(sort for script in scripts for sort in set(reached(script, reading.play(script)[0])))
+    return collections.Counter(sort for script in scripts for sort in set(reached(script, played(script)[0])))
 
 
 def too_seldom(scripts, full):
@@ -605,7 +611,7 @@ def differences(program, scripts):
     with concurrent.futures.ThreadPoolExecutor(max_workers=4) as pool:
         gots = pool.map(lambda script: run(program, script), scripts.values())
         for (name, script), got in zip(scripts.items(), gots):
-            wanted = reading.play(script)
+            wanted = played(script)
             if got != wanted:
                 differing += 1
                 if differing <= MAX_SHOWN:

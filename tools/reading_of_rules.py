@@ -451,9 +451,14 @@ class Actor:
     arrived: dict = field(default_factory=dict)  # by caller and number: that call
     notes: dict = field(default_factory=dict)  # by caller: the number of its calls
     ran: list = field(default_factory=list)
+    counts: dict = field(default_factory=collections.Counter)  # of each caller how many of these are its calls
+
+    def add(self, item):
+        self.ran.append(item)
+        self.counts[item.call.caller] += 1
 
     def ran_of(self, caller):
-        return sum(item.call.caller == caller for item in self.ran)
+        return self.counts[caller]
 
     def next_call(self, caller):
         """The call that runs next, or none where it hasn't arrived."""
@@ -607,7 +612,7 @@ class World:
             return "gap"
         arguments = list(submitter.settled(call))
         item = Item(call, arguments, answer_of(actor.kind, call.method, arguments))
-        actor.ran.append(item)
+        actor.add(item)
         if item.ends_actor():
             actor.stage = "dead"
         return f"place {len(actor.ran) - 1} {self.notify(item)}"
@@ -959,25 +964,22 @@ class Judge:
         """The lines of an actor: how it ended, and its run list."""
         self.ends[name] = self.next_line(f"a{name} ")
         actor.stage = self.ends[name].partition(" ")[0]
-        ran_of = collections.Counter()
         while self.place < len(self.lines) and self.lines[self.place].startswith(f"a{name}."):
             words = self.next_line(f"a{name}.{len(actor.ran)} ")
-            actor.ran.append(self.read_item(name, ran_of, words))
+            actor.add(self.read_item(name, actor, words))
 
-    def read_item(self, name, ran_of, words):
-        """The call of a line of a run list: the next one of its caller to this actor, as it was submitted. Before it so
-        many calls of each caller ran."""
+    def read_item(self, name, actor, words):
+        """The call of a line of a run list: the next one of its caller to this actor, as it was submitted."""
         found = re.match(r"c([1-9][0-9]?)\.", words)
         caller = self.world.callers.get(int(found[1])) if found else None
         if caller is None:
             raise NotAllowed(f"a{name} ran '{words}', of no caller")
-        calls, before = caller.calls_to(name), ran_of[int(found[1])]
+        calls, before = caller.calls_to(name), actor.ran_of(int(found[1]))
         if before == len(calls):
             raise NotAllowed(f"a{name} ran '{words}', and c{found[1]} has no further call to it")
         item = Item(calls[before], list(caller.settled(calls[before])), None)
         if item.spelled() != words:
             raise NotAllowed(f"a{name} ran '{words}' where '{item.spelled()}' is the next call of c{found[1]}")
-        ran_of[item.call.caller] += 1
         self.ran.add((item.call.caller, item.call.future))
         return item
 

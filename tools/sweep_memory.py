@@ -3,8 +3,8 @@
 
     tools/sweep_memory.py [--program PATH]
 
-Each request is refused alone, and with it all that come after, so that callers and actors starve together. Each
-play must write nothing, say `no memory` and end with status 3, or write the whole report. So must each run in
+Each request is refused alone; in threads with all that come after it, too, so that callers and actors starve together.
+Each play must write nothing, say `no memory` and end with status 3, or write the whole report. So must each run in
 threads; but where a thread is refused, or memory for its start, it must say `no thread`, and nowhere else. Where it
 writes a report, the rules must allow it, and it must be the whole one where that is fixed. The number of requests may
 vary in threads, so the sweep goes on until no run that it saw made so many. All is refused from outside, by
@@ -41,8 +41,9 @@ class Sweep:
         report, status = script.with_suffix(".report"), script.with_suffix(".status")
         self.report = report.read_bytes() if report.exists() else None
         self.status = int(status.read_text()) if status.exists() else 0
-        self.refusals = dict.fromkeys(WAYS, 0)  # how many runs were refused memory, by the way in which they were
-        self.at_once = dict.fromkeys(WAYS, 0)  # and how many requests one of them at most
+        ways = WAYS if self.is_threaded else [ALONE]
+        self.refusals = dict.fromkeys(ways, 0)  # how many runs were refused memory, by the way in which they were
+        self.at_once = dict.fromkeys(ways, 0)  # and how many requests one of them at most
         self.starts = 0  # how many runs were refused the start of a thread
 
     def run(self, nth, **how):
@@ -76,7 +77,7 @@ class Sweep:
             yield f"thread {nth} of {threads} refused", got, got == NO_THREAD
 
     def refuse_all(self, requests, threads):
-        for way in WAYS:
+        for way in self.refusals:
             yield from self.refuse_requests(way, requests)
         yield from self.refuse_threads(threads)
 
