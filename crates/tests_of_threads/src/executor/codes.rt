@@ -3,12 +3,13 @@
 mod bad;
 mod doing;
 
+use super::gates::Meeting;
 use super::scene::{
     Given, Ids, Row, all_actors, all_callers, counters, few_ids, limited, plans_of,
 };
 use super::told::{assert_text, text_of};
 use act_actor::{Cast, cast_fits};
-use act_executor::{NoGate, Plan, RunFault, codes_fit, plans_fit, run_callers};
+use act_executor::{Gate, NoGate, Plan, RunFault, codes_fit, plans_fit, run_callers};
 use act_kinds::Counter;
 use act_types::{ActorId, CallerId, Method, NoMemory};
 use doing::Doing;
@@ -18,19 +19,20 @@ use std::sync::Wait;
 use std::test::Fail;
 use std::thread::Threads;
 
-/// Runs counters with these plans and codes, and tells what is left. What doesn't fit is too many.
-fn told<R: Threads + Wait + Sync>(
+/// Runs counters with these plans and codes past a gate, and tells what is left. What doesn't fit is too many.
+fn told_past<R: Threads + Wait + Sync, G: Gate>(
     rt: &R,
     alloc: Global,
     casts: Vec<Cast<Counter>>,
     plans: Vec<(CallerId, Plan)>,
     codes: Vec<(CallerId, Doing)>,
+    gate: &G,
 ) -> Result<String, RunFault> {
     if cast_fits(casts.as_slice())
         && plans_fit(casts.as_slice(), plans.as_slice())
         && codes_fit(casts.as_slice(), plans.as_slice(), codes.as_slice())
     {
-        let joined = run_callers(rt, alloc, casts, plans, codes, &NoGate)?;
+        let joined = run_callers(rt, alloc, casts, plans, codes, gate)?;
         Ok(text_of(alloc, joined)?)
     } else {
         drop(casts);
@@ -38,6 +40,17 @@ fn told<R: Threads + Wait + Sync>(
         drop(codes);
         Err(RunFault::TooMany)
     }
+}
+
+/// The same without a gate.
+fn told<R: Threads + Wait + Sync>(
+    rt: &R,
+    alloc: Global,
+    casts: Vec<Cast<Counter>>,
+    plans: Vec<(CallerId, Plan)>,
+    codes: Vec<(CallerId, Doing)>,
+) -> Result<String, RunFault> {
+    told_past(rt, alloc, casts, plans, codes, &NoGate)
 }
 
 /// Code for each of these callers.
@@ -143,6 +156,21 @@ fn all_add_one(alloc: Global, callers: &[CallerId]) -> Result<Vec<(CallerId, Doi
         codes.push((*caller, Doing::AddsToEach))?;
     }
     Ok(codes)
+}
+
+/// A code calls eight actors, and the gate that it is run with sees their first runs at the same time.
+#[test]
+fn gate_of_a_code(rt: HostRuntime) -> Result<(), Fail> {
+    let alloc = rt.alloc();
+    let Ids { c1, .. } = few_ids();
+    let actors = all_actors(alloc)?;
+    let codes = all_add_one(alloc, &[c1])?;
+    let casts = counters(alloc, actors.as_slice(), &[c1])?;
+    let meeting = Meeting::of(0xff);
+    let text = told_past(&rt, alloc, casts, Vec::new(alloc), codes, &meeting)?;
+    assert!(rt; text.as_str().starts_with("c1: 1 1 1 1 1 1 1 1\n"));
+    assert!(rt; meeting.have_met());
+    Ok(())
 }
 
 /// What is left where each of these callers adds 1 to each of eight actors, which are these.

@@ -20,13 +20,27 @@ const LOOKS: u32 = 10_000_000;
 /// Where the first run of each actor waits for those of all others. The words have a bit for each
 /// actor.
 #[derive(Drop)]
-struct Meeting {
+pub(super) struct Meeting {
     all: u64,
     came: AtomicU64,
     saw_all: AtomicU64,
 }
 
 impl Meeting {
+    /// Of these actors none ran yet.
+    pub(super) fn of(all: u64) -> Meeting {
+        Meeting {
+            all,
+            came: AtomicU64::new(0),
+            saw_all: AtomicU64::new(0),
+        }
+    }
+
+    /// Whether the first run of each actor saw those of all others.
+    pub(super) fn have_met(&self) -> bool {
+        self.saw_all.load(Ordering::SeqCst) == self.all
+    }
+
     fn wait_for_all(&self) -> bool {
         for _ in 0..LOOKS {
             if self.came.load(Ordering::SeqCst) == self.all {
@@ -59,13 +73,9 @@ fn all_met<R: Threads + Wait + Sync>(
     casts: Vec<Cast<Counter>>,
     plans: Vec<(CallerId, Plan)>,
 ) -> Result<bool, RunFault> {
-    let meeting = Meeting {
-        all,
-        came: AtomicU64::new(0),
-        saw_all: AtomicU64::new(0),
-    };
+    let meeting = Meeting::of(all);
     drop(ran(rt, alloc, casts, plans, &meeting)?);
-    Ok(meeting.saw_all.load(Ordering::SeqCst) == all)
+    Ok(meeting.have_met())
 }
 
 /// Two callers, each with a call to an actor of its own.
