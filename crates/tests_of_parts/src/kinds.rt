@@ -1,7 +1,7 @@
 //! The worked rows, through the trait.
 
 use act_kinds::{Account, Actor, Boxed, Counter, ListKind, Table};
-use act_types::{Answer, Fault, Method, NoMemory, Text, Value};
+use act_types::{Answer, Fault, MAX_ITEMS, Method, NoMemory, Text, Value};
 use std::alloc::Global;
 use std::process::Abort;
 use std::test::Fail;
@@ -352,5 +352,30 @@ fn list_rows(rt: HostRuntime) -> Result<(), Fail> {
         (Method::Pop, &none, Ok(Word::Text("a")), "list 7"),
     ];
     play(&rt, rt.alloc(), &mut list, &rows)?;
+    Ok(())
+}
+
+/// As many items as a list holds, each the longest text that it takes.
+fn fill_list(alloc: Global, list: &mut ListKind) -> Result<(), NoMemory> {
+    let longest = LONG.get(1..).unwrap_or("k");
+    for _item in 0..MAX_ITEMS {
+        drop(asked(alloc, list, &Method::Push, &[Word::Text(longest)])?);
+    }
+    Ok(())
+}
+
+/// The longest text of a state is written whole, and a full list takes no item more.
+#[test]
+fn full_list(rt: HostRuntime) -> Result<(), Fail> {
+    let alloc = rt.alloc();
+    let mut list = ListKind::open(alloc);
+    fill_list(alloc, &mut list)?;
+    let answered = asked(alloc, &mut list, &Method::Push, &[Word::Int(1)])?;
+    assert!(rt; matches!(answered, Err(Fault::KindFull)));
+    drop(answered);
+    let text = text_of(alloc, &list)?;
+    assert_eq!(rt; text.len(), 4 + MAX_ITEMS * 67);
+    assert!(rt; text.as_str().starts_with("list \"kkk"));
+    assert!(rt; text.as_str().ends_with("kkk\""));
     Ok(())
 }

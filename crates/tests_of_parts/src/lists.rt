@@ -74,3 +74,17 @@ fn texts_with_and_without_bytes(rt: HostRuntime) -> Result<(), Fail> {
     }
     Ok(())
 }
+
+/// A string that is made a text comes back with the room that it had.
+#[test]
+fn a_text_gives_its_string_back(rt: HostRuntime) -> Result<(), Fail> {
+    let mut string = String::with_capacity(rt.alloc(), 100)?;
+    string.push_str("k v")?;
+    let room = string.capacity();
+    let text = Text::new(string);
+    assert_eq!(rt; text.as_str(), "k v");
+    let back = text.into_string();
+    assert_eq!(rt; back.as_str(), "k v");
+    assert_eq!(rt; back.capacity(), room);
+    Ok(())
+}
