@@ -3,6 +3,7 @@
 
 mod handed;
 mod refused;
+mod twice;
 
 use act_kinds::{Actor, Boxed, Counter, ListKind};
 use act_owner::Owner;
