@@ -1,22 +1,21 @@
 -- What a buyer tells still holds of what its caller leaves.
-use Rattle.std.proofs.Common.{◌≡◌, ℕ, List, Contains, refl, subst}
-use Rattle.std.specs.Prelude.{Ok}
-use Rattle.actors.specs.Value.TheVariants.{Int}
+use Rattle.std.proofs.Common.{◌≡◌, ℕ, List, Option, is_some, refl, ap, sym, ◌∙◌}
 use Rattle.actors.specs.Step.{Step}
-use Rattle.actors.specs.Submission.{Submission}
 use Rattle.actors.specs.Rules.{ActorSpec}
-use Rattle.actors.specs.Callers.{OwnerView}
+use Rattle.actors.specs.Kinds.{Answer}
+use Rattle.actors.specs.Callers.{OwnerView, kept_at}
 use Rattle.actors.specs.Codes.{SessionView, session_view, IsLater, HasTold}
 use Rattle.own_callers.specs.declared.buyer.Buyer.{Buyer}
-use Rattle.own_callers.specs.Buyer.{HasPaid, buyer_tells, order}
+use Rattle.own_callers.specs.Buyer.{HasPaid, buyer_tells, calls_by}
 use Rattle.own_callers.specs.Buyers.{HasLeft}
+use Rattle.own_callers.proofs.Calls.{kept_same}
 
 still_paid : (buyer : Buyer) (old new : SessionView) → new.calls ≡ old.calls → IsLater old new → HasPaid buyer old → HasPaid buyer new
 still_paid buyer old new same later has =
+    let kept : kept_at new.kept 0 ≡ kept_at old.kept 0 = kept_same old new 0 later has.answered in
     record {
-      paid = λ args ordered.
-          let paid = has.paid args (subst (λ (calls : List Submission). Contains calls (order buyer args)) same ordered) in
-          (paid.0, later.kept 0 (Ok (Int paid.0)) paid.1);
+      answered = ap (λ (a : Option Answer). is_some a) kept ∙ has.answered;
+      calls = same ∙ has.calls ∙ ap (λ (a : Option Answer). calls_by buyer a) (sym kept);
     }
 
 pub has_left : (casts : List ActorSpec) (steps : List (ℕ × List Step)) (owners : List OwnerView) (given : ℕ × Buyer) → HasTold buyer_tells casts steps owners given → HasLeft owners given

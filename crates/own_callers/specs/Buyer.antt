@@ -1,25 +1,30 @@
--- What a buyer concludes.
-use Rattle.std.specs.Prelude.{◌≡◌, ℤ, List, [], Option, Some, Ok, Contains}
+-- What a buyer submits, and what it concludes.
+use Rattle.std.specs.Prelude.{◌≡◌, List, [], ◌∷◌, Option, Some, Ok, is_some, true}
 use Rattle.actors.specs.Value.TheVariants.{Int}
-use Rattle.actors.specs.Arg.{Arg}
-use Rattle.actors.specs.Method.TheVariants.{Push}
+use Rattle.actors.specs.Arg.TheVariants.{Plain}
+use Rattle.actors.specs.Method.TheVariants.{Push, Withdraw}
 use Rattle.actors.specs.Submission.{Submission}
 use Rattle.actors.specs.Kinds.{Answer}
 use Rattle.actors.specs.Callers.{kept_at}
 use Rattle.actors.specs.Codes.{SessionView}
 use Rattle.own_callers.specs.declared.buyer.Buyer.{Buyer}
 
--- a call that orders
-abbrev pub order : Buyer → List Arg → Submission
-order buyer args = record { actor = buyer.shop; method = Push; args = args }
+-- the payment, and the order
+abbrev pub payment : Buyer → Submission
+payment buyer = record { actor = buyer.purse; method = Withdraw; args = Plain (Int buyer.price) ∷ [] }
 
--- an answer is there, and it is a number
-abbrev pub IsNumber : Option Answer → Type 0
-IsNumber answer = (n : ℤ) × (answer ≡ Some (Ok (Int n)))
+abbrev pub order : Buyer → Submission
+order buyer = record { actor = buyer.shop; method = Push; args = Plain (Int buyer.price) ∷ [] }
 
--- it ordered only where its first call, the payment, was answered by a number: what is left in the purse
+-- its calls, by the answer of the payment: it orders where that is a number, which is what is left in the purse
+abbrev pub calls_by : Buyer → Option Answer → List Submission
+calls_by buyer (Some (Ok (Int left))) = payment buyer ∷ order buyer ∷ []
+calls_by buyer answer = payment buyer ∷ []
+
+-- it paid once, was answered, and ordered once if the payment was granted
 pub record HasPaid (buyer : Buyer) (seen : SessionView) : Type 0 where
-  pub paid : (args : List Arg) → Contains seen.calls (order buyer args) → IsNumber (kept_at seen.kept 0)
+  pub answered : is_some (kept_at seen.kept 0) ≡ true
+  pub calls : seen.calls ≡ calls_by buyer (kept_at seen.kept 0)
 
 abbrev pub buyer_tells : Buyer → SessionView → SessionView → Type 0
 buyer_tells buyer old new = old.calls ≡ [] → HasPaid buyer new

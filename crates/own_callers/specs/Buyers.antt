@@ -6,7 +6,7 @@ use Rattle.actors.specs.Codes.{session_view}
 use Rattle.own_callers.specs.declared.buyer.Buyer.{Buyer}
 use Rattle.own_callers.specs.Buyer.{HasPaid}
 
--- an owner is left of the buyer's caller, and it has an order only where it has the answer of the payment
+-- an owner is left of the buyer's caller, and it paid once, and ordered once if the payment was granted
 pub record HasLeft (owners : List OwnerView) (given : ℕ × Buyer) : Type 0 where
   pub owner : OwnerView
   pub left : owner_of given.0 owners ≡ Some owner

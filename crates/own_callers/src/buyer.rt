@@ -1,7 +1,7 @@
 //! A buyer: a caller that orders a thing only once it is paid for.
 
-use actors::{ActorId, Arg, Code, GaveUp, ListOf, Method, NoMemory, Session, Value};
-use std::alloc::Global;
+use crate::args::number;
+use actors::{ActorId, Code, GaveUp, Method, Session, Value};
 
 /// Pays a price out of a purse, which is an account, and notes it in a shop's list.
 #[derive(Clone, Copy, Debug)]
@@ -9,13 +9,6 @@ pub struct Buyer {
     pub purse: ActorId,
     pub shop: ActorId,
     pub price: i64,
-}
-
-/// A number as the argument of a call.
-fn number(alloc: Global, n: i64) -> Result<ListOf<Arg>, NoMemory> {
-    let mut args = ListOf::new(alloc);
-    args.push(Arg::Plain(Value::Int(n)))?;
-    Ok(args)
 }
 
 impl Code for Buyer {

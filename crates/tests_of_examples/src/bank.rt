@@ -1,10 +1,12 @@
 //! A bank beside an account: money is neither made nor lost.
 
-use crate::scene::{Call, Given, casts_of, played, threaded};
+use crate::scene::{Call, Given, casts_of, plans_of, played, summary_of, threaded, world_after};
+use act_actor::cast_fits;
+use act_executor::plans_fit;
 use act_kinds::{Account, Boxed};
-use act_types::{Method, NoMemory};
-use act_world::Cast;
-use own_kinds::Bank;
+use act_types::{ActorId, Method, NoMemory};
+use act_world::{Cast, Stage, World};
+use own_kinds::{Bank, bank_stage, run_banks};
 use std::alloc::Global;
 use std::test::Fail;
 
@@ -64,5 +66,46 @@ fn in_threads_beside_a_known_kind(rt: HostRuntime) -> Result<(), Fail> {
         "{ANSWERS}a1 retired bank 6 1 0\n{RUNS}a2 retired account 7\na2.0 c1.6 deposit 7\n"
     )?;
     assert_eq!(rt; report.as_str(), wanted.as_str());
+    Ok(())
+}
+
+/// The same run once more, of which the bank's money is said.
+#[test]
+fn run_of_banks(rt: HostRuntime) -> Result<(), Fail> {
+    let alloc = rt.alloc();
+    let casts = bank_and_account(alloc)?;
+    let plans = plans_of(&rt, alloc, &CALLS)?;
+    assert!(rt; cast_fits(&casts));
+    assert!(rt; plans_fit(&casts, &plans));
+    let joined = run_banks(&rt, alloc, casts, plans)?;
+    let report = summary_of(alloc, joined)?;
+    let wanted = format!(in alloc;
+        "{ANSWERS}a1 retired bank 6 1 0\n{RUNS}a2 retired account 7\na2.0 c1.6 deposit 7\n"
+    )?;
+    assert_eq!(rt; report.as_str(), wanted.as_str());
+    Ok(())
+}
+
+/// The text of a live actor's state, and how many calls it ran; of another nothing.
+fn live_text(alloc: Global, world: &World<Boxed>, a: ActorId) -> Result<(String, usize), NoMemory> {
+    let mut text = String::new(alloc);
+    let Some(Stage::Live(live)) = bank_stage(world, a) else {
+        return Ok((text, 0));
+    };
+    live.state_text(&mut text)?;
+    Ok((text, live.log().len()))
+}
+
+#[test]
+fn a_bank_in_a_world(rt: HostRuntime) -> Result<(), Fail> {
+    let alloc = rt.alloc();
+    let world = world_after(&rt, alloc, bank_and_account(alloc)?, &CALLS)?;
+    let shown = live_text(alloc, &world, ActorId::new(1).unwrap());
+    let stranger = bank_stage(&world, ActorId::new(3).unwrap()).is_some();
+    drop(world);
+    let (text, calls) = shown?;
+    assert_eq!(rt; text.as_str(), "bank 6 1 0");
+    assert_eq!(rt; calls, 14);
+    assert!(rt; !stranger);
     Ok(())
 }

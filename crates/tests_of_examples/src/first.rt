@@ -1,9 +1,9 @@
-//! A caller that puts something first, and then goes on as a clerk.
+//! A caller that puts something first, and then goes on as a clerk, or as a buyer.
 
 use crate::callers_scene::actor;
 use act_executor::{Code, GaveUp, Session};
 use act_types::{Arg, ListOf, Method, Name, Value};
-use own_callers::{Clerk, Retry, Transfer, Worker};
+use own_callers::{Buyer, Clerk, Retry, Transfer, Worker};
 
 /// What is put into actor 1.
 #[derive(Clone, Copy)]
@@ -14,7 +14,7 @@ pub enum Put {
     Enqueue,
 }
 
-/// What the clerk does then.
+/// What the clerk or the buyer does then.
 #[derive(Clone, Copy)]
 pub enum Then {
     /// Moves so much from actor 1 to actor 2.
@@ -23,9 +23,11 @@ pub enum Then {
     Withdraw(i64),
     /// Works at queue 1, and adds its jobs to counter 2.
     Work,
+    /// Pays so much out of actor 1, and orders at actor 2.
+    Buy(i64),
 }
 
-/// First calls of one number, each awaited, and then the clerk.
+/// First calls of one number, each awaited, and then the clerk or the buyer.
 #[derive(Clone, Copy)]
 pub struct First {
     pub put: Put,
@@ -41,23 +43,34 @@ fn method_of(put: Put) -> Method {
     }
 }
 
-fn clerk_of(then: Then) -> Clerk {
-    match then {
+/// Goes on with a session as a clerk, or as a buyer.
+fn go_on<S: Session>(then: Then, session: &mut S) -> Result<(), GaveUp> {
+    let [one, two] = [actor(1), actor(2)];
+    let mut clerk = match then {
         Then::Move(amount) => Clerk::Transfer(Transfer {
-            from: actor(1),
-            to: actor(2),
+            from: one,
+            to: two,
             amount,
         }),
         Then::Withdraw(amount) => Clerk::Retry(Retry {
-            account: actor(1),
+            account: one,
             amount,
             most: 3,
         }),
         Then::Work => Clerk::Worker(Worker {
-            queue: actor(1),
-            counter: actor(2),
+            queue: one,
+            counter: two,
         }),
-    }
+        Then::Buy(price) => {
+            let mut buyer = Buyer {
+                purse: one,
+                shop: two,
+                price,
+            };
+            return buyer.run(session);
+        }
+    };
+    clerk.run(session)
 }
 
 impl Code for First {
@@ -69,7 +82,6 @@ impl Code for First {
             args.push(Arg::Plain(Value::Int(self.number)))?;
             session.ask(actor(1), method_of(self.put), args)?;
         }
-        let mut clerk = clerk_of(self.then);
-        clerk.run(session)
+        go_on(self.then, session)
     }
 }

@@ -4,6 +4,8 @@
 #[cfg(test)]
 mod bank;
 #[cfg(test)]
+mod buyers;
+#[cfg(test)]
 mod callers_scene;
 #[cfg(test)]
 mod clerks;

@@ -1,10 +1,12 @@
 //! A rate limiter beside a counter: never more than two grants between two resets.
 
-use crate::scene::{Call, Given, casts_of, played, threaded};
+use crate::scene::{Call, Given, casts_of, plans_of, played, summary_of, threaded};
+use act_actor::cast_fits;
+use act_executor::plans_fit;
 use act_kinds::{Boxed, Counter};
 use act_types::{Method, NoMemory};
 use act_world::Cast;
-use own_kinds::Limiter;
+use own_kinds::{Limiter, run_limiters};
 use std::alloc::Global;
 use std::test::Fail;
 
@@ -49,6 +51,23 @@ fn played_beside_a_known_kind(rt: HostRuntime) -> Result<(), Fail> {
 fn in_threads_beside_a_known_kind(rt: HostRuntime) -> Result<(), Fail> {
     let alloc = rt.alloc();
     let report = threaded(&rt, alloc, limiter_and_counter(alloc)?, &CALLS)?;
+    let wanted = format!(in alloc;
+        "{ANSWERS}a1 retired limiter 1 of 2\n{RUNS}a2 retired counter 0\na2.0 c1.4 add 0\n"
+    )?;
+    assert_eq!(rt; report.as_str(), wanted.as_str());
+    Ok(())
+}
+
+/// The same run once more, of which the limiter's rate is said.
+#[test]
+fn run_of_limiters(rt: HostRuntime) -> Result<(), Fail> {
+    let alloc = rt.alloc();
+    let casts = limiter_and_counter(alloc)?;
+    let plans = plans_of(&rt, alloc, &CALLS)?;
+    assert!(rt; cast_fits(&casts));
+    assert!(rt; plans_fit(&casts, &plans));
+    let joined = run_limiters(&rt, alloc, casts, plans)?;
+    let report = summary_of(alloc, joined)?;
     let wanted = format!(in alloc;
         "{ANSWERS}a1 retired limiter 1 of 2\n{RUNS}a2 retired counter 0\na2.0 c1.4 add 0\n"
     )?;

@@ -2,7 +2,7 @@
 
 use act_actor::cast_fits;
 use act_console::{joined_report, play_report};
-use act_executor::{NoGate, Plan, plans_fit, run_plans};
+use act_executor::{Joined, NoGate, Plan, plans_fit, run_plans};
 use act_kinds::Boxed;
 use act_rules::Step;
 use act_types::{ActorId, Arg, CallerId, FutureId, ListOf, Method, Name, NoMemory, Value};
@@ -105,6 +105,27 @@ fn events_of<R: Abort>(rt: &R, alloc: Global, calls: &[Call]) -> Result<Vec<Even
     Ok(events)
 }
 
+/// A world in which each of these calls ran before the next one was submitted.
+pub fn world_after<R: Abort>(
+    rt: &R,
+    alloc: Global,
+    casts: Vec<Cast<Boxed>>,
+    calls: &[Call],
+) -> Result<World<Boxed>, NoMemory> {
+    assert!(rt; cast_fits(&casts));
+    let events = events_of(rt, alloc, calls)?;
+    let mut world = World::open(alloc, casts)?;
+    let done = play_all(rt, alloc, &mut world, &events);
+    drop(events);
+    match done {
+        Ok(()) => Ok(world),
+        Err(error) => {
+            drop(world);
+            Err(error)
+        }
+    }
+}
+
 /// The report of a world in which each of these calls ran before the next one was submitted.
 pub fn played<R: Abort>(
     rt: &R,
@@ -112,22 +133,21 @@ pub fn played<R: Abort>(
     casts: Vec<Cast<Boxed>>,
     calls: &[Call],
 ) -> Result<String, NoMemory> {
-    assert!(rt; cast_fits(&casts));
-    let events = events_of(rt, alloc, calls)?;
-    let mut world = World::open(alloc, casts)?;
-    let report = report_of(rt, alloc, &mut world, &events);
+    let world = world_after(rt, alloc, casts, calls)?;
+    let mut text = String::new(alloc);
+    let told = play_report(alloc, &world, &[], &mut text);
     drop(world);
-    drop(events);
-    report
+    told?;
+    Ok(text)
 }
 
-/// The report of a world after these events.
-fn report_of<R: Abort>(
+/// Plays these events in a world.
+fn play_all<R: Abort>(
     rt: &R,
     alloc: Global,
     world: &mut World<Boxed>,
     events: &[Event],
-) -> Result<String, NoMemory> {
+) -> Result<(), NoMemory> {
     let mut told = Vec::new(alloc);
     assert!(rt; world.has_room(events.len()));
     let played = world.play(events, &mut told);
@@ -135,9 +155,7 @@ fn report_of<R: Abort>(
     if played.is_err() {
         return Err(NoMemory);
     }
-    let mut text = String::new(alloc);
-    play_report(alloc, world, &[], &mut text)?;
-    Ok(text)
+    Ok(())
 }
 
 /// The steps by which each call is submitted.
@@ -150,6 +168,26 @@ fn plan_of<R: Abort>(rt: &R, alloc: Global, calls: &[Call]) -> Result<Plan, NoMe
     Ok(plan)
 }
 
+/// The plan of the one caller, which makes these calls.
+pub fn plans_of<R: Abort>(
+    rt: &R,
+    alloc: Global,
+    calls: &[Call],
+) -> Result<Vec<(CallerId, Plan)>, NoMemory> {
+    let mut plans = Vec::new(alloc);
+    plans.push((CallerId::new(1).unwrap(), plan_of(rt, alloc, calls)?))?;
+    Ok(plans)
+}
+
+/// The summary of what threads left.
+pub fn summary_of(alloc: Global, joined: Joined<Boxed>) -> Result<String, NoMemory> {
+    let mut text = String::new(alloc);
+    let told = joined_report(alloc, &joined, &mut text);
+    drop(joined);
+    told?;
+    Ok(text)
+}
+
 /// The summary of what threads left, whose one caller has these calls as its plan.
 pub fn threaded<R: Abort + Threads + Wait + Sync>(
     rt: &R,
@@ -157,14 +195,9 @@ pub fn threaded<R: Abort + Threads + Wait + Sync>(
     casts: Vec<Cast<Boxed>>,
     calls: &[Call],
 ) -> Result<String, Fail> {
-    let mut plans = Vec::new(alloc);
-    plans.push((CallerId::new(1).unwrap(), plan_of(rt, alloc, calls)?))?;
+    let plans = plans_of(rt, alloc, calls)?;
     assert!(rt; cast_fits(&casts));
     assert!(rt; plans_fit(&casts, &plans));
     let joined = run_plans(rt, alloc, casts, plans, &NoGate)?;
-    let mut text = String::new(alloc);
-    let told = joined_report(alloc, &joined, &mut text);
-    drop(joined);
-    told?;
-    Ok(text)
+    Ok(summary_of(alloc, joined)?)
 }
