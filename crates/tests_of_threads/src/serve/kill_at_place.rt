@@ -5,7 +5,7 @@ ghost use Rattle.std.specs.Thread.{IsSync};
 ghost use Rattle.act_mailbox.specs.Notices.{RepliesView};
 ghost use Rattle.act_serve.specs.Turns.{PassesFit, PassesOf, IsUnusedExec};
 
-use super::station::{Station, opened};
+use super::station::{Posted, Station, opened};
 use super::{Counted, End, given, serve_counter};
 use crate::lines::{actor, caller};
 use act_mailbox::{Control, ControlCaller, ReplyCaller};
@@ -19,12 +19,32 @@ use std::test::Fail;
 use std::thread;
 use std::thread::Threads;
 
+/// How often a thread yields at most before it gives the other one up.
+const YIELDS: u32 = 10_000_000;
+
 /// Where a run waits until the kill was asked.
 #[derive(Drop)]
 struct AtPlace {
     place: u32,
     is_reached: AtomicBool,
     is_asked: AtomicBool,
+    has_ended: AtomicBool,
+}
+
+impl AtPlace {
+    /// Waits for the place, and says whether it is reached. It is not where the actor ends before.
+    fn wait_until_reached(&self) -> bool {
+        for _ in 0..YIELDS {
+            if self.is_reached.load(Ordering::SeqCst) {
+                return true;
+            }
+            if self.has_ended.load(Ordering::SeqCst) {
+                return false;
+            }
+            thread::yield_now();
+        }
+        false
+    }
 }
 
 impl Gate for AtPlace {
@@ -33,7 +53,7 @@ impl Gate for AtPlace {
             return;
         }
         self.is_reached.store(true, Ordering::SeqCst);
-        for _ in 0..10_000_000u32 {
+        for _ in 0..YIELDS {
             if self.is_asked.load(Ordering::SeqCst) {
                 return;
             }
@@ -42,16 +62,12 @@ impl Gate for AtPlace {
     }
 }
 
-/// Asks the kill once the place is reached, and whether the line took it.
+/// Asks the kill once the place is reached. Whether it was, and the line took the kill. Where the
+/// place is not reached, the kill is asked all the same, so that the actor ends.
 fn ask_at<R: Wait>(rt: &R, gate: &AtPlace, control: &Control, mut ask: ControlCaller) -> bool
     requires { ask.line ≡ control.now.line }
 {
-    for _ in rt.forever() {
-        if gate.is_reached.load(Ordering::SeqCst) {
-            break;
-        }
-        thread::yield_now();
-    }
+    let is_reached = gate.wait_until_reached();
     let kill = KillNote {
         caller: caller(),
         actor: actor(),
@@ -59,11 +75,11 @@ fn ask_at<R: Wait>(rt: &R, gate: &AtPlace, control: &Control, mut ask: ControlCa
     let is_taken = control.ask(rt, &mut ask, kill).is_ok();
     drop(ask);
     gate.is_asked.store(true, Ordering::SeqCst);
-    is_taken
+    is_reached && is_taken
 }
 
 /// A counter serves the station's lines until the kill that is asked at a place of its log. How it
-/// ended, what its caller was given, and whether the kill was asked.
+/// ended, what its caller was given, and whether the kill was asked there.
 fn killed_at<R: Threads + Wait + Sync>(
     rt: &R,
     alloc: Global,
@@ -95,6 +111,7 @@ fn killed_at<R: Threads + Wait + Sync>(
         place,
         is_reached: AtomicBool::new(false),
         is_asked: AtomicBool::new(false),
+        has_ended: AtomicBool::new(false),
     };
     let (end, is_asked) = {
         let (gate, control) = (&gate, &control);
@@ -102,7 +119,11 @@ fn killed_at<R: Threads + Wait + Sync>(
             rt,
             move || -> Result<End, NoMemory>
                 requires { PassesOf lines 1 [] passes × IsUnusedExec lines.replies.now (1 ∷ []) passes }
-            { serve_counter(rt, alloc, &lines, passes, gate) },
+            {
+                let end = serve_counter(rt, alloc, &lines, passes, gate);
+                gate.has_ended.store(true, Ordering::SeqCst);
+                end
+            },
             move || -> bool
                 requires { ask.line ≡ control.now.line }
             { ask_at(rt, gate, control, ask) },
@@ -118,16 +139,17 @@ fn killed_at<R: Threads + Wait + Sync>(
     told
 }
 
-/// A counter that has 24 calls is killed at a place of its log.
-fn killed_after_calls<R: Threads + Wait + Sync + Abort>(
+/// A counter to which these letters came is killed at a place of its log.
+fn killed_after<R: Threads + Wait + Sync + Abort>(
     rt: &R,
     alloc: Global,
+    letters: &[Posted],
     place: u32,
 ) -> Result<(End, Option<Counted>, bool), NoMemory>
     requires sync { IsSync R.row }
 {
     let (mut station, mut collector, passes) = opened(alloc)?;
-    let told = match station.post_calls(rt, alloc, 24) {
+    let told = match station.post_all(rt, alloc, letters) {
         Ok(is_posted) => {
             assert!(rt; is_posted);
             killed_at(rt, alloc, place, station, &mut collector, passes)
@@ -144,13 +166,49 @@ fn killed_after_calls<R: Threads + Wait + Sync + Abort>(
 
 #[test]
 fn kill_at_place(rt: HostRuntime) -> Result<(), Fail> {
+    let alloc = rt.alloc();
+    let mut letters: Vec<Posted> = (0..24u32)
+        .map(|number| Posted::Call(actor(), number))
+        .collect(alloc)?;
+    letters.push(Posted::Note(actor(), 24))?;
     for place in 0..20u32 {
         let wanted = Counted {
             replies: place + 1,
             deaths: 1,
         };
-        let told = killed_after_calls(&rt, rt.alloc(), place)?;
+        let told = killed_after(&rt, alloc, letters.as_slice(), place)?;
         assert_eq!(rt; told, (End::Killed(place as usize + 1), Some(wanted), true));
     }
+    Ok(())
+}
+
+/// The kill is asked in the last run of an actor that could retire after it. The actor looks once
+/// more, and dies.
+#[test]
+fn kill_in_the_last_run(rt: HostRuntime) -> Result<(), Fail> {
+    let letters = [
+        Posted::Call(actor(), 1),
+        Posted::Note(actor(), 2),
+        Posted::Call(actor(), 0),
+    ];
+    let wanted = Counted {
+        replies: 2,
+        deaths: 1,
+    };
+    let told = killed_after(&rt, rt.alloc(), &letters, 1)?;
+    assert_eq!(rt; told, (End::Killed(2), Some(wanted), true));
+    Ok(())
+}
+
+/// An actor that never reaches the place retires, and that is told.
+#[test]
+fn a_place_that_is_not_reached(rt: HostRuntime) -> Result<(), Fail> {
+    let letters = [Posted::Call(actor(), 0), Posted::Note(actor(), 1)];
+    let wanted = Counted {
+        replies: 1,
+        deaths: 0,
+    };
+    let told = killed_after(&rt, rt.alloc(), &letters, 1)?;
+    assert_eq!(rt; told, (End::Retired(1), Some(wanted), false));
     Ok(())
 }

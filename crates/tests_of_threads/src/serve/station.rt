@@ -179,22 +179,4 @@ impl Station {
         };
         self.control.ask(rt, &mut self.ask, kill).is_ok()
     }
-
-    /// Posts calls 0, 1, .. of caller 1 to actor 1, and whether the line took them all.
-    pub(super) fn post_calls<R: Wait>(
-        &mut self,
-        rt: &R,
-        alloc: Global,
-        count: u32,
-    ) -> Result<bool, NoMemory>
-        requires pass { (self.old.post.line ≡ self.old.mail.line) × (self.old.post.number ≡ 1) }
-        ensures same { self.new ≡ record self.old { post = self.new.post } }
-    {
-        for number in 0..count {
-            if !self.post(rt, call(alloc, caller(), actor(), number)?) {
-                return Ok(false);
-            }
-        }
-        Ok(true)
-    }
 }
