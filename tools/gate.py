@@ -12,8 +12,8 @@ commit draws.
 An edit counts as refused where a message tells of a goal that doesn't follow of its function (tools/trying.py). Each
 that wasn't refused, or only by its shape, or wasn't tried, is a failure, and named at the end. tools/by_shape.txt
 lists those that are known to be refused by their shape alone: one that isn't there fails, and so does one that needn't
-be there. Checks of edits take the processor time that `rt ci` leaves, and all of it once that has ended. Where it passed, COMMAND runs beside the last
-of them: what tries the programs, as they are proved by then.
+be there. Checks of edits take the processor time that `rt ci` leaves, and all of it once that has ended. Where it
+passed, COMMAND runs beside the last of them: what tries the programs, as they are proved by then.
 """
 import collections
 import os
