@@ -59,7 +59,8 @@ fn play_in_parts(
 #[test]
 fn into_one_list(rt: HostRuntime) -> Result<(), Fail> {
     let alloc = rt.alloc();
-    let [c1, a1] = [CallerId::new(1).unwrap(), ActorId::new(1).unwrap()];
+    let c1 = CallerId::new(1).unwrap();
+    let a1 = ActorId::new(1).unwrap();
     let k0 = FutureId::new(0);
     let rows = [
         (
