@@ -8,15 +8,17 @@ use Rattle.act_owner.specs.Owner.{OwnerView}
 use Rattle.act_serve.specs.Served.{EndView}
 use Rattle.act_executor.specs.Joined.{IsJoined}
 use Rattle.act_executor.specs.Plays.{IsPlayOf}
+use Rattle.act_executor.specs.PlanPlays.{IsPlayedAsPlanned}
 use Rattle.act_console.specs.Plans.{script_of}
 use Rattle.act_console.specs.Threads.{plans_in}
 use Rattle.act_console.proofs.Ended.{summary_same}
 use Rattle.act_record.specs.Record.{IsPlay}
 
--- a play of what a run of a script's plans left is a play of the script
+-- a play of what a run of a script's plans left, which some play of the plans left, is a play of the script
 pub plays : (roles : List Role) (steps : List (ℕ × Step × ℕ)) (owners : List OwnerView) (ends : List EndView) (events : List Event)
-    → IsJoined (map actor_spec_of roles) (plans_in (script_of roles steps)) owners ends → IsPlayOf (map actor_spec_of roles) events owners ends → IsPlay (script_of roles steps) events
-plays roles steps owners ends events joined played = record {
+    → IsJoined (map actor_spec_of roles) (plans_in (script_of roles steps)) owners ends → IsPlayOf (map actor_spec_of roles) events owners ends
+    → IsPlayedAsPlanned (map actor_spec_of roles) (plans_in (script_of roles steps)) owners ends → IsPlay (script_of roles steps) events
+plays roles steps owners ends events joined played planned = record {
   accepted = played.accepted;
   ends = record {
     owners = owners;
@@ -26,5 +28,6 @@ plays roles steps owners ends events joined played = record {
     events = events;
     played = played;
     told = refl;
+    planned = planned;
   };
 }

@@ -6,4 +6,4 @@ pub use Rattle.act_drive.specs.Sessions.{SessionView, session_view, IsLater, Onl
 pub use Rattle.act_drive.specs.Sessions.{call_refusal, use_refusal, kill_refusal, kills_of, pending_of, session_limit}
 -- the test of codes, and what every run of them leaves
 pub use Rattle.act_executor.specs.Conducts.{CodesFit}
-pub use Rattle.act_executor.specs.ByCode.{IsJoinedBy, HasTold}
+pub use Rattle.act_executor.specs.ByCode.{IsJoinedBy, HasTold, IsPlayedBy}

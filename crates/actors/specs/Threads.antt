@@ -7,7 +7,7 @@ pub use Rattle.act_executor.specs.Runs.{plan_view}
 -- when each error comes
 pub use Rattle.act_executor.specs.Runs.{IsFault}
 -- what every run leaves
-pub use Rattle.act_executor.specs.Joined.{IsJoined, RanAll}
+pub use Rattle.act_executor.specs.Joined.{IsJoined, RanAll, CallsThatDiedNeverRan}
 -- how an actor ended
 pub use Rattle.act_serve.specs.Served.{EndView, Killed, Retired, Starved, end_view, IfRetired, end_id}
 -- callers and actors of what is left, by their numbers: their calls, answers and logs

@@ -20,7 +20,7 @@ use Rattle.act_console.specs.Plans.{AreSorted, plan_from, script_of, mark_view, 
 use Rattle.act_console.specs.Threads.{plans_in}
 use Rattle.act_console.proofs.Roles.{casts_fit}
 use Rattle.act_console.proofs.PlansOf.{no_bad_line}
-use Rattle.act_console.proofs.ThreadsRun.{plans_fit, joined_same, bad_same, good_script, has_line, explains}
+use Rattle.act_console.proofs.ThreadsRun.{plans_fit, joined_same, planned_same, bad_same, good_script, has_line, explains}
 use Rattle.act_record.specs.Record.{IsPlay}
 use Rattle.act_record.specs.Answer.{HasLineOf, IsAnswer, IsExplained}
 use Rattle.act_record.proofs.Ends.{plays}
@@ -72,7 +72,8 @@ returns-in-Ok g c =
     let ends = map (λ actor. end_view (λ b. (goal.Actor-dyn g (b.vtable, b.value)).state b.value) actor.ended) c.in-Ok.recorded.joined.actors.items in
     let play = plays c.args.roles c.args.steps owners ends c.in-Ok.recorded.events.items
     (joined_same (λ b. (goal.Actor-dyn g (b.vtable, b.value)).state b.value) casts c.args.roles same c.args.steps plans sorted owners ends c.in-Ok.ensures.joined)
-    (subst (λ (casts : List ActorSpec). IsPlayOf casts c.in-Ok.recorded.events.items owners ends) same c.in-Ok.ensures.played) in
+    (subst (λ (casts : List ActorSpec). IsPlayOf casts c.in-Ok.recorded.events.items owners ends) same c.in-Ok.ensures.played)
+    (planned_same (λ b. (goal.Actor-dyn g (b.vtable, b.value)).state b.value) casts c.args.roles same c.args.steps plans sorted owners ends c.in-Ok.ensures.planned) in
     subst (IsAnswer c.answer_of_play.result) (sym (good_script c.args.roles c.args.steps c.requires.roles (no_bad_line script good c.requires.known)))
     (c.answer_of_play.ensures script (sym c.as_slice-in-Ok.ensures) (subst (IsPlay script) (sym c.deref.ensures.value) play))
 
