@@ -19,21 +19,22 @@ class Refusing:
         self.report = pathlib.Path(folder, "count")
         subprocess.run(["cc", "-O2", "-shared", "-fPIC", "-o", library, TOP / "tools/refuse.c"], check=True)
         self.environment = dict(os.environ, LD_PRELOAD=str(library), REFUSE_REPORT=str(self.report))
-        self.starts = {}  # of each program where it asks for what a thread starts with, as its first run told
+        self.starts = {}  # of each program where it asks for what a thread starts with, as its last whole run told
 
     def run(self, command, nth, standard_input=os.devnull, thread=0, way=ALONE):
         """The status and what is written, where the nth request and the start of a thread are refused,
         or none for 0. HANGS of a run that was stopped."""
-        self.report.write_text("0 0 0 0 0")
-        told = {way: nth, "REFUSE_THREAD": thread, "REFUSE_START": self.starts.get(command[0], 0)}
-        environment = dict(self.environment, **{name: str(number) for name, number in told.items()})
+        self.report.write_text("0 0 0 0")
+        starts = ",".join(map(str, self.starts.get(command[0], [])))
+        told = {way: nth, "REFUSE_THREAD": thread, "REFUSE_STARTS": starts}
+        environment = dict(self.environment, **{name: str(value) for name, value in told.items()})
         with open(standard_input, "rb") as given:
             try:
                 done = subprocess.run(command, stdin=given, capture_output=True, timeout=MAX_SECONDS, env=environment)
             except subprocess.TimeoutExpired:
                 return HANGS
         if nth == thread == 0 and self.threads():
-            self.starts[command[0]] = self.numbers()[4]
+            self.starts[command[0]] = self.numbers()[4:]
         return done.returncode, done.stdout, done.stderr
 
     def numbers(self):
