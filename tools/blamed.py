@@ -139,8 +139,14 @@ BEGINS = [
     "(a[1-8])[.][0-9]+ is a terminate, so its actor is dead$", "(a[1-8]) retired, and didn't run ", f"({PLACE}) is ",
     f"({PLACE}) skips ", f"({PLACE}) runs ", f"({PLACE}) isn't ", f"the arguments at ({PLACE}) are ",
     f"({CALL}) has an answer, and ", f"({CALL}) has ActorDied, and ", f"({CALL}) has no answer$", f"the answer of ({CALL}) is ",
+    "(a[1-8]) is dead, and its callers ",
 ]  # fmt: skip
 HAS = [f"({CALL}) takes the answer of ", f"({CALL}) waits for "]
+# What is said of a step, and the step.
+OF_STEPS = [
+    (re.compile(rf"c[0-9]+(?:[.][0-9]+)? waits for the answer of {CALL}, by this await"), r"await c\1 \2"),
+    (re.compile(r"(a[1-8]) is dead, and waits for this kill of (c[1-9][0-9]?)"), r"kill \2 \1"),
+]
 
 
 def names_of(line):
@@ -176,12 +182,24 @@ def reasons_of(text):
     return [(int(each[1]), each[2]) for each in found] if all(found) else []
 
 
+def step_of(reason):
+    """The step of which a reason speaks, if it speaks of one."""
+    found = ((pattern.fullmatch(reason), step) for pattern, step in OF_STEPS)
+    return next((match.expand(step) for match, step in found if match), None)
+
+
 def misplaced(front, lines, text):
     """What is wrong with reasons, by the lines that they name."""
     reasons, first = reasons_of(text), front.count(b"\n") + 1
     if not reasons:
         return f"no reason is told: {text!r:.300}"
+    steps = front.decode("latin-1").split("\n")
     for number, reason in reasons:
+        step = step_of(reason)
+        if step:
+            if not 0 < number < first or steps[number - 1] != step:
+                return f"line {number} isn't '{step}', and told of it is: {reason}"
+            continue
         if not first <= number < first + len(lines):
             return f"line {number} tells nothing of what was left: {reason}"
         if not shows(lines[number - first], reason, lines):
@@ -194,7 +212,7 @@ def mended(front, lines, right, text):
     taken back. Nothing, where the reasons name none."""
     reasons, first = reasons_of(text), front.count(b"\n") + 1
     named = {name for _, reason in reasons for name in NAME.findall(reason)}
-    named |= {name for number, _ in reasons for name in names_of(lines[number - first])}
+    named |= {name for number, _ in reasons if number >= first for name in names_of(lines[number - first])}
     made, is_mended = [], False
     for tag, begin, end, right_begin, right_end in difflib.SequenceMatcher(None, lines, right, autojunk=False).get_opcodes():
         old, new = lines[begin:end], right[right_begin:right_end]

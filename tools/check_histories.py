@@ -26,7 +26,7 @@ import reading_of_rules as reading
 import seeds
 import threads
 from blamed import MISTAKE, PLAY, REFUSED
-from program import CRATES, proved, program_of
+from program import CRATES, TOP, proved, program_of
 
 CHECK = CRATES / "ray_check" / "out" / "ray_check"
 AT_ONCE = 4
@@ -114,7 +114,7 @@ def misjudged(script, report, got):
     if why or status == MISTAKE:
         return why
     whole = lines_of(line.decode("latin-1") for line in lines_told(report)) if report else report
-    reading_says = reading.judge(script, whole, 0, of_plans=False)
+    reading_says = reading.judge(script, whole, 0, of_plans=reading.OF_AWAITS)
     if status == PLAY:
         if reading_says and b" ?\n" not in whole and b" live " not in whole:
             return f"a play is found, and the second reading knows of none: {reading_says}"
@@ -214,10 +214,17 @@ line 9: c2.0 waits for c1.1 at a2, which ran before it
 line 15: c1.1 waits for the answer of c1.0
 line 7: c1.0 waits for c2.1 at a1, which ran before it
 """
+AWAITED = (TOP / "examples" / "await_circle.history").read_text()
+AWAITED_CIRCLE = """line 4: c1.1 waits for the answer of c1.0, by this await
+line 9: c1.0 waits for c2.1 at a2, which ran before it
+line 7: c2.1 waits for the answer of c2.0, by this await
+line 11: c2.0 waits for c1.1 at a1, which ran before it
+"""
 ONE = "actor a1 counter c1\n"
 TWO_CALLS = "c1.0 a1 = 1\nc1.1 a1 = 3\na1 live counter 3\n"
 WORKED = {
     "a circle": (CROSSED + CYCLIC, CIRCLE, REFUSED),
+    "a circle by awaits": (AWAITED, AWAITED_CIRCLE, REFUSED),
     "a circle that no submit line makes": (LISTS + CYCLIC, None, PLAY),
     "a call skipped": (ONE + TWO_CALLS + "a1.0 c1.1 add 2\na1.1 c1.0 add 1\n", "line 5: a1.0 skips c1.0\n", REFUSED),
     "another answer": (

@@ -792,6 +792,10 @@ def giver_of(call):
     return death_of(call.actor) if fault_of(call) == "ActorDied" else run_of(call)
 
 
+# Whose steps a play does in their order: those of the callers with an `await`, as in a history that is told.
+OF_AWAITS = "awaits"
+
+
 class Ways:
     """What callers and actors have to do so that all ends as a report tells, and what holds each of it back.
 
@@ -803,7 +807,9 @@ class Ways:
 
     def __init__(self, world, of_plans):
         self.world = world
-        self.of_plans = of_plans
+        self.of_threads = of_plans is True
+        is_bound = {True: bool, OF_AWAITS: lambda steps: any(verb == "await" for verb, _ in steps)}.get(of_plans, lambda _: False)
+        self.bound = {caller for caller, steps in world.steps.items() if is_bound(steps)}  # those that do their steps
         self.befores = {}  # of each event those that hold it back,
         self.needed = {}  # and how many of these must be done before it
         self.kills = collections.defaultdict(list)  # of each actor the steps that ask its kill
@@ -830,7 +836,7 @@ class Ways:
         """A caller does its steps in order. In a play that needs to be no play of plans its calls alone are told."""
         before = []
         for place, (verb, other) in enumerate(steps):
-            if verb != "submit" and not self.of_plans:
+            if verb != "submit" and caller not in self.bound:
                 continue
             event = submission(other) if verb == "submit" else f"c{caller} does its step {place}, {verb}"
             holds = {"submit": self.room_for, "await": self.awaited, "kill": self.looked_for}.get(verb)
@@ -857,7 +863,7 @@ class Ways:
     def looked_for(self, name):
         """An actor that retired found no kill after its last run."""
         actor = self.world.actors[name]
-        return [run_of(item.call) for item in actor.ran[-1:]] if actor.stage == "retired" else []
+        return [run_of(item.call) for item in actor.ran[-1:]] if self.of_threads and actor.stage == "retired" else []
 
     def add_runs(self, actor):
         """An actor runs its calls in order, each after it was submitted."""
@@ -874,8 +880,12 @@ class Ways:
     def add_death(self, name, actor):
         """An actor dies after its last run: by that, or by a kill that was asked."""
         by_itself = any(item.ends_actor() for item in actor.ran[-1:])
-        asked = [] if by_itself or not self.of_plans else self.asked(name)
+        asked = [] if by_itself or self.may_be_killed(actor) else self.asked(name)
         self.add(death_of(name), self.last_run(actor) + asked)
+
+    def may_be_killed(self, actor):
+        """Whether somebody may ask its kill at any time: in a play of no plan, whoever isn't bound to its steps."""
+        return not self.of_threads and not {*actor.callers} <= self.bound
 
     def last_run(self, actor):
         """Once an actor is dead nothing runs."""
@@ -1006,7 +1016,7 @@ class Judge:
     def judge_dead(self, name, actor):
         if self.ends[name] != "dead":
             raise NotAllowed(f"'a{name} {self.ends[name]}' says more than a death")
-        is_killed = name in self.world.to_be_killed or not self.of_plans
+        is_killed = name in self.world.to_be_killed or self.of_plans is not True
         if not is_killed and not any(item.ends_actor() for item in actor.ran):
             raise NotAllowed(f"a{name} is dead, no plan has a kill of it, and it ran no terminate")
 
@@ -1019,13 +1029,14 @@ class Judge:
                 raise NotAllowed(f"{call.spelled_future()} = {spelled(call.kept)}, and it never ran")
         elif self.world.actors[call.actor].stage != "dead":
             raise NotAllowed(f"{call.spelled_future()} = ActorDied, and a{call.actor} is not dead")
-        elif has_run and self.of_plans:
+        elif has_run and self.of_plans is True:
             raise NotAllowed(f"{call.spelled_future()} = ActorDied, and it ran")
 
 
 def judged(data, report, status, of_plans=True):
     """The world that the report of a script for threads tells, or none of a script with a fault; raises NotAllowed. A
-    play of the plans must end so; or, not `of_plans`, any play in which callers submit what the plans do."""
+    play of the plans must end so; or, not `of_plans`, any play in which callers submit what the plans do. With OF_AWAITS
+    each caller that awaits an answer does its steps in that play, too."""
     try:
         world = read_plans(data)
     except ScriptFault as fault:

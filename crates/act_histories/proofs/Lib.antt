@@ -1,5 +1,7 @@
 pub mod Told
 pub mod Calls
-pub mod Playing
 pub mod Verdicts
 pub mod Shown
+pub mod Steps
+pub mod Done
+pub mod Places

@@ -1,3 +1,4 @@
 pub mod Lines
 pub mod Play
+pub mod Order
 pub mod Checked

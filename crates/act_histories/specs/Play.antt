@@ -1,6 +1,6 @@
 -- When a list of events ends as a history tells.
-use Rattle.std.specs.Prelude.{◌≡◌, ◌≢◌, ℕ, ◌≤◌, ◌<◌, ◌==◌, if◌then◌else◌, List, [], ◌∷◌, length, map, take, slice_get, Some, Ok, IsOk, All}
-use Rattle.std.specs.List.{flat_map}
+use Rattle.std.specs.Prelude.{◌≡◌, ◌≢◌, ℕ, ◌≤◌, ◌<◌, ◌==◌, ◌&&◌, Bool, true, false, if◌then◌else◌, List, [], ◌∷◌, ◌++◌, length, map, take, slice_get, Some, Ok, IsOk, All}
+use Rattle.std.specs.List.{flat_map, list_any}
 use Rattle.act_types.specs.declared.limits.TheConstants.{MAX_CALLERS, MAX_SCRIPT_BYTES}
 use Rattle.act_types.specs.declared.call.Method.{Method}
 use Rattle.act_types.specs.declared.call.Arg.{Arg}
@@ -15,6 +15,8 @@ use Rattle.act_rules.specs.Rules.{outcomes}
 use Rattle.act_rules.specs.Report.{summary}
 use Rattle.act_rules.specs.Grammar.{Script, spelled}
 use Rattle.act_rules.specs.Scripts.{actor_spec_of}
+use Rattle.act_console.specs.Plans.{steps_of_caller}
+use Rattle.act_executor.specs.PlanPlays.{DoesPlanIn}
 use Rattle.act_histories.specs.Lines.{told_lines}
 
 -- the call that a step submits, where it is one of the caller
@@ -43,13 +45,31 @@ pub record IsNext (k actor : ℕ) (method : Method) (args : List Arg) (calls : L
   pub within : k < length calls
   pub call : slice_get calls k ≡ Some (record { actor = actor; method = method; args = args })
 
--- all events are accepted in a world of these casts, which then shows these lines; and each caller has the calls that
--- steps tell
+-- whether the step awaits an answer
+abbrev pub is_await : Step → Bool
+is_await (step.Submit a method args) = false
+is_await (step.Copy a) = false
+is_await (step.Release a) = false
+is_await (step.Kill a) = false
+is_await (step.Await k) = true
+
+-- whether the caller has a step that awaits an answer
+abbrev pub awaits : ℕ → List (ℕ × Step × ℕ) → Bool
+awaits c steps = list_any (λ s. (s.0 == c) && is_await s.1) steps
+
+-- the caller does its steps in their order, and no others, and then lets some handles go
+abbrev pub DoesSteps : List ActorSpec → ℕ → List (ℕ × Step × ℕ) → List Event → Type 0
+DoesSteps casts c steps events = (closing : List ℕ)
+    × DoesPlanIn casts c (steps_of_caller c steps ++ map (λ a. step.Release a) closing) [] events
+
+-- all events are accepted in a world of these casts, which then shows these lines; each caller has the calls that steps
+-- tell, and one that awaits an answer does its steps in their order
 pub record EndsSo (casts : List ActorSpec) (steps : List (ℕ × Step × ℕ)) (events : List Event)
     (told : List ℕ) : Type 0 where
   pub accepted : All IsOk (outcomes (opening casts) events)
   pub shown : summary (history casts events) ≡ told
   pub calls : (c : ℕ) → 1 ≤ c → c ≤ MAX_CALLERS → HasCalls c steps (history casts events)
+  pub does : (c : ℕ) → 1 ≤ c → c ≤ MAX_CALLERS → awaits c steps ≡ true → DoesSteps casts c steps events
 
 -- the script is a play with the roles of the first one, and ends as its steps and the lines tell
 pub record IsPlayScript (script : Script) (rest : List ℕ) (play : Script) : Type 0 where

@@ -1,10 +1,11 @@
 //! Where a play that is being made is stuck, and why.
 //!
 //! Each run list that isn't through has a first call that didn't run, and each call that isn't
-//! submitted waits for one that is. What such a call waits for leads to the first call of another
-//! run list, and so on, until one comes again, or a call that never has an answer.
+//! submitted waits for one that is, by a limit or by an await. What such a call waits for leads to
+//! the first call of another run list, and so on, until one comes again, or a call that never has an
+//! answer. A dead actor whose run list is through waits for a kill, which may come after an await.
 
-use crate::history::{Call, History, Ran, future_at, slot_of};
+use crate::history::{Between, Call, Ending, History, Placed, Ran, future_at, slot_of};
 use crate::progress::{Asked, Progress};
 use crate::reason::{Blame, CallName, Reason};
 use crate::rules::has_died;
@@ -21,7 +22,7 @@ struct Stuck<'a> {
 /// What a step of the way from one waiting call to the next found.
 #[derive(Clone, Copy)]
 enum Next {
-    /// The call is the first that didn't run of this actor.
+    /// What comes next of this actor: the first call that didn't run, or its death.
     At(ActorId),
     End,
 }
@@ -34,6 +35,36 @@ impl<'a> Stuck<'a> {
     /// The first call of the actor that didn't run.
     fn front(&self, a: ActorId) -> Option<&'a Ran> {
         self.history.actor(a)?.log.get(self.progress.done_by(a).ran)
+    }
+
+    /// Whether the actor is told as dead, ran all that it ran, and couldn't die.
+    fn lives_on(&self, a: ActorId) -> bool {
+        match self.history.actor(a) {
+            Some(actor) => {
+                actor.ending == Ending::Dead
+                    && self.front(a).is_none()
+                    && !self.progress.done_by(a).is_dead
+            }
+            None => false,
+        }
+    }
+
+    /// The await that holds the caller back. All its other steps that submit nothing can be done.
+    fn next_await(&self, c: CallerId) -> Option<&'a Placed> {
+        self.asked_by(c)?.next_between(self.history.caller(c)?)
+    }
+
+    /// The first line by which a caller asks for the actor's kill, and that wasn't done.
+    fn kill_to_come(&self, c: CallerId, a: ActorId) -> Option<u32> {
+        let passed = self.asked_by(c)?.passed;
+        for placed in self.history.caller(c)?.between.iter().skip(passed) {
+            if let Between::Kill(victim) = placed.step
+                && victim == a
+            {
+                return Some(placed.line);
+            }
+        }
+        None
     }
 
     /// The line of the call.
@@ -125,7 +156,7 @@ impl Way {
             return Ok(Next::End);
         }
         let Some(front) = stuck.front(call.actor) else {
-            return Ok(Next::End);
+            return self.through_end(stuck, name, call);
         };
         let first = CallName {
             caller: front.item.caller,
@@ -137,6 +168,66 @@ impl Way {
             self.add(line, Reason::WaitsForTurn(name.again(), first, call.actor))?;
         }
         Ok(Next::At(call.actor))
+    }
+
+    /// What an answer waits for whose actor ran all that it ran: its death, where that is the answer.
+    fn through_end(
+        &mut self,
+        stuck: &Stuck<'_>,
+        name: &CallName,
+        call: &Call,
+    ) -> Result<Next, NoMemory> {
+        if !has_died(call) || !stuck.lives_on(call.actor) {
+            return Ok(Next::End);
+        }
+        self.add(call.line, Reason::WaitsForEnd(name.again(), call.actor))?;
+        Ok(Next::At(call.actor))
+    }
+
+    /// What the actor's death waits for: a kill by one of its callers, and what holds that one back.
+    fn through_kill(&mut self, stuck: &Stuck<'_>, a: ActorId) -> Result<Next, NoMemory> {
+        let Some(actor) = stuck.history.actor(a) else {
+            return Ok(Next::End);
+        };
+        for c in &actor.callers {
+            if let Some(line) = stuck.kill_to_come(*c, a) {
+                self.add(line, Reason::WaitsForKill(a, *c))?;
+                return self.through_caller(stuck, *c);
+            }
+        }
+        self.add(actor.line, Reason::NoKill(a))?;
+        Ok(Next::End)
+    }
+
+    /// What a caller waits for that isn't through with its lines: an answer that it awaits, or room.
+    fn through_caller(&mut self, stuck: &Stuck<'_>, c: CallerId) -> Result<Next, NoMemory> {
+        if let Some(placed) = stuck.next_await(c)
+            && let Between::Await(future) = placed.step
+        {
+            let of = CallName { caller: c, future };
+            self.add(placed.line, Reason::Awaits(c, of.again()))?;
+            return self.through_answer(stuck, &of);
+        }
+        match stuck.first_unsubmitted(c) {
+            Some(name) => self.through_room(stuck, &name),
+            None => Ok(Next::End),
+        }
+    }
+
+    /// What a call waits for that is its caller's next: an answer that the caller awaits, or room.
+    fn through_next(&mut self, stuck: &Stuck<'_>, name: &CallName) -> Result<Next, NoMemory> {
+        if let Some(placed) = stuck.next_await(name.caller)
+            && let Between::Await(future) = placed.step
+        {
+            let of = CallName {
+                caller: name.caller,
+                future,
+            };
+            let reason = Reason::WaitsForAwait(name.again(), of.again());
+            self.add(placed.line, reason)?;
+            return self.through_answer(stuck, &of);
+        }
+        self.through_room(stuck, name)
     }
 
     /// What a call waits for that is the next to be submitted.
@@ -176,7 +267,15 @@ impl Way {
             let reason = Reason::WaitsForSubmission(name.again(), next.again());
             self.add(stuck.line_of(name), reason)?;
         }
-        self.through_room(stuck, next)
+        self.through_next(stuck, next)
+    }
+
+    /// What comes next of an actor waits for.
+    fn through_actor(&mut self, stuck: &Stuck<'_>, a: ActorId) -> Result<Next, NoMemory> {
+        match stuck.front(a) {
+            Some(front) => self.through_front(stuck, front),
+            None => self.through_kill(stuck, a),
+        }
     }
 
     /// What a call waits for that was submitted, and that is told at this line.
@@ -197,23 +296,23 @@ impl Way {
     }
 }
 
-/// The first actor whose run list isn't through.
+/// The first actor whose run list isn't through, or that is dead and couldn't die.
 fn first_waiting(stuck: &Stuck<'_>) -> Option<ActorId> {
     for before in 0..MAX_ACTORS {
         let a = ActorId::new(before + 1)?;
-        if stuck.front(a).is_some() {
+        if stuck.front(a).is_some() || stuck.lives_on(a) {
             return Some(a);
         }
     }
     None
 }
 
-/// The first call that isn't submitted, of the first caller that has one.
-fn first_held(stuck: &Stuck<'_>) -> Option<CallName> {
+/// The first caller that isn't through with its lines.
+fn first_held(stuck: &Stuck<'_>) -> Option<CallerId> {
     for before in 0..MAX_CALLERS {
         let c = CallerId::new(before + 1)?;
-        if let Some(name) = stuck.first_unsubmitted(c) {
-            return Some(name);
+        if stuck.next_await(c).is_some() || stuck.first_unsubmitted(c).is_some() {
+            return Some(c);
         }
     }
     None
@@ -233,10 +332,7 @@ fn way_from(alloc: Global, stuck: &Stuck<'_>, first: ActorId) -> Result<Vec<Blam
             return circle_of(alloc, &way.blames, begin);
         }
         begins[slot] = Some(way.blames.len());
-        let Some(front) = stuck.front(at) else {
-            break;
-        };
-        match way.through_front(stuck, front)? {
+        match way.through_actor(stuck, at)? {
             Next::At(next) => at = next,
             Next::End => break,
         }
@@ -254,15 +350,19 @@ fn circle_of(alloc: Global, blames: &[Blame], begin: usize) -> Result<Vec<Blame>
     Ok(circle)
 }
 
-/// Why the calls that are held back are not submitted, where all run lists are through.
+/// Why a caller that is held back can't go on, where all run lists are through.
 fn way_of_held(alloc: Global, stuck: &Stuck<'_>) -> Result<Vec<Blame>, NoMemory> {
     let mut way = Way {
         blames: Vec::new(alloc),
     };
-    if let Some(name) = first_held(stuck) {
-        way.through_room(stuck, &name)?;
+    if let Some(c) = first_held(stuck) {
+        way.through_caller(stuck, c)?;
         if way.blames.is_empty() {
-            way.add(stuck.line_of(&name), Reason::Stuck)?;
+            let line = match stuck.first_unsubmitted(c) {
+                Some(name) => stuck.line_of(&name),
+                None => 0,
+            };
+            way.add(line, Reason::Stuck)?;
         }
     }
     let Way { blames } = way;

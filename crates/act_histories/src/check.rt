@@ -364,9 +364,10 @@ fn read_bytes<R: Read>(alloc: Global, reader: &mut R) -> Result<Vec<u8>, CheckFa
 /// the line of its first mistake.
 ///
 /// A history begins as a script for threads does, with roles, and with steps or without. Below them
-/// stands what was left, as a report tells it: futures, and actors with their run lists. Steps that
-/// submit nothing are passed over. Where no step submits calls of a caller, these had the arguments
-/// with which they ran. The kinds are taken from the stock.
+/// stands what was left, as a report tells it: futures, and actors with their run lists. A caller that
+/// awaits an answer does its steps in their order; of the others, steps that submit nothing are passed
+/// over. Where no step submits calls of a caller, these had the arguments with which they ran. The
+/// kinds are taken from the stock.
 pub fn check_history<R: Read, W: Write>(
     alloc: Global,
     stock: Stock,

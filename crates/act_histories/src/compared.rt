@@ -1,6 +1,6 @@
 //! A play that was found, played in a world, and compared with what is told.
 
-ghost use Rattle.std.specs.Prelude.{◌≡◌, ◌≢◌, ◌↔◌, ◌≤◌, ◌<◌, ◌++◌, ℕ, List, [], length, map, take, IfOk, IfSome, IsOk, IsTrue, All, Option, Some};
+ghost use Rattle.std.specs.Prelude.{◌≡◌, ◌≢◌, ◌↔◌, ◌≤◌, ◌<◌, ◌++◌, ℕ, true, List, [], length, map, take, IfOk, IfSome, IsOk, IsTrue, All, Option, Some};
 ghost use Rattle.act_rules.specs.declared.event.Event.{Event as Happening};
 ghost use Rattle.act_rules.specs.History.{ActorSpec, opening};
 ghost use Rattle.act_rules.specs.Laws.{history};
@@ -8,8 +8,9 @@ ghost use Rattle.act_rules.specs.Report.{summary};
 ghost use Rattle.act_rules.specs.Rules.{outcomes};
 ghost use Rattle.act_world.specs.IsReachedBy.{IsReachedBy, HasRoom};
 ghost use Rattle.act_world.specs.View.{world_view};
-ghost use Rattle.act_histories.specs.Play.{EndsSo, HasCalls, BeginsWith, IsNext, call_of, calls_of_steps};
+ghost use Rattle.act_histories.specs.Play.{EndsSo, HasCalls, awaits, DoesSteps, BeginsWith, IsNext, call_of, calls_of_steps};
 
+use crate::in_order::play_in_order;
 use crate::same::{same_args, same_method};
 use act_console::play_report;
 use act_kinds::Actor;
@@ -144,10 +145,12 @@ fn has_all_calls<K: Actor>(world: &World<K>, steps: &[(CallerId, Step, u32)]) ->
     true
 }
 
-/// Plays events in a world, and adds what is told of each. Whether all of them were accepted.
+/// Plays events in a world, and adds what is told of each. Whether all of them were accepted, and
+/// each caller that awaits answers did its steps in their order.
 fn play_in<K: Actor>(
     world: &mut World<K>,
     events: &[Event],
+    steps: &[(CallerId, Step, u32)],
     told: &mut Vec<Outcome>,
 ) -> Result<bool, NoMemory>
     requires room { HasRoom (length events.now) (world_view K.state world.old).network }
@@ -157,11 +160,12 @@ fn play_in<K: Actor>(
     ensures reached { IfOk result (λ _. (casts : List ActorSpec) →
         IsReachedBy casts [] (world_view K.state world.old) →
         IsReachedBy casts events.now (world_view K.state world.new)) }
+    ensures does { IfOk result (λ is. IsTrue is → (casts : List ActorSpec) →
+        IsReachedBy casts [] (world_view K.state world.old) →
+        (c : ℕ) → 1 ≤ c → c ≤ MAX_CALLERS → awaits c steps.now ≡ true → DoesSteps casts c steps.now events.now) }
 {
-    let Ok(()) = world.play(events, told) else {
-        return Err(NoMemory);
-    };
-    Ok(are_accepted(told))
+    let in_order = play_in_order(world, events, steps, told)?;
+    Ok(in_order && are_accepted(told))
 }
 
 /// Whether the bytes are the same.
@@ -196,7 +200,7 @@ pub(crate) fn ends_so<K: Actor>(
     ensures { IfOk result (λ is. IsTrue is → (casts : List ActorSpec) →
         IsReachedBy casts [] (world_view K.state world.old) → EndsSo casts steps.now events.now lines.now) }
 {
-    let accepted = play_in(world, events, told)?;
+    let accepted = play_in(world, events, steps, told)?;
     if !accepted {
         return Ok(false);
     }

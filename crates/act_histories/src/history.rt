@@ -22,6 +22,24 @@ pub(crate) struct Call {
     pub(crate) place: Option<u32>,
 }
 
+/// A step of a caller that submits nothing.
+#[derive(Clone, Copy, Debug)]
+pub(crate) enum Between {
+    Copy(ActorId),
+    Release(ActorId),
+    Kill(ActorId),
+    Await(FutureId),
+}
+
+/// Such a step, where it stands among the caller's calls.
+#[derive(Clone, Copy, Debug)]
+pub(crate) struct Placed {
+    pub(crate) step: Between,
+    /// How many of the caller's calls are submitted before it.
+    pub(crate) after: usize,
+    pub(crate) line: u32,
+}
+
 /// A caller with its calls.
 #[derive(Debug, Drop)]
 pub(crate) struct Caller {
@@ -30,6 +48,10 @@ pub(crate) struct Caller {
     pub(crate) calls: Vec<Call>,
     /// Whether lines of the script tell its calls.
     pub(crate) has_plan: bool,
+    /// Whether some line of the script has it await an answer. Then it does all its lines in order.
+    pub(crate) awaits: bool,
+    /// Its other lines, where it awaits.
+    pub(crate) between: Vec<Placed>,
     /// How many of its calls have a line that tells their answer.
     pub(crate) told: usize,
     /// How many calls of each actor it has.
@@ -106,6 +128,8 @@ impl Caller {
             is_named: false,
             calls: Vec::new(alloc),
             has_plan: false,
+            awaits: false,
+            between: Vec::new(alloc),
             told: 0,
             counts: [0; ACTOR_NUMBERS],
         }

@@ -7,6 +7,7 @@ mod check;
 mod compared;
 mod fault;
 mod history;
+mod in_order;
 mod line;
 mod mistake;
 mod parts;

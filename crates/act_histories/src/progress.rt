@@ -1,8 +1,8 @@
 //! How far callers and actors are in a play that is being made.
 
-use crate::history::{Call, Caller, History, future_at, slot_of};
+use crate::history::{Call, Caller, History, Placed, future_at, slot_of};
 use crate::rules::has_died;
-use act_types::{ACTOR_NUMBERS, ActorId, Arg, FutureId, NoMemory};
+use act_types::{ACTOR_NUMBERS, ActorId, Arg, CallerId, FutureId, NoMemory};
 use std::alloc::Global;
 
 /// What a caller did so far.
@@ -14,6 +14,10 @@ pub(crate) struct Asked {
     pending: [u32; ACTOR_NUMBERS],
     /// Whether it heard that an actor died.
     bereaved: [bool; ACTOR_NUMBERS],
+    /// How many of its steps that submit nothing it did.
+    pub(crate) passed: usize,
+    /// How many copies it holds of each handle that it was given.
+    pub(crate) copies: [u32; ACTOR_NUMBERS],
 }
 
 impl Asked {
@@ -23,12 +27,37 @@ impl Asked {
             answered: Vec::new(alloc),
             pending: [0; ACTOR_NUMBERS],
             bereaved: [false; ACTOR_NUMBERS],
+            passed: 0,
+            copies: [1; ACTOR_NUMBERS],
         }
     }
 
     /// How many of its calls it submitted.
     pub(crate) fn count_submitted(&self) -> usize {
         self.answered.len()
+    }
+
+    /// The step that it does next, where that submits nothing.
+    pub(crate) fn next_between<'a>(&self, caller: &'a Caller) -> Option<&'a Placed> {
+        let placed = caller.between.get(self.passed)?;
+        if placed.after > self.count_submitted() {
+            return None;
+        }
+        Some(placed)
+    }
+
+    /// One copy more of the handle.
+    pub(crate) fn copy(&mut self, a: ActorId) {
+        let slot = slot_of(a);
+        self.copies[slot] = self.copies[slot].wrapping_add(1);
+    }
+
+    /// One copy less. Whether none is left.
+    pub(crate) fn release(&mut self, a: ActorId) -> bool {
+        let slot = slot_of(a);
+        let was = self.copies[slot];
+        self.copies[slot] = was.saturating_sub(1);
+        was == 1
     }
 
     /// Whether the limit lets it submit one call more to the actor.
@@ -105,8 +134,17 @@ impl Asked {
 pub(crate) struct Done {
     /// How many calls it ran.
     pub(crate) ran: usize,
+    /// Whether a caller asked for its kill.
+    pub(crate) is_asked: bool,
     pub(crate) is_dead: bool,
 }
+
+/// An actor that did nothing yet.
+const NOTHING_DONE: Done = Done {
+    ran: 0,
+    is_asked: false,
+    is_dead: false,
+};
 
 /// How far all of them are.
 #[derive(Drop)]
@@ -137,10 +175,7 @@ impl Progress {
             self.callers.push(Asked::new(alloc))?;
         }
         for _actor in &history.actors {
-            self.actors.push(Done {
-                ran: 0,
-                is_dead: false,
-            })?;
+            self.actors.push(NOTHING_DONE)?;
         }
         Ok(())
     }
@@ -149,10 +184,15 @@ impl Progress {
     pub(crate) fn done_by(&self, a: ActorId) -> Done {
         match self.actors.get(a.number() as usize) {
             Some(done) => *done,
-            None => Done {
-                ran: 0,
-                is_dead: false,
-            },
+            None => NOTHING_DONE,
+        }
+    }
+
+    /// How many copies the caller holds of its handle of the actor.
+    pub(crate) fn copies_of(&self, c: CallerId, a: ActorId) -> u32 {
+        match self.callers.get(c.number() as usize) {
+            Some(asked) => asked.copies[slot_of(a)],
+            None => 0,
         }
     }
 

@@ -1,6 +1,6 @@
 //! A history, from the script and the lines of what was left.
 
-use crate::history::{Call, Caller, Ending, History, Lines, Ran, Served};
+use crate::history::{Between, Call, Caller, Ending, History, Lines, Placed, Ran, Served};
 use crate::line::{Told, read_words};
 use crate::mistake::{Mistake, Wrongly};
 use act_rules::{KindName, Role, RunItem, Step, Wrong};
@@ -151,11 +151,40 @@ impl Reading {
         Ok(())
     }
 
-    /// The calls that the script submits. Its other steps leave nothing that a history tells.
+    /// A step that submits nothing.
+    fn add_between(&mut self, c: CallerId, step: Between, line: u32) -> Result<(), Mistake> {
+        let Some(caller) = self.caller_mut(c) else {
+            return Ok(());
+        };
+        let after = caller.calls.len();
+        if let Between::Await(k) = step {
+            if k.number() as usize >= after {
+                return mistake(line, Wrongly::Script(Wrong::BadPlan));
+            }
+            caller.awaits = true;
+        }
+        caller.between.push(Placed { step, after, line })?;
+        Ok(())
+    }
+
+    fn add_step(&mut self, c: CallerId, step: &Step, line: u32) -> Result<(), Mistake> {
+        match step {
+            Step::Submit(actor, method, args) => self.submit(c, *actor, *method, args, line),
+            Step::Copy(actor) => self.add_between(c, Between::Copy(*actor), line),
+            Step::Release(actor) => self.add_between(c, Between::Release(*actor), line),
+            Step::Kill(actor) => self.add_between(c, Between::Kill(*actor), line),
+            Step::Await(future) => self.add_between(c, Between::Await(*future), line),
+        }
+    }
+
+    /// What the script's steps tell. Those that submit nothing bind a caller only where it awaits.
     fn add_steps(&mut self, steps: &[(CallerId, Step, u32)]) -> Result<(), Mistake> {
         for (caller, step, line) in steps {
-            if let Step::Submit(actor, method, args) = step {
-                self.submit(*caller, *actor, *method, args, *line)?;
+            self.add_step(*caller, step, *line)?;
+        }
+        for caller in self.history.callers.iter_mut() {
+            if !caller.awaits {
+                caller.between.clear();
             }
         }
         Ok(())

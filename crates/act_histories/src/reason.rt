@@ -79,6 +79,16 @@ pub(crate) enum Reason {
     WaitsForSubmission(CallName, CallName),
     /// The first call waits until the second has an answer: the actor's limit lets it in no sooner.
     WaitsForRoom(CallName, CallName, ActorId),
+    /// The first call waits until the second has an answer, which its caller awaits before it.
+    WaitsForAwait(CallName, CallName),
+    /// The caller waits for the answer, and does no other step before.
+    Awaits(CallerId, CallName),
+    /// The call waits for the actor's death.
+    WaitsForEnd(CallName, ActorId),
+    /// The actor's death waits for a kill of the caller's lines.
+    WaitsForKill(ActorId, CallerId),
+    /// The actor is dead, and its callers do their lines alone, none of which is a kill of it.
+    NoKill(ActorId),
     /// The call has no answer.
     Open(CallName),
     /// Nothing more can happen, and this is all that is known.
@@ -183,6 +193,27 @@ impl fmt::Display for Reason {
                     ", by the limit of ",
                 )?;
                 say(f, &a, "")
+            }
+            Reason::WaitsForAwait(call, of) => say_two(
+                f,
+                &call,
+                " waits for the answer of ",
+                &of,
+                ", by this await",
+            ),
+            Reason::Awaits(c, of) => {
+                say_two(f, &c, " waits for the answer of ", &of, ", by this await")
+            }
+            Reason::WaitsForEnd(call, a) => say_two(f, &call, " waits for the death of ", &a, ""),
+            Reason::WaitsForKill(a, c) => {
+                say_two(f, &a, " is dead, and waits for this kill of ", &c, "")
+            }
+            Reason::NoKill(a) => {
+                say(
+                    f,
+                    &a,
+                    " is dead, and its callers await answers and have no kill of it",
+                )
             }
             Reason::Open(call) => say(f, &call, " has no answer"),
             Reason::Stuck => f.write_str("nothing more can happen"),

@@ -3,13 +3,14 @@
 //! Each event is put as soon as what it needs is there. A call is submitted when its caller's limit
 //! allows it. It is sent and runs when its turn in the run list has come and its arguments are
 //! known. A reply is collected where it gave the answer that is told, and a dead actor dies after
-//! its run list. Each of these holds in any play with this end, and stays true once it is. So where
-//! nothing more can be put, no play ends so.
+//! its run list. A caller that awaits does all its lines in order, and goes on past an await when
+//! the answer is there. Each of these holds in any play with this end, and stays true once it is. So
+//! where nothing more can be put, no play ends so.
 //!
 //! No contract says that what is made is a play: a world plays it, and what it shows is compared.
 
-use crate::history::{Call, Caller, Ending, History, Ran, Served};
-use crate::progress::{Done, Progress, is_bereaved};
+use crate::history::{Between, Call, Caller, Ending, History, Ran, Served};
+use crate::progress::{Progress, is_bereaved};
 use crate::rules::{has_died, has_terminated};
 use act_rules::Event;
 use act_types::{ActorId, CallerId, CopyOf, FutureId, MAX_ACTORS, MAX_CALLERS, NoMemory};
@@ -60,6 +61,83 @@ impl Rebuilt {
         Ok(true)
     }
 
+    /// A caller copies its handle.
+    fn copy(&mut self, c: CallerId, a: ActorId) -> Result<(), NoMemory> {
+        if let Some(asked) = self.progress.callers.get_mut(c.number() as usize) {
+            asked.copy(a);
+        }
+        self.put(Event::Copy(c, a))
+    }
+
+    /// A caller lets a copy of its handle go, and the actor hears of the last one, unless it is dead.
+    fn release(&mut self, c: CallerId, a: ActorId) -> Result<(), NoMemory> {
+        let Some(asked) = self.progress.callers.get_mut(c.number() as usize) else {
+            return Ok(());
+        };
+        let is_last = asked.release(a);
+        self.put(Event::Release(c, a))?;
+        if !is_last {
+            return Ok(());
+        }
+        let letter = self.next_letter();
+        if self.progress.done_by(a).is_dead {
+            return Ok(());
+        }
+        self.put(Event::Deliver(letter))
+    }
+
+    /// A caller asks for the actor's kill.
+    fn ask_kill(&mut self, c: CallerId, a: ActorId) -> Result<(), NoMemory> {
+        let mut done = self.progress.done_by(a);
+        done.is_asked = true;
+        self.progress.note(a, done);
+        self.put(Event::AskKill(c, a))
+    }
+
+    /// Does the caller's next step, where that submits nothing and nothing that it awaits is missing.
+    fn pass(&mut self, c: CallerId, caller: &Caller) -> Result<bool, NoMemory> {
+        let Some(asked) = self.progress.callers.get_mut(c.number() as usize) else {
+            return Ok(false);
+        };
+        let Some(placed) = asked.next_between(caller) else {
+            return Ok(false);
+        };
+        let step = placed.step;
+        if let Between::Await(k) = step
+            && !asked.is_answered(k)
+        {
+            return Ok(false);
+        }
+        asked.passed = asked.passed.saturating_add(1);
+        match step {
+            Between::Copy(a) => self.copy(c, a)?,
+            Between::Release(a) => self.release(c, a)?,
+            Between::Kill(a) => self.ask_kill(c, a)?,
+            Between::Await(_) => {}
+        }
+        Ok(true)
+    }
+
+    /// Does the caller's steps up to its next submission, or to an await that holds it back.
+    fn pass_all(&mut self, c: CallerId, caller: &Caller) -> Result<bool, NoMemory> {
+        let mut has_moved = false;
+        for _step in 0..caller.between.len() {
+            if !self.pass(c, caller)? {
+                break;
+            }
+            has_moved = true;
+        }
+        Ok(has_moved)
+    }
+
+    /// Whether the caller's next step submits nothing, and is held back.
+    fn is_held_back(&self, c: CallerId, caller: &Caller) -> bool {
+        match self.progress.callers.get(c.number() as usize) {
+            Some(asked) => asked.next_between(caller).is_some(),
+            None => false,
+        }
+    }
+
     /// How many calls the caller submitted.
     fn count_submitted(&self, c: CallerId) -> usize {
         match self.progress.callers.get(c.number() as usize) {
@@ -68,21 +146,22 @@ impl Rebuilt {
         }
     }
 
-    /// Submits the caller's calls as far as its limits allow.
+    /// Does the caller's steps as far as its limits and its awaits allow.
     fn submit_all(
         &mut self,
         history: &History,
         c: CallerId,
         caller: &Caller,
     ) -> Result<bool, NoMemory> {
-        let mut has_moved = false;
+        let mut has_moved = self.pass_all(c, caller)?;
         for place in self.count_submitted(c)..caller.calls.len() {
             let call = &caller.calls[place];
             let limit = limit_of(history, call.actor);
-            if !self.submit(c, call, limit)? {
+            if self.is_held_back(c, caller) || !self.submit(c, call, limit)? {
                 return Ok(has_moved);
             }
             has_moved = true;
+            self.pass_all(c, caller)?;
         }
         Ok(has_moved)
     }
@@ -145,13 +224,24 @@ impl Rebuilt {
         Ok(before < done.ran)
     }
 
-    /// The actor takes a kill, which one of its callers asked for.
-    fn kill(&mut self, a: ActorId, callers: &[CallerId]) -> Result<(), NoMemory> {
-        if let [c, ..] = callers {
-            self.put(Event::AskKill(*c, a))?;
-            self.put(Event::TakeKill(a))?;
+    /// The actor takes a kill, where a line asked for it, or a caller can that awaits nothing.
+    fn kill(
+        &mut self,
+        history: &History,
+        a: ActorId,
+        callers: &[CallerId],
+    ) -> Result<bool, NoMemory> {
+        if callers.is_empty() {
+            return Ok(true);
         }
-        Ok(())
+        if !self.progress.done_by(a).is_asked {
+            let Some(c) = free_caller(history, callers) else {
+                return Ok(false);
+            };
+            self.ask_kill(c, a)?;
+        }
+        self.put(Event::TakeKill(a))?;
+        Ok(true)
     }
 
     /// The dead actor tells its caller, which collects the notice.
@@ -181,17 +271,18 @@ impl Rebuilt {
         Ok(())
     }
 
-    /// A dead actor dies once it ran all that it ran.
+    /// A dead actor dies once it ran all that it ran, and by a kill, unless it ran a `terminate`.
     fn die(&mut self, history: &History, a: ActorId, actor: &Served) -> Result<bool, NoMemory> {
         let done = self.progress.done_by(a);
         if actor.ending != Ending::Dead || done.is_dead || done.ran < actor.log.len() {
             return Ok(false);
         }
-        let ran = done.ran;
-        self.progress.note(a, Done { ran, is_dead: true });
-        if !has_terminated(&actor.log) {
-            self.kill(a, &actor.callers)?;
+        if !has_terminated(&actor.log) && !self.kill(history, a, &actor.callers)? {
+            return Ok(false);
         }
+        let mut done = self.progress.done_by(a);
+        done.is_dead = true;
+        self.progress.note(a, done);
         self.tell_all(history, a, &actor.callers)?;
         Ok(true)
     }
@@ -203,7 +294,7 @@ impl Rebuilt {
         Ok(has_run || has_died)
     }
 
-    /// What all callers can submit now.
+    /// What all callers can do now.
     fn submit_round(&mut self, history: &History) -> Result<bool, NoMemory> {
         let mut has_moved = false;
         for before in 0..MAX_CALLERS {
@@ -229,17 +320,18 @@ impl Rebuilt {
         Ok(has_moved)
     }
 
-    /// A caller lets its handle go, and the actor hears of it.
-    fn release(&mut self, c: CallerId, a: ActorId) -> Result<(), NoMemory> {
-        let letter = self.next_letter();
-        self.put(Event::Release(c, a))?;
-        self.put(Event::Deliver(letter))
+    /// A caller lets all copies of its handle go.
+    fn let_go(&mut self, c: CallerId, a: ActorId) -> Result<(), NoMemory> {
+        for _copy in 0..self.progress.copies_of(c, a) {
+            self.release(c, a)?;
+        }
+        Ok(())
     }
 
     /// All callers of an actor let their handles go, and it retires.
     fn retire(&mut self, a: ActorId, callers: &[CallerId]) -> Result<(), NoMemory> {
         for c in callers {
-            self.release(*c, a)?;
+            self.let_go(*c, a)?;
         }
         self.put(Event::Retire(a))
     }
@@ -268,6 +360,18 @@ impl Rebuilt {
         }
         self.retire_all(history)
     }
+}
+
+/// The first of these callers that awaits nothing: no lines bind it.
+fn free_caller(history: &History, callers: &[CallerId]) -> Option<CallerId> {
+    for c in callers {
+        if let Some(caller) = history.caller(*c)
+            && !caller.awaits
+        {
+            return Some(*c);
+        }
+    }
+    None
 }
 
 /// How many calls of each caller to the actor may have no answer.

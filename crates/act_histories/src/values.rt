@@ -256,7 +256,7 @@ pub(crate) fn difference<K: Actor>(
         compare_end(alloc, &mut text, world, lines)?;
     }
     if text.is_empty() {
-        text.push_str("line 0: the play that was found ends otherwise\n")?;
+        text.push_str("line 0: the play that was found does other steps, or ends otherwise\n")?;
     }
     Ok(text)
 }

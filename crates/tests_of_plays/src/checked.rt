@@ -40,6 +40,57 @@ const A_CIRCLE: Row = Row {
     answer: Err(CheckFault::Refused),
 };
 
+/// The second call is submitted once the first has its answer, and the handle goes where a line says so.
+const AN_AWAIT: Row = Row {
+    history: "actor a1 counter c1\nactor a2 counter c1\nsubmit c1 a1 add 5\nawait c1 0\nsubmit c1 a2 add 2\n\
+        release c1 a2\nc1.0 a1 = 5\nc1.1 a2 = 2\na1 retired counter 5\na1.0 c1.0 add 5\n\
+        a2 retired counter 2\na2.0 c1.1 add 2\n",
+    output: "actor a1 counter c1\nactor a2 counter c1\nsubmit c1 a1 add 5\nsend c1 0\ndeliver 0\nrun a1 c1\n\
+        collect 0\nsubmit c1 a2 add 2\nrelease c1 a2\ndeliver 1\nsend c1 1\ndeliver 2\nrun a2 c1\ncollect 1\n\
+        release c1 a1\ndeliver 3\nretire a1\nretire a2\n",
+    answer: Ok(()),
+};
+
+/// Each caller submits its second call once it has its first answer, and each first call ran behind
+/// the other's second one.
+const A_CIRCLE_OF_AWAITS: Row = Row {
+    history: "actor a1 list c1 c2\nactor a2 list c1 c2\nsubmit c1 a2 push 1\nawait c1 0\nsubmit c1 a1 push 2\n\
+        submit c2 a1 push 3\nawait c2 0\nsubmit c2 a2 push 4\nc1.0 a2 = 2\nc1.1 a1 = 1\nc2.0 a1 = 2\n\
+        c2.1 a2 = 1\na1 retired list 2 3\na1.0 c1.1 push 2\na1.1 c2.0 push 3\na2 retired list 4 1\n\
+        a2.0 c2.1 push 4\na2.1 c1.0 push 1\n",
+    output: "line 4: c1.1 waits for the answer of c1.0, by this await\n\
+        line 9: c1.0 waits for c2.1 at a2, which ran before it\n\
+        line 7: c2.1 waits for the answer of c2.0, by this await\n\
+        line 11: c2.0 waits for c1.1 at a1, which ran before it\n",
+    answer: Err(CheckFault::Refused),
+};
+
+/// The death is the answer for which the caller waits before it asks the kill.
+const A_KILL_AFTER_ITS_DEATH: Row = Row {
+    history: "actor a1 counter c1\nsubmit c1 a1 get\nawait c1 0\nkill c1 a1\nc1.0 a1 = ActorDied\na1 dead\n",
+    output: "line 4: a1 is dead, and waits for this kill of c1\n\
+        line 3: c1 waits for the answer of c1.0, by this await\nline 5: c1.0 waits for the death of a1\n",
+    answer: Err(CheckFault::Refused),
+};
+
+const A_DEATH_BY_NOBODY: Row = Row {
+    history: "actor a1 counter c1\nsubmit c1 a1 add 1\nawait c1 0\nc1.0 a1 = 1\na1 dead\na1.0 c1.0 add 1\n",
+    output: "line 5: a1 is dead, and its callers await answers and have no kill of it\n",
+    answer: Err(CheckFault::Refused),
+};
+
+const AN_AWAIT_WITHOUT_ANSWER: Row = Row {
+    history: "actor a1 counter c1\nsubmit c1 a1 get\nawait c1 0\nc1.0 a1 ?\na1 live counter 0\n",
+    output: "line 3: c1 waits for the answer of c1.0, by this await\nline 4: c1.0 has no answer\n",
+    answer: Err(CheckFault::Refused),
+};
+
+const AN_AWAIT_OF_A_LATER_CALL: Row = Row {
+    history: "actor a1 counter c1\nawait c1 0\nsubmit c1 a1 get\nc1.0 a1 = 0\na1 live counter 0\na1.0 c1.0 get\n",
+    output: "line 2: BadPlan\n",
+    answer: Err(CheckFault::Mistake),
+};
+
 const A_CALL_SKIPPED: Row = Row {
     history: "actor a1 counter c1\nc1.0 a1 = 3\nc1.1 a1 = 2\na1 live counter 3\na1.0 c1.1 add 2\na1.1 c1.0 add 1\n",
     output: "line 5: a1.0 skips c1.0\n",
@@ -98,6 +149,7 @@ fn assert_told<Rt: AllocGlobal + Abort>(rt: &Rt, row: &Row) {
 fn plays_are_found(rt: HostRuntime) -> Result<(), Fail> {
     assert_told(&rt, &TWO_CALLS);
     assert_told(&rt, &A_DEATH);
+    assert_told(&rt, &AN_AWAIT);
     Ok(())
 }
 
@@ -110,7 +162,17 @@ fn what_no_play_leaves_is_refused(rt: HostRuntime) -> Result<(), Fail> {
 }
 
 #[test]
+fn awaits_that_no_play_keeps_are_refused(rt: HostRuntime) -> Result<(), Fail> {
+    assert_told(&rt, &A_CIRCLE_OF_AWAITS);
+    assert_told(&rt, &A_KILL_AFTER_ITS_DEATH);
+    assert_told(&rt, &A_DEATH_BY_NOBODY);
+    assert_told(&rt, &AN_AWAIT_WITHOUT_ANSWER);
+    Ok(())
+}
+
+#[test]
 fn mistakes_are_told(rt: HostRuntime) -> Result<(), Fail> {
     assert_told(&rt, &A_SECOND_SPELLING);
+    assert_told(&rt, &AN_AWAIT_OF_A_LATER_CALL);
     Ok(())
 }

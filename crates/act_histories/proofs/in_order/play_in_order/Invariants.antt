@@ -1,0 +1,17 @@
+use Rattle.std.proofs.Common.{◌≡◌, ◌-◌, true, List, [], length, take}
+use Rattle.std.specs.Prelude.{IsTrue}
+use Rattle.act_rules.specs.History.{ActorSpec}
+use Rattle.act_world.specs.View.{world_view}
+use Rattle.act_world.specs.IsReachedBy.{IsReachedBy, HasRoom}
+use Rattle.act_histories.specs.Order.{HaveDone, Tells}
+use Rattle.act_histories.proofs.in_order.play_in_order.Given as goal
+
+-- the events so far are played, and each caller that awaits did its lines up to its place
+abbrev pub invariant-loop-event : goal.invariant-loop-event
+invariant-loop-event g l = record {
+  tells : (casts : List ActorSpec) → IsReachedBy casts [] (world_view g.K.Actor.state l.fn.world) →
+      Tells casts (take l.event-index l.events) (world_view g.K.Actor.state l.world) l.told.items;
+  done : IsTrue l.in_order → (casts : List ActorSpec) → IsReachedBy casts [] (world_view g.K.Actor.state l.fn.world) →
+      HaveDone casts l.steps l.places (take l.event-index l.events);
+  room : HasRoom (length l.events - l.event-index) l.world.network;
+}
