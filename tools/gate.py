@@ -186,7 +186,8 @@ def run(lanes):
 
 
 def known_by_shape():
-    """The edits that are known to be refused by their shape alone. The list may only become shorter."""
+    """The edits that are known to be refused by their shape alone, or the folder of such. The list may only become
+    shorter."""
     return {line for line in KNOWN.read_text().splitlines() if line and not line.startswith("#")}
 
 
@@ -194,7 +195,7 @@ def fault_of(tried, known):
     """What is wrong with what came of an edit, or None."""
     if tried.is_refused and tried.edit.name in known:
         return f"{tried.edit.name}: is refused for what it does, so {KNOWN.name} is not to have it"
-    if tried.is_refused or tried.came == BY_SHAPE and tried.edit.name in known:
+    if tried.is_refused or tried.came == BY_SHAPE and known & {tried.edit.name, tried.edit.path.parent.name}:
         return None
     return f"{tried.edit.name}: {tried.came}: {tried.told}"
 

@@ -557,6 +557,8 @@ class Gate(Scratch):
         self.assertIn("gate: 1 of these edits are refused by their shape alone, and count for nothing", lines)
         for other in PROVED, UNTRIED:
             self.assertFalse(self.verdict(came=(REFUSED, other), known=["low/b.edit"])[0])
+        self.assertTrue(self.verdict(came=(REFUSED, BY_SHAPE), known=[GATE])[0])
+        self.assertFalse(self.verdict(came=(REFUSED, BY_SHAPE), known=["must-fail-more"])[0])
 
     def test_an_edit_that_is_refused_for_what_it_does_is_not_to_be_listed(self):
         passes, lines = self.verdict(known=["low/b.edit"])
