@@ -53,16 +53,20 @@ const ENDS: [(&str, &str); 2] = [
     ("a1 retired account 40\n", "a2 retired list\n"),
 ];
 
-/// Callers 1 and 2 buy a thing of 30 each, out of one purse.
-fn two_buyers(alloc: Global) -> Result<Vec<(CallerId, Buyer)>, NoMemory> {
-    let buyer = Buyer {
+/// Buys a thing of 30.
+fn buyer() -> Buyer {
+    Buyer {
         purse: actor(1),
         shop: actor(2),
         price: 30,
-    };
+    }
+}
+
+/// Callers 1 and 2 buy a thing each, out of one purse.
+fn two_buyers(alloc: Global) -> Result<Vec<(CallerId, Buyer)>, NoMemory> {
     let mut buyers = Vec::new(alloc);
-    buyers.push((caller(1), buyer))?;
-    buyers.push((caller(2), buyer))?;
+    buyers.push((caller(1), buyer()))?;
+    buyers.push((caller(2), buyer()))?;
     Ok(buyers)
 }
 
