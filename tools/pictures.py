@@ -495,7 +495,7 @@ def long_words():
 def random_scripts():
     yield "long words", "".join(f"{line}\n" for line in long_words()).encode()
     for place in range(RANDOM_SCRIPTS):
-        yield f"random script {place}", fuzz.random_script("pictures", place)
+        yield f"random script {place}", fuzz.random_script("draw", place)
     for place in range(CROWDS):
         yield f"crowd {place}", Crowd(random.Random(f"crowd.{place}")).script().encode()
 
