@@ -204,6 +204,7 @@ class Refusals(unittest.TestCase):
     LOST = "returns-gt0-clause-ok"
     GONE = FILE + f"`{LOST}`: `goal.{LOST}`: module `Rattle.low.proofs.few.Few.len.Goals` has no `{LOST}` that can"
     OMEGA = FILE + "`loop-smaller`: `omega`: the goal does not follow from what it read. All of that holds"
+    GRIND = FILE + "`returns-answer`: `grind` stopped at its own limit of instances of lemmas, so the goal may hold"
     WRITTEN = "returns c = lemma c.args.list c.kept.result"
 
     def kinds(self, *said):
@@ -221,6 +222,7 @@ class Refusals(unittest.TestCase):
         self.assertTrue(self.kinds(self.NOTE.format("returns")))
         self.assertTrue(self.kinds(self.NO_FIELD, self.NOTE.format("returns-clause-value")))
         self.assertTrue(self.kinds(self.OMEGA))
+        self.assertTrue(self.kinds(self.GRIND))
 
     def test_what_no_longer_fits_does_not(self):
         expected = f"{self.FILE}`returns`: expected type `IsFew c.self-3`", "  but this has type `IsFew c.kept`"
