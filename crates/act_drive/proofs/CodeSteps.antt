@@ -1,6 +1,8 @@
 -- The steps of a caller's own code: what is told of each, and what it does.
-use Rattle.std.proofs.Common.{◌≡◌, ◌≢◌, ℕ, zero, suc, Bool, true, false, nat_lt, List, [], ◌∷◌, ◌++◌, length, map, Option, Some, None, Ok, Err, Result, is_some, refl, sym, ◌∙◌, ap, subst, inl, inr, ◌⊎◌}
-use Rattle.std.specs.Prelude.{unwrap_or, IfErr, OnErr}
+use Rattle.std.proofs.Common.{arith, ◌<◌, ◌≡◌, ◌≢◌, ℕ, zero, suc, Bool, true, false, nat_lt, List, [], ◌∷◌, ◌++◌, length, map, Option, Some, None, Ok, Err, Result, is_some, refl, sym, ◌∙◌, ap, subst, inl, inr, ◌⊎◌}
+use Rattle.std.specs.Prelude.{unwrap_or, IfErr, OnErr, if◌then◌else◌}
+use Rattle.std.proofs.lemmas.Bool.Decides.{leb_tells}
+use Rattle.std.proofs.lemmas.List.{append_assoc}
 use Rattle.std.specs.Result.{IsErrAnd}
 use Rattle.std.specs.Option.{option_or}
 use Rattle.act_types.specs.declared.call.Method.{Method}
@@ -9,7 +11,8 @@ use Rattle.act_rules.specs.declared.history.Submission.{Submission}
 use Rattle.act_rules.specs.declared.outcome.HandleRefusal.{HandleRefusal}
 use Rattle.act_rules.specs.declared.outcome.SubmitRefusal.{SubmitRefusal}
 use Rattle.act_rules.specs.declared.outcome.SubmitRefusal.TheVariants.{PendingLimit, NoMemory}
-use Rattle.act_rules.specs.declared.script.Step.TheVariants.{Submit, Copy, Release, Kill}
+use Rattle.act_rules.specs.declared.script.Step.{Step}
+use Rattle.act_rules.specs.declared.script.Step.TheVariants.{Submit, Copy, Release, Kill, Await}
 use Rattle.act_rules.specs.RunList.{Answer}
 use Rattle.act_rules.specs.Submissions.{needs, kept_at, submit_refusal, limit_refusal, copy_refusal, handle_refusal}
 use Rattle.act_rules.specs.Plans.{done_by, nothing_done}
@@ -22,9 +25,9 @@ use Rattle.act_drive.specs.declared.driver.CallerLines.{CallerLines}
 use Rattle.act_drive.specs.declared.driver.Driver.{Driver}
 use Rattle.act_drive.specs.declared.driver.CallerPasses.{CallerPasses}
 use Rattle.act_drive.specs.Driven.{bare_post, bare_ask, Stays, Waits, FollowsBy}
-use Rattle.act_drive.specs.Sessions.{SessionView, session_view, call_refusal, use_refusal, IsLater, OnlyHears, Submits}
+use Rattle.act_drive.specs.Sessions.{SessionView, session_view, call_refusal, use_refusal, IsLater, DoesMore, OnlyHears, Submits}
 use Rattle.act_drive.specs.Lent.{Does}
-use Rattle.act_drive.proofs.PlanSteps.{follows_waits, submit_follows, copy_follows}
+use Rattle.act_drive.proofs.PlanSteps.{follows_waits, submit_follows, copy_follows, await_follows}
 
 -- ---- answers
 
@@ -41,6 +44,9 @@ submits_hears call old mid new submits hears = record {
   copies = λ a. ap (λ (h : List Handle). copies_in a h) hears.handles ∙ submits.copies a;
   kills = hears.kills ∙ submits.kills;
 }
+
+pub does_trans : (old mid new : SessionView) (some more : List Step) → DoesMore some old mid → DoesMore more mid new → DoesMore (some ++ more) old new
+does_trans old mid new some more before after = after ∙ ap (λ (l : List Step). l ++ more) before ∙ append_assoc old.did some more
 
 pub later_trans : (old mid new : SessionView) → IsLater old mid → IsLater mid new → IsLater old new
 later_trans old mid new before after = record {
@@ -109,6 +115,12 @@ on_err (Err e) P is = is
 
 -- ---- steps
 
+lt_is : (k n : ℕ) → k < n → nat_lt k n ≡ true
+lt_is k n below = elim (leb_tells (suc k) n) [
+  | inl t ↦ t.0
+  | inr f ↦ absurd (omega (arith, f.1, below))
+]
+
 -- a step that is done, where what would refuse it is none
 pub does_submit : (lines : CallerLines) (old mid new : Driver) (a : ℕ) (method : Method) (args : List Arg) → Waits old mid → new.owner ≡ with_submission mid.owner a method args → new.passes ≡ mid.passes → call_refusal (session_view old.owner) a args ≡ None → Does lines (Submit a method args) old new
 does_submit lines old mid new a method args waits is passes fine actors steps f =
@@ -129,3 +141,9 @@ does_release lines old new a follows fine actors steps f =
 pub does_kill : (lines : CallerLines) (old new : Driver) (a : ℕ) → FollowsBy lines (Kill a) old new → use_refusal (session_view old.owner) a ≡ None → Does lines (Kill a) old new
 does_kill lines old new a follows fine actors steps f =
     follows actors steps (ap (λ (o : Option ℕ). is_some (handle_refusal o)) (sym (f.copies a)) ∙ ap (λ (o : Option HandleRefusal). is_some o) fine) f
+
+pub does_await : (lines : CallerLines) (old new : Driver) (k : ℕ) → Waits old new → k < length old.owner.calls → Does lines (Await k) old new
+does_await lines old new k waits below actors steps f =
+    let here : nat_lt k (length old.owner.calls) ≡ true = lt_is k (length old.owner.calls) below in
+    let there : nat_lt k (length (done_by actors nothing_done steps).submitted) ≡ true = ap (λ (l : List Submission). nat_lt k (length l)) (sym f.calls) ∙ here in
+    await_follows lines old new k waits actors steps (ap (λ (b : Bool). if b then false else true) there) f

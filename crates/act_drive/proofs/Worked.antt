@@ -14,28 +14,29 @@ use Rattle.act_drive.proofs.Drivers.{stays_trans}
 use Rattle.act_drive.proofs.Done.{driven_of}
 use Rattle.act_drive.proofs.Tracing.{fresh_tracing}
 
-pub has_worked : (actors : List ℕ) (began : CallerLines → Driver → Type 0) (lines inner : CallerLines) (start mid new : Driver) (kills : List ℕ) (starved : Bool) (tells : SessionView → SessionView → Type 0) (last : SessionView)
-    → IsAtWork actors (began inner) inner mid kills → ((l : CallerLines) (o : Driver) → began l o → (l ≡ lines) × (o ≡ start))
+pub has_worked : (actors : List ℕ) (began : CallerLines → Driver → Type 0) (lines inner : CallerLines) (start mid new : Driver) (kills : List ℕ) (steps : List Step) (starved : Bool) (tells : SessionView → SessionView → Type 0) (last : SessionView)
+    → IsAtWork actors (began inner) inner mid kills steps → ((l : CallerLines) (o : Driver) → began l o → (l ≡ lines) × (o ≡ start))
     → IsCalling lines new → Stays mid new → (starved ≡ false → TracesClosing lines mid new) → (starved ≡ false → new.owner.calls ≡ mid.owner.calls)
     → (starved ≡ false → (a : List ℕ) (steps : List Step) → FollowsSteps lines a steps mid → HasDone lines a steps new.owner new.passes)
     → (starved ≡ true → All (HasEndedAt lines.controls.now new.owner new.passes) new.passes.kills.items)
-    → (starved ≡ false → tells (session_view start.owner) last) → record (session_view mid.owner) { kills = kills } ≡ last
+    → (starved ≡ false → tells (session_view start.owner) last) → record (session_view mid.owner) { kills = kills; did = steps } ≡ last
     → HasDrivenCode lines actors start tells (record { owner = new.owner; starved = starved; passes = new.passes })
-has_worked actors began lines inner start mid new kills starved tells last work only calling stays traced calls done ended told is =
+has_worked actors began lines inner start mid new kills steps starved tells last work only calling stays traced calls done ended told is =
     let same = only inner work.opened work.began_so in
     record {
       new = new;
       is = refl;
       calling = calling;
       stays = stays_trans start mid new (subst (λ (d : Driver). Stays d mid) same.1 work.stays) stays;
-      steps = work.steps;
-      traced = λ well begin is. traced well begin work.steps (subst (λ (l : CallerLines). TracesPlan l work.steps start mid) same.0 (subst (λ (d : Driver). TracesPlan inner work.steps d mid) same.1 work.traced) begin is);
-      done = λ well. done well actors work.steps (subst (λ (l : CallerLines). FollowsSteps l actors work.steps mid) same.0 work.follows);
+      steps = steps;
+      traced = λ well begin is. traced well begin steps (subst (λ (l : CallerLines). TracesPlan l steps start mid) same.0 (subst (λ (d : Driver). TracesPlan inner steps d mid) same.1 work.traced) begin is);
+      done = λ well. done well actors steps (subst (λ (l : CallerLines). FollowsSteps l actors steps mid) same.0 work.follows);
       ended = ended;
       told = λ well. record {
         last = last;
         told = told well;
         calls = calls well ∙ ap (λ (s : SessionView). s.calls) is;
+        did = ap (λ (s : SessionView). s.did) (sym is);
         kills = λ a. ap (λ (s : SessionView). kills_of s a) (sym is) ∙ work.asked a;
         on = subst (λ (s : SessionView). IsLater s (session_view new.owner)) is (record { limits = stays.limits; kept = stays.kept });
       };

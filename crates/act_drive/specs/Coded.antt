@@ -10,12 +10,13 @@ use Rattle.act_drive.specs.Driven.{HasDriven}
 use Rattle.act_drive.specs.Sessions.{SessionView, session_view, kills_of, IsLater}
 
 -- the code's own conclusion holds of what it saw at its end, after which nothing was submitted and no answer was
--- forgotten; it asked the kills that the steps ask
+-- forgotten; these are the steps that it did, and it asked the kills that they ask
 pub record HasConcluded (tells : SessionView → SessionView → Type 0) (steps : List Step)
     (owner later : OwnerView) : Type 0 where
   pub last : SessionView
   pub told : tells (session_view owner) last
   pub calls : later.calls ≡ last.calls
+  pub did : last.did ≡ steps
   pub kills : (a : ℕ) → kills_of last a ≡ kills_to a steps
   pub on : IsLater last (session_view later)
 

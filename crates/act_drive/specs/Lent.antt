@@ -15,14 +15,13 @@ abbrev pub Does : CallerLines → Step → Driver → Driver → Type 0
 Does lines step old new = (actors : List ℕ) (steps : List Step) → FollowsSteps lines actors steps old →
     FollowsSteps lines actors (steps ++ step ∷ []) new
 
--- a driver at work: it is that of the caller that began, it did some steps, and so many kills were asked
+-- a driver at work: it is that of the caller that began, it did these steps, and so many kills were asked
 pub record IsAtWork (actors : List ℕ) (began : Driver → Type 0) (lines : CallerLines) (driver : Driver)
-    (kills : List ℕ) : Type 0 where
+    (kills : List ℕ) (steps : List Step) : Type 0 where
   pub calling : IsCalling lines driver
   pub opened : Driver
   pub began_so : began opened
   pub stays : Stays opened driver
-  pub steps : List Step
   pub traced : TracesPlan lines steps opened driver
   pub follows : FollowsSteps lines actors steps driver
   pub asked : (a : ℕ) → slice_index_or kills a 0 ≡ kills_to a steps

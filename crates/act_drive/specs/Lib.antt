@@ -1,3 +1,4 @@
+pub mod Doing
 pub mod Driven
 pub mod Parts
 pub mod Sessions

@@ -4,6 +4,7 @@ use Rattle.std.specs.Option.{option_map_or}
 use Rattle.act_types.specs.declared.call.Arg.{Arg}
 use Rattle.act_rules.specs.declared.history.Submission.{Submission}
 use Rattle.act_rules.specs.declared.outcome.SubmitRefusal.{SubmitRefusal}
+use Rattle.act_rules.specs.declared.script.Step.{Step}
 use Rattle.act_rules.specs.declared.outcome.HandleRefusal.{HandleRefusal}
 use Rattle.act_rules.specs.RunList.{Answer}
 use Rattle.act_rules.specs.Submissions.{submit_refusal, handle_refusal}
@@ -15,16 +16,17 @@ use Rattle.act_drive.specs.declared.refusals.KillRefusal.TheVariants.{Handle as 
 use Rattle.act_drive.specs.declared.session.TheConstants.{MAX_KILLS}
 use Rattle.act_drive.specs.Driven.{KeptOn}
 
--- what code sees of its caller: its calls so far, the answers kept so far, its handles, and its limits; and how many
--- kills it asked of each actor, by the actors' numbers
+-- what code sees of its caller: its calls so far, the answers kept so far, its handles, and its limits; how many kills
+-- it asked of each actor, by the actors' numbers; and the steps that it did, one after another, where a wait is an await
 pub record SessionView : Type 0 where
   pub calls : List Submission
   pub kept : List (Option Answer)
   pub handles : List Handle
   pub limits : List (ℕ × Option ℕ)
   pub kills : List ℕ
+  pub did : List Step
 
--- what code sees of a caller that asked no kill yet
+-- what code sees of a caller that did no step yet
 abbrev pub session_view : OwnerView → SessionView
 session_view owner = record {
   calls = owner.calls;
@@ -32,6 +34,7 @@ session_view owner = record {
   handles = owner.handles;
   limits = owner.limits;
   kills = replicate 9 0;
+  did = [];
 }
 
 -- how many kills of an actor were asked
@@ -63,6 +66,10 @@ kill_refusal seen a = option_map_or BadHandle (use_refusal seen a)
 pub record IsLater (old new : SessionView) : Type 0 where
   pub limits : new.limits ≡ old.limits
   pub kept : KeptOn old.kept new.kept
+
+-- these steps are done after the others
+abbrev pub DoesMore : List Step → SessionView → SessionView → Type 0
+DoesMore steps old new = new.did ≡ old.did ++ steps
 
 -- nothing is submitted, no handle changes, and no kill is asked
 pub record OnlyHears (old new : SessionView) : Type 0 where

@@ -10,6 +10,7 @@ ghost use Rattle.act_drive.specs.Tracing.{TracesClosing};
 
 use crate::caller::Driven;
 use crate::code::Code;
+use crate::did::no_step;
 use crate::driver::{CallerLines, CallerPasses, Driver};
 use crate::lent::{Lent, Opening};
 use act_mailbox::{IdleBackoff, NoNotes, Notes};
@@ -97,6 +98,7 @@ fn work<R: Wait, O: Opening, C: Code>(
         since: 0,
         idle_backoff: IdleBackoff::new(),
         kills: [0; ACTOR_NUMBERS],
+        did: no_step(),
         of: PhantomData,
     };
     let has_given_up = code.run(&mut lent).is_err();

@@ -1,9 +1,12 @@
 //! A caller at work, as it is lent to its code.
 
-ghost use Rattle.std.specs.Prelude.{◌≡◌, ◌≢◌, length, None, IfOk, OnOk, IfErr, OnErr, unwrap_or};
+ghost use Rattle.std.specs.Prelude.{◌≡◌, ◌≢◌, [], ◌∷◌, length, None, IfOk, OnOk, IfErr, OnErr, unwrap_or};
 ghost use Rattle.act_rules.specs.declared.outcome.SubmitRefusal.TheVariants.{NoMemory as NoRoom};
-ghost use Rattle.act_drive.specs.Sessions.{call_refusal, IsLater, OnlyHears, Submits};
+ghost use Rattle.act_rules.specs.declared.script.Step.TheVariants.{Submit};
+ghost use Rattle.act_drive.specs.Sessions.{call_refusal, IsLater, DoesMore, OnlyHears, Submits};
 
+use crate::did::{Did, add};
+use crate::doing::{Doing, submission};
 use crate::driver::{CallerLines, Driver};
 use crate::refusals::{KillRefusal, WaitRefusal};
 use crate::session::{MAX_KILLS, Session};
@@ -13,6 +16,7 @@ use act_rules::SubmitRefusal;
 use act_types::{ACTOR_NUMBERS, ActorId, Answer, Arg, FutureId, ListOf, Method};
 use std::alloc::Global;
 use std::marker::{Model, PhantomData};
+use std::snapshot::Snapshot;
 use std::sync::Wait;
 
 /// From which driver a session began. It is known in proofs alone.
@@ -27,7 +31,7 @@ pub(crate) trait Opening {
 }
 
 /// A driver that is lent to its caller's code. `since` counts the submissions from one turn to the next,
-/// and `kills` the kills asked of each actor, by its number.
+/// and `kills` the kills asked of each actor, by its number. What it did is known to contracts alone.
 #[derive(Drop)]
 pub(crate) struct Lent<'a, R, O: Opening> {
     pub(crate) rt: &'a R,
@@ -37,6 +41,7 @@ pub(crate) struct Lent<'a, R, O: Opening> {
     pub(crate) since: u32,
     pub(crate) idle_backoff: IdleBackoff,
     pub(crate) kills: [u32; ACTOR_NUMBERS],
+    pub(crate) did: Snapshot<Did>,
     pub(crate) of: PhantomData<O>,
 }
 
@@ -46,9 +51,9 @@ impl<'a, R, O: Opening> Model for Lent<'a, R, O> {
 
     ghost Value = { SessionView };
 
-    ghost view = { λ s. record (session_view s.driver.owner) { kills = s.kills } };
+    ghost view = { λ s. record (session_view s.driver.owner) { kills = s.kills; did = s.did.value } };
 
-    ghost invariant = { λ s. IsAtWork O.actors (O.began s.lines.now) s.lines.now s.driver s.kills };
+    ghost invariant = { λ s. IsAtWork O.actors (O.began s.lines.now) s.lines.now s.driver s.kills s.did.value };
 }
 
 impl<'a, R: Wait, O: Opening> Lent<'a, R, O> {
@@ -63,19 +68,24 @@ impl<'a, R: Wait, O: Opening> Lent<'a, R, O> {
         ensures accepted { OnOk result (call_refusal self.old actor args ≡ None) }
         ensures submits { OnOk result (
             Submits (record { actor = actor; method = method; args = args }) self.old self.new) }
+        ensures does { OnOk result (DoesMore (Submit actor method args ∷ []) self.old self.new) }
+        ensures does_nothing { OnErr result (self.new.did ≡ self.old.did) }
         ensures refusal { IfErr result (λ refusal. refusal ≡ unwrap_or (call_refusal self.old actor args) NoRoom) }
         ensures refused { IfErr result (λ refusal. refusal ≢ NoRoom → self.new ≡ self.old) }
         ensures hears { OnErr result (OnlyHears self.old self.new) }
         ensures on { IsLater self.old self.new }
     {
+        let step = submission(actor, &method, &args);
         let k = self
             .driver
             .try_submit(self.rt, self.alloc, self.lines, actor, method, args)?;
+        add(&mut self.did, step);
         Ok(k)
     }
 
     /// A turn after each so many submissions. What it can't send for want of memory is sent later.
     fn turn_after(&mut self)
+        ensures does_nothing { self.new.did ≡ self.old.did }
         ensures hears { OnlyHears self.old self.new }
         ensures on { IsLater self.old self.new }
     {
@@ -112,7 +122,10 @@ impl<'a, R: Wait, O: Opening> Session for Lent<'a, R, O> {
             .driver
             .wait_for(self.rt, self.alloc, self.lines, k, idle, &mut NoNotes)
         {
-            Ok(()) => Ok(()),
+            Ok(()) => {
+                add(&mut self.did, Doing::Await(k));
+                Ok(())
+            }
             Err(_) => Err(WaitRefusal::NoMemory),
         }
     }
@@ -123,6 +136,7 @@ impl<'a, R: Wait, O: Opening> Session for Lent<'a, R, O> {
 
     fn copy(&mut self, actor: ActorId) -> Result<u32, HandleRefusal> {
         let copies = self.driver.try_copy(actor)?;
+        add(&mut self.did, Doing::Copy(actor));
         Ok(copies)
     }
 
@@ -136,6 +150,7 @@ impl<'a, R: Wait, O: Opening> Session for Lent<'a, R, O> {
         else {
             unreachable!()
         };
+        add(&mut self.did, Doing::Release(actor));
         Ok(())
     }
 
@@ -153,6 +168,7 @@ impl<'a, R: Wait, O: Opening> Session for Lent<'a, R, O> {
         {
             Ok(()) => {
                 self.kills[number] += 1;
+                add(&mut self.did, Doing::Kill(actor));
                 Ok(())
             }
             Err(_) => Err(KillRefusal::NoMemory),

@@ -5,6 +5,8 @@
 mod caller;
 mod code;
 mod coded;
+mod did;
+mod doing;
 mod driver;
 mod laws;
 mod lent;

@@ -1,14 +1,15 @@
 //! What a caller's own code is lent: its caller, while it runs.
 
-ghost use Rattle.std.specs.Prelude.{◌≡◌, ◌≢◌, ◌⊎◌, ◌<◌, ◌≤◌, length, None, Ok, IfOk, OnOk, IfErr, OnErr, is_some, true, unwrap_or, nat_lt, if◌then◌else◌, option_copied};
+ghost use Rattle.std.specs.Prelude.{◌≡◌, ◌≢◌, ◌⊎◌, ◌<◌, ◌≤◌, [], ◌∷◌, ◌++◌, length, None, Ok, IfOk, OnOk, IfErr, OnErr, is_some, true, unwrap_or, nat_lt, if◌then◌else◌, option_copied};
 ghost use Rattle.act_types.specs.declared.limits.TheConstants.{MAX_CALLS};
 ghost use Rattle.act_rules.specs.Submissions.{kept_at, copies_held};
 ghost use Rattle.act_rules.specs.declared.outcome.SubmitRefusal.TheVariants.{NoMemory as NoRoom};
+ghost use Rattle.act_rules.specs.declared.script.Step.TheVariants.{Submit, Copy, Release, Kill, Await};
 ghost use Rattle.act_handles.specs.Handles.{copies_in, copy_answer, with_copy, or_else};
 ghost use Rattle.act_drive.specs.declared.refusals.WaitRefusal.TheVariants.{NoFuture, NoMemory as NoRoomToWait};
 ghost use Rattle.act_drive.specs.declared.refusals.KillRefusal.TheVariants.{NoMemory as NoRoomToAsk};
 ghost use Rattle.act_drive.specs.declared.session.TheConstants.{MAX_KILLS};
-ghost use Rattle.act_drive.specs.Sessions.{SessionView, pending_of, session_limit, kills_of, call_refusal, use_refusal, kill_refusal, IsLater, OnlyHears, Submits, LetsGo, AsksKill};
+ghost use Rattle.act_drive.specs.Sessions.{SessionView, pending_of, session_limit, kills_of, call_refusal, use_refusal, kill_refusal, IsLater, DoesMore, OnlyHears, Submits, LetsGo, AsksKill};
 
 use crate::refusals::{KillRefusal, WaitRefusal};
 use act_handles::HandleRefusal;
@@ -37,6 +38,8 @@ pub trait Session {
         ensures accepted { OnOk result (call_refusal (seen self.old) actor args ≡ None) }
         ensures submits { OnOk result (Submits (record { actor = actor; method = method; args = args })
             (seen self.old) (seen self.new)) }
+        ensures does { OnOk result (DoesMore (Submit actor method args ∷ []) (seen self.old) (seen self.new)) }
+        ensures does_nothing { OnErr result ((seen self.new).did ≡ (seen self.old).did) }
         ensures refusal { IfErr result (λ refusal.
             refusal ≡ unwrap_or (call_refusal (seen self.old) actor args) NoRoom) }
         ensures refused { IfErr result (λ refusal. refusal ≢ NoRoom → seen self.new ≡ seen self.old) }
@@ -48,6 +51,8 @@ pub trait Session {
     fn wait(&mut self, k: FutureId) -> Result<(), WaitRefusal>
         ensures answered { OnOk result (is_some (kept_at (seen self.new).kept k) ≡ true) }
         ensures known { OnOk result (k < length (seen self.old).calls) }
+        ensures does { OnOk result (DoesMore (Await k ∷ []) (seen self.old) (seen self.new)) }
+        ensures does_nothing { OnErr result ((seen self.new).did ≡ (seen self.old).did) }
         ensures refusal { IfErr result (λ refusal.
             refusal ≡ (if nat_lt k (length (seen self.old).calls) then NoRoomToWait else NoFuture)) }
         ensures refused { IfErr result (λ refusal. refusal ≢ NoRoomToWait → seen self.new ≡ seen self.old) }
@@ -67,12 +72,16 @@ pub trait Session {
         ensures accepted { OnOk result (call_refusal (seen self.old) actor args ≡ None) }
         ensures submits { OnOk result (Submits (record { actor = actor; method = method; args = args })
             (seen self.old) (seen self.new)) }
+        ensures does { IfOk result (λ k.
+            DoesMore (Submit actor method args ∷ Await k ∷ []) (seen self.old) (seen self.new)) }
         ensures answered { IfOk result (λ k. is_some (kept_at (seen self.new).kept k) ≡ true) }
         ensures refusal { IfErr result (λ refusal.
             refusal ≡ unwrap_or (call_refusal (seen self.old) actor args) NoRoom) }
         ensures refused { IfErr result (λ refusal. refusal ≢ NoRoom → seen self.new ≡ seen self.old) }
-        ensures either { OnErr result (OnlyHears (seen self.old) (seen self.new)
-            ⊎ Submits (record { actor = actor; method = method; args = args }) (seen self.old) (seen self.new)) }
+        ensures either { OnErr result ((OnlyHears (seen self.old) (seen self.new)
+            × ((seen self.new).did ≡ (seen self.old).did))
+            ⊎ (Submits (record { actor = actor; method = method; args = args }) (seen self.old) (seen self.new)
+            × DoesMore (Submit actor method args ∷ []) (seen self.old) (seen self.new))) }
         ensures on { IsLater (seen self.old) (seen self.new) }
     {
         let k = self.submit(actor, method, args)?;
@@ -89,8 +98,10 @@ pub trait Session {
     /// Adds a copy of the actor's handle and gives their number. An `Err` changes nothing.
     fn copy(&mut self, actor: ActorId) -> Result<u32, HandleRefusal>
         ensures value { result ≡ copy_answer actor (seen self.old).handles }
-        ensures ok { OnOk result (seen self.new ≡
-            record (seen self.old) { handles = with_copy actor (seen self.old).handles }) }
+        ensures ok { OnOk result (seen self.new ≡ record (seen self.old) {
+          handles = with_copy actor (seen self.old).handles;
+          did = (seen self.old).did ++ Copy actor ∷ [];
+        }) }
         ensures err { OnErr result (seen self.new ≡ seen self.old) }
         ensures on { IsLater (seen self.old) (seen self.new) };
 
@@ -99,6 +110,7 @@ pub trait Session {
     fn release(&mut self, actor: ActorId) -> Result<(), HandleRefusal>
         ensures value { result ≡ or_else (use_refusal (seen self.old) actor) tt }
         ensures ok { OnOk result (LetsGo actor (seen self.old) (seen self.new)) }
+        ensures does { OnOk result (DoesMore (Release actor ∷ []) (seen self.old) (seen self.new)) }
         ensures err { OnErr result (seen self.new ≡ seen self.old) }
         ensures on { IsLater (seen self.old) (seen self.new) };
 
@@ -107,6 +119,8 @@ pub trait Session {
         ensures accepted { OnOk result (use_refusal (seen self.old) actor ≡ None) }
         ensures few { OnOk result (kills_of (seen self.old) actor < MAX_KILLS) }
         ensures asks { OnOk result (AsksKill actor (seen self.old) (seen self.new)) }
+        ensures does { OnOk result (DoesMore (Kill actor ∷ []) (seen self.old) (seen self.new)) }
+        ensures does_nothing { OnErr result ((seen self.new).did ≡ (seen self.old).did) }
         ensures refusal { IfErr result (λ refusal. refusal ≡ kill_refusal (seen self.old) actor) }
         ensures refused { IfErr result (λ refusal. refusal ≢ NoRoomToAsk → seen self.new ≡ seen self.old) }
         ensures hears { OnErr result (OnlyHears (seen self.old) (seen self.new)) }

@@ -1,4 +1,4 @@
-use Rattle.std.proofs.Common.{◌≡◌, ◌≢◌, ap, refl, sym, inl, inr, Option}
+use Rattle.std.proofs.Common.{◌≡◌, ◌≢◌, ◌∙◌, ap, refl, sym, inl, inr, Option}
 use Rattle.std.specs.Prelude.{unwrap_or}
 use Rattle.act_rules.specs.declared.outcome.SubmitRefusal.{SubmitRefusal}
 use Rattle.act_rules.specs.declared.outcome.SubmitRefusal.TheVariants.{NoMemory}
@@ -15,7 +15,7 @@ returns-in_err-k-clause-refused g c =
     handed_on c.from_residual.result c.in_err-k.field-0.0 (λ (r : SubmitRefusal). r ≢ NoMemory → g.Self.Session.seen c.submit.new.self ≡ g.Self.Session.seen c.args.self.now) c.from_residual.ensures.1 c.in_err-k.ensures.refused
 
 pub returns-in_err-k-clause-either : goal.returns-in_err-k-clause-either
-returns-in_err-k-clause-either g c = on_err c.from_residual.result _ (inl c.in_err-k.ensures.hears)
+returns-in_err-k-clause-either g c = on_err c.from_residual.result _ (inl (c.in_err-k.ensures.hears, c.in_err-k.ensures.does_nothing))
 
 pub returns-in_err-k-clause-on : goal.returns-in_err-k-clause-on
 returns-in_err-k-clause-on g c = c.in_err-k.ensures.on
@@ -33,7 +33,7 @@ pub returns-in-Err-clause-refused : goal.returns-in-Err-clause-refused
 returns-in-Err-clause-refused g c other = absurd (other refl)
 
 pub returns-in-Err-clause-either : goal.returns-in-Err-clause-either
-returns-in-Err-clause-either g c = inr (submits_hears _ _ _ _ c.in_ok-k.ensures.submits c.in-Err.ensures.hears)
+returns-in-Err-clause-either g c = inr (submits_hears _ _ _ _ c.in_ok-k.ensures.submits c.in-Err.ensures.hears, c.in-Err.ensures.does_nothing ∙ c.in_ok-k.ensures.does)
 
 pub returns-in-Err-clause-on : goal.returns-in-Err-clause-on
 returns-in-Err-clause-on g c = later_trans _ _ _ c.in_ok-k.ensures.on c.in-Err.ensures.on
