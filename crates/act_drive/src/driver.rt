@@ -135,22 +135,6 @@ impl Driver {
         }
     }
 
-    /// Takes the letter of the next ready call in the outbox, if the outbox is empty and memory serves.
-    pub(crate) fn take_up<N: Notes>(&mut self, alloc: Global, notes: &mut N) -> Result<(), NoMemory>
-        ensures waits { Waits self.old self.new }
-        ensures calling { (lines : CallerLines) → IsCalling lines self.old → IsCalling lines self.new }
-        ensures traced { (lines : CallerLines) → Traces lines self.old self.new }
-    {
-        if self.outbox.is_some() {
-            return Ok(());
-        }
-        if let Some(packet) = self.owner.next_packet(alloc)? {
-            notes.note(Mark::Send(packet.future));
-            put(&mut self.outbox, Letter::Call(packet));
-        }
-        Ok(())
-    }
-
     /// Posts what is in the outbox, unless its actor is known dead. A full line leaves it there.
     pub(crate) fn send<R: Wait>(&mut self, rt: &R, lines: &CallerLines) -> bool
         requires calling { IsCalling lines.now self.old }
@@ -170,6 +154,23 @@ impl Driver {
         let Some(letter) = self.outbox.take() else {
             return false;
         };
+        self.post_letter::<K, R>(rt, lines, letter)
+    }
+
+    /// Posts a letter as if it were in the outbox, which is empty. A full line has it put there.
+    fn post_letter<K: Stamped, R: Wait>(
+        &mut self,
+        rt: &R,
+        lines: &CallerLines,
+        letter: Letter,
+    ) -> bool
+        requires empty { self.old.outbox ≡ None }
+        requires calling { IsCalling lines.now (record self.old { outbox = Some letter }) }
+        requires stamp { K.stamp ≡ caller_clock self.old.passes }
+        ensures calling { IsCalling lines.now self.new }
+        ensures waits { Waits (record self.old { outbox = Some letter }) self.new }
+        ensures traced { Traces lines.now (record self.old { outbox = Some letter }) self.new }
+    {
         let actor = actor_of(&letter);
         if self.owner.is_dead(actor) {
             drop(letter);
@@ -194,8 +195,8 @@ impl Driver {
         }
     }
 
-    /// Takes the letter of the next ready call in the outbox, if the outbox is empty, and posts what is in
-    /// hand. Whether a letter went.
+    /// Posts what is in the outbox, or else the letter of the next ready call, if memory serves. Whether a
+    /// letter went.
     fn send_next<R: Wait, N: Notes>(
         &mut self,
         rt: &R,
@@ -206,8 +207,14 @@ impl Driver {
         requires calling { IsCalling lines.now self.old }
         ensures only_waits { OnlyWaits lines.now self.old self.new }
     {
-        self.take_up(alloc, notes)?;
-        Ok(self.send(rt, lines))
+        if self.outbox.is_some() {
+            return Ok(self.send(rt, lines));
+        }
+        let Some(packet) = self.owner.next_packet(alloc)? else {
+            return Ok(false);
+        };
+        notes.note(Mark::Send(packet.future));
+        Ok(self.post_letter::<Brand, R>(rt, lines, Letter::Call(packet)))
     }
 
     /// Sends letters while there are some and their line has room. Whether any went.

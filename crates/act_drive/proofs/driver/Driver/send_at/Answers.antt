@@ -1,56 +1,6 @@
-use Rattle.std.proofs.Common.{refl, rules, ◌≡◌, [], ◌∷◌, ◌++◌, Some, All, true, inl, inr}
-use Rattle.act_drive.proofs.Drivers.{calling_dropped, calling_posted, posted_waits, stays_same}
-use Rattle.act_drive.proofs.Tracing.{traces_dropped, traces_back, traces_posted}
-use Rattle.act_owner.specs.Owner.{is_known_dead}
-use Rattle.act_drive.specs.Driven.{actor_of_letter, IsApart}
+use Rattle.std.proofs.Common.{refl}
+use Rattle.act_drive.proofs.Drivers.{stays_same}
 use Rattle.act_drive.proofs.driver.Driver.send_at.Goals as goal
-
-pub returns-then-is_dead-clause-calling : goal.returns-then-is_dead-clause-calling
-returns-then-is_dead-clause-calling g c =
-    let outbox : c.args.self.now.outbox ≡ Some c.in-Some.letter = search rules in
-    let dead : is_known_dead c.args.self.now.owner (actor_of_letter c.in-Some.letter) ≡ true = search rules in
-    calling_dropped c.args.lines.now c.args.self.now _ c.in-Some.letter outbox (inl (c.requires.calling.hears.deaths (actor_of_letter c.in-Some.letter) dead)) refl refl (search rules) refl c.requires.calling
-
-pub returns-in_default-letter_endpoint-clause-calling : goal.returns-in_default-letter_endpoint-clause-calling
-returns-in_default-letter_endpoint-clause-calling g c =
-    let outbox : c.args.self.now.outbox ≡ Some c.in-Some.letter = search rules in
-    let apart : All (IsApart c.args.lines.now.mails.now (actor_of_letter c.in-Some.letter)) c.args.self.now.passes.letters.items = search rules in
-    calling_dropped c.args.lines.now c.args.self.now _ c.in-Some.letter outbox (inr apart) refl refl (search rules) refl c.requires.calling
-
-pub returns-in-Ok-clause-calling : goal.returns-in-Ok-clause-calling
-returns-in-Ok-clause-calling g c =
-    let endpoint = c.index_mut-endpoint.result.now in
-    let outbox : c.args.self.now.outbox ≡ Some c.in-Some.letter = search rules in
-    calling_posted c.args.lines.now c.args.self.now _ c.in-Some.letter c.in-Some-letter_endpoint.at endpoint c.post_at.new.pass (endpoint.pass.stamps ++ g.K.Stamped.stamp ∷ []) outbox (search rules) (search rules) (λ d. search rules) (search rules) refl (search rules) refl refl (search rules) (search rules) c.requires.calling
-
-pub returns-in-Ok-clause-waits : goal.returns-in-Ok-clause-waits
-returns-in-Ok-clause-waits g c =
-    let endpoint = c.index_mut-endpoint.result.now in
-    posted_waits c.args.self.now _ c.in-Some-letter_endpoint.at endpoint c.post_at.new.pass (search rules) (search rules) refl refl refl refl
-
-pub returns-then-is_dead-clause-traced : goal.returns-then-is_dead-clause-traced
-returns-then-is_dead-clause-traced g c = traces_dropped c.args.lines.now c.args.self.now _ refl refl (search rules)
-
-pub returns-in_default-letter_endpoint-clause-traced : goal.returns-in_default-letter_endpoint-clause-traced
-returns-in_default-letter_endpoint-clause-traced g c = traces_dropped c.args.lines.now c.args.self.now _ refl refl (search rules)
-
-pub returns-in-Err-clause-traced : goal.returns-in-Err-clause-traced
-returns-in-Err-clause-traced g c =
-    let endpoint = c.index_mut-endpoint.result.now in
-    let outbox : c.args.self.now.outbox ≡ Some c.in-Some.letter = search rules in
-    traces_back c.args.lines.now c.args.self.now _ c.in-Some.letter c.in-Err.back c.in-Some-letter_endpoint.at endpoint c.post_at.new.pass outbox (search rules) (search rules) refl (search rules) refl refl c.put.ensures (search rules)
-
-pub returns-in-Ok-clause-traced : goal.returns-in-Ok-clause-traced
-returns-in-Ok-clause-traced g c =
-    let endpoint = c.index_mut-endpoint.result.now in
-    let outbox : c.args.self.now.outbox ≡ Some c.in-Some.letter = search rules in
-    traces_posted c.args.lines.now c.args.self.now _ c.in-Some.letter c.in-Some-letter_endpoint.at endpoint c.post_at.new.pass g.K.Stamped.stamp c.requires.stamp outbox (search rules) (search rules) (search rules) refl (search rules) refl refl (search rules)
-
-pub returns-then-is_dead-clause-waits : goal.returns-then-is_dead-clause-waits
-returns-then-is_dead-clause-waits g c = record { stay = stays_same c.args.self.now _ refl refl refl refl; calls = refl; handles = refl; kills = refl; heard = λ notice has. has }
-
-pub returns-in_default-letter_endpoint-clause-waits : goal.returns-in_default-letter_endpoint-clause-waits
-returns-in_default-letter_endpoint-clause-waits g c = record { stay = stays_same c.args.self.now _ refl refl refl refl; calls = refl; handles = refl; kills = refl; heard = λ notice has. has }
 
 pub returns-in_default-clause-waits : goal.returns-in_default-clause-waits
 returns-in_default-clause-waits g c = record { stay = stays_same c.args.self.now _ refl refl refl refl; calls = refl; handles = refl; kills = refl; heard = λ notice has. has }
