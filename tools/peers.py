@@ -15,6 +15,11 @@ run_plans, or of run_callers: it opens the lines, starts a thread for each actor
 and compares what all of them left. Plans are made before, and so are the arguments of the code's calls. Each program
 looks at the counts after a turn, and fails where a call is missing.
 
+Beside that it tells what the system counted of each program: processor time, the program's own and the system's, page
+faults, and involuntary switches. Such a switch is one of a thread that could have gone on: the system took its
+processor away, or it yielded. All are of the whole process, by its turns and calls. So its start counts too, and with
+ours the making of plans, which no clock sees. With few calls they tell of little else.
+
 The peers are built into a temporary folder, offline, with what Debian has (erlang-base, libcaf-dev,
 librust-crossbeam-channel-dev). What can't be built is named, and the others are measured. Where none can be built, it
 ends with status 2, as a failure of the machine's set-up; with --may-miss that is no failure. It fails where
@@ -29,10 +34,13 @@ import os
 import pathlib
 import re
 import shutil
+import signal
 import statistics
 import subprocess
 import sys
 import tempfile
+import threading
+import time
 from dataclasses import dataclass
 
 from program import TOP, proved
@@ -58,6 +66,13 @@ TURNS = 3
 ROUNDS = 5
 SMALL_CALLS = 2_000
 MAX_SECONDS = 240
+# What the system counts of a program, its heading, how it is told, and with how many places.
+COUNTED = {
+    "own": ("its own time, us", 1, 2),
+    "system": ("the system's time, us", 1, 2),
+    "faults": ("page faults", 1_000, 0),
+    "switches": ("involuntary switches", 1_000, 0),
+}
 NO_SETUP = 2  # the status where the machine lacks what the peers are built with
 FIGURE = re.compile(r"^(?:.*, )?(\d+) us\b", re.MULTILINE)
 
@@ -66,18 +81,64 @@ class Failed(Exception):
     """A program can't be built, or has no figures."""
 
 
+@dataclass(frozen=True)
+class Used:
+    """What the system counted of a process, or of a call of it: microseconds, and numbers."""
+
+    own: float
+    system: float
+    faults: float
+    switches: float  # of a thread that could have gone on; a yield is one
+
+    @classmethod
+    def of(cls, counted):
+        faults = counted.ru_minflt + counted.ru_majflt
+        return cls(counted.ru_utime * 1e6, counted.ru_stime * 1e6, faults, counted.ru_nivcsw)
+
+    def of_a_call(self, calls):
+        return Used(self.own / calls, self.system / calls, self.faults / calls, self.switches / calls)
+
+
+def waited_for(process):
+    """The status of the process once it has ended, and what the system counted of it. One that takes too long is ended."""
+    timer = threading.Timer(MAX_SECONDS, os.kill, [process.pid, signal.SIGKILL])
+    begun = time.monotonic()
+    timer.start()
+    try:
+        _, status, counted = os.wait4(process.pid, 0)
+    except BaseException:
+        process.kill()
+        raise
+    finally:
+        timer.cancel()
+    process.returncode = os.waitstatus_to_exitcode(status)
+    is_late = process.returncode and time.monotonic() - begun >= MAX_SECONDS
+    return None if is_late else process.returncode, Used.of(counted)
+
+
+def run_counted(command, **options):
+    """What the command writes to its standard output, and what the system counted of it."""
+    with tempfile.TemporaryFile("w+") as told, tempfile.TemporaryFile("w+") as complained:
+        streams = {"stdin": subprocess.DEVNULL, "stdout": told, "stderr": complained}
+        try:
+            process = subprocess.Popen(command, **streams, **options)
+        except FileNotFoundError:
+            raise Failed(f"{command[0]} is not there") from None
+        status, used = waited_for(process)
+        told.seek(0)
+        complained.seek(0)
+        written, errors = told.read(), complained.read().splitlines()
+    if status is None:
+        raise Failed(f"{command[0]} does not end in {MAX_SECONDS} seconds")
+    if status:
+        first = [line for line in errors if "error" in line] or errors
+        raise Failed(f"{command[0]} ends with {status}{': ' + first[0].strip() if first else ''}")
+    return written, used
+
+
 def run(command, **options):
     """What the command writes to its standard output."""
-    try:
-        done = subprocess.run(command, stdin=subprocess.DEVNULL, capture_output=True, text=True, timeout=MAX_SECONDS, **options)
-    except FileNotFoundError:
-        raise Failed(f"{command[0]} is not there") from None
-    except subprocess.TimeoutExpired:
-        raise Failed(f"{command[0]} does not end in {MAX_SECONDS} seconds") from None
-    if done.returncode:
-        told = [line for line in done.stderr.splitlines() if "error" in line] or done.stderr.splitlines()
-        raise Failed(f"{command[0]} ends with {done.returncode}{': ' + told[0].strip() if told else ''}")
-    return done.stdout
+    return run_counted(command, **options)[0]
 
 
 # The peers. Each builder takes a folder of the peer's own, and gives the command that runs what it built there.
@@ -152,12 +213,13 @@ class Contender:
         """The command that takes these turns, each with so many calls of each caller."""
         return [*self.command, *map(str, self.crew), str(each), *STYLES[style], str(turns)]
 
-    def rates(self, style, calls, turns):
-        """How many thousand calls a second each turn had."""
+    def take_turns(self, style, calls, turns):
+        """How many thousand calls a second each turn had, and what the system counted of a call."""
         callers, _ = self.crew
         each = calls_of_each(callers, calls)
-        micros = micros_in(run(self.words(style, each, turns)), turns)
-        return [callers * each * 1_000 / took for took in micros]
+        told, used = run_counted(self.words(style, each, turns))
+        rates = [callers * each * 1_000 / took for took in micros_in(told, turns)]
+        return rates, used.of_a_call(callers * each * turns)
 
 
 def micros_in(told, turns):
@@ -178,17 +240,38 @@ def contenders_of(programs, peers, crews):
     return [Contender(name, crew, tuple(command)) for crew in crews for name, command in commands.items()]
 
 
+@dataclass
+class Taken:
+    """Of each contender in each style the rates of its turns, and what a call used in each of its processes."""
+
+    rates: dict
+    used: dict
+
+    def rate(self, contender, style):
+        """The median, where there is one."""
+        rates = self.rates[contender, style]
+        return statistics.median(rates) if rates else None
+
+    def median(self, contender, style, what):
+        """That of one of the things that the system counts."""
+        counts = [getattr(used, what) for used in self.used[contender, style]]
+        return statistics.median(counts) if counts else None
+
+
 def measure(contenders, calls, turns, rounds):
-    """The rates of each contender in each style, and what went wrong. What failed isn't run again in that style."""
-    rates, wrong = collections.defaultdict(list), {}
+    """What each contender took in each style, and what went wrong. What failed isn't run again in that style."""
+    taken, wrong = Taken(collections.defaultdict(list), collections.defaultdict(list)), {}
     for _, style, contender in itertools.product(range(rounds), STYLES, contenders):
         if (contender, style) in wrong:
             continue
         try:
-            rates[contender, style] += contender.rates(style, calls, turns)
+            rates, used = contender.take_turns(style, calls, turns)
         except Failed as failed:
             wrong[contender, style] = f"{contender}, {style}: {failed}"
-    return rates, list(wrong.values())
+            continue
+        taken.rates[contender, style] += rates
+        taken.used[contender, style].append(used)
+    return taken, list(wrong.values())
 
 
 # What is told.
@@ -203,19 +286,15 @@ def shown(rate):
     return f"{rate:,.0f}" if rate else "-"
 
 
-def medians(rates, contenders, style):
-    return [statistics.median(rates[each, style]) if rates[each, style] else None for each in contenders]
-
-
 def ratio(one, other):
     return f"{one / other:.2f}" if one and other else "-"
 
 
-def show_crew(rates, plans, code, peers):
+def show_crew(taken, plans, code, peers):
     """The figures of a crew: ours and the peers', and how ours compare."""
     rows = []
     for style in STYLES:
-        by_plans, by_code, *rest = medians(rates, [plans, code, *peers], style)
+        by_plans, by_code, *rest = (taken.rate(each, style) for each in [plans, code, *peers])
         best = max(filter(None, rest), default=None)
         goal = f"{GOALS.get(style, GOAL):.2f}"
         rows.append([style, *map(shown, [by_plans, by_code, *rest]), ratio(by_code, by_plans), ratio(by_plans, best), goal])
@@ -223,19 +302,32 @@ def show_crew(rates, plans, code, peers):
     show_table([*names, "Code / plans", "Plans / best peer", "Goal"], rows)
 
 
+def show_used(taken, contenders):
+    """What the system counted of a crew: a row for each style and each thing that it counts."""
+    rows = []
+    for style, (what, (heading, scale, places)) in itertools.product(STYLES, COUNTED.items()):
+        counts = (taken.median(each, style, what) for each in contenders)
+        cells = ["-" if count is None else f"{count * scale:,.{places}f}" for count in counts]
+        rows.append([f"{style}: {heading}", *cells])
+    show_table([each.name for each in contenders], rows, "What the system counted")
+
+
 def load():
     return pathlib.Path("/proc/loadavg").read_text().split()[0]
 
 
-def show(rates, contenders, chosen, load_before):
-    taken = f"{chosen.rounds * chosen.turns} turns of {chosen.calls:,} calls a caller"
-    print(f"Thousands of calls a second, the median of {taken}, on {os.cpu_count()} cores. The load average was")
+def show(taken, contenders, chosen, load_before):
+    turns = f"{chosen.rounds * chosen.turns} turns of {chosen.calls:,} calls a caller"
+    print(f"Thousands of calls a second, the median of {turns}, on {os.cpu_count()} cores. The load average was")
     print(f"{load_before} before the first turn and {load()} after the last one. Of more than {CALLERS_WITH_ALL} callers")
     print(f"each makes fewer calls: as many in all as of {CALLERS_WITH_ALL}.\n")
+    print(f"What the system counted is of whole processes, the median of {chosen.rounds}: microseconds of a call, and faults and")
+    print("involuntary switches of 1,000 calls.\n")
     for crew in chosen.crews:
         print("{} x {}, callers x actors:\n".format(*crew))
         plans, code, *peers = (each for each in contenders if each.crew == crew)
-        show_crew(rates, plans, code, peers)
+        show_crew(taken, plans, code, peers)
+        show_used(taken, [plans, code, *peers])
 
 
 def crews_of(words):
@@ -271,8 +363,8 @@ def main():
         peers, missing = build_peers(folder)
         contenders = contenders_of(chosen.programs, peers, chosen.crews)
         load_before = load()
-        rates, wrong = measure(contenders, chosen.calls, chosen.turns, chosen.rounds)
-        show(rates, contenders, chosen, load_before)
+        taken, wrong = measure(contenders, chosen.calls, chosen.turns, chosen.rounds)
+        show(taken, contenders, chosen, load_before)
     print("".join(f"Not built: {name}: {failed}\n" for name, failed in missing.items()), end="")
     print("".join(f"{each}\n" for each in wrong), end="")
     print(f"peers: {len(peers)} peers measured, {len(missing)} not built, {len(wrong)} failures")
