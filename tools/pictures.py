@@ -42,7 +42,7 @@ from program import TOP, kept
 
 EXAMPLES = TOP / "examples"
 PICTURES = TOP / "docs/pictures"
-RANDOM_SCRIPTS = 40
+RANDOM_SCRIPTS = 160  # some 140 are needed until a letter is turned away
 CROWDS = 5
 CROWDED = 210  # lines
 CUTS = 4
@@ -495,7 +495,7 @@ def long_words():
 def random_scripts():
     yield "long words", "".join(f"{line}\n" for line in long_words()).encode()
     for place in range(RANDOM_SCRIPTS):
-        yield f"random script {place}", fuzz.random_script("draw", place)
+        yield f"random script {place}", fuzz.random_script("pictures", place)
     for place in range(CROWDS):
         yield f"crowd {place}", Crowd(random.Random(f"crowd.{place}")).script().encode()
 
