@@ -64,11 +64,12 @@ returns-in_default-answer g c = λ fresh.
     let asked : kept_at one.kept 0 ≡ Some (Ok (Int b)) = kept_here one c.in_ok-asked.asked 0 (Ok (Int b)) (c.in_ok-asked.ensures.future ∙ ap length fresh) told in
     let enough : is_enough t.amount (Some (Ok (Int b))) ≡ true = grind (arith, c.if-balance-self.false) in
     let place : c.in_ok-taken.taken ≡ 1 = c.in_ok-taken.ensures.future ∙ ap length first in
+    let kept : kept_at two.kept c.in_ok-taken.taken ≡ option_copied c.answer-2.result = sym c.answer-2.ensures in
     inr (inl (record {
       calls = called t.from Withdraw (Plain (Int t.amount) ∷ []) c.in_ok-number.field-0 (balance_call t ∷ []) one two sum first c.in_ok-taken.ensures.submits;
       enough = ap (is_enough t.amount) (kept_on one two 0 (Ok (Int b)) c.ask-2.ensures.on asked) ∙ enough;
       asked = ap (λ (k : ℕ). is_some (kept_at two.kept k)) (sym place) ∙ c.in_ok-taken.ensures.answered;
-      refused = ap (λ (k : ℕ). is_amount (kept_at two.kept k)) (sym place) ∙ ap is_amount (sym c.answer-2.ensures ∙ ap option_copied c.in_default-answer.is) ∙ search rules;
+      refused = ap (λ (k : ℕ). is_amount (kept_at two.kept k)) (sym place) ∙ ap is_amount (kept ∙ ap option_copied c.in_default-answer.is) ∙ search rules;
     }))
 
 pub returns-in_default-answer-2 : goal.returns-in_default-answer-2
@@ -85,11 +86,12 @@ returns-in_default-answer-2 g c = λ fresh.
     let asked : kept_at one.kept 0 ≡ Some (Ok (Int b)) = kept_here one c.in_ok-asked.asked 0 (Ok (Int b)) (c.in_ok-asked.ensures.future ∙ ap length fresh) told in
     let enough : is_enough t.amount (Some (Ok (Int b))) ≡ true = grind (arith, c.if-balance-self.false) in
     let place : c.in_ok-taken.taken ≡ 1 = c.in_ok-taken.ensures.future ∙ ap length first in
+    let kept : kept_at two.kept c.in_ok-taken.taken ≡ option_copied c.answer-2.result = sym c.answer-2.ensures in
     inr (inl (record {
       calls = called t.from Withdraw (Plain (Int t.amount) ∷ []) c.in_ok-number.field-0 (balance_call t ∷ []) one two sum first c.in_ok-taken.ensures.submits;
       enough = ap (is_enough t.amount) (kept_on one two 0 (Ok (Int b)) c.ask-2.ensures.on asked) ∙ enough;
       asked = ap (λ (k : ℕ). is_some (kept_at two.kept k)) (sym place) ∙ c.in_ok-taken.ensures.answered;
-      refused = ap (λ (k : ℕ). is_amount (kept_at two.kept k)) (sym place) ∙ ap is_amount (sym c.answer-2.ensures ∙ ap option_copied c.in_default-answer.is) ∙ search rules;
+      refused = ap (λ (k : ℕ). is_amount (kept_at two.kept k)) (sym place) ∙ ap is_amount (kept ∙ ap option_copied c.in_default-answer.is) ∙ search rules;
     }))
 
 pub returns : goal.returns
@@ -108,9 +110,10 @@ returns g c = λ fresh.
     sym c.answer.ensures ∙ ap option_copied c.in-Some-Ok-Int.is ∙ ap (λ (v : Answer). Some v) (c.in-Some-Ok-Int.field-0-is ∙ ap (λ (v : Value). Ok v) c.in-Some-Ok-Int.field-0-0-is) in
     let asked : kept_at one.kept 0 ≡ Some (Ok (Int b)) = kept_here one c.in_ok-asked.asked 0 (Ok (Int b)) (c.in_ok-asked.ensures.future ∙ ap length fresh) told in
     let enough : is_enough t.amount (Some (Ok (Int b))) ≡ true = grind (arith, c.if-balance-self.false) in
+    let kept : kept_at two.kept c.in_ok-taken.taken ≡ option_copied c.answer-2.result = sym c.answer-2.ensures in
     let v = c.in-Some-Ok-Int-answer in
     let left : kept_at two.kept c.in_ok-taken.taken ≡ Some (Ok (Int _)) =
-    sym c.answer-2.ensures ∙ ap option_copied v.is ∙ ap (λ (x : Answer). Some x) (v.field-0-is ∙ ap (λ (x : Value). Ok x) v.field-0-0-is) in
+    kept ∙ ap option_copied v.is ∙ ap (λ (x : Answer). Some x) (v.field-0-is ∙ ap (λ (x : Value). Ok x) v.field-0-0-is) in
     let granted : kept_at two.kept 1 ≡ Some (Ok (Int _)) = kept_here two c.in_ok-taken.taken 1 (Ok (Int _)) (c.in_ok-taken.ensures.future ∙ ap length first) left in
     inr (inr (record {
       calls = called t.to Deposit (Plain (Int t.amount) ∷ []) c.in_ok-number-2.field-0 (balance_call t ∷ withdraw_call t ∷ []) two three sum2 second c.in_ok-ask.ensures.submits;
