@@ -57,7 +57,7 @@ def own_messages(said, symbol, place):
 
 def of_a_goal(messages, written):
     """The first line of a message that tells of a goal, where this is written of the proof; or None."""
-    lost = {clause_of(name) for message in messages for name in LOST_GOAL.findall(message[0])}
+    lost = {clause_of(name) for message in messages for name in LOST_GOAL.findall(joined(message))}
     fits = not any(tells_of_the_shape(message) for message in messages)
     return next((message[0] for message in messages if tells_of_a_goal(message, written, lost, fits)), None)
 

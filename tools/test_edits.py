@@ -236,6 +236,8 @@ class Refusals(unittest.TestCase):
         for name, ending, is_by_goal in [("returns-gt1-clause-ok", "", False), ("returns-gt1-clause-ok", false, True),
                                          ("returns-clause-value", "", True), ("invariant_of-self", "", True)]:
             self.assertEqual(self.kinds(self.GONE, self.NOTE.format(name) + ending), is_by_goal)
+            broken = self.GONE.replace(" has no", "\n  has no").split("\n")
+            self.assertEqual(self.kinds(*broken, self.NOTE.format(name) + ending), is_by_goal)
 
     def test_another_value_of_the_same_steps_refuses_and_another_step_does_not(self):
         first = "as printed, the two types first differ where one has"
