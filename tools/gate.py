@@ -14,6 +14,9 @@ that wasn't refused, or only by its shape, or wasn't tried, is a failure, and na
 lists those that are known to be refused by their shape alone: one that isn't there fails, and so does one that needn't
 be there. Checks of edits take the processor time that `rt ci` leaves, and all of it once that has ended. Where it
 passed, COMMAND runs beside the last of them: what tries the programs, as they are proved by then.
+
+What is shown is a page (tools/page.py): a line for each crate that is proved and for each crate's edits, and all that
+`rt ci` says of one that failed. The full text is in .built/test.log.
 """
 import collections
 import os
@@ -24,11 +27,13 @@ import subprocess
 import sys
 import threading
 import time
-from contextlib import contextmanager
+from contextlib import contextmanager, suppress
 from pathlib import Path
 
+import program
 from edits import GATE, MORE, TOP, edits_in
 from more_edits import check, listed_as_refused, output_of, share_of
+from page import Page
 from trying import BY_SHAPE, UNTRIED, Tried, kit, symbols_in, try_crate
 
 ASIDE = "must-fail-aside"
@@ -36,6 +41,14 @@ KNOWN = TOP / "tools/by_shape.txt"
 # What ./test --help asks for each core.
 MEMORY_OF_A_CHECK = 4 << 30
 PROVED = re.compile(r"rt: (\w+) (proved$|is kept: )")
+# What `rt ci` says of a crate: a part with this head, and what it comes to.
+HEAD = re.compile(r"== (\w+)")
+VERDICT = re.compile(r"rt: (\w+)(: its tests are)? (proved$|is kept|NOT PROVED)")
+# The lines that end a part of which nothing else is shown.
+GOOD = re.compile(
+    r"rt: (\w+: )?(its tests are |\w+ )?proved$|rt: \w+ is kept: |rt: \w+: its tests passed$|rt: \w+ ran\b|rt: note: |rt: ok; "
+)
+COUNTS = re.compile(r"(\d+) passed, (\d+) failed")
 
 
 # The edits, out of sight.
@@ -90,11 +103,6 @@ def jobs_of_the_gate(processors, free):
 # The edits, tried.
 
 
-def say(text):
-    """Writes one line, which threads don't mix."""
-    print(f"{text}\n", end="", flush=True)
-
-
 def dearness(edit):
     """What a check of this edit takes, beside one of a function of a library: a program's code is read whole, and what
     changes more than functions has a check of its own."""
@@ -104,8 +112,9 @@ def dearness(edit):
 class Lanes:
     """Threads that try the edits of crates, of those that wait the dearest first."""
 
-    def __init__(self, edits):
-        self.edits, self.waiting, self.threads, self.tried = edits, queue.PriorityQueue(), [], []
+    def __init__(self, edits, page, known=frozenset()):
+        self.edits, self.page, self.known = edits, page, known
+        self.waiting, self.threads, self.tried = queue.PriorityQueue(), [], []
         self.of_crate = collections.defaultdict(list)
         for edit in edits:
             self.of_crate[edit.crate].append(edit)
@@ -132,12 +141,21 @@ class Lanes:
             self.try_those_of(crate, edits, symbols)
 
     def try_those_of(self, crate, edits, symbols):
-        """Tries these edits of a crate, and tells what comes of each."""
-        began = time.monotonic()
-        for each in try_crate(crate, edits, wait_for_memory, lambda trial: trial.knows(symbols)):
-            self.tried.append(each)
-            say(f"{each.edit.name}: {each.came}: {each.told}")
-        say(f"gate: the {len(edits)} edits of {crate} took {time.monotonic() - began:.0f} s")
+        """Tries these edits of a crate, and tells how many fail, and why."""
+        began, failed = time.monotonic(), 0
+        with self.page.running(f"{len(edits)} edits of {crate}"):
+            for each in try_crate(crate, edits, wait_for_memory, lambda trial: trial.knows(symbols)):
+                self.tried.append(each)
+                failed += self.is_told_as_failed(each)
+        took = time.monotonic() - began
+        self.page.tell(f"edits of {crate}: {len(edits)} tried, {failed} failed, in {took:.0f} s")
+
+    def is_told_as_failed(self, tried):
+        """Tells what came of an edit, and returns whether that is a failure, which is shown at once."""
+        fault = fault_of(tried, self.known)
+        tell = self.page.show if fault else self.page.keep
+        tell(f"{tried.edit.name}: {tried.came}: {tried.told}")
+        return fault is not None
 
     def end(self):
         """Waits until all is tried. Returns what came of each edit."""
@@ -166,22 +184,122 @@ def proved_crates(lines):
             yield proved[1], symbols_in(said) if proved[2] == "proved" else []
 
 
-def shown(lines):
-    """These lines, each shown as it comes."""
+def parts_of(lines):
+    """What these lines say, in parts: all that is said of a crate, which ends by its verdict, or of its tests; and else
+    what ends by a line of `rt` itself, as the run of a program does."""
+    part, crate = [], None
     for line in lines:
-        print(line, end="", flush=True)
-        yield line.rstrip("\n")
+        part.append(line)
+        head, verdict = HEAD.match(line), VERDICT.match(line)
+        crate = head[1] if head else crate
+        if verdict and verdict[1] == crate if crate else line.startswith("rt: ") or COUNTS.match(line):
+            yield part
+            part, crate = [], None
+    if part:
+        yield part
 
 
-def run(lanes):
+def is_good(part):
+    """Whether a part tells of no failure."""
+    counts = COUNTS.match(part[-1])
+    return counts[2] == "0" if counts else bool(GOOD.match(part[-1]))
+
+
+class Crates:
+    """Which crates are proved, of those that there are. One that has tests counts with them."""
+
+    def __init__(self, tested):
+        self.left = {crate: {None, ": its tests are"} if has_tests else {None} for crate, has_tests in tested.items()}
+        self.count = len(self.left)
+
+    def takes(self, verdict):
+        """What is told by a crate's verdict, or None where its tests are still to be proved, or itself."""
+        crate, of_tests, came = verdict.groups()
+        left = self.left.get(crate, set())
+        left.discard(of_tests)
+        if crate not in self.left or left and came == "proved":
+            return None
+        del self.left[crate]
+        return f"{self.told()}: {crate} {came}"
+
+    def told(self):
+        return f"crate {self.count - len(self.left)} of {self.count}"
+
+
+def crates_with_tests():
+    """Each crate of crates.txt, and whether it has tests."""
+    sources = {crate: program.CRATES.joinpath(crate, "src").rglob("*.rt") for crate in program.listed()}
+    return {crate: any("#[test]" in path.read_text() for path in paths) for crate, paths in sources.items()}
+
+
+def shown(lines, crates, page):
+    """These lines, of which the page shows each failure in full, and of what passes the verdicts alone."""
+    for part in parts_of(lines):
+        yield from part
+        if not is_good(part):
+            page.show_kept(*part)
+        elif COUNTS.match(part[-1]):
+            page.tell(f"rt ci: {part[-1]}")
+        verdict = VERDICT.match(part[-1])
+        told = verdict and crates.takes(verdict)
+        if told:
+            page.head = crates.told()
+            page.tell(told)
+
+
+def parents_now():
+    """Each process, and the one that began it."""
+    for stat in Path("/proc").glob("[0-9]*/stat"):
+        with suppress(OSError):
+            yield int(stat.parent.name), int(stat.read_text().rpartition(")")[2].split()[1])
+
+
+def crates_below(process):
+    """What the prover's processes below this one work on: names of crates, and of those whose tests they check."""
+    parents = dict(parents_now())
+    for one in sorted(parents):
+        above = one
+        while above not in (process, None):
+            above = parents.get(above)
+        told = above and crate_of(one)
+        if told:
+            yield told
+
+
+def crate_of(process):
+    """The crate that a process of the prover works on, or its tests, or None."""
+    with suppress(OSError):
+        words = Path(f"/proc/{process}/cmdline").read_bytes().decode(errors="replace").split("\0")
+        if words[0].endswith("/rattle") and "--crate-name" in words:
+            return ("tests of " if "--test" in words else "") + words[words.index("--crate-name") + 1]
+    return None
+
+
+def show_all(stream, page):
+    for line in stream:
+        page.show(line.rstrip("\n"))
+
+
+@contextmanager
+def notes_shown(stream, page):
+    """Shows meanwhile each line of what comes on the standard error."""
+    notes = threading.Thread(target=show_all, args=(stream, page), daemon=True)
+    notes.start()
+    yield
+    notes.join()
+
+
+def run(lanes, page):
     """Runs `rt ci`, and has the edits of each crate wait that it proves. Returns its status."""
     processors = len(os.sched_getaffinity(0))
     environment = {**jobs_of_the_gate(processors, free_memory()), **os.environ}
-    how = {"cwd": TOP, "env": environment, "stdout": subprocess.PIPE, "text": True, "errors": "replace"}
+    how = {"cwd": TOP, "env": environment, "stdout": subprocess.PIPE, "stderr": subprocess.PIPE, "text": True}
     lanes.begin(processors)
-    with out_of_sight(), subprocess.Popen(["rt", "ci"], **how) as ran:
-        for crate, symbols in proved_crates(shown(ran.stdout)):
-            lanes.add(crate, symbols)
+    with out_of_sight(), subprocess.Popen(["rt", "ci"], errors="replace", **how) as ran:
+        with notes_shown(ran.stderr, page), page.running(lambda: crates_below(ran.pid)):
+            lines = shown(page.kept_lines(ran.stdout), Crates(crates_with_tests()), page)
+            for crate, symbols in proved_crates(lines):
+                lanes.add(crate, symbols)
     return ran.returncode
 
 
@@ -200,30 +318,40 @@ def fault_of(tried, known):
     return f"{tried.edit.name}: {tried.came}: {tried.told}"
 
 
-def gate(command):
-    """Whether the gate passes, then this command, and each edit of must-fail and of the share is refused."""
+def gate(page, then=None):
+    """Whether the gate passes, then what is to run after it, and each edit of must-fail and of the share is refused."""
     commit = output_of("git", "rev-parse", "HEAD") or "none"
     listed = listed_as_refused()
     further = [edit for edit in edits_in(MORE) if edit.name in listed]
     share = share_of(further, commit)
-    print(f"gate: tries {len(share)} of the {len(further)} edits that docs/edits.md has, by the commit {commit[:12]}:")
-    print("\n".join(f"    {edit.name}" for edit in share), flush=True)
-    lanes, known = Lanes([*edits_in(GATE), *share]), known_by_shape()
+    page.tell(f"tries {len(share)} of the {len(further)} edits that docs/edits.md has, by the commit {commit[:12]}")
+    for edit in share:
+        page.keep(f"    {edit.name}")
+    known = known_by_shape()
+    lanes = Lanes([*edits_in(GATE), *share], page, known)
     kit()
-    status = run(lanes) or command and subprocess.run(command, cwd=TOP).returncode
-    tried = lanes.end()
+    is_well = run(lanes, page) == 0 and (then is None or then())
+    return is_told_as_passed(lanes.end(), known, is_well, page)
+
+
+def is_told_as_passed(tried, known, is_well, page):
+    """Tells what came of all edits, and whether all else is well. Returns whether both are."""
     failed = [fault for each in tried if (fault := fault_of(each, known))]
-    for fault in failed:
-        print(f"gate: {fault}")
+    page.show(*(f"gate: {fault}" for fault in failed))
     by_shape = sum(each.came == BY_SHAPE for each in tried)
     if by_shape:
-        print(f"gate: {by_shape} of these edits are refused by their shape alone, and count for nothing")
-    if status:
-        print("gate: rt ci failed, or what runs after it")
-    print(f"gate: {len(tried)} edits tried: {len(failed)} failed")
-    return not status and not failed
+        page.show(f"gate: {by_shape} of these edits are refused by their shape alone, and count for nothing")
+    if not is_well:
+        page.show("gate: rt ci failed, or what runs after it")
+    page.show(f"gate: {len(tried)} edits tried: {len(failed)} failed")
+    return is_well and not failed
+
+
+def main(command):
+    with Page() as page:
+        return check() and gate(page, lambda: page.run(command) if command else True)
 
 
 if __name__ == "__main__":
     put_back()
-    sys.exit(0 if check() and gate(sys.argv[1:]) else 1)
+    sys.exit(0 if main(sys.argv[1:]) else 1)

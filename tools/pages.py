@@ -19,6 +19,7 @@ which is a list, none do. It is counted so:
 import re
 
 import program
+import steps
 from program import TOP
 
 VERSIONED = ["README.md", "crates.txt", "crates/ray_actors/src/main.rt"]
@@ -60,8 +61,8 @@ def faults_of_tools():
     yield from (f"tools/README.md has no line for {name}" for name in sorted(there - listed))
     yield from (f"tools/README.md has {name}, which isn't there" for name in sorted(listed - there))
     starred = {name for line in lines if line.endswith("*") for name in names[line]}
-    run = set(re.findall(r"python3 tools/(\w+\.py)", (TOP / "test").read_text()))
-    yield from (f"tools/README.md: {name} has a star, or ./test runs it, and not both" for name in sorted(starred ^ run))
+    differing = sorted(starred ^ steps.tools())
+    yield from (f"tools/README.md: {name} has a star, or ./test runs it, and not both" for name in differing)
 
 
 def faults_of_words():

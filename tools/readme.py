@@ -1,9 +1,9 @@
 #!/usr/bin/env python3
 """Runs what README.md shows: the commands of its quick start, and the scripts that stand beside their reports.
 
-Each command but `./test` is run in a folder of links, one after another, as a reader would who copies them; it must end
-with the status of ENDS, write something, and complain of nothing. What the play of a record ends in must be allowed by
-the second reading of the rules. A script that stands on the left of a block must give the report on its right. One
+Each command but those of `./test` is run in a folder of links, one after another, as a reader would who copies them;
+it must end with the status of ENDS, write something, and complain of nothing. What the play of a record ends in must be
+allowed by the second reading of the rules. A script that stands on the left of a block must give the report on its right. One
 without events is run in threads, and several times, since the page says that it gives the same whatever the schedule.
 
 Of examples/README.md the scripts are run in threads whose lines tell what each call is answered by. Of the examples
@@ -22,7 +22,7 @@ from program import TOP
 COMMANDS = ["run", "draw", "record", "check", "explain", "examples", "test"]
 # How a command ends that doesn't end with 0: the history that is shown breaks a rule.
 ENDS = {"./check": 5}
-# What proves everything isn't run here.
+# What runs this tool isn't run here.
 LEFT_OUT = "./test"
 EVENTS = {"send", "deliver", "run", "collect", "take", "tell", "retire"}
 RUNS_IN_THREADS = 20
@@ -46,7 +46,8 @@ def blocks_of(text):
 def commands_of(text):
     """The commands that the page shows, without what is said of them."""
     lines = [line for block in blocks_of(text) for line in block if line.startswith("./")]
-    return [command for line in lines if (command := re.split(r"\s+# ", line)[0].rstrip()) != LEFT_OUT]
+    commands = [re.split(r"\s+# ", line)[0].rstrip() for line in lines]
+    return [command for command in commands if command.split()[0] != LEFT_OUT]
 
 
 def columns_of(block):

@@ -1,6 +1,10 @@
 #!/usr/bin/env python3
-"""Tests of the tools that read and try must-fail edits, in a second: what is damaged must be told."""
+"""Tests of the tools that read and try must-fail edits, and of the page that ./test shows, in seconds: what is damaged
+or fails must be told."""
+import io
 import os
+import subprocess
+import sys
 import tempfile
 import unittest
 from pathlib import Path
@@ -9,9 +13,12 @@ from unittest import mock
 import gate
 import gate_time
 import more_edits
+import page
 import refusals
+import steps
 import trying
 from edits import GATE, MORE, Edit, Place, definitions_in, fault_of, functions_in, place_at
+from page import CLEARED, SIGN_OF_LIFE_SECONDS
 from trying import BY_SHAPE, PROVED, REFUSED, UNTRIED, Tried
 
 SOURCE = """use std::fmt;
@@ -509,29 +516,35 @@ class Gate(Scratch):
         low, high = self.edit(GOOD, GATE), Edit(self.edit(GOOD, name="other.edit").path)
         high.crate = "high"
         tries = lambda crate, edits, *_: [Tried(edit, REFUSED, "..") for edit in edits]
-        with mock.patch.multiple(gate, create=True, try_crate=tries, print=lambda *_, **__: None):
-            lanes = gate.Lanes([low, high])
+        with mock.patch.multiple(gate, create=True, try_crate=tries), self.page() as page:
+            lanes = gate.Lanes([low, high], page)
             lanes.add("low", [LEN])
             lanes.begin(2)
             self.assertEqual([(each.edit, each.came) for each in lanes.end()], [(low, REFUSED), (high, UNTRIED)])
 
-    def verdict(self, status=0, came=(REFUSED, REFUSED), command=(), known=()):
-        """What the gate says with a fake `rt`, which proves the crate and ends with this status, where this comes of
-        the edits and these are listed as refused by their shape: whether it passes, and its lines."""
+    def page(self):
+        """A page whose lines the test reads, and the time of which it sets."""
+        self.out, self.now = io.StringIO(), 0
+        return page.Page("test", self.crate.parent / "kept", self.out, lambda: self.now)
+
+    def verdict(self, status=0, came=(REFUSED, REFUSED), command=(), known=(), said=(*SAID[:5], "1 passed, 0 failed")):
+        """What the gate says with a fake `rt`, which says this and ends with this status, where this comes of the edits
+        and these are listed as refused by their shape: whether it passes, and its lines."""
         rt = self.crate.parent / "bin/rt"
         rt.parent.mkdir(exist_ok=True)
-        said = "\n".join([*self.SAID[:5], ""])
-        rt.write_text(f"#!/bin/sh\ncat << 'END'\n{said}END\nexit {status}\n")
+        rt.write_text("\n".join(["#!/bin/sh", "cat << 'END'", *said, "END", f"echo on the error >&2; exit {status}\n"]))
         rt.chmod(0o755)
-        edits, lines = [self.edit(GOOD, GATE, f"{name}.edit") for name in "ab"], []
+        edits = [self.edit(GOOD, GATE, f"{name}.edit") for name in "ab"]
         tries = lambda crate, edits, *_: [Tried(edit, each, "..") for edit, each in zip(edits, came)]
         patches = {"TOP": self.crate.parent, "edits_in": lambda kind: edits if kind == GATE else [], "try_crate": tries,
                    "kit": lambda: None, "listed_as_refused": set, "output_of": lambda *_: "commit",
                    "known_by_shape": lambda: {*known},
-                   "print": lambda *words, **_: lines.extend(words)}
+                   "crates_with_tests": lambda: {"low": True, "kept": False, "high": False}}
         path = mock.patch.dict(os.environ, {"PATH": f"{rt.parent}:{os.environ['PATH']}"})
-        with path, mock.patch.multiple(gate, create=True, **patches):
-            return gate.gate([*command]), lines
+        with path, mock.patch.multiple(gate, create=True, **patches), self.page() as page:
+            passes = gate.gate(page, (lambda: page.run(command)) if command else None)
+        self.kept = page.place.read_text().splitlines()
+        return passes, self.out.getvalue().splitlines()
 
     def test_the_gate_passes_where_all_is_refused_and_rt_ci_passes(self):
         passes, lines = self.verdict()
@@ -568,6 +581,111 @@ class Gate(Scratch):
         passes, lines = self.verdict(known=["low/b.edit"])
         self.assertFalse(passes)
         self.assertIn("gate: low/b.edit: is refused for what it does, so by_shape.txt is not to have it", lines)
+
+
+    def test_of_what_passes_a_line_is_shown_and_the_file_has_all(self):
+        said = [*self.SAID[:9], "test few ... ok", "rt: low: its tests passed", "rt: low ran, and wrote what its file stdout has",
+                "rt: ok; all of it", "3 passed, 0 failed"]
+        passes, lines = self.verdict(said=said, command=["echo", "of a command"])
+        self.assertTrue(passes)
+        self.assertEqual(sorted(lines), sorted([
+            "  0.0 min: tries 0 of the 0 edits that docs/edits.md has, by the commit commit", "on the error",
+            "  0.0 min: crate 1 of 3: low proved", "  0.0 min: crate 2 of 3: kept is kept", "  0.0 min: rt ci: 3 passed, 0 failed",
+            "  0.0 min: edits of low: 2 tried, 0 failed, in 0 s", "  0.0 min: echo: of a command",
+            "gate: 2 edits tried: 0 failed"]))
+        told = [f"low/{name}.edit: refused: .." for name in "ab"]
+        self.assertLessEqual({*said, *told, *lines, "echo: of a command"}, {*self.kept})
+
+    def test_of_what_fails_all_is_shown(self):
+        tests = ["== low: its tests", "fn low::tests::few: not proved", "rt: low: its tests are NOT PROVED"]
+        parts = [self.SAID[9:], tests, ["test few ... FAILED", "rt: low: its tests FAILED"], ["rt: high NOT PROVED: its library low failed"],
+                 ["rt: low: the program ended with status 1, and not 0; it said: "], ["2 passed, 1 failed"], ["== killed", "fn killed::it"]]
+        for part in parts:
+            passes, lines = self.verdict(1, said=[*self.SAID[:5], *part])
+            self.assertFalse(passes)
+            at = lines.index(part[0])
+            self.assertEqual(lines[at : at + len(part)], part)
+            self.assertFalse({*lines} & {*self.SAID[:5]})
+            self.assertLessEqual({*lines}, {*self.kept})
+
+    def test_an_edit_that_is_not_refused_is_shown_as_it_comes(self):
+        _, lines = self.verdict(came=(REFUSED, PROVED))
+        self.assertIn(f"low/b.edit: {PROVED}: ..", lines)
+        self.assertIn("  0.0 min: edits of low: 2 tried, 1 failed, in 0 s", lines)
+
+    def test_what_rt_ci_works_on_is_found_by_its_processes(self):
+        for more, told in ([], "low"), (["--test"], "tests of low"):
+            words = ["/kit/bin/rattle", "-c", "import time; print(flush=True); time.sleep(60)", "check", "--crate-name", "low", *more]
+            with subprocess.Popen(words, executable=sys.executable, stdout=subprocess.PIPE) as ran:
+                ran.stdout.readline()
+                found = [*gate.crates_below(os.getpid())]
+                ran.kill()
+            self.assertEqual(found, [told])
+
+
+class PageShown(Scratch):
+    """The page, and what runs by its steps."""
+
+    page = Gate.page
+
+    def test_what_is_running_is_told_after_five_minutes_of_silence(self):
+        page = self.page()
+        with page.running("edits of low"), page.running(lambda: ["high"]):
+            page.head = "crate 1 of 3"
+            for self.now in (1, SIGN_OF_LIFE_SECONDS - 1, SIGN_OF_LIFE_SECONDS, SIGN_OF_LIFE_SECONDS + 1):
+                page.beat()
+        self.assertEqual(self.out.getvalue(), "  5.0 min: crate 1 of 3; running: high, edits of low\n")
+        self.assertEqual(page.now(), "crate 1 of 3")
+
+    def test_on_a_terminal_the_last_line_tells_what_is_running(self):
+        page = self.page()
+        self.out.isatty = lambda: True
+        with page.running("edits of low"):
+            page.beat()
+            page.show("a line")
+        status = "  0.0 min: running: edits of low"
+        self.assertEqual(self.out.getvalue(), f"{CLEARED}{status}{CLEARED}a line\n")
+        self.assertEqual(page.place.read_text(), "a line\n")
+
+    def test_of_a_step_that_passes_the_last_line_is_told_and_all_where_it_fails(self):
+        page = self.page()
+        for status in (0, 1):
+            passes = page.run(["sh", "-c", f"echo first; echo last >&2; exit {status}"], "it")
+            self.assertIs(passes, status == 0)
+        lines = ["  0.0 min: it: last", "first", "last", "  0.0 min: it FAILED, with the status 1: what it said is above"]
+        self.assertEqual(self.out.getvalue().splitlines(), lines)
+        self.assertEqual(page.place.read_text().count("it: first\n"), 2)
+
+    def quick(self, failing=()):
+        """What the quick steps say where these fail, and what they ran."""
+        ran, page = [], self.page()
+
+        def run(words, name=None, folder=None, is_told=True):
+            ran.append(" ".join(map(str, words[1:])))
+            return (name or ran[-1]) not in failing
+
+        build = (1, ["no kit"]) if "build" in failing else (0, ["note", "/a", "/b", "/c"])
+        page.run, page.ran = run, lambda *_: build
+        with mock.patch.object(steps, "crates_to_try", lambda: ["tests_of_low"]):
+            return steps.run_quick(page), ran, self.out.getvalue()
+
+    def test_the_quick_steps_take_the_programs_of_run_and_name_what_they_leave_out(self):
+        passes, ran, said = self.quick()
+        self.assertTrue(passes)
+        self.assertLessEqual({"try --test --seconds 300", "tools/pages.py", "tools/rows.py --program /a"}, {*ran})
+        self.assertIn("tools/recorded.py --noted --program /b --player /a", ran)
+        self.assertFalse([words for words in ran if "sweep" in words or "peers" in words or "--quick" in words])
+        self.assertIn("test: not run, as they need proved programs: sweep_memory, ", said)
+
+    def test_each_quick_step_that_fails_is_named(self):
+        for failing in "tests of tests_of_low", "tools/pages.py", "tools/rows.py --program /a":
+            passes, _, said = self.quick([failing])
+            self.assertFalse(passes)
+            self.assertIn(f"test: failed: {failing.removeprefix('tools/').format(run='/a')}".replace("/a", "{run}"), said)
+        passes, ran, said = self.quick(["build"])
+        self.assertFalse(passes)
+        self.assertIn("no kit\n", said)
+        self.assertFalse([words for words in ran if "rows.py --program" in words])
 
 
 class GateTime(Scratch):
