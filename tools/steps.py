@@ -6,7 +6,7 @@
 With `all` the checks come first, then tools/gate.py, and beside its last edits what runs the programs. The first step
 that fails ends it. With `programs` these alone are run, over the proved programs that an earlier run left.
 
-With `quick` nothing is proved. The checks are run, the tests of each crate that has some (`rt try --test`), and what
+With `quick` nothing is proved. The checks are run, the tests of each crate that has some (tools/try_tests.py), and what
 can run over programs that aren't proved, as `./run` takes them. As many run side by side as there are processors. Each
 is run, and those that failed are named at the end.
 
@@ -32,6 +32,8 @@ OVER_ANY = [
 ]  # fmt: skip
 # What runs the programs as two compilers made them, and what can run over one of them that isn't proved.
 ROWS, ROWS_OF_ONE = "rows.py", "rows.py --program {run}"
+# Where time is short, fewer random scripts do.
+FEWER = {"recorded": "--count 100"}
 # What needs proved programs: some refuse memory from outside, and the others run programs that the gate alone leaves.
 OVER_PROVED = [
     "sweep_memory.py", "sweep_tests.py", "code_runs.py", "plain_play.py --small --may-miss",
@@ -42,13 +44,11 @@ HOW_LONG = "takes an hour to an hour and a half on four quiet cores, twice that 
 BUILD = "programs"
 TAKE = "import program; [print(program.kept('test', each)) for each in (program.RUNS, program.RECORDS, program.CHECKS)]"
 PROGRAMS = {"run": program.RUNS, "record": program.RECORDS, "check": program.CHECKS}
-# A test that isn't proved runs with many checks, beside others.
-SECONDS_OF_TESTS = 300
 
 
 def tools():
     """The names of the tools that `./test` runs."""
-    return {words.split()[0] for words in [*CHECKS, *OVER_ANY, ROWS, *OVER_PROVED]} | {"gate.py", "steps.py"}
+    return {words.split()[0] for words in [*CHECKS, *OVER_ANY, ROWS, *OVER_PROVED]} | {"gate.py", "steps.py", "try_tests.py"}
 
 
 def run_tool(page, words, programs=(), is_told=True):
@@ -99,8 +99,7 @@ def taken_programs(page):
 
 def try_tests(page, crate):
     """Whether the tests of a crate pass, which aren't proved."""
-    words = ["rt", "try", "--test", "--seconds", SECONDS_OF_TESTS]
-    return page.run(words, f"tests of {crate}", program.CRATES / crate)
+    return page.run([sys.executable, "tools/try_tests.py", crate], crate)
 
 
 def crates_to_try():
@@ -109,24 +108,29 @@ def crates_to_try():
     return sorted(crates, key=lambda crate: -sum(path.stat().st_size for path in (program.CRATES / crate).rglob("*.rt")))
 
 
+def name_of(words):
+    """The name of a tool, by its words."""
+    return words.partition(".")[0]
+
+
 def quick_steps(page, pool):
     """Begins all steps. Gives the name of each, and what tells whether it passed."""
     taken = pool.submit(taken_programs, page)
     for crate in crates_to_try():
-        yield f"tests of {crate}", pool.submit(try_tests, page, crate)
+        yield crate, pool.submit(try_tests, page, crate)
     for words in CHECKS:
-        yield words, pool.submit(run_tool, page, words)
+        yield name_of(words), pool.submit(run_tool, page, words)
     yield BUILD, taken
-    for words in [*OVER_ANY, ROWS_OF_ONE] if taken.result() else ():
-        yield words, pool.submit(run_tool, page, words, taken.result())
+    for words in [ROWS_OF_ONE, *OVER_ANY] if taken.result() else ():
+        words = f"{words} {FEWER.get(name_of(words), '')}"
+        yield name_of(words), pool.submit(run_tool, page, words, taken.result())
 
 
 def run_quick(page):
     """Whether all passes that needs no proof."""
     with ThreadPoolExecutor(processors()) as pool:
         failed = [name for name, step in [*quick_steps(page, pool)] if not step.result()]
-    names = ", ".join(words.partition(".")[0] for words in OVER_PROVED)
-    page.show(f"test: not run, as they need proved programs: {names}")
+    page.show(f"test: not run, as they need proved programs: {', '.join(map(name_of, OVER_PROVED))}")
     if failed:
         page.show(f"test: failed: {', '.join(failed)}")
     return not failed

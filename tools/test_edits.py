@@ -16,6 +16,7 @@ import more_edits
 import page
 import refusals
 import steps
+import try_tests
 import trying
 from edits import GATE, MORE, Edit, Place, definitions_in, fault_of, functions_in, place_at
 from page import CLEARED, SIGN_OF_LIFE_SECONDS
@@ -672,20 +673,27 @@ class PageShown(Scratch):
     def test_the_quick_steps_take_the_programs_of_run_and_name_what_they_leave_out(self):
         passes, ran, said = self.quick()
         self.assertTrue(passes)
-        self.assertLessEqual({"try --test --seconds 300", "tools/pages.py", "tools/rows.py --program /a"}, {*ran})
-        self.assertIn("tools/recorded.py --noted --program /b --player /a", ran)
+        self.assertLessEqual({"tools/try_tests.py tests_of_low", "tools/pages.py", "tools/rows.py --program /a"}, {*ran})
+        self.assertIn("tools/recorded.py --noted --program /b --player /a --count 100", ran)
         self.assertFalse([words for words in ran if "sweep" in words or "peers" in words or "--quick" in words])
         self.assertIn("test: not run, as they need proved programs: sweep_memory, ", said)
 
     def test_each_quick_step_that_fails_is_named(self):
-        for failing in "tests of tests_of_low", "tools/pages.py", "tools/rows.py --program /a":
+        named = {"tests_of_low": "tests_of_low", "tools/pages.py": "pages", "tools/rows.py --program /a": "rows"}
+        for failing, name in named.items():
             passes, _, said = self.quick([failing])
             self.assertFalse(passes)
-            self.assertIn(f"test: failed: {failing.removeprefix('tools/').format(run='/a')}".replace("/a", "{run}"), said)
+            self.assertIn(f"test: failed: {name}\n", said)
         passes, ran, said = self.quick(["build"])
         self.assertFalse(passes)
         self.assertIn("no kit\n", said)
         self.assertFalse([words for words in ran if "rows.py --program" in words])
+
+    def test_tests_that_are_not_proved_pass_by_the_last_line(self):
+        said, last = try_tests.RESULT.search("test result: ok. 2 passed; 0 failed"), "run=ended status={} proved=no\n"
+        ways = [(0, said, last.format(0)), (0, said, last.format(101)), (0, None, last.format(0)), (6, said, last.format(0)),
+                (0, said, last.format(0) + "more\n")]
+        self.assertEqual([try_tests.is_passed(*way) for way in ways], [True, False, False, False, False])
 
 
 class GateTime(Scratch):
