@@ -45,9 +45,7 @@ PROVED = re.compile(r"rt: (\w+) (proved$|is kept: )")
 HEAD = re.compile(r"== (\w+)")
 VERDICT = re.compile(r"rt: (\w+)(: its tests are)? (proved$|is kept|NOT PROVED)")
 # The lines that end a part of which nothing else is shown.
-GOOD = re.compile(
-    r"rt: (\w+: )?(its tests are |\w+ )?proved$|rt: \w+ is kept: |rt: \w+: its tests passed$|rt: \w+ ran\b|rt: note: |rt: ok; "
-)
+GOOD = re.compile(r"rt: (\w+( proved$| is kept: |: its tests (are proved|passed)$| ran\b)|note: |ok; )")
 COUNTS = re.compile(r"(\d+) passed, (\d+) failed")
 
 
@@ -228,8 +226,11 @@ class Crates:
 
 def crates_with_tests():
     """Each crate of crates.txt, and whether it has tests."""
-    sources = {crate: program.CRATES.joinpath(crate, "src").rglob("*.rt") for crate in program.listed()}
-    return {crate: any("#[test]" in path.read_text() for path in paths) for crate, paths in sources.items()}
+    return {crate: any("#[test]" in path.read_text() for path in sources_of(crate)) for crate in program.listed()}
+
+
+def sources_of(crate):
+    return program.CRATES.joinpath(crate, "src").rglob("*.rt")
 
 
 def shown(lines, crates, page):

@@ -117,7 +117,8 @@ class Page:
     # Commands.
 
     def run(self, words, name=None, folder=TOP, is_told=True):
-        """Runs a command. Where it passes its last line is told, and else all that it said. Returns whether it passes."""
+        """Runs a command. Where it passes its last line is told, and else all that it said. Returns whether it
+        passes."""
         name = name or stem_of(words)
         status, lines = self.ran(words, name, folder)
         if status:

@@ -15,9 +15,10 @@ What is shown is a page (tools/page.py). The full text is in .built/: test.log, 
 import os
 import sys
 from concurrent.futures import ThreadPoolExecutor
+from contextlib import contextmanager
 
 import program
-from gate import crates_with_tests, gate, put_back
+from gate import crates_with_tests, gate, put_back, sources_of
 from page import Page
 
 CHECKS = [
@@ -48,7 +49,8 @@ PROGRAMS = {"run": program.RUNS, "record": program.RECORDS, "check": program.CHE
 
 def tools():
     """The names of the tools that `./test` runs."""
-    return {words.split()[0] for words in [*CHECKS, *OVER_ANY, ROWS, *OVER_PROVED]} | {"gate.py", "steps.py", "try_tests.py"}
+    listed = {words.split()[0] for words in [*CHECKS, *OVER_ANY, ROWS, *OVER_PROVED]}
+    return listed | {"gate.py", "steps.py", "try_tests.py"}
 
 
 def run_tool(page, words, programs=(), is_told=True):
@@ -105,7 +107,8 @@ def try_tests(page, crate):
 def crates_to_try():
     """The crates that have tests, the largest first."""
     crates = [crate for crate, has_tests in crates_with_tests().items() if has_tests]
-    return sorted(crates, key=lambda crate: -sum(path.stat().st_size for path in (program.CRATES / crate).rglob("*.rt")))
+    sizes = {crate: sum(path.stat().st_size for path in sources_of(crate)) for crate in crates}
+    return sorted(crates, key=sizes.get, reverse=True)
 
 
 def name_of(words):
@@ -126,9 +129,19 @@ def quick_steps(page, pool):
         yield name_of(words), pool.submit(run_tool, page, words, taken.result())
 
 
+@contextmanager
+def lanes(count):
+    """A pool of so many threads, in which nothing more begins where this ends early."""
+    pool = ThreadPoolExecutor(count)
+    try:
+        yield pool
+    finally:
+        pool.shutdown(cancel_futures=True)
+
+
 def run_quick(page):
     """Whether all passes that needs no proof."""
-    with ThreadPoolExecutor(processors()) as pool:
+    with lanes(processors()) as pool:
         failed = [name for name, step in [*quick_steps(page, pool)] if not step.result()]
     page.show(f"test: not run, as they need proved programs: {', '.join(map(name_of, OVER_PROVED))}")
     if failed:
@@ -160,4 +173,4 @@ if __name__ == "__main__":
         sys.exit(f"usage: tools/steps.py {'|'.join(WAYS)}")
     if sys.argv[1] == "all":
         put_back()
-    sys.exit(0 if main(sys.argv[1]) else 1)
+    program.ended("test", lambda: 0 if main(sys.argv[1]) else 1)

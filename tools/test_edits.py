@@ -585,22 +585,23 @@ class Gate(Scratch):
 
 
     def test_of_what_passes_a_line_is_shown_and_the_file_has_all(self):
-        said = [*self.SAID[:9], "test few ... ok", "rt: low: its tests passed", "rt: low ran, and wrote what its file stdout has",
-                "rt: ok; all of it", "3 passed, 0 failed"]
+        ran = "rt: low ran, and wrote what its file stdout has"
+        said = [*self.SAID[:9], "test few ... ok", "rt: low: its tests passed", ran, "rt: ok; all", "3 passed, 0 failed"]
         passes, lines = self.verdict(said=said, command=["echo", "of a command"])
         self.assertTrue(passes)
         self.assertEqual(sorted(lines), sorted([
             "  0.0 min: tries 0 of the 0 edits that docs/edits.md has, by the commit commit", "on the error",
-            "  0.0 min: crate 1 of 3: low proved", "  0.0 min: crate 2 of 3: kept is kept", "  0.0 min: rt ci: 3 passed, 0 failed",
-            "  0.0 min: edits of low: 2 tried, 0 failed, in 0 s", "  0.0 min: echo: of a command",
-            "gate: 2 edits tried: 0 failed"]))
+            "  0.0 min: crate 1 of 3: low proved", "  0.0 min: crate 2 of 3: kept is kept",
+            "  0.0 min: rt ci: 3 passed, 0 failed", "  0.0 min: edits of low: 2 tried, 0 failed, in 0 s",
+            "  0.0 min: echo: of a command", "gate: 2 edits tried: 0 failed"]))
         told = [f"low/{name}.edit: refused: .." for name in "ab"]
         self.assertLessEqual({*said, *told, *lines, "echo: of a command"}, {*self.kept})
 
     def test_of_what_fails_all_is_shown(self):
         tests = ["== low: its tests", "fn low::tests::few: not proved", "rt: low: its tests are NOT PROVED"]
-        parts = [self.SAID[9:], tests, ["test few ... FAILED", "rt: low: its tests FAILED"], ["rt: high NOT PROVED: its library low failed"],
-                 ["rt: low: the program ended with status 1, and not 0; it said: "], ["2 passed, 1 failed"], ["== killed", "fn killed::it"]]
+        of_runs = ["rt: high NOT PROVED: its library low failed"], ["rt: low: the program ended with status 1, and not 0"]
+        parts = [self.SAID[9:], tests, ["test few ... FAILED", "rt: low: its tests FAILED"], *of_runs,
+                 ["2 passed, 1 failed"], ["== killed", "fn killed::it"]]
         for part in parts:
             passes, lines = self.verdict(1, said=[*self.SAID[:5], *part])
             self.assertFalse(passes)
@@ -616,7 +617,8 @@ class Gate(Scratch):
 
     def test_what_rt_ci_works_on_is_found_by_its_processes(self):
         for more, told in ([], "low"), (["--test"], "tests of low"):
-            words = ["/kit/bin/rattle", "-c", "import time; print(flush=True); time.sleep(60)", "check", "--crate-name", "low", *more]
+            code = "import time; print(flush=True); time.sleep(60)"
+            words = ["/kit/bin/rattle", "-c", code, "check", "--crate-name", "low", *more]
             with subprocess.Popen(words, executable=sys.executable, stdout=subprocess.PIPE) as ran:
                 ran.stdout.readline()
                 found = [*gate.crates_below(os.getpid())]
@@ -691,8 +693,8 @@ class PageShown(Scratch):
 
     def test_tests_that_are_not_proved_pass_by_the_last_line(self):
         said, last = try_tests.RESULT.search("test result: ok. 2 passed; 0 failed"), "run=ended status={} proved=no\n"
-        ways = [(0, said, last.format(0)), (0, said, last.format(101)), (0, None, last.format(0)), (6, said, last.format(0)),
-                (0, said, last.format(0) + "more\n")]
+        ended = last.format(0)
+        ways = [(0, said, ended), (0, said, last.format(101)), (0, None, ended), (6, said, ended), (0, said, f"{ended}a\n")]
         self.assertEqual([try_tests.is_passed(*way) for way in ways], [True, False, False, False, False])
 
 
