@@ -3,8 +3,9 @@
 
 Each command but those of `./test` is run in a folder of links, one after another, as a reader would who copies them;
 it must end with the status of ENDS, write something, and complain of nothing. What the play of a record ends in must be
-allowed by the second reading of the rules. A script that stands on the left of a block must give the report on its right. One
-without events is run in threads, and several times, since the page says that it gives the same whatever the schedule.
+allowed by the second reading of the rules. A script that stands on the left of a block must give the report on its
+right. One without events is run in threads, and several times, since the page says that it gives the same whatever the
+schedule.
 
 Of examples/README.md the scripts are run in threads whose lines tell what each call is answered by. Of the examples
 that are played each text in the quotes of a comment must stand in the script or in its report. What a comment says of a

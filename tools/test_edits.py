@@ -586,7 +586,8 @@ class Gate(Scratch):
 
     def test_of_what_passes_a_line_is_shown_and_the_file_has_all(self):
         ran = "rt: low ran, and wrote what its file stdout has"
-        said = [*self.SAID[:9], "test few ... ok", "rt: low: its tests passed", ran, "rt: ok; all", "3 passed, 0 failed"]
+        of_tests = "test few ... ok", "rt: low: its tests passed"
+        said = [*self.SAID[:9], *of_tests, ran, "rt: ok; all", "3 passed, 0 failed"]
         passes, lines = self.verdict(said=said, command=["echo", "of a command"])
         self.assertTrue(passes)
         self.assertEqual(sorted(lines), sorted([
@@ -599,7 +600,7 @@ class Gate(Scratch):
 
     def test_of_what_fails_all_is_shown(self):
         tests = ["== low: its tests", "fn low::tests::few: not proved", "rt: low: its tests are NOT PROVED"]
-        of_runs = ["rt: high NOT PROVED: its library low failed"], ["rt: low: the program ended with status 1, and not 0"]
+        of_runs = ["rt: high NOT PROVED: its library low failed"], ["rt: low: the program ended with status 1"]
         parts = [self.SAID[9:], tests, ["test few ... FAILED", "rt: low: its tests FAILED"], *of_runs,
                  ["2 passed, 1 failed"], ["== killed", "fn killed::it"]]
         for part in parts:
@@ -655,8 +656,8 @@ class PageShown(Scratch):
         for status in (0, 1):
             passes = page.run(["sh", "-c", f"echo first; echo last >&2; exit {status}"], "it")
             self.assertIs(passes, status == 0)
-        lines = ["  0.0 min: it: last", "first", "last", "  0.0 min: it FAILED, with the status 1: what it said is above"]
-        self.assertEqual(self.out.getvalue().splitlines(), lines)
+        failed = "  0.0 min: it FAILED, with the status 1: what it said is above"
+        self.assertEqual(self.out.getvalue().splitlines(), ["  0.0 min: it: last", "first", "last", failed])
         self.assertEqual(page.place.read_text().count("it: first\n"), 2)
 
     def quick(self, failing=()):
@@ -675,7 +676,8 @@ class PageShown(Scratch):
     def test_the_quick_steps_take_the_programs_of_run_and_name_what_they_leave_out(self):
         passes, ran, said = self.quick()
         self.assertTrue(passes)
-        self.assertLessEqual({"tools/try_tests.py tests_of_low", "tools/pages.py", "tools/rows.py --program /a"}, {*ran})
+        of_each_sort = {"tools/try_tests.py tests_of_low", "tools/pages.py", "tools/rows.py --program /a"}
+        self.assertLessEqual(of_each_sort, {*ran})
         self.assertIn("tools/recorded.py --noted --program /b --player /a --count 100", ran)
         self.assertFalse([words for words in ran if "sweep" in words or "peers" in words or "--quick" in words])
         self.assertIn("test: not run, as they need proved programs: sweep_memory, ", said)
@@ -694,7 +696,8 @@ class PageShown(Scratch):
     def test_tests_that_are_not_proved_pass_by_the_last_line(self):
         said, last = try_tests.RESULT.search("test result: ok. 2 passed; 0 failed"), "run=ended status={} proved=no\n"
         ended = last.format(0)
-        ways = [(0, said, ended), (0, said, last.format(101)), (0, None, ended), (6, said, ended), (0, said, f"{ended}a\n")]
+        ways = [(0, said, ended), (0, said, last.format(101)), (0, None, ended), (6, said, ended)]
+        ways.append((0, said, f"{ended}more\n"))
         self.assertEqual([try_tests.is_passed(*way) for way in ways], [True, False, False, False, False])
 
 
