@@ -251,20 +251,17 @@ def shown(lines, crates, page):
 def parents_now():
     """Each process, and the one that began it."""
     for stat in Path("/proc").glob("[0-9]*/stat"):
-        with suppress(OSError):
+        with suppress(OSError, IndexError):  # it has ended meanwhile
             yield int(stat.parent.name), int(stat.read_text().rpartition(")")[2].split()[1])
 
 
 def crates_below(process):
     """What the prover's processes below this one work on: names of crates, and of those whose tests they check."""
-    parents = dict(parents_now())
-    for one in sorted(parents):
-        above = one
-        while above not in (process, None):
-            above = parents.get(above)
-        told = above and crate_of(one)
-        if told:
-            yield told
+    parents, found, more = dict(parents_now()), set(), {process}
+    while more:
+        found |= more
+        more = {one for one, parent in parents.items() if parent in more} - found
+    return [told for told in map(crate_of, sorted(found)) if told]
 
 
 def crate_of(process):

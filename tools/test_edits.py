@@ -622,7 +622,7 @@ class Gate(Scratch):
             words = ["/kit/bin/rattle", "-c", code, "check", "--crate-name", "low", *more]
             with subprocess.Popen(words, executable=sys.executable, stdout=subprocess.PIPE) as ran:
                 ran.stdout.readline()
-                found = [*gate.crates_below(os.getpid())]
+                found = gate.crates_below(os.getpid())
                 ran.kill()
             self.assertEqual(found, [told])
 
