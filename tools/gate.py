@@ -239,8 +239,8 @@ def shown(lines, crates, page):
         yield from part
         if not is_good(part):
             page.show_kept(*part)
-        elif COUNTS.match(part[-1]):
-            page.tell(f"rt ci: {part[-1]}")
+        if COUNTS.match(part[-1]):
+            page.sum_up(f"rt ci: {part[-1]}")
         verdict = VERDICT.match(part[-1])
         told = verdict and crates.takes(verdict)
         if told:
@@ -342,6 +342,7 @@ def is_told_as_passed(tried, known, is_well, page):
     if not is_well:
         page.show("gate: rt ci failed, or what runs after it")
     page.show(f"gate: {len(tried)} edits tried: {len(failed)} failed")
+    page.sums.append(f"{len(tried)} edits tried, {len(failed)} failed")
     return is_well and not failed
 
 

@@ -35,6 +35,8 @@ class Page:
         self.began = self.shown_at = clock()
         # What is running: named while it lasts, and told by functions that look.
         self.named, self.lookers, self.head = [], [], ""
+        # What the end says once more.
+        self.sums = []
         self.lock, self.ended = threading.RLock(), threading.Event()
         self.pulse = threading.Thread(target=self.beat_on, daemon=True)
 
@@ -70,9 +72,18 @@ class Page:
             self.shown_at = self.clock()
             self.write("".join(f"{line}\n" for line in lines))
 
+    def minutes(self):
+        """The minutes so far."""
+        return f"{(self.clock() - self.began) / 60:.1f}"
+
     def tell(self, text):
         """Shows a line with the minutes so far."""
-        self.show(f"{(self.clock() - self.began) / 60:5.1f} min: {text}")
+        self.show(f"{self.minutes():>5} min: {text}")
+
+    def sum_up(self, text):
+        """Tells what the end says once more."""
+        self.sums.append(text)
+        self.tell(text)
 
     def write(self, text, rest=""):
         """Writes lines in the place of the terminal's last one, and below them the rest of what that is to have."""
@@ -104,7 +115,7 @@ class Page:
     def beat(self):
         """Tells what is running: on a terminal each time, and elsewhere where nothing was shown for long."""
         if self.out.isatty():
-            text = f"{(self.clock() - self.began) / 60:5.1f} min: {self.now()}"
+            text = f"{self.minutes():>5} min: {self.now()}"
             with self.lock:
                 self.write("", text[: shutil.get_terminal_size().columns - 1])
         elif self.clock() - self.shown_at >= SIGN_OF_LIFE_SECONDS:

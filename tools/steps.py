@@ -72,7 +72,7 @@ def run_programs(page):
     steps = [*OVER_ANY, ROWS, *OVER_PROVED]
     passed = all(run_tool(page, words, proved) for words in steps)
     if passed:
-        page.tell(f"programs: {len(steps)} tools passed")
+        page.sum_up(f"programs: {len(steps)} tools passed")
     return passed
 
 
@@ -81,7 +81,7 @@ def run_all(page):
     page.show(f"test: {HOW_LONG}; here are {processors()}")
     if not all(run_tool(page, words, is_told=False) for words in CHECKS):
         return False
-    page.tell(f"checks: {len(CHECKS)} passed")
+    page.sum_up(f"checks: {len(CHECKS)} passed")
     return gate(page, lambda: run_programs(page))
 
 
@@ -142,7 +142,9 @@ def lanes(count):
 def run_quick(page):
     """Whether all passes that needs no proof."""
     with lanes(processors()) as pool:
-        failed = [name for name, step in [*quick_steps(page, pool)] if not step.result()]
+        steps = [*quick_steps(page, pool)]
+        failed = [name for name, step in steps if not step.result()]
+    page.sums.append(f"{len(steps)} steps, {len(failed)} failed")
     page.show(f"test: not run, as they need proved programs: {', '.join(map(name_of, OVER_PROVED))}")
     if failed:
         page.show(f"test: failed: {', '.join(failed)}")
@@ -164,6 +166,7 @@ def main(way):
         place = page.place.relative_to(program.TOP)
         page.show(f"test: the full text goes to {place}")
         passed = run(page)
+        page.show(f"test: {'; '.join([*page.sums, f'{page.minutes()} minutes'])}")
         page.show(f"test: the full text is in {place}", f"test: {well if passed else ill}")
     return passed
 

@@ -544,7 +544,7 @@ class Gate(Scratch):
         path = mock.patch.dict(os.environ, {"PATH": f"{rt.parent}:{os.environ['PATH']}"})
         with path, mock.patch.multiple(gate, create=True, **patches), self.page() as page:
             passes = gate.gate(page, (lambda: page.run(command)) if command else None)
-        self.kept = page.place.read_text().splitlines()
+        self.kept, self.sums = page.place.read_text().splitlines(), page.sums
         return passes, self.out.getvalue().splitlines()
 
     def test_the_gate_passes_where_all_is_refused_and_rt_ci_passes(self):
@@ -597,6 +597,7 @@ class Gate(Scratch):
             "  0.0 min: echo: of a command", "gate: 2 edits tried: 0 failed"]))
         told = [f"low/{name}.edit: refused: .." for name in "ab"]
         self.assertLessEqual({*said, *told, *lines, "echo: of a command"}, {*self.kept})
+        self.assertEqual(self.sums, ["rt ci: 3 passed, 0 failed", "2 edits tried, 0 failed"])
 
     def test_of_what_fails_all_is_shown(self):
         tests = ["== low: its tests", "fn low::tests::few: not proved", "rt: low: its tests are NOT PROVED"]
@@ -606,6 +607,7 @@ class Gate(Scratch):
         for part in parts:
             passes, lines = self.verdict(1, said=[*self.SAID[:5], *part])
             self.assertFalse(passes)
+            self.assertEqual(self.sums[-1], "2 edits tried, 0 failed")
             at = lines.index(part[0])
             self.assertEqual(lines[at : at + len(part)], part)
             self.assertFalse({*lines} & {*self.SAID[:5]})
