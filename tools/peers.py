@@ -100,7 +100,7 @@ class Used:
 
 
 def waited_for(process):
-    """The status of the process once it has ended, and what the system counted of it. One that takes too long is ended."""
+    """The status of the process once it has ended, if that isn't too late, and what the system counted of it."""
     timer = threading.Timer(MAX_SECONDS, os.kill, [process.pid, signal.SIGKILL])
     begun = time.monotonic()
     timer.start()
@@ -321,8 +321,8 @@ def show(taken, contenders, chosen, load_before):
     print(f"Thousands of calls a second, the median of {turns}, on {os.cpu_count()} cores. The load average was")
     print(f"{load_before} before the first turn and {load()} after the last one. Of more than {CALLERS_WITH_ALL} callers")
     print(f"each makes fewer calls: as many in all as of {CALLERS_WITH_ALL}.\n")
-    print(f"What the system counted is of whole processes, the median of {chosen.rounds}: microseconds of a call, and faults and")
-    print("involuntary switches of 1,000 calls.\n")
+    print(f"What the system counted is of whole processes, the median of {chosen.rounds}: microseconds of a call, and")
+    print("page faults and involuntary switches of 1,000 calls.\n")
     for crew in chosen.crews:
         print("{} x {}, callers x actors:\n".format(*crew))
         plans, code, *peers = (each for each in contenders if each.crew == crew)

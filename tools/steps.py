@@ -38,7 +38,7 @@ FEWER = {"recorded": "--count 100"}
 # What needs proved programs: some refuse memory from outside, and the others run programs that the gate alone leaves.
 OVER_PROVED = [
     "sweep_memory.py", "sweep_tests.py", "code_runs.py", "plain_play.py --small --may-miss",
-    "peers.py --small --may-miss", "long_runs.py --small --may-miss",
+    "peers.py --small --may-miss", "call_cost.py --small --may-miss", "long_runs.py --small --may-miss",
 ]  # fmt: skip
 HOW_LONG = "takes an hour to an hour and a half on four quiet cores, twice that on two"
 # What finds or builds the programs, and tells where each is.
