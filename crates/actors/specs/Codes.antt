@@ -1,7 +1,8 @@
 -- Callers that are code, in threads.
 
 -- what contracts see of a session, and how it goes on
-pub use Rattle.act_drive.specs.Sessions.{SessionView, session_view, IsLater, DoesMore, OnlyHears, Submits, LetsGo, AsksKill}
+pub use Rattle.act_drive.specs.Sessions.{SessionView, session_view, IsLater, DoesMore, OnlyHears}
+pub use Rattle.act_drive.specs.Sessions.{Submits, LetsGo, AsksKill}
 -- what a session refuses, and what it counts
 pub use Rattle.act_drive.specs.Sessions.{call_refusal, use_refusal, kill_refusal, kills_of, pending_of, session_limit}
 -- the test of codes, and what every run of them leaves
