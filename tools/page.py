@@ -4,6 +4,7 @@ On a terminal the last line tells what is running now, and is written over again
 and where none came for five minutes, one tells what is running.
 """
 import contextlib
+import os
 import shutil
 import subprocess
 import sys
@@ -145,7 +146,10 @@ class Page:
         began = self.clock()
         with self.running(name), subprocess.Popen(list(map(str, words)), cwd=folder, errors="replace", **how) as ran:
             lines = [*self.kept_lines(ran.stdout, f"{name}: ")]
-        self.keep(f"{name}: ended with {ran.returncode} after {self.clock() - began:.0f} s")
+            _, status, used = os.wait4(ran.pid, 0)
+            ran.returncode = os.waitstatus_to_exitcode(status)
+        took = f"{self.clock() - began:.0f} s, and {used.ru_utime:.0f} + {used.ru_stime:.0f} of a processor"
+        self.keep(f"{name}: ended with {ran.returncode} after {took}, user and system")
         return ran.returncode, lines
 
     def kept_lines(self, stream, head=""):

@@ -661,6 +661,7 @@ class PageShown(Scratch):
         failed = "  0.0 min: it FAILED, with the status 1: what it said is above"
         self.assertEqual(self.out.getvalue().splitlines(), ["  0.0 min: it: last", "first", "last", failed])
         self.assertEqual(page.place.read_text().count("it: first\n"), 2)
+        self.assertFalse(page.run(["sh", "-c", "kill -9 $$"], "killed"))
 
     def quick(self, failing=()):
         """What the quick steps say where these fail, and what they ran."""
