@@ -9,6 +9,10 @@ a proof and found none, or a written answer proves it of another value than the 
 something else altogether. A correct body of that shape would be refused, too. Where one answer doesn't fit, another
 that differs counts only if both types speak of the same steps.
 
+Values are compared as they are written. So a correct body of the same steps that writes the same value in other words,
+as `1 + n` for `n + 1`, is told as refused by a goal, too: an answer speaks of the one, and no search ties it to the
+other. An edit's value has to be another one for some input, which nobody but its writer sees to.
+
 A goal whose name is new may be one whose answer is lost. So where an answer of the function has lost its goal, another
 goal of the same clause counts only where the prover has values at which it is false.
 """
