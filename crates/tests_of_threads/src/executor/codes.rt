@@ -2,6 +2,7 @@
 
 mod bad;
 mod doing;
+mod waits;
 
 use super::gates::Meeting;
 use super::scene::{
@@ -9,7 +10,7 @@ use super::scene::{
 };
 use super::told::{assert_text, text_of};
 use act_actor::{Cast, cast_fits};
-use act_executor::{Gate, NoGate, Plan, RunFault, codes_fit, plans_fit, run_callers};
+use act_executor::{Code, Gate, NoGate, Plan, RunFault, codes_fit, plans_fit, run_callers};
 use act_kinds::Counter;
 use act_types::{ActorId, CallerId, Method, NoMemory};
 use doing::Doing;
@@ -20,12 +21,12 @@ use std::test::Fail;
 use std::thread::Threads;
 
 /// Runs counters with these plans and codes past a gate, and tells what is left. What doesn't fit is too many.
-fn told_past<R: Threads + Wait + Sync, G: Gate>(
+fn told_past<R: Threads + Wait + Sync, C: Code + Send, G: Gate>(
     rt: &R,
     alloc: Global,
     casts: Vec<Cast<Counter>>,
     plans: Vec<(CallerId, Plan)>,
-    codes: Vec<(CallerId, Doing)>,
+    codes: Vec<(CallerId, C)>,
     gate: &G,
 ) -> Result<String, RunFault> {
     if cast_fits(casts.as_slice())
