@@ -28,8 +28,8 @@ LOST_GOAL = re.compile(r"error: `[^`]*`: `goal\.([^`]*)`: module `[^`]*` has no 
 # The goal of a message, or one of several.
 GOAL = re.compile(r"\(`([^`]+)`")
 NOT_PROVED, FALSE = "it is not proved that", "allow values at which this goal is false"
-# A tactic that an answer calls: it found no proof, or stopped at a limit, as `search` does by itself.
-SEARCHED = re.compile(r"`(omega|search|grind)`(?:: | stopped at its own limit)")
+# A tactic that an answer calls, which found no proof. Where `grind` stops at its own limit, the goal may hold.
+SEARCHED = re.compile(r"`(omega|search|grind)`: ")
 # Where two types differ, as an answer's message shows them: what is expected there, and what the answer has.
 DIFFER = re.compile(r"the two types (?:(?:first )?differ (?:only )?where one has|are) `")
 # What is expected where nothing is.

@@ -230,13 +230,12 @@ class Refusals(unittest.TestCase):
         self.assertTrue(self.kinds(self.NOTE.format("returns")))
         self.assertTrue(self.kinds(self.NO_FIELD, self.NOTE.format("returns-clause-value")))
         self.assertTrue(self.kinds(self.OMEGA))
-        self.assertTrue(self.kinds(self.GRIND))
 
     def test_what_no_longer_fits_does_not(self):
         expected = f"{self.FILE}`returns`: expected type `IsFew c.self-3`", "  but this has type `IsFew c.kept`"
         occurrence = self.FILE + "`returns`: `rw`: no occurrence of the path's left-hand side"
         admitted = self.FILE + "`returns`: `lemma` was not admitted"
-        for said in [self.NO_FIELD], expected, [occurrence], [admitted], [self.GONE], [self.NO_FIELD, self.GONE]:
+        for said in [self.NO_FIELD], expected, [occurrence], [admitted], [self.GONE], [self.NO_FIELD, self.GONE], [self.GRIND]:
             self.assertFalse(self.kinds(*said))
 
     def test_a_goal_that_may_have_lost_its_answer_refuses_only_where_it_is_false(self):

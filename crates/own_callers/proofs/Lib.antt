@@ -1,3 +1,4 @@
+pub mod Amounts
 pub mod Balances
 pub mod Sums
 pub mod Books

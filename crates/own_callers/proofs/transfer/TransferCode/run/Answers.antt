@@ -1,4 +1,4 @@
-use Rattle.std.proofs.Common.{rules, ◌≡◌, true, false, is_some, [], ◌∷◌, ℕ, length, ap, sym, ◌∙◌, inl, inr, Some, Ok, arith}
+use Rattle.std.proofs.Common.{rules, ◌≡◌, true, false, is_some, [], ◌∷◌, ℕ, length, ap, sym, ◌∙◌, inl, inr, Some, Ok}
 use Rattle.std.specs.Prelude.{option_copied}
 use Rattle.actors.specs.Value.{Value}
 use Rattle.actors.specs.Value.TheVariants.{Int}
@@ -7,6 +7,7 @@ use Rattle.actors.specs.Method.TheVariants.{Balance, Deposit, Withdraw}
 use Rattle.actors.specs.Kinds.{Answer}
 use Rattle.actors.specs.Callers.{kept_at}
 use Rattle.own_callers.specs.Transfer.{balance_call, withdraw_call, is_enough, is_amount}
+use Rattle.own_callers.proofs.Amounts.{at_least, too_few}
 use Rattle.own_callers.proofs.Calls.{called, kept_on, kept_here}
 use Rattle.own_callers.proofs.transfer.TransferCode.run.Goals as goal
 
@@ -43,7 +44,7 @@ returns-then-balance-self g c = λ fresh.
     let zero : c.in_ok-asked.asked ≡ 0 = c.in_ok-asked.ensures.future ∙ ap length fresh in
     let told : kept_at one.kept c.in_ok-asked.asked ≡ Some (Ok (Int b)) =
     sym c.answer.ensures ∙ ap option_copied c.in-Some-Ok-Int.is ∙ ap (λ (v : Answer). Some v) (c.in-Some-Ok-Int.field-0-is ∙ ap (λ (v : Value). Ok v) c.in-Some-Ok-Int.field-0-0-is) in
-    let short : is_enough t.amount (Some (Ok (Int b))) ≡ false = grind (arith, c.if-balance-self.true) in
+    let short : is_enough t.amount (Some (Ok (Int b))) ≡ false = too_few t.amount b (search (rules, c.if-balance-self.true)) in
     inl (record {
       calls = called t.from Balance [] c.new.result [] old one c.new.ensures fresh c.in_ok-asked.ensures.submits;
       asked = ap (λ (k : ℕ). is_some (kept_at one.kept k)) (sym zero) ∙ c.in_ok-asked.ensures.answered;
@@ -62,7 +63,7 @@ returns-in_default-answer g c = λ fresh.
     let told : kept_at one.kept c.in_ok-asked.asked ≡ Some (Ok (Int b)) =
     sym c.answer.ensures ∙ ap option_copied c.in-Some-Ok-Int.is ∙ ap (λ (v : Answer). Some v) (c.in-Some-Ok-Int.field-0-is ∙ ap (λ (v : Value). Ok v) c.in-Some-Ok-Int.field-0-0-is) in
     let asked : kept_at one.kept 0 ≡ Some (Ok (Int b)) = kept_here one c.in_ok-asked.asked 0 (Ok (Int b)) (c.in_ok-asked.ensures.future ∙ ap length fresh) told in
-    let enough : is_enough t.amount (Some (Ok (Int b))) ≡ true = grind (arith, c.if-balance-self.false) in
+    let enough : is_enough t.amount (Some (Ok (Int b))) ≡ true = at_least t.amount b (search (rules, c.if-balance-self.false)) in
     let place : c.in_ok-taken.taken ≡ 1 = c.in_ok-taken.ensures.future ∙ ap length first in
     let kept : kept_at two.kept c.in_ok-taken.taken ≡ option_copied c.answer-2.result = sym c.answer-2.ensures in
     inr (inl (record {
@@ -84,7 +85,7 @@ returns-in_default-answer-2 g c = λ fresh.
     let told : kept_at one.kept c.in_ok-asked.asked ≡ Some (Ok (Int b)) =
     sym c.answer.ensures ∙ ap option_copied c.in-Some-Ok-Int.is ∙ ap (λ (v : Answer). Some v) (c.in-Some-Ok-Int.field-0-is ∙ ap (λ (v : Value). Ok v) c.in-Some-Ok-Int.field-0-0-is) in
     let asked : kept_at one.kept 0 ≡ Some (Ok (Int b)) = kept_here one c.in_ok-asked.asked 0 (Ok (Int b)) (c.in_ok-asked.ensures.future ∙ ap length fresh) told in
-    let enough : is_enough t.amount (Some (Ok (Int b))) ≡ true = grind (arith, c.if-balance-self.false) in
+    let enough : is_enough t.amount (Some (Ok (Int b))) ≡ true = at_least t.amount b (search (rules, c.if-balance-self.false)) in
     let place : c.in_ok-taken.taken ≡ 1 = c.in_ok-taken.ensures.future ∙ ap length first in
     let kept : kept_at two.kept c.in_ok-taken.taken ≡ option_copied c.answer-2.result = sym c.answer-2.ensures in
     inr (inl (record {
@@ -109,7 +110,7 @@ returns g c = λ fresh.
     let told : kept_at one.kept c.in_ok-asked.asked ≡ Some (Ok (Int b)) =
     sym c.answer.ensures ∙ ap option_copied c.in-Some-Ok-Int.is ∙ ap (λ (v : Answer). Some v) (c.in-Some-Ok-Int.field-0-is ∙ ap (λ (v : Value). Ok v) c.in-Some-Ok-Int.field-0-0-is) in
     let asked : kept_at one.kept 0 ≡ Some (Ok (Int b)) = kept_here one c.in_ok-asked.asked 0 (Ok (Int b)) (c.in_ok-asked.ensures.future ∙ ap length fresh) told in
-    let enough : is_enough t.amount (Some (Ok (Int b))) ≡ true = grind (arith, c.if-balance-self.false) in
+    let enough : is_enough t.amount (Some (Ok (Int b))) ≡ true = at_least t.amount b (search (rules, c.if-balance-self.false)) in
     let kept : kept_at two.kept c.in_ok-taken.taken ≡ option_copied c.answer-2.result = sym c.answer-2.ensures in
     let v = c.in-Some-Ok-Int-answer in
     let left : kept_at two.kept c.in_ok-taken.taken ≡ Some (Ok (Int _)) =
