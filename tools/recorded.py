@@ -20,6 +20,7 @@ Of a script with a fault the line of the fault and the status 1 must come. A run
 whose play is too long for a script must be recorded all the same, and a line must say so. Then, of one worked script,
 each request for memory is refused in turn, alone and with all that come after, and each thread: the run must say `no
 memory`, or `no thread` where the start of one was refused, end with 3 and write nothing, or leave a record that is good.
+Some runs must leave one that is told as found, since a thread was refused the memory to note what it did.
 It must start a thread for each caller and each actor. The checks are tried themselves: a record of the bank from which
 a line is taken, or in which two lines change places, must fail, but where the rules say that it means the same.
 """
@@ -35,7 +36,7 @@ import reading_of_rules as reading
 import seeds
 import threads
 from program import RECORDS, TOP, program_of
-from refusing import HANGS, WAYS, Refusing
+from refusing import ALONE, HANGS, WAYS, Refusing
 
 EXAMPLES = TOP / "examples"
 ROWS = TOP / "crates/ray_actors/thread_rows"
@@ -238,14 +239,14 @@ def swept(program, player):
 def requests_refused(refusing, program, player, way, most):
     """The same of the requests, in one way."""
     script = SWEPT.read_bytes()
-    nth = refused = starts = 0
+    nth = refused = starts = found = 0
     while nth < most:
         nth += 1
         got = refusing.run([program], nth, SWEPT, way=way)
         most = max(most, refusing.requests())
         is_start = refusing.has_refused_a_start()
         is_refused = got == (NO_THREAD if is_start else NO_MEMORY)
-        refused, starts = refused + is_refused, starts + is_start
+        refused, starts, found = refused + is_refused, starts + is_start, found + (got[2] == FOUND)
         why = None if is_refused else complaint(player, script, got)
         if is_start and not is_refused:
             why = f"the start of a thread is refused, and it ends with {got!r:.600}"
@@ -254,6 +255,8 @@ def requests_refused(refusing, program, player, way, most):
             return
     yield f"some request is {WAYS[way]}", script, None if refused else "none was"
     yield f"some start of a thread is {WAYS[way]}", script, None if starts else "none was"
+    if way == ALONE:
+        yield "of some run the play is found and not noted", script, None if found else "each was told as noted"
 
 
 # The checks are tried.
