@@ -1,4 +1,5 @@
 pub mod Play
 pub mod Faults
+pub mod Notes
 pub mod Circle
 pub mod AwaitCircle

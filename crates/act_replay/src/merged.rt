@@ -6,6 +6,9 @@
 //!
 //! No contract says that what is made is a play: a world plays it, and the two ends are compared.
 
+ghost use Rattle.std.specs.Prelude.{◌≡◌, IfOk, IfSome, length};
+ghost use Rattle.act_replay.specs.Notes.{AreWhole, HaveAll, marks_of};
+
 use crate::causes::Causes;
 use act_executor::{Ended, Finished, Mark, Page, Pages};
 use act_kinds::Actor;
@@ -75,15 +78,27 @@ fn id_of<K: Actor>(ended: &Ended<K>) -> ActorId {
 }
 
 /// How many marks the pages have, or none where one isn't whole.
-fn count_marks(pages: &[Page]) -> Option<usize> {
+fn count_marks(pages: &[Page]) -> Option<usize>
+    ensures whole { IfSome result (λ _. AreWhole pages.now) }
+    ensures count { IfSome result (λ marks. marks ≡ marks_of pages.now) }
+{
     let mut marks: usize = 0;
     for page in pages {
         if !page.is_whole {
             return None;
         }
-        marks = marks.wrapping_add(page.marks.len());
+        marks = marks.checked_add(page.marks.len())?;
     }
     Some(marks)
+}
+
+/// How many marks all pages have, or none where one isn't whole.
+fn count_all(pages: &Pages<Page>) -> Option<usize>
+    ensures { IfSome result (HaveAll pages.now) }
+{
+    let called = count_marks(pages.of_callers.as_slice())?;
+    let served = count_marks(pages.of_actors.as_slice())?;
+    called.checked_add(served)
 }
 
 impl Merged {
@@ -246,10 +261,10 @@ pub(crate) fn merge<K: Actor>(
     owners: &[Owner],
     actors: &[Finished<K>],
     pages: &Pages<Page>,
-) -> Result<Option<Vec<Event>>, NoMemory> {
-    let of_callers = pages.of_callers.as_slice();
-    let of_actors = pages.of_actors.as_slice();
-    let (Some(called), Some(served)) = (count_marks(of_callers), count_marks(of_actors)) else {
+) -> Result<Option<Vec<Event>>, NoMemory>
+    ensures { IfOk result (λ found. IfSome found (λ events. HaveAll pages.now (length events.items))) }
+{
+    let Some(marks) = count_all(pages) else {
         return Ok(None);
     };
     let mut merged = Merged::open(alloc, owners.len(), actors.len())?;
@@ -258,7 +273,7 @@ pub(crate) fn merge<K: Actor>(
         return Err(error);
     }
     let Merged { events, .. } = merged;
-    if events.len() == called.wrapping_add(served) {
+    if events.len() == marks {
         Ok(Some(events))
     } else {
         drop(events);

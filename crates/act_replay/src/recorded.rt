@@ -11,6 +11,7 @@ ghost use Rattle.act_executor.specs.Runs.{plan_view};
 ghost use Rattle.act_executor.specs.Plays.{IsPlayOf};
 ghost use Rattle.act_executor.specs.PlanPlays.{IsPlayedAsPlanned};
 ghost use Rattle.act_replay.specs.Faults.{IsPlayFault, IsRecordFault};
+ghost use Rattle.act_replay.specs.Notes.{AreFrom};
 
 use crate::merged::merge;
 use crate::rebuilt::rebuild;
@@ -26,7 +27,7 @@ use std::thread::Threads;
 /// Where a play's events come from.
 #[derive(Clone, Copy, Debug, PartialEq, Eq)]
 pub enum Source {
-    /// They were noted while the threads ran, so the run went in this way.
+    /// They were noted while the threads ran: each thread's own order, with each cause first.
     Noted,
     /// They were made of what is joined alone: one way in which the run can have gone.
     Found,
@@ -46,7 +47,9 @@ fn events_of<K: Actor>(
     alloc: Global,
     joined: &Joined<K>,
     pages: &Pages<Page>,
-) -> Result<(Vec<Event>, Source), NoMemory> {
+) -> Result<(Vec<Event>, Source), NoMemory>
+    ensures { IfOk result (λ found. AreFrom found.1 pages.now found.0.items) }
+{
     match merge(alloc, &joined.owners, &joined.actors, pages)? {
         Some(events) => Ok((events, Source::Noted)),
         None => {
@@ -67,6 +70,7 @@ fn checked_events<K: Actor>(
     ensures played { IfOk result (λ play.
         IsPlayOf (map (actor_spec ⟦<Boxed as Actor>⟧.state) twins.items) play.0.items joined.now.owners.items
         (map (λ actor. end_view K.state actor.ended) joined.now.actors.items)) }
+    ensures source { IfOk result (λ play. AreFrom play.1 pages.now play.0.items) }
     ensures fault { IfErr result IsPlayFault }
 {
     let (found, source) = events_of(alloc, joined, pages)?;

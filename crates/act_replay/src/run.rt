@@ -73,6 +73,7 @@ pub(crate) fn check_play<K: Actor>(
     ensures played { IfOk result (λ events.
         IsPlayOf (map (actor_spec ⟦<Boxed as Actor>⟧.state) casts.items) events.items joined.now.owners.items
         (map (λ actor. end_view K.state actor.ended) joined.now.actors.items)) }
+    ensures same { IfOk result (λ play. play.items ≡ events.items) }
     ensures fault { IfErr result IsPlayFault }
 {
     if events.len() >= MAX_EVENTS {
