@@ -29,7 +29,7 @@ CHECKS = [
 OVER_ANY = [
     "commands.py", "readme.py", "recorded.py --noted --program {record} --player {run}", "pictures.py --check",
     "fuzz.py --program {run}", "threads.py --program {run}", "check_histories.py --program {check} --runs {run}",
-    "explained.py --program {run}",
+    "explained.py --program {run}", "plain_play.py --small --may-miss --program {run}",
 ]  # fmt: skip
 # What runs the programs as two compilers made them, and what can run over one of them that isn't proved.
 ROWS, ROWS_OF_ONE = "rows.py", "rows.py --program {run}"
@@ -37,13 +37,15 @@ ROWS, ROWS_OF_ONE = "rows.py", "rows.py --program {run}"
 FEWER = {"recorded": "--count 100"}
 # What needs proved programs: some refuse memory from outside, and the others run programs that the gate alone leaves.
 OVER_PROVED = [
-    "sweep_memory.py", "sweep_tests.py", "code_runs.py", "plain_play.py --small --may-miss",
-    "peers.py --small --may-miss", "call_cost.py --small --may-miss", "long_runs.py --small --may-miss",
+    "sweep_memory.py", "sweep_tests.py", "code_runs.py", "peers.py --small --may-miss",
+    "call_cost.py --small --may-miss", "long_runs.py --small --may-miss",
 ]  # fmt: skip
 HOW_LONG = "takes an hour to an hour and a half on four quiet cores, twice that on two"
-# What finds or builds the programs, and tells where each is.
+# What finds or builds the programs, and tells last where each is.
 BUILD = "programs"
-TAKE = "import program; [print(program.kept('test', each)) for each in (program.RUNS, program.RECORDS, program.CHECKS)]"
+TAKE = """import program
+taken = [program.kept("test", each) for each in (program.RUNS, program.RECORDS, program.CHECKS)]
+print(*taken, sep="\\n")"""
 PROGRAMS = {"run": program.RUNS, "record": program.RECORDS, "check": program.CHECKS}
 
 
@@ -95,8 +97,9 @@ def taken_programs(page):
     if status:
         page.show_kept(*lines)
         return {}
-    page.tell(f"{BUILD}: {', '.join(path.rpartition('/')[2] for path in lines[-len(PROGRAMS):])}")
-    return dict(zip(PROGRAMS, lines[-len(PROGRAMS) :]))
+    taken = dict(zip(PROGRAMS, lines[-len(PROGRAMS) :]))
+    page.tell(f"{BUILD}: {', '.join(path.rpartition('/')[2] for path in taken.values())}")
+    return taken
 
 
 def try_tests(page, crate):
