@@ -1,7 +1,7 @@
 #!/usr/bin/env python3
 """Records runs of scripts for threads by `ray_record`, and plays each record by `ray_actors`.
 
-    tools/recorded.py [--noted] [--seed N] [--count N] [--program PATH] [--player PATH]
+    tools/recorded.py [--noted] [--unrefused] [--seed N] [--count N] [--program PATH] [--player PATH]
 
 Recorded are the examples for threads, the worked scripts for threads, and random ones of tools/threads.py; half of
 these on one processor (taskset -c 0). Without `--seed` there are two seeds, as there. A record fails where
@@ -21,7 +21,10 @@ whose play is too long for a script must be recorded all the same, and a line mu
 each request for memory is refused in turn, alone and with all that come after, and each thread: the run must say `no
 memory`, or `no thread` where the start of one was refused, end with 3 and write nothing, or leave a record that is good.
 Some runs must leave one that is told as found, since a thread was refused the memory to note what it did.
-It must start a thread for each caller and each actor. The checks are tried themselves: a record of the bank from which
+It must start a thread for each caller and each actor. With `--unrefused` this is left out: an unproved program asks for
+memory in a way of its own, which nothing refuses from outside.
+
+The checks are tried themselves: a record of the bank from which
 a line is taken, or in which two lines change places, must fail, but where the rules say that it means the same.
 """
 import argparse
@@ -344,6 +347,7 @@ def trial(program, player):
 def chosen_options():
     options = argparse.ArgumentParser(description=__doc__.splitlines()[0])
     options.add_argument("--noted", action="store_true", help="a play that was found and not noted fails")
+    options.add_argument("--unrefused", action="store_true", help="no request is refused, as in an unproved program")
     options.add_argument("--seed", type=int)
     options.add_argument("--count", type=int, default=COUNT, help="so many random scripts of each seed")
     options.add_argument("--program", type=pathlib.Path, help="the one that records, and not the one that ./record takes")
@@ -365,7 +369,9 @@ def main():
         for before, some in ((), scripts[:half]), (ONE_PROCESSOR, scripts[half:]):
             more, wrong = failures_of(record_all(program, player, some, notes, before))
             good, failures = good + more, failures + wrong
-    for more, wrong in long_failures(program), failures_of(swept(program, player)), failures_of(trial(program, player)), failures_of(trial_of_plans(program)):
+    of_refusals = () if chosen.unrefused else swept(program, player)
+    tries = of_refusals, trial(program, player), trial_of_plans(program)
+    for more, wrong in long_failures(program), *map(failures_of, tries):
         good, failures = good + more, failures + wrong
     print("".join(f"{failure}\n" for failure in failures), end="")
     print(f"recorded: {good} passed, {len(failures)} failed")

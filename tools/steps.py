@@ -33,8 +33,8 @@ OVER_ANY = [
 ]  # fmt: skip
 # What runs the programs as two compilers made them, and what can run over one of them that isn't proved.
 ROWS, ROWS_OF_ONE = "rows.py", "rows.py --program {run}"
-# Where time is short, fewer random scripts do.
-FEWER = {"recorded": "--count 100"}
+# Where nothing is proved, fewer random scripts do, and no memory can be refused from outside.
+QUICKLY = {"recorded": "--count 100 --unrefused"}
 # What needs proved programs: some refuse memory from outside, and the others run programs that the gate alone leaves.
 OVER_PROVED = [
     "sweep_memory.py", "sweep_tests.py", "code_runs.py", "peers.py --small --may-miss",
@@ -128,7 +128,7 @@ def quick_steps(page, pool):
         yield name_of(words), pool.submit(run_tool, page, words)
     yield BUILD, taken
     for words in [ROWS_OF_ONE, *OVER_ANY] if taken.result() else ():
-        words = f"{words} {FEWER.get(name_of(words), '')}"
+        words = f"{words} {QUICKLY.get(name_of(words), '')}"
         yield name_of(words), pool.submit(run_tool, page, words, taken.result())
 
 
