@@ -20,12 +20,12 @@ Of a script with a fault the line of the fault and the status 1 must come. A run
 whose play is too long for a script must be recorded all the same, and a line must say so. Then, of one worked script,
 each request for memory is refused in turn, alone and with all that come after, and each thread: the run must say `no
 memory`, or `no thread` where the start of one was refused, end with 3 and write nothing, or leave a record that is good.
-Some runs must leave one that is told as found, since a thread was refused the memory to note what it did.
-It must start a thread for each caller and each actor. With `--unrefused` this is left out: an unproved program asks for
-memory in a way of its own, which nothing refuses from outside.
+Some runs must leave one that is told as found, since a thread was refused the memory to note what it did. It must start
+a thread for each caller and each actor. With `--unrefused` this is left out: an unproved program asks for memory in a
+way of its own, which nothing refuses from outside.
 
-The checks are tried themselves: a record of the bank from which
-a line is taken, or in which two lines change places, must fail, but where the rules say that it means the same.
+The checks are tried themselves: a record of the bank from which a line is taken, or in which two lines change places,
+must fail, but where the rules say that it means the same.
 """
 import argparse
 import concurrent.futures
