@@ -312,8 +312,9 @@ def try_either(tally, program, name, triples):
 def wrongly_told(script, report, got):
     """The same with other lines, another status, or another call that is blamed."""
     text, status = got
-    for more in 1, -1:
-        number = int(text[5 : text.index(b":")]) + more
+    told, lines = int(text[5 : text.index(b":")]), dict(enumerate((script + report).split(b"\n"), 1))
+    # (a line of the same words beside it is as right)
+    for number in (it for it in (told + 1, told - 1) if lines.get(it) != lines.get(told)):
         yield f"line {number}", (b"line %d%s" % (number, text[text.index(b":") :]), status)
     yield "another status", (text, MISTAKE if status == REFUSED else REFUSED)
     if status == REFUSED:
