@@ -1,13 +1,12 @@
 //! Scripts whose play is the same whatever the schedule, scripts with a fault, and a script run past a gate.
 
+use crate::meeting::Meeting;
 use act_console::{ConsoleFault, Gate, NoGate, Stock};
 use act_kinds::{Account, Boxed, Counter, ListKind, Table};
 use act_record::{RecordingFault, Written, record_script};
-use act_types::{ActorId, MAX_ACTORS};
+use act_types::MAX_ACTORS;
 use std::sync::Wait;
-use std::sync::atomic::{AtomicU64, Ordering};
 use std::test::Fail;
-use std::thread;
 use std::thread::Threads;
 
 /// Records a run of a script past a gate, with kinds that are made here.
@@ -80,45 +79,16 @@ fn faults_are_told(rt: HostRuntime) -> Result<(), Fail> {
     Ok(())
 }
 
-/// So many times a run looks whether the other one came.
-const LOOKS: u32 = 10_000_000;
-
-/// Where the first runs of two actors wait for each other.
-#[derive(Drop)]
-struct Meeting {
-    came: AtomicU64,
-    met: AtomicU64,
-}
-
-impl Gate for Meeting {
-    fn pass(&self, _actor: ActorId, place: u32) {
-        if place != 0 {
-            return;
-        }
-        self.came.fetch_add(1, Ordering::SeqCst);
-        for _ in 0..LOOKS {
-            if self.came.load(Ordering::SeqCst) == 2 {
-                self.met.fetch_add(1, Ordering::SeqCst);
-                return;
-            }
-            thread::yield_now();
-        }
-    }
-}
-
 /// Two actors of a script meet at the gate with which it is recorded.
 #[test]
 fn gate_of_a_recorded_script(rt: HostRuntime) -> Result<(), Fail> {
     let script =
         "actor a1 counter c1\nactor a2 account c2\nsubmit c1 a1 add 1\nsubmit c2 a2 deposit 10\n";
-    let gate = Meeting {
-        came: AtomicU64::new(0),
-        met: AtomicU64::new(0),
-    };
+    let gate = Meeting::new();
     let mut written = Vec::new(rt.alloc());
     let answer = recorded(&rt, script.as_bytes(), &mut written, &gate);
     drop(written);
     assert!(rt; matches!(answer, Ok(Written::Play(_))));
-    assert_eq!(rt; gate.met.load(Ordering::SeqCst), 2);
+    assert_eq!(rt; gate.count(), 2);
     Ok(())
 }
