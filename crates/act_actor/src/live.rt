@@ -90,6 +90,7 @@ fn answer_of<K: Actor>(alloc: Global, kind: &mut K, packet: &Packet) -> Result<A
 
 /// Room in the log for a call, and the reply to it, which it gets there. The room comes first, and
 /// then the kind's answer.
+#[inline(always)]
 fn log_reply<K: Actor>(
     log: &mut Vec<RunItem>,
     id: ActorId,
@@ -162,6 +163,15 @@ impl<K: Actor> Live<K> {
         ensures { K.state result.now ≡ (live_view K.state self.now).state }
     {
         &self.kind
+    }
+
+    /// Makes room for so many calls more among those that it ran, so that memory is asked for once and
+    /// not call by call.
+    pub fn reserve(&mut self, count: usize) -> Result<(), NoMemory>
+        ensures { live_view K.state self.new ≡ live_view K.state self.old }
+    {
+        self.log.reserve(count)?;
+        Ok(())
     }
 
     /// Appends the state's text, or leaves the text as it was.

@@ -1,8 +1,11 @@
 -- The steps of a caller's own code: what is told of each, and what it does.
-use Rattle.std.proofs.Common.{arith, ◌<◌, ◌≡◌, ◌≢◌, ℕ, zero, suc, Bool, true, false, nat_lt, List, [], ◌∷◌, ◌++◌, length, map, Option, Some, None, Ok, Err, Result, is_some, refl, sym, ◌∙◌, ap, subst, inl, inr, ◌⊎◌}
-use Rattle.std.specs.Prelude.{unwrap_or, IfErr, OnErr, if◌then◌else◌}
+use Rattle.std.proofs.Common.{arith, ◌<◌, ◌≡◌, ◌≢◌, ℕ, zero, suc, Bool, true, false, nat_lt, List, [], ◌∷◌, ◌++◌, length, map, take, get_or, All, Option, Some, None, Ok, Err, Result, is_some, refl, sym, ◌∙◌, ap, subst, inl, inr, ◌⊎◌}
+use Rattle.std.specs.List.{list_all}
+use Rattle.std.specs.Prelude.{◌+◌, unwrap_or, IfErr, OnErr, if◌then◌else◌}
 use Rattle.std.proofs.lemmas.Bool.Decides.{leb_tells}
-use Rattle.std.proofs.lemmas.List.{append_assoc}
+use Rattle.std.proofs.lemmas.List.{append_assoc, map-append, take_more}
+use Rattle.std.proofs.lemmas.List.Elements.{All-push, All-weaker}
+use Rattle.std.proofs.lemmas.List.Folds.{list_all_at}
 use Rattle.std.specs.Result.{IsErrAnd}
 use Rattle.std.specs.Option.{option_or}
 use Rattle.act_types.specs.declared.call.Method.{Method}
@@ -24,7 +27,7 @@ use Rattle.act_owner.specs.Owner.{OwnerView, refusal_to_submit, owner_limit, pen
 use Rattle.act_drive.specs.declared.driver.CallerLines.{CallerLines}
 use Rattle.act_drive.specs.declared.driver.Driver.{Driver}
 use Rattle.act_drive.specs.declared.driver.CallerPasses.{CallerPasses}
-use Rattle.act_drive.specs.Driven.{bare_post, bare_ask, Stays, Waits, FollowsBy}
+use Rattle.act_drive.specs.Driven.{bare_post, bare_ask, Stays, Waits, FollowsBy, KeptOn}
 use Rattle.act_drive.specs.Sessions.{SessionView, session_view, call_refusal, use_refusal, IsLater, DoesMore, OnlyHears, Submits}
 use Rattle.act_drive.specs.Lent.{Does}
 use Rattle.act_drive.proofs.PlanSteps.{follows_waits, submit_follows, copy_follows, await_follows}
@@ -36,7 +39,36 @@ kept_before [] ys k answer has = absurd (cc has)
 kept_before (x ∷ xs) ys zero answer has = has
 kept_before (x ∷ xs) ys (suc k) answer has = kept_before xs ys k answer has
 
+pub kept_still : (before later : List (Option Answer)) (k : ℕ) → KeptOn before later → is_some (kept_at before k) ≡ true → is_some (kept_at later k) ≡ true
+kept_still before later k on = go (kept_at before k) (λ answer at. on k answer at)
+  where
+    go : (o : Option Answer) → ((answer : Answer) → o ≡ Some answer → kept_at later k ≡ Some answer) → is_some o ≡ true → is_some (kept_at later k) ≡ true
+    go (Some answer) at has = ap is_some (at answer refl)
+    go None at has = absurd (cc has)
+
+-- the futures of a list that have answers, and one more
+pub answered_more : (before later : List (Option Answer)) (ks : List ℕ) (i k : ℕ) → i < length ks → ((d : ℕ) → get_or ks i d ≡ k) → KeptOn before later → is_some (kept_at later k) ≡ true
+    → All (λ j. is_some (kept_at before j) ≡ true) (take i ks) → All (λ j. is_some (kept_at later j) ≡ true) (take (i + 1) ks)
+answered_more before later ks i k long here on answered so_far =
+    let P : ℕ → Type 0 = λ j. is_some (kept_at later j) ≡ true in
+    let still : All P (take i ks) = All-weaker (λ j. is_some (kept_at before j) ≡ true) P (λ j is. kept_still before later j on is) (take i ks) so_far in
+    subst (λ (l : List ℕ). All P l) (sym (take_more ks i k long)) (All-push P (take i ks) (get_or ks i k) still (subst P (sym (here k)) answered))
+
+-- each of a list of futures is below a bound
+pub all_below : (ks : List ℕ) (n i d : ℕ) → list_all (λ k. nat_lt k n) ks ≡ true → i < length ks → get_or ks i d < n
+all_below ks n i d all long = elim (leb_tells (suc (get_or ks i d)) n) [
+  | inl t ↦ t.1
+  | inr f ↦ absurd (cc (all, list_all_at (λ k. nat_lt k n) ks i d long f.0))
+]
+
 -- ---- what is seen
+
+pub hears_trans : (old mid new : SessionView) → OnlyHears old mid → OnlyHears mid new → OnlyHears old new
+hears_trans old mid new before after = record {
+  calls = after.calls ∙ before.calls;
+  handles = after.handles ∙ before.handles;
+  kills = after.kills ∙ before.kills;
+}
 
 pub submits_hears : (call : Submission) (old mid new : SessionView) → Submits call old mid → OnlyHears mid new → Submits call old new
 submits_hears call old mid new submits hears = record {
@@ -47,6 +79,12 @@ submits_hears call old mid new submits hears = record {
 
 pub does_trans : (old mid new : SessionView) (some more : List Step) → DoesMore some old mid → DoesMore more mid new → DoesMore (some ++ more) old new
 does_trans old mid new some more before after = after ∙ ap (λ (l : List Step). l ++ more) before ∙ append_assoc old.did some more
+
+-- the futures of a list that were waited for, and one more
+pub waited_more : (old mid new : SessionView) (ks : List ℕ) (i k : ℕ) → i < length ks → ((d : ℕ) → get_or ks i d ≡ k) → DoesMore (map Await (take i ks)) old mid → DoesMore (Await k ∷ []) mid new → DoesMore (map Await (take (i + 1) ks)) old new
+waited_more old mid new ks i k long here before after =
+    let more : map Await (take (i + 1) ks) ≡ map Await (take i ks) ++ Await k ∷ [] = ap (map Await) (take_more ks i k long ∙ ap (λ (j : ℕ). take i ks ++ j ∷ []) (here k)) ∙ map-append Await (take i ks) (k ∷ []) in
+    does_trans old mid new (map Await (take i ks)) (Await k ∷ []) before after ∙ ap (λ (l : List Step). old.did ++ l) (sym more)
 
 pub later_trans : (old mid new : SessionView) → IsLater old mid → IsLater mid new → IsLater old new
 later_trans old mid new before after = record {

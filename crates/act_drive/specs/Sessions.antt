@@ -1,5 +1,6 @@
 -- What a caller's own code sees of its caller, and what contracts say of a session.
-use Rattle.std.specs.Prelude.{◌≡◌, ℕ, ◌+◌, ◌==◌, nat_lt, if◌then◌else◌, List, [], ◌∷◌, ◌++◌, length, zip, count_by, find, replicate, slice_index_or, Option, option_and_then}
+use Rattle.std.specs.Prelude.{◌≡◌, ℕ, ◌+◌, ◌==◌, nat_lt, if◌then◌else◌, Bool, not, ◌&&◌, List, [], ◌∷◌, ◌++◌, length, zip, count_by, find, position, take, replicate, slice_index_or, Option, option_and_then, is_some}
+use Rattle.std.specs.List.{list_all}
 use Rattle.std.specs.Option.{option_map_or}
 use Rattle.act_types.specs.declared.call.Arg.{Arg}
 use Rattle.act_rules.specs.declared.history.Submission.{Submission}
@@ -7,7 +8,7 @@ use Rattle.act_rules.specs.declared.outcome.SubmitRefusal.{SubmitRefusal}
 use Rattle.act_rules.specs.declared.script.Step.{Step}
 use Rattle.act_rules.specs.declared.outcome.HandleRefusal.{HandleRefusal}
 use Rattle.act_rules.specs.RunList.{Answer}
-use Rattle.act_rules.specs.Submissions.{submit_refusal, handle_refusal}
+use Rattle.act_rules.specs.Submissions.{submit_refusal, handle_refusal, kept_at}
 use Rattle.act_handles.specs.declared.handles.Handle.{Handle}
 use Rattle.act_handles.specs.Handles.{copies_in, without_copy}
 use Rattle.act_owner.specs.Owner.{OwnerView, call_waits_for}
@@ -62,6 +63,18 @@ abbrev pub kill_refusal : SessionView → ℕ → KillRefusal
 kill_refusal seen a = option_map_or BadHandle (use_refusal seen a)
     (if nat_lt (kills_of seen a) MAX_KILLS then NoMemory else TooManyKills)
 
+-- each of these futures is of a call that was submitted
+abbrev pub are_known : SessionView → List ℕ → Bool
+are_known seen ks = list_all (λ k. nat_lt k (length seen.calls)) ks
+
+-- one of these futures can be waited for: there are some, and each is known
+abbrev pub may_wait_for : SessionView → List ℕ → Bool
+may_wait_for seen ks = not (length ks == 0) && are_known seen ks
+
+-- the first of these futures that has an answer
+abbrev pub first_answered : SessionView → List ℕ → Option ℕ
+first_answered seen ks = position (λ k. is_some (kept_at seen.kept k)) ks
+
 -- it is the same caller, later: its limits are the same, and no answer is forgotten
 pub record IsLater (old new : SessionView) : Type 0 where
   pub limits : new.limits ≡ old.limits
@@ -70,6 +83,10 @@ pub record IsLater (old new : SessionView) : Type 0 where
 -- these steps are done after the others
 abbrev pub DoesMore : List Step → SessionView → SessionView → Type 0
 DoesMore steps old new = new.did ≡ old.did ++ steps
+
+-- some of these steps are done after the others, from the first on
+abbrev pub DoesSome : List Step → SessionView → SessionView → Type 0
+DoesSome steps old new = (n : ℕ) × DoesMore (take n steps) old new
 
 -- nothing is submitted, no handle changes, and no kill is asked
 pub record OnlyHears (old new : SessionView) : Type 0 where

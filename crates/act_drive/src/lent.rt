@@ -5,6 +5,7 @@ ghost use Rattle.act_rules.specs.declared.outcome.SubmitRefusal.TheVariants.{NoM
 ghost use Rattle.act_rules.specs.declared.script.Step.TheVariants.{Submit};
 ghost use Rattle.act_drive.specs.Sessions.{call_refusal, IsLater, DoesMore, OnlyHears, Submits};
 
+use crate::any::are_below;
 use crate::did::{Did, add};
 use crate::doing::{Doing, submission};
 use crate::driver::{CallerLines, Driver};
@@ -13,7 +14,7 @@ use crate::session::{MAX_KILLS, Session};
 use act_handles::HandleRefusal;
 use act_mailbox::{IdleBackoff, NoNotes};
 use act_rules::SubmitRefusal;
-use act_types::{ACTOR_NUMBERS, ActorId, Answer, Arg, FutureId, ListOf, Method};
+use act_types::{ACTOR_NUMBERS, ActorId, Answer, Arg, FutureId, ListOf, Method, NoMemory};
 use std::alloc::Global;
 use std::marker::{Model, PhantomData};
 use std::snapshot::Snapshot;
@@ -128,6 +129,33 @@ impl<'a, R: Wait, O: Opening> Session for Lent<'a, R, O> {
             }
             Err(_) => Err(WaitRefusal::NoMemory),
         }
+    }
+
+    fn wait_any(&mut self, futures: &[FutureId]) -> Result<usize, WaitRefusal> {
+        if futures.is_empty() || !are_below(futures, self.driver.owner.count()) {
+            return Err(WaitRefusal::NoFuture);
+        }
+        let idle = &mut self.idle_backoff;
+        match self.driver.wait_for_any(
+            self.rt,
+            self.alloc,
+            self.lines,
+            futures,
+            idle,
+            &mut NoNotes,
+        ) {
+            Ok(at) => {
+                add(&mut self.did, Doing::Await(futures[at]));
+                Ok(at)
+            }
+            Err(_) => Err(WaitRefusal::NoMemory),
+        }
+    }
+
+    fn turn(&mut self) -> Result<(), NoMemory> {
+        self.driver
+            .turn(self.rt, self.alloc, self.lines, &mut NoNotes)?;
+        Ok(())
     }
 
     fn answer(&self, k: FutureId) -> Option<&Answer> {

@@ -2,6 +2,7 @@
 //! collects meanwhile.
 #![tactic(auto)]
 
+mod any;
 mod caller;
 mod code;
 mod coded;

@@ -1,6 +1,6 @@
 //! What a caller's own code is lent: its caller, while it runs.
 
-ghost use Rattle.std.specs.Prelude.{◌≡◌, ◌≢◌, ◌⊎◌, ◌<◌, ◌≤◌, [], ◌∷◌, ◌++◌, length, None, Ok, IfOk, OnOk, IfErr, OnErr, is_some, true, unwrap_or, nat_lt, if◌then◌else◌, option_copied};
+ghost use Rattle.std.specs.Prelude.{◌≡◌, ◌≢◌, ◌⊎◌, ◌<◌, ◌≤◌, [], ◌∷◌, ◌++◌, length, None, Ok, IfOk, OnOk, IfErr, OnErr, is_some, true, unwrap_or, nat_lt, if◌then◌else◌, option_copied, slice_index, Some, IsOk, All, map};
 ghost use Rattle.act_types.specs.declared.limits.TheConstants.{MAX_CALLS};
 ghost use Rattle.act_rules.specs.Submissions.{kept_at, copies_held};
 ghost use Rattle.act_rules.specs.declared.outcome.SubmitRefusal.TheVariants.{NoMemory as NoRoom};
@@ -9,12 +9,13 @@ ghost use Rattle.act_handles.specs.Handles.{copies_in, copy_answer, with_copy, o
 ghost use Rattle.act_drive.specs.declared.refusals.WaitRefusal.TheVariants.{NoFuture, NoMemory as NoRoomToWait};
 ghost use Rattle.act_drive.specs.declared.refusals.KillRefusal.TheVariants.{NoMemory as NoRoomToAsk};
 ghost use Rattle.act_drive.specs.declared.session.TheConstants.{MAX_KILLS};
-ghost use Rattle.act_drive.specs.Sessions.{SessionView, pending_of, session_limit, kills_of, call_refusal, use_refusal, kill_refusal, IsLater, DoesMore, OnlyHears, Submits, LetsGo, AsksKill};
+ghost use Rattle.act_drive.specs.Sessions.{SessionView, pending_of, session_limit, kills_of, call_refusal, use_refusal, kill_refusal, are_known, may_wait_for, first_answered, IsLater, DoesMore, DoesSome, OnlyHears, Submits, LetsGo, AsksKill};
 
+use crate::any::are_below;
 use crate::refusals::{KillRefusal, WaitRefusal};
 use act_handles::HandleRefusal;
 use act_rules::SubmitRefusal;
-use act_types::{ActorId, Answer, Arg, FutureId, ListOf, Method};
+use act_types::{ActorId, Answer, Arg, FutureId, ListOf, Method, NoMemory};
 use std::alloc::Global;
 
 /// How many kills of one actor a session asks at most.
@@ -57,6 +58,53 @@ pub trait Session {
             refusal ≡ (if nat_lt k (length (seen self.old).calls) then NoRoomToWait else NoFuture)) }
         ensures refused { IfErr result (λ refusal. refusal ≢ NoRoomToWait → seen self.new ≡ seen self.old) }
         ensures kept { is_some (kept_at (seen self.old).kept k) ≡ true → result ≡ Ok tt }
+        ensures hears { OnlyHears (seen self.old) (seen self.new) }
+        ensures on { IsLater (seen self.old) (seen self.new) };
+
+    /// Goes on when one of these futures has an answer, and gives the place of the first that has: so
+    /// none before it had one at the start. It counts as a wait for this one. An empty list is refused
+    /// by `NoFuture`, since no answer would end the wait.
+    fn wait_any(&mut self, futures: &[FutureId]) -> Result<usize, WaitRefusal>
+        ensures first { IfOk result (λ at. first_answered (seen self.new) futures.now ≡ Some at) }
+        ensures known { OnOk result (may_wait_for (seen self.old) futures.now ≡ true) }
+        ensures does { IfOk result (λ at.
+            DoesMore (Await (slice_index futures.now at) ∷ []) (seen self.old) (seen self.new)) }
+        ensures does_nothing { OnErr result ((seen self.new).did ≡ (seen self.old).did) }
+        ensures refusal { IfErr result (λ refusal.
+            refusal ≡ (if may_wait_for (seen self.old) futures.now then NoRoomToWait else NoFuture)) }
+        ensures refused { IfErr result (λ refusal. refusal ≢ NoRoomToWait → seen self.new ≡ seen self.old) }
+        ensures kept { may_wait_for (seen self.old) futures.now ≡ true →
+            is_some (first_answered (seen self.old) futures.now) ≡ true → IsOk result }
+        ensures hears { OnlyHears (seen self.old) (seen self.new) }
+        ensures on { IsLater (seen self.old) (seen self.new) };
+
+    /// Goes on when each of these futures has an answer, which is a wait for each, one after another.
+    fn wait_all(&mut self, futures: &[FutureId]) -> Result<(), WaitRefusal>
+        ensures answered { OnOk result (All (λ k. is_some (kept_at (seen self.new).kept k) ≡ true) futures.now) }
+        ensures known { OnOk result (are_known (seen self.old) futures.now ≡ true) }
+        ensures does { OnOk result (DoesMore (map Await futures.now) (seen self.old) (seen self.new)) }
+        ensures does_some { OnErr result (DoesSome (map Await futures.now) (seen self.old) (seen self.new)) }
+        ensures refusal { IfErr result (λ refusal.
+            refusal ≡ (if are_known (seen self.old) futures.now then NoRoomToWait else NoFuture)) }
+        ensures refused { IfErr result (λ refusal. refusal ≢ NoRoomToWait → seen self.new ≡ seen self.old) }
+        ensures hears { OnlyHears (seen self.old) (seen self.new) }
+        ensures on { IsLater (seen self.old) (seen self.new) }
+    {
+        if !are_below(futures, self.count()) {
+            return Err(WaitRefusal::NoFuture);
+        }
+        for k in futures {
+            if self.wait(*k).is_err() {
+                return Err(WaitRefusal::NoMemory);
+            }
+        }
+        Ok(())
+    }
+
+    /// Sends what is ready, and collects what came, and waits for nothing. By `NoMemory` a call that is
+    /// ready could not be sent: it is sent later.
+    fn turn(&mut self) -> Result<(), NoMemory>
+        ensures does_nothing { (seen self.new).did ≡ (seen self.old).did }
         ensures hears { OnlyHears (seen self.old) (seen self.new) }
         ensures on { IsLater (seen self.old) (seen self.new) };
 

@@ -21,7 +21,7 @@ ghost use Rattle.act_executor.specs.Audits.{SitsAtControl};
 
 use crate::joined::{Ends, Joined, settle};
 use crate::open::{Lines, Opened, open_lines};
-use crate::work::{ByPlan, Conduct, Conducts, Driving, Serving, drivings, servings};
+use crate::work::{ByPlan, Conduct, Conducts, Driving, Serving, calls_of_all, drivings, servings};
 use act_actor::Cast;
 use act_drive::{CallerPasses, Driven};
 use act_kinds::Actor;
@@ -223,7 +223,8 @@ fn run_threads<
         callers,
         starters,
     } = passes;
-    let servings = servings(alloc, casts, lines, execs, gate)?;
+    let calls = calls_of_all(setups.as_slice());
+    let servings = servings(alloc, casts, lines, execs, gate, &calls)?;
     let drivings = drivings(alloc, setups, conducts, lines, callers)?;
     let starter = starter_at(alloc, lines.controls.as_slice(), starters)?;
     run_tasks(rt, alloc, servings, drivings, starter)

@@ -19,9 +19,10 @@ use act_kinds::Actor;
 use act_mailbox::{Endpoint, Notes};
 use act_owner::Owner;
 use act_plans::CallerSetup;
+use act_rules::Step;
 use act_serve::{ExecLines, ExecPasses, Finished, Gate, serve_by};
 use act_tasks::Task;
-use act_types::{CallerId, NoMemory};
+use act_types::{ACTOR_NUMBERS, CallerId, NoMemory};
 use std::alloc::Global;
 use std::sync::Wait;
 
@@ -96,7 +97,29 @@ impl<'a, D: Conduct + Send, N: Notes + Send + Drop> Task for Driving<'a, D, N> {
     }
 }
 
-/// What one actor's thread is given.
+/// How many calls the plans submit to each actor, by the actors' numbers.
+pub(crate) type CallCounts = [usize; ACTOR_NUMBERS];
+
+/// Adds the calls of one plan.
+fn count_calls(counts: &mut CallCounts, plan: &[Step]) {
+    for step in plan {
+        if let Step::Submit(actor, ..) = step {
+            let count = &mut counts[actor.number() as usize];
+            *count = count.saturating_add(1);
+        }
+    }
+}
+
+/// The calls of all plans.
+pub(crate) fn calls_of_all(setups: &[CallerSetup]) -> CallCounts {
+    let mut counts = [0; ACTOR_NUMBERS];
+    for setup in setups {
+        count_calls(&mut counts, setup.plan.as_slice());
+    }
+    counts
+}
+
+/// What one actor's thread is given, with room for so many calls.
 fn one_serving<'a, K: Actor, G, N: Notes + Drop>(
     alloc: Global,
     cast: Cast<K>,
@@ -104,6 +127,7 @@ fn one_serving<'a, K: Actor, G, N: Notes + Drop>(
     exec: Endpoint<ExecPasses>,
     gate: &'a G,
     notes: N,
+    room: usize,
 ) -> Result<Serving<'a, K, G, N>, NoMemory>
     requires callers { CallersDiffer cast.callers }
     requires place { (exec.place < length lines.now.mails.items) × (exec.place < length lines.now.controls.items) }
@@ -119,8 +143,10 @@ fn one_serving<'a, K: Actor, G, N: Notes + Drop>(
         ..
     } = cast;
     let Endpoint { place, pass } = exec;
-    let live = Live::open(alloc, actor, callers.as_slice(), kind)?;
+    let mut live = Live::open(alloc, actor, callers.as_slice(), kind)?;
     drop(callers);
+    // Where memory doesn't serve for all at once, room is made call by call.
+    let _ = live.reserve(room);
     let lines = ExecLines {
         mail: &lines.mails[place],
         control: &lines.controls[place],
@@ -142,6 +168,7 @@ pub(crate) fn servings<'a, K: Actor, G, N: Notes + Drop>(
     lines: &'a Lines,
     execs: Vec<Endpoint<ExecPasses>>,
     gate: &'a G,
+    calls: &CallCounts,
 ) -> Result<Vec<Serving<'a, K, G, N>>, NoMemory>
     requires callers { All (λ cast. CallersDiffer cast.callers) casts.items }
     requires places { All (λ exec. (exec.place < length lines.now.mails.items) ×
@@ -154,7 +181,8 @@ pub(crate) fn servings<'a, K: Actor, G, N: Notes + Drop>(
 {
     let mut servings = Vec::new(alloc);
     for (cast, exec) in casts.into_iter().zip(execs) {
-        add_serving(alloc, cast, lines, exec, gate, &mut servings)?;
+        let room = calls[cast.actor.number() as usize];
+        add_serving(alloc, cast, lines, exec, gate, room, &mut servings)?;
     }
     Ok(servings)
 }
@@ -166,6 +194,7 @@ fn add_serving<'a, K: Actor, G, N: Notes + Drop>(
     lines: &'a Lines,
     exec: Endpoint<ExecPasses>,
     gate: &'a G,
+    room: usize,
     servings: &mut Vec<Serving<'a, K, G, N>>,
 ) -> Result<(), NoMemory>
     requires callers { CallersDiffer cast.callers }
@@ -178,7 +207,7 @@ fn add_serving<'a, K: Actor, G, N: Notes + Drop>(
         map (serving_start K.state) servings.old.items ++ cast_start K.state lines.now.replies.items (cast, exec) ∷ []) }
 {
     let notes = N::open(alloc);
-    servings.push(one_serving(alloc, cast, lines, exec, gate, notes)?)?;
+    servings.push(one_serving(alloc, cast, lines, exec, gate, notes, room)?)?;
     Ok(())
 }
 

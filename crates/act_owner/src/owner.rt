@@ -391,12 +391,13 @@ impl Owner {
         Ok(k)
     }
 
-    /// Makes room for so many calls more, so that memory is asked for once and not call by call.
+    /// Makes room for so many calls more, so that memory is asked for once and not call by call. What
+    /// calls need to wait for futures comes when they are submitted.
     pub fn reserve(&mut self, count: usize) -> Result<(), NoMemory>
         ensures { self.new ≡ self.old }
     {
         self.calls.reserve(count)?;
-        self.resolver.reserve(count)?;
+        self.resolver.reserve_calls(count)?;
         self.table.reserve(count)
     }
 
@@ -704,6 +705,7 @@ pub(crate) fn answer_death(table: &mut ReplyTable, resolver: &mut Resolver, a: A
 }
 
 /// What is sent for an argument that has its answer.
+#[inline(always)]
 fn settle_arg(alloc: Global, arg: &Arg, table: &ReplyTable) -> Result<Settled, NoMemory>
     ensures { IfOk result (λ sent. sent ≡ settle (answers_of table.now.rows) arg.now) }
 {
@@ -724,6 +726,9 @@ pub(crate) fn settle_all(
 ) -> Result<SmallList<Settled>, NoMemory>
     ensures { IfOk result (λ sent. sent ≡ map (settle (answers_of table.now.rows)) args.now) }
 {
+    if let [arg] = args.as_slice() {
+        return Ok(SmallList::one(alloc, settle_arg(alloc, arg, table)?));
+    }
     let mut sent = SmallList::with_capacity(alloc, args.len())?;
     for arg in args.as_slice() {
         sent.push(settle_arg(alloc, arg, table)?)?;

@@ -117,6 +117,7 @@ impl ReplyTable {
     }
 
     /// Keeps the answer where its future has none yet.
+    #[inline(always)]
     pub fn keep(&mut self, future: FutureId, answer: Answer) -> Kept
         ensures value { result ≡ keep_result future self.old.rows }
         ensures rows { self.new.rows ≡ after_keep future answer self.old.rows }

@@ -55,13 +55,33 @@ impl LeastSet {
         ensures members { (k : ℕ) →
             slice_index_or self.new k false ≡ slice_index_or self.old k false }
     {
-        let count = self.leaves.count() * WORD_BITS;
-        if bound <= count {
+        if bound <= self.bound() {
             return Ok(());
         }
+        self.raise(bound)
+    }
+
+    /// Each number below it is in or out.
+    fn bound(&self) -> usize
+        ensures { result ≡ length self.now }
+    {
+        self.leaves.count() * WORD_BITS
+    }
+
+    /// Raises the bound to this higher one, and to twice what it was as far as it can. A bound above
+    /// 2^32 is refused.
+    #[cold]
+    fn raise(&mut self, bound: usize) -> Result<(), NoMemory>
+        requires { length self.old < bound }
+        ensures ok { OnOk result (bound ≤ length self.new) }
+        ensures grows { length self.old ≤ length self.new }
+        ensures members { (k : ℕ) →
+            slice_index_or self.new k false ≡ slice_index_or self.old k false }
+    {
         if bound > HIGHEST_BOUND {
             return Err(NoMemory);
         }
+        let count = self.bound();
         let raised = bound.max(2 * count).min(HIGHEST_BOUND);
         let leaves = raised.div_ceil(WORD_BITS);
         let inner = leaves.div_ceil(WORD_BITS);

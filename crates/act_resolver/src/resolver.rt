@@ -100,6 +100,19 @@ impl Resolver {
         Ok(())
     }
 
+    /// Makes room for so many calls more, but not for the futures that they name: that comes call by
+    /// call, since most calls name none.
+    pub fn reserve_calls(&mut self, calls: usize) -> Result<(), NoMemory>
+        ensures calls { self.new.calls ≡ self.old.calls }
+        ensures spare { self.old.spare ≤ self.new.spare }
+    {
+        self.calls.reserve(calls)?;
+        self.missing.reserve(calls)?;
+        self.waiters.reserve_futures(calls)?;
+        self.ready.make_room(self.calls.len() + calls)?;
+        Ok(())
+    }
+
     /// Enters call `k`, the next, with the futures among its arguments. It waits for those that
     /// aren't answered yet. Where there is room it takes no memory.
     pub fn enter(&mut self, k: FutureId, futures: &[FutureId]) -> Result<(), NoMemory>
@@ -141,6 +154,7 @@ impl Resolver {
 
     /// Call `k` is answered, so it is never ready again, and no call waits for it. It costs a few steps
     /// for each place that waited for it.
+    #[inline(always)]
     pub fn told(&mut self, k: FutureId)
         requires { k < length self.old.calls }
         ensures calls { self.new.calls ≡ with_told self.old.calls k }
@@ -342,6 +356,18 @@ impl Waiters {
         }
         self.firsts.reserve(count)?;
         self.places.reserve(MAX_ARGS * count)?;
+        Ok(())
+    }
+
+    /// Makes room for so many futures more, and for no places.
+    pub fn reserve_futures(&mut self, futures: usize) -> Result<(), NoMemory>
+        ensures lists { self.new.lists ≡ self.old.lists }
+        ensures future_room { OnOk result (futures ≤ self.new.future_room) }
+        ensures room { futures ≤ self.old.future_room → IsOk result }
+        ensures future_room_stays { self.old.future_room ≤ self.new.future_room }
+        ensures place_room { self.new.place_room ≡ self.old.place_room }
+    {
+        self.firsts.reserve(futures)?;
         Ok(())
     }
 

@@ -149,6 +149,15 @@ impl<T: MadeWith<Global> + Drop> SmallList<T> {
         })
     }
 
+    /// One item. It takes no memory.
+    pub fn one(alloc: Global, item: T) -> SmallList<T>
+        ensures { result ≡ item ∷ [] }
+    {
+        SmallList {
+            few: SmallVec::from_buf(alloc, [item]),
+        }
+    }
+
     /// The items as a slice.
     pub fn as_slice(&self) -> &[T]
         ensures { result.now ≡ self.now }

@@ -17,11 +17,11 @@ returns-clause-callers g c = IfOk-weaker c.run_tasks.result _ _ (λ ran driven. 
 pub returns-clause-starters : goal.returns-clause-starters
 returns-clause-starters g c =
     let endpoints = c.in_ok-starter.starter.endpoints.items in
-    let of_endpoints : AreStarters c.args.lines.now.controls.items endpoints = subst (λ (l : List ControlView). AreStarters l endpoints) c.as_slice.ensures.value c.in_ok-starter.ensures.starters in
+    let of_endpoints : AreStarters c.args.lines.now.controls.items endpoints = subst (λ (l : List ControlView). AreStarters l endpoints) c.as_slice-2.ensures.value c.in_ok-starter.ensures.starters in
     IfOk-weaker c.run_tasks.result _ _ (λ ran same. subst (λ (l : List (Endpoint (PutterView Asked ℕ))). AreStarters c.args.lines.now.controls.items l) (sym same) of_endpoints) c.run_tasks.ensures.starters
 
 pub starter_at-requires : goal.starter_at-requires
-starter_at-requires g c = c.requires.starters ∙ ap (map (λ (control : ControlView). new_putter control.line starter)) (sym c.as_slice.ensures.value)
+starter_at-requires g c = c.requires.starters ∙ ap (map (λ (control : ControlView). new_putter control.line starter)) (sym c.as_slice-2.ensures.value)
 
 pub run_tasks-requires-clause-servings : goal.run_tasks-requires-clause-servings
 run_tasks-requires-clause-servings g c κs within = c.in_ok-servings.ensures.ready

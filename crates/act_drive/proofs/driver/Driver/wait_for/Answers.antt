@@ -1,16 +1,8 @@
 use Rattle.act_drive.proofs.Drivers.{only_waits_trans}
-use Rattle.std.proofs.Common.{rules, ◌≡◌, Option, Some, None, is_some, refl, true, false, List, ℕ, ap}
-use Rattle.act_rules.specs.RunList.{Answer}
+use Rattle.std.proofs.Common.{rules, ◌≡◌, is_some, false}
 use Rattle.act_rules.specs.Submissions.{kept_at}
-use Rattle.act_drive.specs.Driven.{KeptOn}
+use Rattle.act_drive.proofs.CodeSteps.{kept_still}
 use Rattle.act_drive.proofs.driver.Driver.wait_for.Goals as goal
-
-kept_still : (before later : List (Option Answer)) (k : ℕ) → KeptOn before later → is_some (kept_at before k) ≡ true → is_some (kept_at later k) ≡ true
-kept_still before later k on = go (kept_at before k) (λ answer at. on k answer at)
-  where
-    go : (o : Option Answer) → ((answer : Answer) → o ≡ Some answer → kept_at later k ≡ Some answer) → is_some o ≡ true → is_some (kept_at later k) ≡ true
-    go (Some answer) at has = ap is_some (at answer refl)
-    go None at has = absurd (cc has)
 
 pub loop-preserved : goal.loop-preserved
 loop-preserved g c = only_waits_trans _ _ _ _ c.loop.invariant c.in_ok-wait_turn.ensures.only_waits

@@ -1,19 +1,7 @@
 use Rattle.std.proofs.Common.{◌∙◌, length, get_or, false, sym, ap, arith}
 use Rattle.std.proofs.lemmas.Result.{on_ok_weaker}
 use Rattle.act_resolver.proofs.Levels.{above_grown, get_or-bits_of, has_bit-same, length-bits_of}
-use Rattle.act_resolver.proofs.least.LeastSet.make_room.Goals as goal
-
-pub returns-then-bound-count-clause-ok : goal.returns-then-bound-count-clause-ok
-returns-then-bound-count-clause-ok c = let size = ap length (sym c.self.view_is) ∙ length-bits_of c.self.inside.leaves in omega (arith, size)
-
-pub returns-then-bound-gt-HIGHEST_BOUND-clause-room : goal.returns-then-bound-gt-HIGHEST_BOUND-clause-room
-returns-then-bound-gt-HIGHEST_BOUND-clause-room c le = let size = ap length (sym c.self.view_is) ∙ length-bits_of c.self.inside.leaves in absurd (omega (arith, size, le))
-
-pub returns-in_err-grow-clause-room : goal.returns-in_err-grow-clause-room
-returns-in_err-grow-clause-room c le = let size = ap length (sym c.self.view_is) ∙ length-bits_of c.self.inside.leaves in absurd (omega (arith, size, le))
-
-pub returns-in_err-grow-2-clause-room : goal.returns-in_err-grow-2-clause-room
-returns-in_err-grow-2-clause-room c le = let size = ap length (sym c.self.view_is) ∙ length-bits_of c.self.inside.leaves in absurd (omega (arith, size, le))
+use Rattle.act_resolver.proofs.least.LeastSet.raise.Goals as goal
 
 pub invariant_of-self-2 : goal.invariant_of-self-2
 invariant_of-self-2 c = (
@@ -25,9 +13,6 @@ pub returns-clause-ok : goal.returns-clause-ok
 returns-clause-ok c =
     let size = length-bits_of c.grow-3.new.self in
     on_ok_weaker c.grow-3.result (λ grown. omega (arith, size, grown, c.div_ceil-leaves.ensures)) c.grow-3.ensures.ok
-
-pub returns-clause-room : goal.returns-clause-room
-returns-clause-room c le = let size = ap length (sym c.self.view_is) ∙ length-bits_of c.self.inside.leaves in absurd (omega (arith, size, le))
 
 pub returns-clause-grows : goal.returns-clause-grows
 returns-clause-grows c =

@@ -1,0 +1,5 @@
+use Rattle.act_drive.specs.Tracing.{OnlyWaits}
+use Rattle.act_drive.proofs.driver.Driver.wait_for_any.Given as goal
+
+abbrev pub invariant-loop : goal.invariant-loop
+invariant-loop g l = OnlyWaits l.lines l.initial.self l.self
