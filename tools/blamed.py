@@ -1,4 +1,4 @@
-"""Judges what `ray_check` tells of a history that has no play: a mistake with status 1, or reasons with status 5.
+"""Judges what `ray_commands check` tells of a history that has no play: a mistake with status 1, or reasons with status 5.
 
 A module of tools/check_histories.py. Mistakes are found here once more, as docs/rules.md tells them. A reason must show at
 the line of which it speaks. And where the history is the report of a run that was damaged, a reason must name what was

@@ -27,7 +27,8 @@ def main():
         program.note(USAGE)
         return program.WRONG_WORDS
     history = program.script_in(words[0] if words else "-")
-    done = subprocess.run([program.kept("check", program.CHECKS)], input=history, restore_signals=False)
+    checks = program.CHECKS
+    done = subprocess.run([program.kept("check", checks), *checks.words], input=history, restore_signals=False)
     if done.returncode < 0:
         raise program.Stop(f"the program was ended by signal {-done.returncode}", 128 - done.returncode)
     return done.returncode

@@ -1,5 +1,5 @@
 #!/usr/bin/env python3
-"""Checks what `ray_check` says of histories beside the second reading of the rules.
+"""Checks what `ray_commands check` says of histories beside the second reading of the rules.
 
 - Random plans are run in threads. What each run left has a play, with the script's submit lines or without them.
 - The same reports are damaged, at one place each. A play is found only where the second reading knows of one, and no
@@ -26,9 +26,8 @@ import reading_of_rules as reading
 import seeds
 import threads
 from blamed import MISTAKE, PLAY, REFUSED
-from program import CRATES, TOP, proved, program_of
+from program import CHECKS, TOP, proved, program_of
 
-CHECK = CRATES / "ray_check" / "out" / "ray_check"
 AT_ONCE = 4
 MAX_SECONDS = 60
 MAX_SHOWN = 5
@@ -88,7 +87,7 @@ def wrong_play(front, report, play):
 
 def check(program, history):
     """What the program says of a history, and its status."""
-    done = subprocess.run([program], input=history, capture_output=True, timeout=MAX_SECONDS)
+    done = subprocess.run([program, *CHECKS.words], input=history, capture_output=True, timeout=MAX_SECONDS)
     return done.stdout, done.returncode if not done.stderr else (done.returncode, done.stderr)
 
 
@@ -346,7 +345,7 @@ def chosen_options():
     options.add_argument("--seed", type=int, help="this seed alone")
     options.add_argument("--count", type=int, default=60, help="how many random scripts of each seed")
     options.add_argument("--lists", type=int, default=150, help="how many small histories of each seed")
-    options.add_argument("--program", type=pathlib.Path, default=CHECK, help="check by this one")
+    options.add_argument("--program", type=pathlib.Path, default=CHECKS.proved, help="check by this one")
     options.add_argument("--runs", type=pathlib.Path, help="run scripts by this one, and not by the one that ./run takes")
     return options.parse_args()
 

@@ -1,9 +1,11 @@
 """The programs as every tool finds them, and what else the tools share.
 
-A proved program is the one that the gate leaves. Where none stands, or a source is newer, an unproved one is
-built once and kept in .built/. Stale is judged by the crates that the program stands on, as crates.txt lists them.
+A proved program is the one that the gate leaves. Where none stands, or a source is newer, an unproved one is built
+once and kept, which plays, runs, records and checks. It is kept by what its sources hold, and not by their times: those
+of the crates that it stands on, as crates.txt lists them.
 """
 import contextlib
+import hashlib
 import itertools
 import os
 import pathlib
@@ -20,18 +22,21 @@ WRITE_FAILED = 4
 
 
 class Program:
-    """A program of this repository, by its crate's name; `tried` are the words with which a build runs an empty script."""
+    """What a command runs: the proved program of a crate, with these words. What is unproved has the same words."""
 
-    def __init__(self, name, tried):
-        self.name, self.tried = name, tried
+    def __init__(self, name, *words):
+        self.name, self.words = name, words
         self.proved = CRATES / name / "out" / name
-        self.unproved = TOP / ".built" / (name + ".unproved")
 
 
-RUNS = Program("ray_actors", ["play"])
-RECORDS = Program("ray_record", [])
-CHECKS = Program("ray_check", [])
+RUNS = Program("ray_actors")
+RECORDS = Program("ray_commands", "record")
+CHECKS = Program("ray_commands", "check")
 PROVED = RUNS.proved
+# The one that is built unproved, for all of them.
+UNPROVED = "ray_commands"
+KEPT_IN = TOP / ".built"
+PROJECT = "nelovashum"
 
 
 class Stop(Exception):
@@ -96,7 +101,47 @@ def is_fresh(path, name, parts):
     return os.access(path, os.X_OK) and all(os.stat(file).st_mtime_ns <= made for file in files_of(name, parts))
 
 
+def digest(name):
+    """A digest of what the crates hold that the program of this name stands on."""
+    crates, told = listed(), hashlib.sha256()
+    for crate in crates_of(name, crates):
+        told.update(f"{crate}: {' '.join(crates[crate])}\n".encode())
+    for file in sorted(files_of(name, CODE)):
+        with open(file, "rb") as source:
+            text = source.read()
+        told.update(f"{os.path.relpath(file, CRATES)} {len(text)}\n".encode())
+        told.update(text)
+    return told.hexdigest()[:16]
+
+
 # The programs.
+
+
+def folders():
+    """Where an unproved program can be kept: in this checkout, and for one that can't be written in the user's cache."""
+    cache = pathlib.Path(os.environ.get("XDG_CACHE_HOME", ""))
+    return KEPT_IN, (cache if cache.is_absolute() else pathlib.Path.home() / ".cache") / PROJECT
+
+
+def name_of(program):
+    """The name by which an unproved program of these sources is kept."""
+    return f"{program}-{digest(program)}"
+
+
+def shown(path):
+    """A path as it is told: from the top of the checkout, if it is there."""
+    return path.relative_to(TOP) if path.is_relative_to(TOP) else path
+
+
+def unproved_of(tool):
+    """An unproved program of these sources: one that is kept, else one that is built."""
+    name = name_of(UNPROVED)
+    for path in (folder / name for folder in folders()):
+        if os.access(path, os.X_OK):
+            return path
+    import unproved  # its imports are dear, and a build is rare
+
+    return unproved.build(tool, UNPROVED, name)
 
 
 def kept(tool, program=RUNS):
@@ -104,12 +149,9 @@ def kept(tool, program=RUNS):
     if is_fresh(program.proved, program.name, PROVED_CODE):
         say(tool, f"the proved program, {program.proved.relative_to(TOP)}")
         return program.proved
-    if not is_fresh(program.unproved, program.name, CODE):
-        import unproved  # its imports are dear, and a build is rare
-
-        unproved.build(tool, program)
-    say(tool, f"an unproved program of these sources, {program.unproved.relative_to(TOP)} (./test makes a proved one)")
-    return program.unproved
+    path = unproved_of(tool)
+    say(tool, f"an unproved program of these sources, {shown(path)} (./test makes a proved one)")
+    return path
 
 
 def proved(tool, path=PROVED):

@@ -26,7 +26,8 @@ def main():
         program.note(USAGE)
         return program.WRONG_WORDS
     script = program.script_in(words[0] if words else "-")
-    return run.run_by("record", [program.kept("record", program.RECORDS)], "threads", script)[0]
+    records = program.RECORDS
+    return run.run_by("record", [program.kept("record", records), *records.words], "threads", script)[0]
 
 
 if __name__ == "__main__":

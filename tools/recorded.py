@@ -1,5 +1,5 @@
 #!/usr/bin/env python3
-"""Records runs of scripts for threads by `ray_record`, and plays each record by `ray_actors`.
+"""Records runs of scripts for threads by `ray_commands record`, and plays each record by `ray_actors`.
 
     tools/recorded.py [--noted] [--unrefused] [--seed N] [--count N] [--program PATH] [--player PATH]
 
@@ -179,7 +179,7 @@ def record_all(program, player, scripts, notes, before=()):
 
     def one(each):
         name, script, wanted = each
-        return name, script, complaint(player, script, ran([*before, program], script), wanted, notes)
+        return name, script, complaint(player, script, ran([*before, program, *RECORDS.words], script), wanted, notes)
 
     with concurrent.futures.ThreadPoolExecutor(max_workers=AT_ONCE) as pool:
         yield from pool.map(one, scripts)
@@ -204,7 +204,7 @@ def failures_of(results):
 
 def long_failures(program):
     script = b"actor a1 counter c1\n" + b"submit c1 a1 add 9000000000000\n" * LONG_CALLS
-    status, play, notes = ran([program], script)
+    status, play, notes = ran([program, *RECORDS.words], script)
     lines = play.count(b"\n")
     wanted = 1 + 5 * LONG_CALLS + 3  # five events of each call, and the release, its delivery and the end
     if status == 0 and notes in (TOO_LONG, FOUND + TOO_LONG) and len(play) > 1_048_576 and lines == wanted:
@@ -226,13 +226,13 @@ def swept(program, player):
     script = SWEPT.read_bytes()
     with tempfile.TemporaryDirectory() as folder:
         refusing = Refusing(folder)
-        whole = refusing.run([program], 0, SWEPT)
+        whole = refusing.run([program, *RECORDS.words], 0, SWEPT)
         yield "no request refused", script, complaint(player, script, whole)
         requests, threads_to_start = refusing.requests(), refusing.threads()
         for way in WAYS:
             yield from requests_refused(refusing, program, player, way, requests)
         for nth in range(1, threads_to_start + 1):
-            got = refusing.run([program], 0, SWEPT, thread=nth)
+            got = refusing.run([program, *RECORDS.words], 0, SWEPT, thread=nth)
             yield f"thread {nth}", script, None if got == NO_THREAD else f"it ends with {got!r:.600}"
         wanted = count_of_parties(script)
         why = None if threads_to_start == wanted else f"{threads_to_start} were to start, and not {wanted}"
@@ -245,7 +245,7 @@ def requests_refused(refusing, program, player, way, most):
     nth = refused = starts = found = 0
     while nth < most:
         nth += 1
-        got = refusing.run([program], nth, SWEPT, way=way)
+        got = refusing.run([program, *RECORDS.words], nth, SWEPT, way=way)
         most = max(most, refusing.requests())
         is_start = refusing.has_refused_a_start()
         is_refused = got == (NO_THREAD if is_start else NO_MEMORY)
@@ -327,7 +327,7 @@ def trial_of_plans(program):
         why = Follower(HELD, play).stray()
         yield f"follows: {play!r}", HELD, None if (why is None) == is_well else f"it is told: {why}"
     script = BANK.read_bytes()
-    lines = ran([program], script)[1].decode().splitlines()
+    lines = ran([program, *RECORDS.words], script)[1].decode().splitlines()
     for others in others_of_one_caller(lines):
         why = Follower(script, "".join(f"{line}\n" for line in others).encode()).stray()
         yield "steps in another order", script, None if why else f"nothing is wrong with {others}"
@@ -336,7 +336,7 @@ def trial_of_plans(program):
 def trial(program, player):
     """Each spoilt record of the bank, and whether it passes."""
     script = BANK.read_bytes()
-    _, play, _ = ran([program], script)
+    _, play, _ = ran([program, *RECORDS.words], script)
     lines = play.decode().splitlines()
     for name, others in spoilt(lines):
         text = "".join(f"{line}\n" for line in others).encode()
