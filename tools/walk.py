@@ -5,7 +5,8 @@
 
 The program runs a script of one call, `add 5`, from the script's bytes to the report's, under the debugger gdb: as
 a play, and in threads. A function counts once it is entered; closures, and what lets values go, aren't counted. It
-takes the unproved program, whose functions aren't merged into one another, and builds that where none is kept. With --names each file's functions are listed. Needs gdb with Python, nm and strip.
+builds an unproved program, none of whose functions are merged. With --names each file's functions are listed. Needs
+gdb with Python, nm and strip.
 """
 import argparse
 import collections
@@ -110,16 +111,21 @@ def main():
     for needed in ("gdb", "nm", "strip"):
         if shutil.which(needed) is None:
             raise program.Stop(f"the command {needed} is not on the PATH")
-    runs = program.RUNS
-    unproved.build(TOOL, runs)
-    crates = program.crates_of(runs.name, program.listed())
-    for mode in arguments.modes:
-        files = walk(runs.unproved, mode, crates)
-        if arguments.names:
-            print("\n".join(f"{file}: {', '.join(sorted(files[file]))}" for file in sorted(files)))
-        count = sum(map(len, files.values()))
-        print(f"{mode}: {count} functions in {len(files)} files of {len({file.parts[0] for file in files})} crates")
+    runs = program.RUNS.name
+    crates = program.crates_of(runs, program.listed())
+    with tempfile.TemporaryDirectory(prefix="walk-") as folder:
+        binary = unproved.build_in(TOOL, unproved.kit(), runs, pathlib.Path(folder), passes=None)
+        for mode in arguments.modes:
+            tell(mode, walk(binary, mode, crates), arguments.names)
     return 0
+
+
+def tell(mode, files, with_names):
+    """Prints what a call of this mode passes, with the functions of each file if that is wanted."""
+    if with_names:
+        print("\n".join(f"{file}: {', '.join(sorted(files[file]))}" for file in sorted(files)))
+    count = sum(map(len, files.values()))
+    print(f"{mode}: {count} functions in {len(files)} files of {len({file.parts[0] for file in files})} crates")
 
 
 if __name__ == "__main__":
