@@ -1,5 +1,13 @@
 //! The worked rows, through the trait.
 
+use super::rows::Verb::{
+    Add, At, Balance, Del, Deposit, Get, Len, Pop, Push, Put, Size, Terminate, Withdraw,
+};
+use super::rows::Why::{
+    BadAmount, BadArgs, Insufficient, KindFull, NoItem, NoItems, NoKey, NoMethod, Overflow,
+};
+use super::rows::Word::{Int, Txt, Unit};
+use super::rows::{Verb, Why, Word, answer_of, method, value_of};
 use act_kinds::{Account, Actor, Boxed, Counter, ListKind, Table};
 use act_types::{Answer, Fault, MAX_ITEMS, Method, NoMemory, Text, Value};
 use std::alloc::Global;
@@ -9,44 +17,92 @@ use std::test::Fail;
 /// A text of 65 bytes.
 const LONG: &str = "kkkkkkkkkkkkkkkkkkkkkkkkkkkkkkkkkkkkkkkkkkkkkkkkkkkkkkkkkkkkkkkkk";
 
-/// A value as a row writes it.
-#[derive(Clone, Copy)]
-enum Word {
-    Unit,
-    Int(i64),
-    Text(&'static str),
-}
+/// A case by its name: a call, its answer, and the text of the state that it leaves.
+type Row<'a> = (
+    &'static str,
+    Verb,
+    &'static [Word],
+    Result<Word, Why>,
+    &'a str,
+);
 
-/// A call, its answer, and the text of the state that it leaves.
-type Row<'a> = (Method, &'a [Word], Result<Word, Fault>, &'a str);
+#[rattlefmt::skip]
+static COUNTER: [Row<'static>; 10] = [
+    ("opened", Get, &[], Ok(Int(0)), "counter 0"),
+    ("below 0", Add, &[Int(-3)], Ok(Int(-3)), "counter -3"),
+    ("to the least", Add, &[Int(-9_223_372_036_854_775_805)], Ok(Int(i64::MIN)), "counter -9223372036854775808"),
+    ("below the least", Add, &[Int(-1)], Err(Overflow), "counter -9223372036854775808"),
+    ("the greatest", Add, &[Int(i64::MAX)], Ok(Int(-1)), "counter -1"),
+    ("above 0", Add, &[Int(5)], Ok(Int(4)), "counter 4"),
+    ("a method of a list", Push, &[Int(1)], Err(NoMethod), "counter 4"),
+    ("an argument too many", Get, &[Int(1)], Err(BadArgs), "counter 4"),
+    ("no number", Add, &[Unit], Err(BadArgs), "counter 4"),
+    ("terminate", Terminate, &[Unit], Err(NoMethod), "counter 4"),
+];
 
-fn value_of(alloc: Global, word: Word) -> Result<Value, NoMemory> {
-    match word {
-        Word::Unit => Ok(Value::Unit),
-        Word::Int(number) => Ok(Value::Int(number)),
-        Word::Text(letters) => Ok(Value::Text(Text::copied(alloc, letters)?)),
-    }
-}
+#[rattlefmt::skip]
+static TABLE: [Row<'static>; 10] = [
+    ("a key too long", Put, &[Txt(LONG), Int(1)], Err(BadArgs), "table"),
+    ("unit as a value", Put, &[Txt("a"), Unit], Err(BadArgs), "table"),
+    ("the first key", Put, &[Txt("a"), Int(1)], Ok(Unit), "table \"a\" 1"),
+    ("the second key", Put, &[Txt("b"), Int(2)], Ok(Unit), "table \"a\" 1 \"b\" 2"),
+    ("a text for a number", Put, &[Txt("a"), Txt("x")], Ok(Unit), "table \"a\" \"x\" \"b\" 2"),
+    ("a number for a text", Put, &[Txt("a"), Int(1)], Ok(Unit), "table \"a\" 1 \"b\" 2"),
+    ("the third key", Put, &[Txt("c"), Int(3)], Ok(Unit), "table \"a\" 1 \"b\" 2 \"c\" 3"),
+    ("a key between", Del, &[Txt("b")], Ok(Int(2)), "table \"a\" 1 \"c\" 3"),
+    ("a key that is gone", Get, &[Txt("b")], Err(NoKey), "table \"a\" 1 \"c\" 3"),
+    ("how many", Size, &[], Ok(Int(2)), "table \"a\" 1 \"c\" 3"),
+];
+
+#[rattlefmt::skip]
+static ACCOUNT: [Row<'static>; 8] = [
+    ("opened", Balance, &[], Ok(Int(0)), "account 0"),
+    ("the first deposit", Deposit, &[Int(10)], Ok(Int(10)), "account 10"),
+    ("more than it has", Withdraw, &[Int(11)], Err(Insufficient), "account 10"),
+    ("a deposit of 0", Deposit, &[Int(0)], Err(BadAmount), "account 10"),
+    ("below 0", Withdraw, &[Int(-1)], Err(BadAmount), "account 10"),
+    ("all of it", Withdraw, &[Int(10)], Ok(Int(0)), "account 0"),
+    ("the most", Deposit, &[Int(i64::MAX)], Ok(Int(i64::MAX)), "account 9223372036854775807"),
+    ("above the most", Deposit, &[Int(1)], Err(Overflow), "account 9223372036854775807"),
+];
+
+#[rattlefmt::skip]
+static LIST: [Row<'static>; 6] = [
+    ("nothing to pop", Pop, &[], Err(NoItems), "list"),
+    ("the first item", Push, &[Int(7)], Ok(Int(1)), "list 7"),
+    ("past the last", At, &[Int(1)], Err(NoItem), "list 7"),
+    ("the second item", Push, &[Txt("a")], Ok(Int(2)), "list 7 \"a\""),
+    ("how many", Len, &[], Ok(Int(2)), "list 7 \"a\""),
+    ("the last item", Pop, &[], Ok(Txt("a")), "list 7"),
+];
+
+static FIRST_KEY: [Row<'static>; 1] = [(
+    "the first of many",
+    Put,
+    &[Txt("a"), Int(0)],
+    Ok(Unit),
+    "table \"a\" 0",
+)];
+
+/// Of a table of 1,024 keys, with the text up to the first of them.
+#[rattlefmt::skip]
+static FULL_TABLE: [Row<'static>; 2] = [
+    ("a key too many", Put, &[Txt("z"), Int(1)], Err(KindFull), "table \"a\" 0"),
+    ("an old key", Put, &[Txt("a"), Int(1)], Ok(Unit), "table \"a\" 1"),
+];
 
 /// What the actor answers to a call.
 fn asked<A: Actor>(
     alloc: Global,
     actor: &mut A,
-    method: &Method,
+    verb: Verb,
     words: &[Word],
 ) -> Result<Answer, NoMemory> {
     let mut args = Vec::new(alloc);
     for word in words {
         args.push(value_of(alloc, *word)?)?;
     }
-    actor.ask(method, args.as_slice())
-}
-
-fn answer_of(alloc: Global, answer: &Result<Word, Fault>) -> Result<Answer, NoMemory> {
-    match *answer {
-        Ok(word) => Ok(Ok(value_of(alloc, word)?)),
-        Err(fault) => Ok(Err(fault)),
-    }
+    actor.ask(&method(verb), args.as_slice())
 }
 
 fn text_of<A: Actor>(alloc: Global, actor: &A) -> Result<String, NoMemory> {
@@ -59,12 +115,12 @@ fn text_of<A: Actor>(alloc: Global, actor: &A) -> Result<String, NoMemory> {
 fn assert_answered(
     rt: &impl Abort,
     alloc: Global,
+    row: &Row,
     answered: Answer,
-    answer: &Result<Word, Fault>,
 ) -> Result<(), NoMemory> {
-    match answer_of(alloc, answer) {
+    match answer_of(alloc, &row.3) {
         Ok(wanted) => {
-            assert_eq!(rt; answered, wanted);
+            assert_eq!(rt; answered, wanted, "{}", row.0);
             drop(answered);
             drop(wanted);
             Ok(())
@@ -76,6 +132,22 @@ fn assert_answered(
     }
 }
 
+/// Asks a call, and compares its answer and the text of the state after it.
+fn play_row<A: Actor>(
+    rt: &impl Abort,
+    alloc: Global,
+    actor: &mut A,
+    row: &Row,
+    state: &str,
+) -> Result<(), NoMemory> {
+    let answered = asked(alloc, actor, row.1, row.2)?;
+    assert_answered(rt, alloc, row, answered)?;
+    let text = text_of(alloc, actor)?;
+    assert_eq!(rt; text.as_str(), state, "{}", row.0);
+    drop(text);
+    Ok(())
+}
+
 /// Asks each call of the actor in turn.
 fn play<A: Actor>(
     rt: &impl Abort,
@@ -83,137 +155,46 @@ fn play<A: Actor>(
     actor: &mut A,
     rows: &[Row],
 ) -> Result<(), NoMemory> {
-    for (method, words, answer, state) in rows {
-        let answered = asked(alloc, actor, method, words)?;
-        assert_answered(rt, alloc, answered, answer)?;
-        let text = text_of(alloc, actor)?;
-        assert_eq!(rt; text.as_str(), *state);
-        drop(text);
+    for row in rows {
+        play_row(rt, alloc, actor, row, row.4)?;
     }
     Ok(())
 }
 
+/// Asks each call of an actor, which ends with that.
+fn play_opened<A: Actor>(
+    rt: &impl Abort,
+    alloc: Global,
+    mut actor: A,
+    rows: &[Row],
+) -> Result<(), NoMemory> {
+    let done = play(rt, alloc, &mut actor, rows);
+    drop(actor);
+    done
+}
+
 #[test]
 fn counter_rows(rt: HostRuntime) -> Result<(), Fail> {
-    let mut counter = Counter::open();
-    let rows: [Row; 10] = [
-        (Method::Get, &[], Ok(Word::Int(0)), "counter 0"),
-        (
-            Method::Add,
-            &[Word::Int(-3)],
-            Ok(Word::Int(-3)),
-            "counter -3",
-        ),
-        (
-            Method::Add,
-            &[Word::Int(-9_223_372_036_854_775_805)],
-            Ok(Word::Int(i64::MIN)),
-            "counter -9223372036854775808",
-        ),
-        (
-            Method::Add,
-            &[Word::Int(-1)],
-            Err(Fault::Overflow),
-            "counter -9223372036854775808",
-        ),
-        (
-            Method::Add,
-            &[Word::Int(i64::MAX)],
-            Ok(Word::Int(-1)),
-            "counter -1",
-        ),
-        (Method::Add, &[Word::Int(5)], Ok(Word::Int(4)), "counter 4"),
-        (
-            Method::Push,
-            &[Word::Int(1)],
-            Err(Fault::NoMethod),
-            "counter 4",
-        ),
-        (
-            Method::Get,
-            &[Word::Int(1)],
-            Err(Fault::BadArgs),
-            "counter 4",
-        ),
-        (Method::Add, &[Word::Unit], Err(Fault::BadArgs), "counter 4"),
-        (
-            Method::Terminate,
-            &[Word::Unit],
-            Err(Fault::NoMethod),
-            "counter 4",
-        ),
-    ];
-    play(&rt, rt.alloc(), &mut counter, &rows)?;
+    play_opened(&rt, rt.alloc(), Counter::open(), &COUNTER)?;
     Ok(())
 }
 
 #[test]
 fn table_rows(rt: HostRuntime) -> Result<(), Fail> {
-    let mut table = Table::open(rt.alloc());
-    let none: [Word; 0] = [];
-    let rows: [Row; 10] = [
-        (
-            Method::Put,
-            &[Word::Text(LONG), Word::Int(1)],
-            Err(Fault::BadArgs),
-            "table",
-        ),
-        (
-            Method::Put,
-            &[Word::Text("a"), Word::Unit],
-            Err(Fault::BadArgs),
-            "table",
-        ),
-        (
-            Method::Put,
-            &[Word::Text("a"), Word::Int(1)],
-            Ok(Word::Unit),
-            "table \"a\" 1",
-        ),
-        (
-            Method::Put,
-            &[Word::Text("b"), Word::Int(2)],
-            Ok(Word::Unit),
-            "table \"a\" 1 \"b\" 2",
-        ),
-        (
-            Method::Put,
-            &[Word::Text("a"), Word::Text("x")],
-            Ok(Word::Unit),
-            "table \"a\" \"x\" \"b\" 2",
-        ),
-        (
-            Method::Put,
-            &[Word::Text("a"), Word::Int(1)],
-            Ok(Word::Unit),
-            "table \"a\" 1 \"b\" 2",
-        ),
-        (
-            Method::Put,
-            &[Word::Text("c"), Word::Int(3)],
-            Ok(Word::Unit),
-            "table \"a\" 1 \"b\" 2 \"c\" 3",
-        ),
-        (
-            Method::Del,
-            &[Word::Text("b")],
-            Ok(Word::Int(2)),
-            "table \"a\" 1 \"c\" 3",
-        ),
-        (
-            Method::Get,
-            &[Word::Text("b")],
-            Err(Fault::NoKey),
-            "table \"a\" 1 \"c\" 3",
-        ),
-        (
-            Method::Size,
-            &none,
-            Ok(Word::Int(2)),
-            "table \"a\" 1 \"c\" 3",
-        ),
-    ];
-    play(&rt, rt.alloc(), &mut table, &rows)?;
+    play_opened(&rt, rt.alloc(), Table::open(rt.alloc()), &TABLE)?;
+    Ok(())
+}
+
+#[test]
+fn boxed_account_rows(rt: HostRuntime) -> Result<(), Fail> {
+    let account: Boxed = Box::new(rt.alloc(), Account::open())?;
+    play_opened(&rt, rt.alloc(), account, &ACCOUNT)?;
+    Ok(())
+}
+
+#[test]
+fn list_rows(rt: HostRuntime) -> Result<(), Fail> {
+    play_opened(&rt, rt.alloc(), ListKind::open(rt.alloc()), &LIST)?;
     Ok(())
 }
 
@@ -226,132 +207,48 @@ fn fill(alloc: Global, table: &mut Table) -> Result<(), NoMemory> {
     Ok(())
 }
 
-/// The text of a table of 1,024 keys, the first of which is `a`.
-fn full_text(alloc: Global, first: i64) -> Result<String, NoMemory> {
-    let mut text = format!(in alloc; "table \"a\" {first}")?;
-    for number in 1..1024_i64 {
-        text.push_str(format!(in alloc; " \"k{number}\" {number}")?.as_str())?;
-    }
-    Ok(text)
+fn push_key(alloc: Global, text: &mut String, number: i64) -> Result<(), NoMemory> {
+    let key = format!(in alloc; " \"k{number}\" {number}")?;
+    text.push_str(key.as_str())?;
+    Ok(())
 }
 
-/// A full table refuses a new key, and takes a new value for an old one.
-fn play_full(
-    rt: &impl Abort,
-    alloc: Global,
-    table: &mut Table,
-    before: &str,
-    after: &str,
-) -> Result<(), NoMemory> {
-    let rows: [Row; 2] = [
-        (
-            Method::Put,
-            &[Word::Text("z"), Word::Int(1)],
-            Err(Fault::KindFull),
-            before,
-        ),
-        (
-            Method::Put,
-            &[Word::Text("a"), Word::Int(1)],
-            Ok(Word::Unit),
-            after,
-        ),
-    ];
-    play(rt, alloc, table, &rows)
+/// Writes the text of a full table, of which this is that up to its first key.
+fn full_text(alloc: Global, text: &mut String, first: &str) -> Result<(), NoMemory> {
+    text.push_str(first)?;
+    for number in 1..1024_i64 {
+        push_key(alloc, text, number)?;
+    }
+    Ok(())
+}
+
+/// Asks a call of a full table, which leaves it full.
+fn play_full(rt: &impl Abort, alloc: Global, table: &mut Table, row: &Row) -> Result<(), NoMemory> {
+    let mut text = String::new(alloc);
+    let done = match full_text(alloc, &mut text, row.4) {
+        Ok(()) => play_row(rt, alloc, table, row, text.as_str()),
+        Err(refused) => Err(refused),
+    };
+    drop(text);
+    done
 }
 
 /// Puts `a`, and then as many keys as the table takes.
-fn fill_from_first(rt: &impl Abort, alloc: Global, table: &mut Table) -> Result<(), NoMemory> {
-    let first: [Row; 1] = [(
-        Method::Put,
-        &[Word::Text("a"), Word::Int(0)],
-        Ok(Word::Unit),
-        "table \"a\" 0",
-    )];
-    play(rt, alloc, table, &first)?;
-    fill(alloc, table)
+fn fill_and_play(rt: &impl Abort, alloc: Global, table: &mut Table) -> Result<(), NoMemory> {
+    play(rt, alloc, table, &FIRST_KEY)?;
+    fill(alloc, table)?;
+    for row in &FULL_TABLE {
+        play_full(rt, alloc, table, row)?;
+    }
+    Ok(())
 }
 
 #[test]
 fn full_table_rows(rt: HostRuntime) -> Result<(), Fail> {
     let mut table = Table::open(rt.alloc());
-    fill_from_first(&rt, rt.alloc(), &mut table)?;
-    let before = full_text(rt.alloc(), 0)?;
-    let after = full_text(rt.alloc(), 1)?;
-    play_full(&rt, rt.alloc(), &mut table, before.as_str(), after.as_str())?;
-    Ok(())
-}
-
-#[test]
-fn boxed_account_rows(rt: HostRuntime) -> Result<(), Fail> {
-    let mut account: Boxed = Box::new(rt.alloc(), Account::open())?;
-    let rows: [Row; 8] = [
-        (Method::Balance, &[], Ok(Word::Int(0)), "account 0"),
-        (
-            Method::Deposit,
-            &[Word::Int(10)],
-            Ok(Word::Int(10)),
-            "account 10",
-        ),
-        (
-            Method::Withdraw,
-            &[Word::Int(11)],
-            Err(Fault::Insufficient),
-            "account 10",
-        ),
-        (
-            Method::Deposit,
-            &[Word::Int(0)],
-            Err(Fault::BadAmount),
-            "account 10",
-        ),
-        (
-            Method::Withdraw,
-            &[Word::Int(-1)],
-            Err(Fault::BadAmount),
-            "account 10",
-        ),
-        (
-            Method::Withdraw,
-            &[Word::Int(10)],
-            Ok(Word::Int(0)),
-            "account 0",
-        ),
-        (
-            Method::Deposit,
-            &[Word::Int(i64::MAX)],
-            Ok(Word::Int(i64::MAX)),
-            "account 9223372036854775807",
-        ),
-        (
-            Method::Deposit,
-            &[Word::Int(1)],
-            Err(Fault::Overflow),
-            "account 9223372036854775807",
-        ),
-    ];
-    play(&rt, rt.alloc(), &mut account, &rows)?;
-    Ok(())
-}
-
-#[test]
-fn list_rows(rt: HostRuntime) -> Result<(), Fail> {
-    let mut list = ListKind::open(rt.alloc());
-    let none: [Word; 0] = [];
-    let rows: [Row; 6] = [
-        (Method::Pop, &none, Err(Fault::NoItems), "list"),
-        (Method::Push, &[Word::Int(7)], Ok(Word::Int(1)), "list 7"),
-        (Method::At, &[Word::Int(1)], Err(Fault::NoItem), "list 7"),
-        (
-            Method::Push,
-            &[Word::Text("a")],
-            Ok(Word::Int(2)),
-            "list 7 \"a\"",
-        ),
-        (Method::Len, &none, Ok(Word::Int(2)), "list 7 \"a\""),
-        (Method::Pop, &none, Ok(Word::Text("a")), "list 7"),
-    ];
-    play(&rt, rt.alloc(), &mut list, &rows)?;
+    let done = fill_and_play(&rt, rt.alloc(), &mut table);
+    drop(table);
+    done?;
     Ok(())
 }
 
@@ -359,23 +256,40 @@ fn list_rows(rt: HostRuntime) -> Result<(), Fail> {
 fn fill_list(alloc: Global, list: &mut ListKind) -> Result<(), NoMemory> {
     let longest = LONG.get(1..).unwrap_or("k");
     for _item in 0..MAX_ITEMS {
-        drop(asked(alloc, list, &Method::Push, &[Word::Text(longest)])?);
+        drop(asked(alloc, list, Push, &[Txt(longest)])?);
     }
+    Ok(())
+}
+
+/// A full list takes no item more.
+fn push_more(rt: &impl Abort, alloc: Global, list: &mut ListKind) -> Result<(), NoMemory> {
+    let answered = asked(alloc, list, Push, &[Int(1)])?;
+    assert!(rt; matches!(answered, Err(Fault::KindFull)));
+    drop(answered);
+    Ok(())
+}
+
+fn assert_long(rt: &impl Abort, text: &str) {
+    assert_eq!(rt; text.len(), 4 + MAX_ITEMS * 67);
+    assert!(rt; text.starts_with("list \"kkk"));
+    assert!(rt; text.ends_with("kkk\""));
+}
+
+fn fill_and_push(rt: &impl Abort, alloc: Global, list: &mut ListKind) -> Result<(), NoMemory> {
+    fill_list(alloc, list)?;
+    push_more(rt, alloc, list)?;
+    let text = text_of(alloc, list)?;
+    assert_long(rt, text.as_str());
+    drop(text);
     Ok(())
 }
 
 /// The longest text of a state is written whole, and a full list takes no item more.
 #[test]
 fn full_list(rt: HostRuntime) -> Result<(), Fail> {
-    let alloc = rt.alloc();
-    let mut list = ListKind::open(alloc);
-    fill_list(alloc, &mut list)?;
-    let answered = asked(alloc, &mut list, &Method::Push, &[Word::Int(1)])?;
-    assert!(rt; matches!(answered, Err(Fault::KindFull)));
-    drop(answered);
-    let text = text_of(alloc, &list)?;
-    assert_eq!(rt; text.len(), 4 + MAX_ITEMS * 67);
-    assert!(rt; text.as_str().starts_with("list \"kkk"));
-    assert!(rt; text.as_str().ends_with("kkk\""));
+    let mut list = ListKind::open(rt.alloc());
+    let done = fill_and_push(&rt, rt.alloc(), &mut list);
+    drop(list);
+    done?;
     Ok(())
 }

@@ -21,3 +21,5 @@ mod plans;
 mod replies;
 #[cfg(test)]
 mod resolver;
+#[cfg(test)]
+mod rows;
