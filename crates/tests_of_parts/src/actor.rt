@@ -2,82 +2,173 @@
 
 ghost use Rattle.act_actor.specs.Cast.{CallersDiffer};
 
+use super::rows::Verb::{Add, At, Get, Push, Put, Size, Terminate};
+use super::rows::Why::{BadArgs, Dependency, NoKey};
+use super::rows::Word::{Int, Txt, Unit};
+use super::rows::{Verb, Why, Word, actor, answer_of, caller, method, value_of};
 use act_actor::{Arrival, Cast, Live, Retired, actors_of, cast_fits, limits_of};
 use act_kinds::{Actor, Boxed, Counter, ListKind, Table};
 use act_types::{
-    ActorId, CallerId, Fault, FutureId, ListOf, Method, NoMemory, Packet, ReleaseNote, Reply,
-    Settled, SmallList, Text, Value,
+    ActorId, CallerId, FutureId, ListOf, Method, NoMemory, Packet, ReleaseNote, Reply, Settled,
+    SmallList, Value,
 };
 use std::alloc::Global;
 use std::process::Abort;
 use std::test::Fail;
 
-/// An argument as a row writes it.
+/// An argument as a row writes it: a value, or a future that has a fault.
 #[derive(Clone, Copy)]
 enum Given {
-    Int(i64),
-    Text(&'static str),
+    Good(Word),
     Bad(u32),
 }
 
-/// A call of caller 1 to actor 1 by its number, and its answer.
-type Row<'a> = (u32, Method, &'a [Given], Result<i64, Fault>);
+use Given::{Bad, Good};
+
+/// A call of caller 1 to actor 1 by its name and number, and its answer.
+type Row = (&'static str, u32, Verb, &'static [Given], Result<Word, Why>);
+
+/// Some of these calls may run at once.
+#[rattlefmt::skip]
+static AT_ONCE: [(Row, bool); 6] = [
+    (("before the first", 1, Get, &[], Ok(Int(0))), false),
+    (("the first", 0, Add, &[Good(Int(5))], Ok(Int(5))), true),
+    (("the first again", 0, Add, &[Good(Int(5))], Ok(Int(5))), false),
+    (("the second", 1, Add, &[Good(Int(2))], Ok(Int(7))), true),
+    (("a number too great", 65_536, Get, &[], Ok(Int(7))), false),
+    (("the third", 2, Get, &[], Ok(Int(7))), true),
+];
+
+/// The next call and one that is held.
+static HELD: Row = ("held", 4, Get, &[], Ok(Int(7)));
+
+static NEXT: Row = ("before one that is held", 3, Get, &[], Ok(Int(7)));
+
+static FIRST_GET: Row = ("to another actor", 0, Get, &[], Ok(Int(0)));
+
+static FIRST_END: Row = ("terminate", 0, Terminate, &[], Ok(Unit));
+
+static AFTER_THE_END: Row = ("after terminate", 1, Get, &[], Ok(Int(0)));
+
+#[rattlefmt::skip]
+static FAILED_ARGUMENTS: [Row; 4] = [
+    ("no such key", 0, Get, &[Good(Txt("x"))], Err(NoKey)),
+    ("a failed argument", 1, Put, &[Good(Txt("y")), Bad(0)], Err(Dependency(0))),
+    ("the first of two", 2, Put, &[Bad(3), Bad(1)], Err(Dependency(3))),
+    ("nothing was put", 3, Size, &[], Ok(Int(0))),
+];
+
+#[rattlefmt::skip]
+static FROM_FIVE: [Row; 4] = [
+    ("what it was opened with", 0, Get, &[], Ok(Int(5))),
+    ("two more", 1, Add, &[Good(Int(2))], Ok(Int(7))),
+    ("after a gap", 3, Get, &[], Ok(Int(7))),
+    ("further after it", 4, Get, &[], Ok(Int(7))),
+];
+
+static ADD_TWO: [Row; 1] = [("the only call", 0, Add, &[Good(Int(2))], Ok(Int(2)))];
+
+#[rattlefmt::skip]
+static REFUSED_ENDS: [Row; 2] = [
+    ("terminate with an argument", 0, Terminate, &[Good(Int(1))], Err(BadArgs)),
+    ("terminate with a failed argument", 1, Terminate, &[Good(Int(1)), Bad(0)], Err(Dependency(0))),
+];
+
+#[rattlefmt::skip]
+static THE_END: [Row; 2] = [
+    ("terminate in its turn", 2, Terminate, &[], Ok(Unit)),
+    ("after it", 3, Get, &[], Ok(Int(0))),
+];
+
+#[rattlefmt::skip]
+static A_GAP: [Row; 3] = [
+    ("before the gap", 0, Add, &[Good(Int(2))], Ok(Int(2))),
+    ("after the gap", 2, Get, &[], Ok(Int(2))),
+    ("further after it", 3, Get, &[], Ok(Int(2))),
+];
+
+#[rattlefmt::skip]
+static OF_A_LIST: [Row; 5] = [
+    ("a text", 0, Push, &[Good(Txt("x"))], Ok(Int(1))),
+    ("a number", 1, Push, &[Good(Int(7))], Ok(Int(2))),
+    ("an item", 2, At, &[Good(Int(1))], Ok(Int(7))),
+    ("a failed argument", 3, Push, &[Bad(0)], Err(Dependency(0))),
+    ("another text", 4, Push, &[Good(Txt("y"))], Ok(Int(3))),
+];
 
 fn settled_of(alloc: Global, given: Given) -> Result<Settled, NoMemory> {
     match given {
-        Given::Int(number) => Ok(Settled::Good(Value::Int(number))),
-        Given::Text(letters) => Ok(Settled::Good(Value::Text(Text::copied(alloc, letters)?))),
-        Given::Bad(future) => Ok(Settled::Bad(FutureId::new(future))),
+        Good(word) => Ok(Settled::Good(value_of(alloc, word)?)),
+        Bad(future) => Ok(Settled::Bad(FutureId::new(future))),
     }
 }
 
 fn packet_of(alloc: Global, row: &Row) -> Result<Packet, NoMemory> {
-    let (number, method, givens, _) = *row;
+    let (_, number, verb, givens, _) = row;
     let mut args = SmallList::new(alloc);
-    for given in givens {
+    for given in *givens {
         args.push(settled_of(alloc, *given)?)?;
     }
     Ok(Packet {
         caller: CallerId::new(1).unwrap(),
         actor: ActorId::new(1).unwrap(),
-        number,
-        future: FutureId::new(number),
-        method,
+        number: *number,
+        future: FutureId::new(*number),
+        method: method(*verb),
         args,
     })
 }
 
-fn reply_of(row: &Row) -> Reply {
-    let (number, _, _, answer) = *row;
-    Reply {
+fn reply_of(alloc: Global, row: &Row) -> Result<Reply, NoMemory> {
+    Ok(Reply {
         actor: ActorId::new(1).unwrap(),
         caller: CallerId::new(1).unwrap(),
-        future: FutureId::new(number),
-        place: number,
-        answer: answer.map(Value::Int),
-    }
+        future: FutureId::new(row.1),
+        place: row.1,
+        answer: answer_of(alloc, &row.4)?,
+    })
 }
 
-/// Actor 1 with a counter, and with caller 1 alone.
-fn opened_counter(alloc: Global) -> Result<Live<Counter>, NoMemory> {
+/// Actor 1 with this kind, and with caller 1 alone.
+fn opened<K: Actor>(alloc: Global, kind: K) -> Result<Live<K>, NoMemory> {
     let callers = [CallerId::new(1).unwrap()];
-    Live::open(alloc, ActorId::new(1).unwrap(), &callers, Counter::open())
+    Live::open(alloc, ActorId::new(1).unwrap(), &callers, kind)
 }
 
 /// Brings a call, of which this is told.
-fn assert_arrives<K: Actor>(rt: &impl Abort, live: &mut Live<K>, packet: Packet, arrival: Arrival) {
+fn assert_arrives<K: Actor>(
+    rt: &impl Abort,
+    live: &mut Live<K>,
+    name: &str,
+    packet: Packet,
+    arrival: Arrival,
+) {
     let arrived = live.arrive(packet);
     let wanted = Ok(arrival);
-    assert_eq!(rt; arrived, wanted);
+    assert_eq!(rt; arrived, wanted, "{name}");
     drop(arrived);
     drop(wanted);
 }
 
-/// What a call was answered, and what it is to be answered.
-fn assert_reply(rt: &impl Abort, ran: Option<Reply>, wanted: Option<Reply>) {
-    assert_eq!(rt; ran, wanted);
+/// What a call was answered, and what it is to be answered if it ran.
+fn assert_reply(
+    rt: &impl Abort,
+    alloc: Global,
+    row: &Row,
+    ran: Option<Reply>,
+    runs: bool,
+) -> Result<(), NoMemory> {
+    let wanted = match reply_of(alloc, row) {
+        Ok(wanted) => runs.then_some(wanted),
+        Err(refused) => {
+            drop(ran);
+            return Err(refused);
+        }
+    };
+    assert_eq!(rt; ran, wanted, "{}", row.0);
     drop(ran);
     drop(wanted);
+    Ok(())
 }
 
 /// Brings a call, which hasn't come before.
@@ -88,15 +179,20 @@ fn arrive_new<K: Actor>(
     row: &Row,
 ) -> Result<(), NoMemory> {
     let packet = packet_of(alloc, row)?;
-    assert_arrives(rt, live, packet, Arrival::New);
+    assert_arrives(rt, live, row.0, packet, Arrival::New);
     Ok(())
 }
 
-/// Runs the call that comes next, which is this one.
-fn assert_runs<K: Actor>(rt: &impl Abort, live: &mut Live<K>, row: &Row) -> Result<(), NoMemory> {
+/// Runs the call that comes next, which is this one, or none.
+fn assert_runs<K: Actor>(
+    rt: &impl Abort,
+    alloc: Global,
+    live: &mut Live<K>,
+    row: &Row,
+    runs: bool,
+) -> Result<(), NoMemory> {
     let ran = live.run(CallerId::new(1).unwrap())?;
-    assert_reply(rt, ran, Some(reply_of(row)));
-    Ok(())
+    assert_reply(rt, alloc, row, ran, runs)
 }
 
 /// Brings each call, which hasn't come before.
@@ -112,18 +208,6 @@ fn arrive_each<K: Actor>(
     Ok(())
 }
 
-/// Runs the call if it is the next one.
-fn run_if_next<K: Actor>(rt: &impl Abort, live: &mut Live<K>, row: &Row) -> Result<(), NoMemory> {
-    let caller = CallerId::new(1).unwrap();
-    let (number, _, _, _) = *row;
-    let next = live.log().len();
-    let is_next = number as usize == next;
-    assert_eq!(rt; live.has_next(caller), is_next);
-    let ran = live.run(caller)?;
-    assert_reply(rt, ran, is_next.then(|| reply_of(row)));
-    Ok(())
-}
-
 /// Brings each call, and runs the next one where it came.
 fn play<K: Actor>(
     rt: &impl Abort,
@@ -133,24 +217,29 @@ fn play<K: Actor>(
 ) -> Result<(), NoMemory> {
     arrive_each(rt, alloc, live, rows)?;
     for row in rows {
-        run_if_next(rt, live, row)?;
+        let is_next = row.1 as usize == live.log().len();
+        let has_next = live.has_next(CallerId::new(1).unwrap());
+        assert_eq!(rt; has_next, is_next, "{}", row.0);
+        assert_runs(rt, alloc, live, row, is_next)?;
     }
     Ok(())
 }
 
-/// Runs a call at once where it may.
+/// Runs a call at once where it may, as it is to be told.
 fn run_at_once<K: Actor>(
+    rt: &impl Abort,
     alloc: Global,
     live: &mut Live<K>,
     row: &Row,
-) -> Result<Option<Reply>, NoMemory> {
+    runs: bool,
+) -> Result<(), NoMemory> {
     let packet = packet_of(alloc, row)?;
     if !live.runs_at_once(&packet) {
         drop(packet);
-        return Ok(None);
+        return assert_reply(rt, alloc, row, None, runs);
     }
     let reply = live.run_now(packet)?;
-    Ok(Some(reply))
+    assert_reply(rt, alloc, row, Some(reply), runs)
 }
 
 /// Two actors hold no call, and have logs of one length and one state.
@@ -162,26 +251,29 @@ fn assert_alike<K: Actor>(
 ) -> Result<(), NoMemory> {
     assert!(rt; live.holds_none() && other.holds_none());
     assert_eq!(rt; live.log().len(), other.log().len());
-    assert_eq!(rt; text_of(rt, alloc, live)?, text_of(rt, alloc, other)?);
-    Ok(())
+    let text = text_of(rt, alloc, other)?;
+    let done = assert_text(rt, alloc, live, text.as_str());
+    drop(text);
+    done
 }
 
-/// Runs a call at once in the one actor where it may, and in the other where it has arrived.
-fn run_in_both<K: Actor>(
+/// Runs calls of which some may run at once: in the one actor at once where it may, and in the
+/// other where it has arrived.
+fn run_each_in_both<K: Actor>(
     rt: &impl Abort,
     alloc: Global,
     live: &mut Live<K>,
     other: &mut Live<K>,
-    row: &Row,
-    runs: bool,
 ) -> Result<(), NoMemory> {
-    let ran = run_at_once(alloc, live, row)?;
-    assert_reply(rt, ran, runs.then(|| reply_of(row)));
-    if runs {
-        arrive_new(rt, alloc, other, row)?;
-        assert_runs(rt, other, row)?;
+    for (row, runs) in &AT_ONCE {
+        run_at_once(rt, alloc, live, row, *runs)?;
+        if *runs {
+            arrive_new(rt, alloc, other, row)?;
+            assert_runs(rt, alloc, other, row, true)?;
+        }
+        assert_alike(rt, alloc, live, other)?;
     }
-    assert_alike(rt, alloc, live, other)
+    Ok(())
 }
 
 /// Where a call is held, the one before it doesn't run at once.
@@ -189,57 +281,34 @@ fn not_at_once_before<K: Actor>(
     rt: &impl Abort,
     alloc: Global,
     live: &mut Live<K>,
-    next: &Row,
-    held: &Row,
 ) -> Result<(), NoMemory> {
-    arrive_new(rt, alloc, live, held)?;
+    arrive_new(rt, alloc, live, &HELD)?;
     assert!(rt; !live.holds_none());
-    let ran = run_at_once(alloc, live, next)?;
-    assert!(rt; ran.is_none());
-    drop(ran);
-    arrive_new(rt, alloc, live, next)?;
-    assert_runs(rt, live, next)
-}
-
-/// Runs calls of which some may run at once.
-fn run_each_in_both<K: Actor>(
-    rt: &impl Abort,
-    alloc: Global,
-    live: &mut Live<K>,
-    other: &mut Live<K>,
-) -> Result<(), NoMemory> {
-    let none: [Given; 0] = [];
-    let rows: [(Row, bool); 6] = [
-        ((1, Method::Get, &none, Ok(0)), false),
-        ((0, Method::Add, &[Given::Int(5)], Ok(5)), true),
-        ((0, Method::Add, &[Given::Int(5)], Ok(5)), false),
-        ((1, Method::Add, &[Given::Int(2)], Ok(7)), true),
-        ((65_536, Method::Get, &none, Ok(7)), false),
-        ((2, Method::Get, &none, Ok(7)), true),
-    ];
-    for (row, runs) in &rows {
-        run_in_both(rt, alloc, live, other, row, *runs)?;
-    }
-    let next: Row = (3, Method::Get, &none, Ok(7));
-    let held: Row = (4, Method::Get, &none, Ok(7));
-    not_at_once_before(rt, alloc, live, &next, &held)
+    run_at_once(rt, alloc, live, &NEXT, false)?;
+    arrive_new(rt, alloc, live, &NEXT)?;
+    assert_runs(rt, alloc, live, &NEXT, true)
 }
 
 /// A call that runs at once leaves what one leaves that arrives and runs: the reply, the log, the
 /// state, and what arrives and runs after it.
+fn at_once_beside<K: Actor>(
+    rt: &impl Abort,
+    alloc: Global,
+    live: &mut Live<K>,
+    kind: K,
+) -> Result<(), NoMemory> {
+    let mut other = opened(alloc, kind)?;
+    let done = run_each_in_both(rt, alloc, live, &mut other);
+    drop(other);
+    done?;
+    not_at_once_before(rt, alloc, live)
+}
+
 #[test]
 fn at_once_as_arrived_and_run(rt: HostRuntime) -> Result<(), Fail> {
-    let mut live = opened_counter(rt.alloc())?;
-    let mut other = match opened_counter(rt.alloc()) {
-        Ok(other) => other,
-        Err(refused) => {
-            drop(live);
-            return Err(refused.into());
-        }
-    };
-    let done = run_each_in_both(&rt, rt.alloc(), &mut live, &mut other);
+    let mut live = opened(rt.alloc(), Counter::open())?;
+    let done = at_once_beside(&rt, rt.alloc(), &mut live, Counter::open());
     drop(live);
-    drop(other);
     done?;
     Ok(())
 }
@@ -248,13 +317,11 @@ fn at_once_as_arrived_and_run(rt: HostRuntime) -> Result<(), Fail> {
 #[test]
 fn not_at_once_elsewhere(rt: HostRuntime) -> Result<(), Fail> {
     let alloc = rt.alloc();
-    let c1 = CallerId::new(1).unwrap();
-    let mut live = Live::open(alloc, ActorId::new(2).unwrap(), &[c1], Counter::open())?;
-    let ran = run_at_once(alloc, &mut live, &(0, Method::Get, &[], Ok(0)));
+    let callers = [CallerId::new(1).unwrap()];
+    let mut live = Live::open(alloc, ActorId::new(2).unwrap(), &callers, Counter::open())?;
+    let done = run_at_once(&rt, alloc, &mut live, &FIRST_GET, false);
     drop(live);
-    let ran = ran?;
-    assert!(rt; ran.is_none());
-    drop(ran);
+    done?;
     Ok(())
 }
 
@@ -264,57 +331,39 @@ fn end_at_once<K: Actor>(
     alloc: Global,
     live: &mut Live<K>,
 ) -> Result<(), NoMemory> {
-    let end = run_at_once(alloc, live, &(0, Method::Terminate, &[], Ok(0)))?;
-    assert!(rt; end.is_some() && live.terminated());
-    drop(end);
-    let after = run_at_once(alloc, live, &(1, Method::Get, &[], Ok(0)))?;
-    assert!(rt; after.is_none());
-    drop(after);
-    Ok(())
+    run_at_once(rt, alloc, live, &FIRST_END, true)?;
+    assert!(rt; live.terminated());
+    run_at_once(rt, alloc, live, &AFTER_THE_END, false)
 }
 
 #[test]
 fn not_at_once_after_a_terminate(rt: HostRuntime) -> Result<(), Fail> {
-    let mut live = opened_counter(rt.alloc())?;
+    let mut live = opened(rt.alloc(), Counter::open())?;
     let done = end_at_once(&rt, rt.alloc(), &mut live);
     drop(live);
     done?;
     Ok(())
 }
 
-#[test]
-fn failed_arguments(rt: HostRuntime) -> Result<(), Fail> {
-    let alloc = rt.alloc();
-    let table: Boxed = Box::new(alloc, Table::open(alloc))?;
-    let callers = [CallerId::new(1).unwrap()];
-    let mut live: Live = Live::open(alloc, ActorId::new(1).unwrap(), &callers, table)?;
-    let rows: [Row; 4] = [
-        (0, Method::Get, &[Given::Text("x")], Err(Fault::NoKey)),
-        (
-            1,
-            Method::Put,
-            &[Given::Text("y"), Given::Bad(0)],
-            Err(Fault::Dependency(FutureId::new(0))),
-        ),
-        (
-            2,
-            Method::Put,
-            &[Given::Bad(3), Given::Bad(1)],
-            Err(Fault::Dependency(FutureId::new(3))),
-        ),
-        (3, Method::Size, &[], Ok(0)),
-    ];
-    let done = play(&rt, alloc, &mut live, &rows);
-    drop(live);
-    done?;
-    Ok(())
-}
-
-/// A counter that was asked to add 5.
-fn counted() -> Result<Counter, NoMemory> {
-    let mut counter = Counter::open();
-    drop(counter.ask(&Method::Add, &[Value::Int(5)])?);
-    Ok(counter)
+/// Plays these calls, after which the actor is killed, and keeps its name and the log of those that
+/// ran.
+fn play_and_kill<K: Actor>(
+    rt: &impl Abort,
+    alloc: Global,
+    mut live: Live<K>,
+    rows: &[Row],
+    ran: usize,
+    text: &str,
+) -> Result<(), NoMemory> {
+    let done = match play(rt, alloc, &mut live, rows) {
+        Ok(()) => assert_text(rt, alloc, &live, text),
+        Err(refused) => Err(refused),
+    };
+    match done {
+        Ok(()) => assert_killed(rt, live, ran),
+        Err(_) => drop(live),
+    }
+    done
 }
 
 /// A killed actor keeps its name and its log.
@@ -325,57 +374,58 @@ fn assert_killed<K: Actor>(rt: &impl Abort, live: Live<K>, ran: usize) {
     drop(dead);
 }
 
-/// Once what came before is done, the actor is killed.
-fn assert_killed_if<K: Actor>(
-    rt: &impl Abort,
-    live: Live<K>,
-    done: Result<(), NoMemory>,
-    ran: usize,
-) -> Result<(), NoMemory> {
-    match done {
-        Ok(()) => assert_killed(rt, live, ran),
-        Err(_) => drop(live),
-    }
-    done
+#[test]
+fn failed_arguments(rt: HostRuntime) -> Result<(), Fail> {
+    let alloc = rt.alloc();
+    let table: Boxed = Box::new(alloc, Table::open(alloc))?;
+    let live = opened(alloc, table)?;
+    play_and_kill(&rt, alloc, live, &FAILED_ARGUMENTS, 4, "is table")?;
+    Ok(())
 }
 
-/// Plays a counter that was at 5 when its actor was opened.
-fn play_from_five<K: Actor>(
-    rt: &impl Abort,
-    alloc: Global,
-    live: &mut Live<K>,
-) -> Result<(), NoMemory> {
-    let none: [Given; 0] = [];
-    let rows: [Row; 4] = [
-        (0, Method::Get, &none, Ok(5)),
-        (1, Method::Add, &[Given::Int(2)], Ok(7)),
-        (3, Method::Get, &none, Ok(7)),
-        (4, Method::Get, &none, Ok(7)),
-    ];
-    play(rt, alloc, live, &rows)?;
-    assert_text(rt, alloc, live, "is counter 7")
+/// A counter that was asked to add 5.
+fn counted() -> Result<Counter, NoMemory> {
+    let mut counter = Counter::open();
+    drop(counter.ask(&Method::Add, &[Value::Int(5)])?);
+    Ok(counter)
 }
 
 #[test]
 fn opened_later(rt: HostRuntime) -> Result<(), Fail> {
-    let alloc = rt.alloc();
-    let callers = [CallerId::new(1).unwrap()];
-    let mut live = Live::open(alloc, ActorId::new(1).unwrap(), &callers, counted()?)?;
-    let done = play_from_five(&rt, alloc, &mut live);
-    assert_killed_if(&rt, live, done, 2)?;
+    let live = opened(rt.alloc(), counted()?)?;
+    play_and_kill(&rt, rt.alloc(), live, &FROM_FIVE, 2, "is counter 7")?;
     Ok(())
 }
 
-/// Brings release notes, each by its caller, its actor and what it tells.
-fn note<K: Actor>(rt: &impl Abort, live: &mut Live<K>, rows: &[(CallerId, ActorId, u32, Arrival)]) {
-    for row in rows {
-        let (caller, actor, after, arrival) = *row;
+#[test]
+fn killed_with_calls_held(rt: HostRuntime) -> Result<(), Fail> {
+    let live = opened(rt.alloc(), Counter::open())?;
+    play_and_kill(&rt, rt.alloc(), live, &A_GAP, 1, "is counter 2")?;
+    Ok(())
+}
+
+/// Release notes, each by its caller, its actor and what it tells.
+type Note = (&'static str, u8, u8, u32, Arrival);
+
+#[rattlefmt::skip]
+static NOTES: [Note; 4] = [
+    ("of a stranger", 9, 1, 0, Arrival::Stranger),
+    ("to another actor", 1, 2, 0, Arrival::Stranger),
+    ("after one call", 1, 1, 1, Arrival::New),
+    ("a second note", 1, 1, 0, Arrival::Repeat),
+];
+
+static NOTE_AFTER_THREE: [Note; 1] = [("after three calls", 1, 1, 3, Arrival::New)];
+
+/// Brings release notes.
+fn note<K: Actor>(rt: &impl Abort, live: &mut Live<K>, notes: &[Note]) {
+    for (name, from, to, after, arrival) in notes {
         let note = ReleaseNote {
-            caller,
-            actor,
-            after,
+            caller: caller(rt, *from),
+            actor: actor(rt, *to),
+            after: *after,
         };
-        assert_eq!(rt; live.released(note), arrival);
+        assert_eq!(rt; live.released(note), *arrival, "{name}");
     }
 }
 
@@ -383,18 +433,8 @@ fn note<K: Actor>(rt: &impl Abort, live: &mut Live<K>, rows: &[(CallerId, ActorI
 fn noted(rt: &impl Abort, alloc: Global, callers: &[CallerId]) -> Result<Live<Counter>, NoMemory>
     requires { CallersDiffer callers.now }
 {
-    let a1 = ActorId::new(1).unwrap();
-    let a2 = ActorId::new(2).unwrap();
-    let c1 = CallerId::new(1).unwrap();
-    let c9 = CallerId::new(9).unwrap();
-    let mut live = Live::open(alloc, a1, callers, Counter::open())?;
-    let notes = [
-        (c9, a1, 0, Arrival::Stranger),
-        (c1, a2, 0, Arrival::Stranger),
-        (c1, a1, 1, Arrival::New),
-        (c1, a1, 0, Arrival::Repeat),
-    ];
-    note(rt, &mut live, &notes);
+    let mut live = Live::open(alloc, ActorId::new(1).unwrap(), callers, Counter::open())?;
+    note(rt, &mut live, &NOTES);
     let Err(live) = live.retire() else {
         panic!(rt; "retired before its call came");
     };
@@ -408,22 +448,20 @@ fn tell_retired(
     text: &mut String,
 ) -> Result<(), NoMemory> {
     retired.state_text(text)?;
-    let seen = (retired.id(), retired.log().len());
-    assert_eq!(rt; seen, (ActorId::new(1).unwrap(), 1));
+    let seen = (retired.id().number(), retired.log().len());
+    assert_eq!(rt; seen, (1, 1));
     Ok(())
 }
 
-/// The text of the state that the actor retired with, or none where it didn't retire.
-fn retired_text(rt: &impl Abort, alloc: Global, live: Live<Counter>) -> Result<String, NoMemory> {
-    let mut text = String::new(alloc);
+/// Adds the text of the state that the actor retired with, or none where it didn't retire.
+fn retire(rt: &impl Abort, live: Live<Counter>, text: &mut String) -> Result<(), NoMemory> {
     let ended = live.retire();
     let told = match &ended {
-        Ok(retired) => tell_retired(rt, retired, &mut text),
+        Ok(retired) => tell_retired(rt, retired, text),
         Err(_) => Ok(()),
     };
     drop(ended);
-    told?;
-    Ok(text)
+    told
 }
 
 /// Brings and runs the call, after which the actor is drained or not.
@@ -433,89 +471,62 @@ fn add_two<K: Actor>(
     live: &mut Live<K>,
     drained: bool,
 ) -> Result<(), NoMemory> {
-    let rows: [Row; 1] = [(0, Method::Add, &[Given::Int(2)], Ok(2))];
-    play(rt, alloc, live, &rows)?;
+    play(rt, alloc, live, &ADD_TWO)?;
     assert_eq!(rt; live.drained(), drained);
     Ok(())
 }
 
-/// The text of the state that an actor with these callers retires with, once the call came.
-fn text_at_the_end(
+/// An actor with these callers retires with this text, once the call came, or doesn't retire.
+fn assert_retires(
     rt: &impl Abort,
     alloc: Global,
     callers: &[CallerId],
     drained: bool,
-) -> Result<String, NoMemory>
+    wanted: &str,
+) -> Result<(), NoMemory>
     requires { CallersDiffer callers.now }
 {
     let mut live = noted(rt, alloc, callers)?;
-    match add_two(rt, alloc, &mut live, drained) {
-        Ok(()) => retired_text(rt, alloc, live),
+    let mut text = String::new(alloc);
+    let done = match add_two(rt, alloc, &mut live, drained) {
+        Ok(()) => retire(rt, live, &mut text),
         Err(refused) => {
             drop(live);
             Err(refused)
         }
+    };
+    if done.is_ok() {
+        assert_eq!(rt; text.as_str(), wanted);
     }
+    drop(text);
+    done
 }
 
 #[test]
 fn retired_once_drained(rt: HostRuntime) -> Result<(), Fail> {
     let c1 = CallerId::new(1).unwrap();
     let c2 = CallerId::new(2).unwrap();
-    let alone = text_at_the_end(&rt, rt.alloc(), &[c1], true)?;
-    assert_eq!(rt; alone.as_str(), "counter 2");
-    let beside_another = text_at_the_end(&rt, rt.alloc(), &[c1, c2], false)?;
-    assert_eq!(rt; beside_another.as_str(), "");
+    assert_retires(&rt, rt.alloc(), &[c1], true, "counter 2")?;
+    assert_retires(&rt, rt.alloc(), &[c1, c2], false, "")?;
     Ok(())
 }
 
-/// Runs the `terminate` that stands at place 2, after which nothing runs.
-fn run_the_end(rt: &impl Abort, live: &mut Live<Counter>) -> Result<(), NoMemory> {
-    let c1 = CallerId::new(1).unwrap();
-    assert!(rt; !live.terminated());
-    let Some(reply) = live.run(c1)? else {
-        panic!(rt; "held back after its turn came");
-    };
-    let wanted = Ok(Value::Unit);
-    assert_eq!(rt; (reply.place, &reply.answer), (2, &wanted));
-    drop(reply);
-    drop(wanted);
-    assert_eq!(rt;
-        (live.terminated(), live.has_next(c1), live.drained()),
-        (true, false, false)
-    );
-    let after = live.run(c1)?;
-    assert_reply(rt, after, None);
-    Ok(())
-}
-
-/// Plays two calls of `terminate` that are refused, and holds one that is not.
+/// Plays two calls of `terminate` that are refused, and one in its turn, at place 2, after which
+/// nothing runs.
 fn play_to_the_end(
     rt: &impl Abort,
     alloc: Global,
     live: &mut Live<Counter>,
 ) -> Result<(), NoMemory> {
-    let failed = Err(Fault::Dependency(FutureId::new(0)));
-    let refused: [Row; 2] = [
-        (0, Method::Terminate, &[Given::Int(1)], Err(Fault::BadArgs)),
-        (
-            1,
-            Method::Terminate,
-            &[Given::Int(1), Given::Bad(0)],
-            failed,
-        ),
-    ];
-    play(rt, alloc, live, &refused)?;
-    let a1 = ActorId::new(1).unwrap();
     let c1 = CallerId::new(1).unwrap();
-    note(rt, live, &[(c1, a1, 3, Arrival::New)]);
-    let none: [Given; 0] = [];
-    let held: [Row; 2] = [
-        (2, Method::Terminate, &none, Ok(0)),
-        (3, Method::Get, &none, Ok(0)),
-    ];
-    arrive_each(rt, alloc, live, &held)?;
-    run_the_end(rt, live)
+    play(rt, alloc, live, &REFUSED_ENDS)?;
+    note(rt, live, &NOTE_AFTER_THREE);
+    arrive_each(rt, alloc, live, &THE_END)?;
+    assert!(rt; !live.terminated());
+    assert_runs(rt, alloc, live, &THE_END[0], true)?;
+    let ended = (live.terminated(), live.has_next(c1), live.drained());
+    assert_eq!(rt; ended, (true, false, false));
+    assert_runs(rt, alloc, live, &THE_END[1], false)
 }
 
 /// An actor that ran its `terminate` doesn't retire, and keeps its log.
@@ -528,7 +539,7 @@ fn assert_ended(rt: &impl Abort, live: Live<Counter>) {
 
 #[test]
 fn ended_in_its_turn(rt: HostRuntime) -> Result<(), Fail> {
-    let mut live = opened_counter(rt.alloc())?;
+    let mut live = opened(rt.alloc(), Counter::open())?;
     let done = play_to_the_end(&rt, rt.alloc(), &mut live);
     match done {
         Ok(()) => assert_ended(&rt, live),
@@ -538,96 +549,103 @@ fn ended_in_its_turn(rt: HostRuntime) -> Result<(), Fail> {
     Ok(())
 }
 
-/// Plays calls of which the second is missing.
-fn play_to_a_gap<K: Actor>(
+/// An actor, its callers and its limit.
+type Role = (u8, [u8; 2], Option<u32>);
+
+#[rattlefmt::skip]
+static CASTS: [(&str, &[Role], bool); 8] = [
+    ("none", &[], true),
+    ("callers in any order", &[(1, [1, 2], None), (2, [2, 1], None)], true),
+    ("one actor twice", &[(1, [1, 2], None), (1, [2, 1], None)], false),
+    ("one caller twice", &[(1, [1, 2], None), (2, [2, 2], None)], false),
+    ("the least limit", &[(1, [1, 2], Some(1))], true),
+    ("a limit of 0", &[(1, [1, 2], None), (2, [2, 1], Some(0))], false),
+    ("the greatest limit", &[(1, [1, 2], Some(65_536))], true),
+    ("a limit above it", &[(1, [1, 2], Some(65_537))], false),
+];
+
+static THREE_ROLES: [Role; 3] = [(3, [1, 2], Some(7)), (2, [1, 3], None), (1, [3, 2], None)];
+
+/// The actors that name a caller.
+static NAMED: [(u8, &[u8]); 3] = [(1, &[3, 2]), (2, &[3, 1]), (9, &[])];
+
+fn cast_of(rt: &impl Abort, alloc: Global, role: &Role) -> Result<Cast<Counter>, NoMemory> {
+    let mut callers = ListOf::new(alloc);
+    for name in role.1 {
+        callers.push(caller(rt, name))?;
+    }
+    Ok(Cast {
+        actor: actor(rt, role.0),
+        callers,
+        kind: Counter::open(),
+        pending: role.2,
+    })
+}
+
+fn casts_of(
     rt: &impl Abort,
     alloc: Global,
-    live: &mut Live<K>,
-) -> Result<(), NoMemory> {
-    let none: [Given; 0] = [];
-    let rows: [Row; 3] = [
-        (0, Method::Add, &[Given::Int(2)], Ok(2)),
-        (2, Method::Get, &none, Ok(2)),
-        (3, Method::Get, &none, Ok(2)),
-    ];
-    play(rt, alloc, live, &rows)
-}
-
-#[test]
-fn killed_with_calls_held(rt: HostRuntime) -> Result<(), Fail> {
-    let mut live = opened_counter(rt.alloc())?;
-    let done = play_to_a_gap(&rt, rt.alloc(), &mut live);
-    assert_killed_if(&rt, live, done, 1)?;
-    Ok(())
-}
-
-/// An actor, its callers and its limit.
-type Role = (ActorId, [CallerId; 2], Option<u32>);
-
-fn casts_of(alloc: Global, roles: &[Role]) -> Result<Vec<Cast<Counter>>, NoMemory> {
+    roles: &[Role],
+) -> Result<Vec<Cast<Counter>>, NoMemory> {
     let mut casts = Vec::new(alloc);
-    for (actor, names, pending) in roles {
-        let mut callers = ListOf::new(alloc);
-        for caller in names {
-            callers.push(*caller)?;
-        }
-        casts.push(Cast {
-            actor: *actor,
-            callers,
-            kind: Counter::open(),
-            pending: *pending,
-        })?;
+    for role in roles {
+        casts.push(cast_of(rt, alloc, role)?)?;
     }
     Ok(casts)
 }
 
 #[test]
 fn casts_that_fit(rt: HostRuntime) -> Result<(), Fail> {
-    let alloc = rt.alloc();
-    let a1 = ActorId::new(1).unwrap();
-    let a2 = ActorId::new(2).unwrap();
-    let c1 = CallerId::new(1).unwrap();
-    let c2 = CallerId::new(2).unwrap();
-    let rows: [(&[Role], bool); 8] = [
-        (&[], true),
-        (&[(a1, [c1, c2], None), (a2, [c2, c1], None)], true),
-        (&[(a1, [c1, c2], None), (a1, [c2, c1], None)], false),
-        (&[(a1, [c1, c2], None), (a2, [c2, c2], None)], false),
-        (&[(a1, [c1, c2], Some(1))], true),
-        (&[(a1, [c1, c2], None), (a2, [c2, c1], Some(0))], false),
-        (&[(a1, [c1, c2], Some(65_536))], true),
-        (&[(a1, [c1, c2], Some(65_537))], false),
-    ];
-    for (roles, fits) in rows {
-        let casts = casts_of(alloc, roles)?;
-        assert_eq!(rt; cast_fits(casts.as_slice()), fits);
+    for (name, roles, fits) in &CASTS {
+        let casts = casts_of(&rt, rt.alloc(), roles)?;
+        assert_eq!(rt; cast_fits(casts.as_slice()), *fits, "{name}");
+        drop(casts);
     }
+    Ok(())
+}
+
+/// Compares the actors that name a caller.
+fn assert_named(
+    rt: &impl Abort,
+    alloc: Global,
+    casts: &[Cast<Counter>],
+    name: u8,
+    wanted: &[u8],
+) -> Result<(), NoMemory> {
+    let actors = actors_of(alloc, casts, caller(rt, name))?;
+    assert!(rt;
+        actors
+            .as_slice()
+            .iter()
+            .map(|a| a.number())
+            .eq(wanted.iter().copied()),
+        "c{name}"
+    );
+    drop(actors);
+    Ok(())
+}
+
+fn assert_all_named(
+    rt: &impl Abort,
+    alloc: Global,
+    casts: &[Cast<Counter>],
+) -> Result<(), NoMemory> {
+    for (name, wanted) in &NAMED {
+        assert_named(rt, alloc, casts, *name, wanted)?;
+    }
+    let limits = limits_of(alloc, casts, caller(rt, 1))?;
+    let wanted = [(actor(rt, 3), Some(7)), (actor(rt, 2), None)];
+    assert_eq!(rt; limits.as_slice(), wanted.as_slice());
+    drop(limits);
     Ok(())
 }
 
 #[test]
 fn actors_that_name_a_caller(rt: HostRuntime) -> Result<(), Fail> {
-    let alloc = rt.alloc();
-    let a1 = ActorId::new(1).unwrap();
-    let a2 = ActorId::new(2).unwrap();
-    let a3 = ActorId::new(3).unwrap();
-    let c1 = CallerId::new(1).unwrap();
-    let c2 = CallerId::new(2).unwrap();
-    let c3 = CallerId::new(3).unwrap();
-    let c9 = CallerId::new(9).unwrap();
-    let roles = [
-        (a3, [c1, c2], Some(7)),
-        (a2, [c1, c3], None),
-        (a1, [c3, c2], None),
-    ];
-    let casts = casts_of(alloc, &roles)?;
-    let rows: [(CallerId, &[ActorId]); 3] = [(c1, &[a3, a2]), (c2, &[a3, a1]), (c9, &[])];
-    for (caller, wanted) in rows {
-        let actors = actors_of(alloc, casts.as_slice(), caller)?;
-        assert_eq!(rt; actors.as_slice(), wanted);
-    }
-    let limits = limits_of(alloc, casts.as_slice(), c1)?;
-    assert_eq!(rt; limits.as_slice(), [(a3, Some(7)), (a2, None)].as_slice());
+    let casts = casts_of(&rt, rt.alloc(), &THREE_ROLES)?;
+    let done = assert_all_named(&rt, rt.alloc(), casts.as_slice());
+    drop(casts);
+    done?;
     Ok(())
 }
 
@@ -650,38 +668,23 @@ fn assert_text<K: Actor>(
 ) -> Result<(), NoMemory> {
     let text = text_of(rt, alloc, live)?;
     assert_eq!(rt; text.as_str(), wanted);
+    drop(text);
     Ok(())
 }
 
-/// Brings a call that came back, since memory was refused.
-fn bring_again<K: Actor>(rt: &impl Abort, live: &mut Live<K>, back: Packet, before: bool) {
-    assert_eq!(rt; live.has_next(CallerId::new(1).unwrap()), before);
-    let arrival = live.arrival(back.actor, back.caller, back.number);
-    assert_eq!(rt; arrival, Arrival::New);
-    assert_arrives(rt, live, back, Arrival::New);
-}
-
-/// Brings a call that came back as it went.
+/// Brings a call that came back as it went, since memory was refused.
 fn bring_back<K: Actor>(
     rt: &impl Abort,
-    alloc: Global,
     live: &mut Live<K>,
-    row: &Row,
+    name: &str,
     back: Packet,
-    before: bool,
-) -> Result<(), NoMemory> {
-    match packet_of(alloc, row) {
-        Ok(wanted) => {
-            assert_eq!(rt; back, wanted);
-            drop(wanted);
-            bring_again(rt, live, back, before);
-            Ok(())
-        }
-        Err(refused) => {
-            drop(back);
-            Err(refused)
-        }
-    }
+    wanted: Packet,
+) {
+    assert_eq!(rt; back, wanted, "{name}");
+    drop(wanted);
+    let arrival = live.arrival(back.actor, back.caller, back.number);
+    assert_eq!(rt; arrival, Arrival::New, "{name}");
+    assert_arrives(rt, live, name, back, Arrival::New);
 }
 
 /// Brings a new call, and what came back of it where memory is refused.
@@ -690,12 +693,29 @@ fn bring_at_last<K: Actor>(
     alloc: Global,
     live: &mut Live<K>,
     row: &Row,
+    wanted: Packet,
 ) -> Result<(), NoMemory> {
     let before = live.has_next(CallerId::new(1).unwrap());
-    match live.arrive(packet_of(alloc, row)?) {
-        Ok(_) => Ok(()),
-        Err(back) => bring_back(rt, alloc, live, row, back, before),
+    let packet = match packet_of(alloc, row) {
+        Ok(packet) => packet,
+        Err(refused) => {
+            drop(wanted);
+            return Err(refused);
+        }
+    };
+    match live.arrive(packet) {
+        Ok(_) => drop(wanted),
+        Err(back) => {
+            assert_eq!(rt;
+                live.has_next(CallerId::new(1).unwrap()),
+                before,
+                "{}",
+                row.0
+            );
+            bring_back(rt, live, row.0, back, wanted);
+        }
     }
+    Ok(())
 }
 
 /// Brings a call twice.
@@ -705,9 +725,27 @@ fn bring<K: Actor>(
     live: &mut Live<K>,
     row: &Row,
 ) -> Result<(), NoMemory> {
-    bring_at_last(rt, alloc, live, row)?;
-    assert_arrives(rt, live, packet_of(alloc, row)?, Arrival::Repeat);
+    let wanted = packet_of(alloc, row)?;
+    bring_at_last(rt, alloc, live, row, wanted)?;
+    let packet = packet_of(alloc, row)?;
+    assert_arrives(rt, live, row.0, packet, Arrival::Repeat);
     Ok(())
+}
+
+/// Where memory is refused, a call that is to run leaves all as it was, and runs at last.
+fn run_again<K: Actor>(
+    rt: &impl Abort,
+    alloc: Global,
+    live: &mut Live<K>,
+    before: &str,
+    place: usize,
+) -> Result<Option<Reply>, NoMemory> {
+    let caller = CallerId::new(1).unwrap();
+    assert_eq!(rt; (live.has_next(caller), live.log().len()), (true, place));
+    assert_text(rt, alloc, live, before)?;
+    let again = live.run(caller);
+    assert!(rt; again.is_ok());
+    again
 }
 
 /// Runs the call that comes next, and once more where memory is refused.
@@ -716,80 +754,46 @@ fn run_next<K: Actor>(
     alloc: Global,
     live: &mut Live<K>,
 ) -> Result<Option<Reply>, NoMemory> {
-    let caller = CallerId::new(1).unwrap();
     let before = text_of(rt, alloc, live)?;
     let place = live.log().len();
-    let ran = live.run(caller);
+    let ran = live.run(CallerId::new(1).unwrap());
     if ran.is_ok() {
         drop(before);
         return ran;
     }
     drop(ran);
-    assert_eq!(rt; (live.has_next(caller), live.log().len()), (true, place));
-    assert_eq!(rt; text_of(rt, alloc, live)?, before);
+    let again = run_again(rt, alloc, live, before.as_str(), place);
     drop(before);
-    let again = live.run(caller);
-    assert!(rt; again.is_ok());
     again
 }
 
 /// Opens an actor with a list, and once more where memory is refused.
 fn opened_list(rt: &impl Abort, alloc: Global) -> Result<Live<ListKind>, NoMemory> {
-    let a1 = ActorId::new(1).unwrap();
-    let callers = [CallerId::new(1).unwrap()];
-    let opened = Live::open(alloc, a1, &callers, ListKind::open(alloc));
-    if opened.is_ok() {
-        return opened;
+    let live = opened(alloc, ListKind::open(alloc));
+    if live.is_ok() {
+        return live;
     }
-    drop(opened);
-    let again = Live::open(alloc, a1, &callers, ListKind::open(alloc));
+    drop(live);
+    let again = opened(alloc, ListKind::open(alloc));
     assert!(rt; again.is_ok());
     again
 }
 
-/// Runs the calls in turn.
-fn run_each<K: Actor>(
-    rt: &impl Abort,
-    alloc: Global,
-    live: &mut Live<K>,
-    rows: &[Row],
-) -> Result<(), NoMemory> {
-    for row in rows {
-        let ran = run_next(rt, alloc, live)?;
-        assert_reply(rt, ran, Some(reply_of(row)));
-    }
-    Ok(())
-}
-
-/// Brings the calls in reverse, and runs them in turn.
-fn bring_and_run<K: Actor>(
-    rt: &impl Abort,
-    alloc: Global,
-    live: &mut Live<K>,
-    rows: &[Row],
-) -> Result<(), NoMemory> {
-    for row in rows.iter().rev() {
+/// Brings the calls of a list in reverse, and runs them in turn.
+fn play_list<K: Actor>(rt: &impl Abort, alloc: Global, live: &mut Live<K>) -> Result<(), NoMemory> {
+    for row in OF_A_LIST.iter().rev() {
         bring(rt, alloc, live, row)?;
     }
-    run_each(rt, alloc, live, rows)
+    run_list(rt, alloc, live)?;
+    assert_text(rt, alloc, live, "is list \"x\" 7 \"y\"")
 }
 
-/// Brings and runs calls of a list.
-fn play_list<K: Actor>(rt: &impl Abort, alloc: Global, live: &mut Live<K>) -> Result<(), NoMemory> {
-    let rows: [Row; 5] = [
-        (0, Method::Push, &[Given::Text("x")], Ok(1)),
-        (1, Method::Push, &[Given::Int(7)], Ok(2)),
-        (2, Method::At, &[Given::Int(1)], Ok(7)),
-        (
-            3,
-            Method::Push,
-            &[Given::Bad(0)],
-            Err(Fault::Dependency(FutureId::new(0))),
-        ),
-        (4, Method::Push, &[Given::Text("y")], Ok(3)),
-    ];
-    bring_and_run(rt, alloc, live, &rows)?;
-    assert_text(rt, alloc, live, "is list \"x\" 7 \"y\"")
+fn run_list<K: Actor>(rt: &impl Abort, alloc: Global, live: &mut Live<K>) -> Result<(), NoMemory> {
+    for row in &OF_A_LIST {
+        let ran = run_next(rt, alloc, live)?;
+        assert_reply(rt, alloc, row, ran, true)?;
+    }
+    Ok(())
 }
 
 /// Memory is refused from outside, at most once.
