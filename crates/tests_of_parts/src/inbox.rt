@@ -1,6 +1,7 @@
 //! The order in which calls come, and in which they are handed out; calls that come where memory is
 //! refused; and an inbox beside a plain list of what it holds.
 
+use super::rows::{Verb, caller, method, word_after};
 use act_inbox::{Arrival, Inbox};
 use act_types::{
     ActorId, CALLER_NUMBERS, CallerId, FutureId, Method, NoMemory, Packet, ReleaseNote, Settled,
@@ -9,6 +10,37 @@ use act_types::{
 use std::alloc::{AllocError, Global};
 use std::process::Abort;
 use std::test::Fail;
+
+/// Calls of caller 1 and of a stranger by their names, callers and numbers, and whether caller 1's
+/// next came after each.
+#[rattlefmt::skip]
+static ARRIVALS: [(&str, u8, u32, Verb, Arrival, bool); 6] = [
+    ("before the first two", 1, 2, Verb::Add, Arrival::New, false),
+    ("the first", 1, 0, Verb::Get, Arrival::New, true),
+    ("the third again", 1, 2, Verb::Add, Arrival::Repeat, true),
+    ("the first again, as another method", 1, 0, Verb::Put, Arrival::Repeat, true),
+    ("a number too great", 1, 65_536, Verb::Add, Arrival::Stranger, true),
+    ("of a stranger", 9, 0, Verb::Add, Arrival::Stranger, true),
+];
+
+/// Release notes by their names, callers and what they tell, where one call of caller 1 went out,
+/// and whether the inbox is drained after each.
+#[rattlefmt::skip]
+static NOTES: [(&str, u8, u32, Arrival, bool); 3] = [
+    ("of a stranger", 9, 1, Arrival::Stranger, false),
+    ("after the call that went out", 1, 1, Arrival::New, true),
+    ("a second note", 1, 2, Arrival::Repeat, true),
+];
+
+/// Calls by their names and numbers, and whether each may be passed by.
+#[rattlefmt::skip]
+static PASSES: [(&str, u32, bool); 5] = [
+    ("the second, too early", 1, false),
+    ("the first", 0, true),
+    ("the first again", 0, false),
+    ("the third, too early", 2, false),
+    ("the second", 1, true),
+];
 
 /// A call of this caller, number and method to actor 1, with one argument.
 fn packet_of(
@@ -34,10 +66,11 @@ fn call_of(alloc: Global, number: u32) -> Result<Packet, NoMemory> {
     packet_of(alloc, CallerId::new(1).unwrap(), number, Method::Add)
 }
 
-fn arrive(rt: &impl Abort, inbox: &mut Inbox, packet: Packet, arrival: Arrival) {
+fn arrive(rt: &impl Abort, inbox: &mut Inbox, name: &str, packet: Packet, arrival: Arrival) {
+    let number = packet.number;
     let arrived = inbox.arrive(packet);
     let wanted = Ok(arrival);
-    assert_eq!(rt; arrived, wanted);
+    assert_eq!(rt; arrived, wanted, "{name}, call {number}");
     drop(arrived);
     drop(wanted);
 }
@@ -51,7 +84,7 @@ fn bring(
     arrival: Arrival,
 ) -> Result<(), NoMemory> {
     let packet = call_of(alloc, number)?;
-    arrive(rt, inbox, packet, arrival);
+    arrive(rt, inbox, "in turn", packet, arrival);
     Ok(())
 }
 
@@ -75,40 +108,24 @@ fn take(rt: &impl Abort, inbox: &mut Inbox, wanted: Option<u32>) {
 
 /// Brings calls of caller 1 and of a stranger.
 fn bring_each(rt: &impl Abort, alloc: Global, inbox: &mut Inbox) -> Result<(), NoMemory> {
-    let c1 = CallerId::new(1).unwrap();
-    let c9 = CallerId::new(9).unwrap();
-    for (caller, number, method, arrival, has_next) in [
-        (c1, 2, Method::Add, Arrival::New, false),
-        (c1, 0, Method::Get, Arrival::New, true),
-        (c1, 2, Method::Add, Arrival::Repeat, true),
-        (c1, 0, Method::Put, Arrival::Repeat, true),
-        (c1, 65536, Method::Add, Arrival::Stranger, true),
-        (c9, 0, Method::Add, Arrival::Stranger, true),
-    ] {
-        let packet = packet_of(alloc, caller, number, method)?;
-        arrive(rt, inbox, packet, arrival);
-        assert_eq!(rt; inbox.has_next(c1), has_next);
+    for (name, from, number, verb, arrival, has_next) in &ARRIVALS {
+        let packet = packet_of(alloc, caller(rt, *from), *number, method(*verb))?;
+        arrive(rt, inbox, name, packet, *arrival);
+        assert_eq!(rt; inbox.has_next(caller(rt, 1)), *has_next, "{name}");
     }
     Ok(())
 }
 
-/// Brings release notes of caller 1 and of a stranger, where one call of caller 1 went out.
+/// Brings release notes, where one call of caller 1 went out.
 fn note_each(rt: &impl Abort, inbox: &mut Inbox) {
-    let actor = ActorId::new(1).unwrap();
-    let c1 = CallerId::new(1).unwrap();
-    let c9 = CallerId::new(9).unwrap();
-    for (caller, after, arrival, drained) in [
-        (c9, 1, Arrival::Stranger, false),
-        (c1, 1, Arrival::New, true),
-        (c1, 2, Arrival::Repeat, true),
-    ] {
+    for (name, from, after, arrival, drained) in &NOTES {
         let note = ReleaseNote {
-            caller,
-            actor,
-            after,
+            caller: caller(rt, *from),
+            actor: ActorId::new(1).unwrap(),
+            after: *after,
         };
-        assert_eq!(rt; inbox.released(note), arrival);
-        assert_eq!(rt; inbox.drained(), drained);
+        assert_eq!(rt; inbox.released(note), *arrival, "{name}");
+        assert_eq!(rt; inbox.drained(), *drained, "{name}");
     }
 }
 
@@ -193,7 +210,7 @@ fn bring_again(rt: &impl Abort, inbox: &mut Inbox, back: Packet, before: (bool, 
     let c1 = CallerId::new(1).unwrap();
     assert_eq!(rt; (inbox.has_next(c1), inbox.handed(c1)), before);
     assert_eq!(rt; inbox.arrival(back.caller, back.number), Arrival::New);
-    arrive(rt, inbox, back, Arrival::New);
+    arrive(rt, inbox, "one that came back", back, Arrival::New);
 }
 
 /// Brings a call, and what came back of it where memory is refused.
@@ -217,7 +234,7 @@ fn bring_at_last(
         assert_eq!(rt; back, call);
         bring_again(rt, inbox, back, before);
     }
-    arrive(rt, inbox, call, Arrival::Repeat);
+    arrive(rt, inbox, "the same again", call, Arrival::Repeat);
     Ok(())
 }
 
@@ -333,13 +350,6 @@ impl PlainInbox {
     }
 }
 
-/// The next of a row of random words.
-fn word_after(word: u32) -> u32 {
-    let word = word ^ (word << 13);
-    let word = word ^ (word >> 17);
-    word ^ (word << 5)
-}
-
 /// Passes a call by where that may be done, and whether it was.
 fn passed_by(inbox: &mut Inbox, packet: &Packet) -> bool {
     if !inbox.is_empty() || inbox.handed(packet.caller) != packet.number {
@@ -380,7 +390,7 @@ fn bring_to_both(
         assert_eq!(rt; plain.next(call.caller), Some(call));
         drop(packet);
     } else {
-        arrive(rt, inbox, packet, arrival);
+        arrive(rt, inbox, "a random call", packet, arrival);
     }
     assert_eq!(rt; inbox.is_empty(), plain.held.is_empty());
     Ok(())
@@ -449,9 +459,9 @@ fn random_run(rt: &impl Abort, alloc: Global, word: &mut u32) -> Result<(), Fail
 /// Passes calls by where that may be done.
 fn pass_each_by(rt: &impl Abort, alloc: Global, inbox: &mut Inbox) -> Result<(), NoMemory> {
     let c1 = CallerId::new(1).unwrap();
-    for (number, passes) in [(1, false), (0, true), (0, false), (2, false), (1, true)] {
-        let packet = call_of(alloc, number)?;
-        assert_eq!(rt; passed_by(inbox, &packet), passes);
+    for (name, number, passes) in &PASSES {
+        let packet = call_of(alloc, *number)?;
+        assert_eq!(rt; passed_by(inbox, &packet), *passes, "{name}");
         drop(packet);
     }
     assert_eq!(rt; (inbox.handed(c1), inbox.has_next(c1)), (2, false));

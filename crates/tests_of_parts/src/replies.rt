@@ -2,124 +2,127 @@
 //! futures of each wait, step by step; a table that grows where memory is refused; and random steps that compare a
 //! table with a plain list.
 
+use super::rows::{actor, word_after};
 use act_replies::{Kept, ReplyTable};
 use act_types::{ActorId, Answer, Fault, FutureId, MAX_CALLS, NoMemory, Value};
 use std::process::Abort;
 use std::test::Fail;
 
-/// Keeps an answer of each future, and compares what is told of it.
-fn keep_late(rt: &impl Abort, table: &mut ReplyTable, rows: &[(u32, Kept)]) {
-    for (k, wanted) in rows {
-        let told = table.keep(FutureId::new(*k), Ok(Value::Int(7)));
-        assert_eq!(rt; told, *wanted, "at {k}");
+/// What is done to a table, with actors and futures by their numbers.
+#[derive(Clone, Copy)]
+enum Step {
+    Enter(u8),
+    /// An answer of a future, which is this number.
+    Keep(u32, i64),
+    Died(u8),
+}
+
+use Step::{Died, Enter, Keep};
+
+/// What the table tells of it.
+#[derive(Clone, Copy, Debug, PartialEq, Eq)]
+enum Told {
+    Future(u32),
+    Of(Kept),
+    /// How many futures the death answered.
+    Answered(u32),
+}
+
+use Told::{Answered, Future, Of};
+
+/// A case by its name: a step, what is told of it, and how many futures of actors 1 and 2 wait
+/// after it.
+type Row = (&'static str, Step, Told, (u32, u32));
+
+#[rattlefmt::skip]
+static FIRST_ANSWERS: [Row; 8] = [
+    ("a future of the first actor", Enter(1), Future(0), (1, 0)),
+    ("a future of the second actor", Enter(2), Future(1), (1, 1)),
+    ("the first actor again", Enter(1), Future(2), (2, 1)),
+    ("the first answer", Keep(0, 5), Of(Kept::First), (1, 1)),
+    ("the death of the first actor", Died(1), Answered(1), (0, 1)),
+    ("another answer", Keep(0, 7), Of(Kept::Late), (0, 1)),
+    ("an answer after the death", Keep(2, 7), Of(Kept::Late), (0, 1)),
+    ("an answer of no future", Keep(9, 7), Of(Kept::Stray), (0, 1)),
+];
+
+/// Late and stray answers leave the counts.
+#[rattlefmt::skip]
+static COUNTS: [Row; 10] = [
+    ("a future of the first actor", Enter(1), Future(0), (1, 0)),
+    ("a future of the second actor", Enter(2), Future(1), (1, 1)),
+    ("the first actor again", Enter(1), Future(2), (2, 1)),
+    ("the first answer", Keep(0, 5), Of(Kept::First), (1, 1)),
+    ("the same again", Keep(0, 5), Of(Kept::Late), (1, 1)),
+    ("an answer of no future", Keep(9, 5), Of(Kept::Stray), (1, 1)),
+    ("the death of the first actor", Died(1), Answered(1), (0, 1)),
+    ("an answer after the death", Keep(2, 5), Of(Kept::Late), (0, 1)),
+    ("a future after the death", Enter(1), Future(3), (1, 1)),
+    ("the second actor's answer", Keep(1, 5), Of(Kept::First), (1, 0)),
+];
+
+fn take(rt: &impl Abort, table: &mut ReplyTable, step: Step) -> Result<Told, NoMemory> {
+    match step {
+        Enter(a) => {
+            assert!(rt; table.count() < MAX_CALLS);
+            let future = table.enter(actor(rt, a))?;
+            Ok(Future(future.number()))
+        }
+        Keep(k, value) => Ok(Of(table.keep(FutureId::new(k), Ok(Value::Int(value))))),
+        Died(a) => Ok(Answered(table.died(actor(rt, a)))),
     }
 }
 
-/// Compares the answers of some futures.
-fn assert_answers(rt: &impl Abort, table: &ReplyTable, rows: &[(u32, Option<Answer>)]) {
-    for (k, wanted) in rows {
-        assert_eq!(rt; table.answer(FutureId::new(*k)), wanted.as_ref(), "at {k}");
-    }
-}
-
-/// Three futures: of actor 1, of actor 2, and of actor 1 again.
-fn enter_three(rt: &impl Abort, table: &mut ReplyTable) -> Result<(), NoMemory> {
-    table.reserve_one()?;
-    table.reserve(3)?;
-    for number in [1, 2, 1] {
-        play(rt, table, Step::Enter(ActorId::new(number).unwrap()))?;
+/// Takes each step in turn, of which this is to be told.
+fn play(rt: &impl Abort, table: &mut ReplyTable, rows: &[Row]) -> Result<(), NoMemory> {
+    for (name, step, told, pending) in rows {
+        assert_eq!(rt; take(rt, table, *step)?, *told, "{name}");
+        let counted = (table.pending(actor(rt, 1)), table.pending(actor(rt, 2)));
+        assert_eq!(rt; counted, *pending, "{name}");
     }
     Ok(())
 }
 
-/// The first future is answered, and actor 1 dies.
-fn assert_first_stays(rt: &impl Abort, table: &mut ReplyTable) {
-    let a1 = ActorId::new(1).unwrap();
-    let first = table.keep(FutureId::new(0), Ok(Value::Int(5)));
-    assert_eq!(rt; (first, table.died(a1)), (Kept::First, 1));
-    let rows = [(0, Kept::Late), (2, Kept::Late), (9, Kept::Stray)];
-    keep_late(rt, table, &rows);
-    let died = Some(Err(Fault::ActorDied));
-    let rows = [
-        (0, Some(Ok(Value::Int(5)))),
-        (1, None),
-        (2, died),
-        (9, None),
-    ];
-    assert_answers(rt, table, &rows);
-    drop(rows);
+/// The answer of a future, if it has one.
+fn assert_answer(rt: &impl Abort, table: &ReplyTable, k: u32, wanted: Option<Answer>) {
+    assert_eq!(rt; table.answer(FutureId::new(k)), wanted.as_ref(), "at {k}");
+    drop(wanted);
+}
+
+fn assert_first_stays(rt: &impl Abort, table: &ReplyTable) {
+    assert_answer(rt, table, 0, Some(Ok(Value::Int(5))));
+    assert_answer(rt, table, 1, None);
+    assert_answer(rt, table, 2, Some(Err(Fault::ActorDied)));
+    assert_answer(rt, table, 9, None);
     assert_eq!(rt; (table.unanswered(), table.count()), (1, 3));
 }
 
+/// The same after room was asked for.
+fn reserve_and_play(rt: &impl Abort, table: &mut ReplyTable, rows: &[Row]) -> Result<(), NoMemory> {
+    table.reserve_one()?;
+    table.reserve(3)?;
+    play(rt, table, rows)
+}
+
+/// The first future is answered, and actor 1 dies.
 #[test]
 fn the_first_answer_stays(rt: HostRuntime) -> Result<(), Fail> {
     let mut table = ReplyTable::new(rt.alloc());
-    let done = enter_three(&rt, &mut table);
+    let done = reserve_and_play(&rt, &mut table, &FIRST_ANSWERS);
     if done.is_ok() {
-        assert_first_stays(&rt, &mut table);
+        assert_first_stays(&rt, &table);
     }
     drop(table);
     done?;
     Ok(())
 }
 
-/// What is done to a table.
-#[derive(Clone, Copy, Debug)]
-enum Step {
-    Enter(ActorId),
-    Keep(FutureId),
-    Died(ActorId),
-}
-
-fn play(rt: &impl Abort, table: &mut ReplyTable, step: Step) -> Result<(), NoMemory> {
-    match step {
-        Step::Enter(a) => {
-            assert!(rt; table.count() < MAX_CALLS);
-            table.enter(a)?;
-        }
-        Step::Keep(k) => {
-            table.keep(k, Ok(Value::Int(5)));
-        }
-        Step::Died(a) => {
-            table.died(a);
-        }
-    }
-    Ok(())
-}
-
-/// Late and stray answers leave the counts.
 #[test]
 fn counts_of_two_actors(rt: HostRuntime) -> Result<(), Fail> {
     let mut table = ReplyTable::new(rt.alloc());
-    let done = assert_counts(&rt, &mut table);
+    let done = play(&rt, &mut table, &COUNTS);
     drop(table);
     done?;
-    Ok(())
-}
-
-/// Compares how many futures of each actor wait after each step.
-fn assert_counts(rt: &impl Abort, table: &mut ReplyTable) -> Result<(), NoMemory> {
-    let a1 = ActorId::new(1).unwrap();
-    let a2 = ActorId::new(2).unwrap();
-    for (step, want) in [
-        (Step::Enter(a1), (1, 0)),
-        (Step::Enter(a2), (1, 1)),
-        (Step::Enter(a1), (2, 1)),
-        (Step::Keep(FutureId::new(0)), (1, 1)),
-        (Step::Keep(FutureId::new(0)), (1, 1)),
-        (Step::Keep(FutureId::new(9)), (1, 1)),
-        (Step::Died(a1), (0, 1)),
-        (Step::Keep(FutureId::new(2)), (0, 1)),
-        (Step::Enter(a1), (1, 1)),
-        (Step::Keep(FutureId::new(1)), (1, 0)),
-    ] {
-        play(rt, table, step)?;
-        assert_eq!(rt;
-            (table.pending(a1), table.pending(a2)),
-            want,
-            "after {step:?}"
-        );
-    }
     Ok(())
 }
 
@@ -159,9 +162,9 @@ fn fill(rt: &impl Abort, table: &mut ReplyTable) {
 fn refused_memory_changes_nothing(rt: HostRuntime) -> Result<(), Fail> {
     let mut table = ReplyTable::new(rt.alloc());
     fill(&rt, &mut table);
-    let rows = [(1, None), (2, Some(Ok(Value::Int(5)))), (16, None)];
-    assert_answers(&rt, &table, &rows);
-    drop(rows);
+    assert_answer(&rt, &table, 1, None);
+    assert_answer(&rt, &table, 2, Some(Ok(Value::Int(5))));
+    assert_answer(&rt, &table, 16, None);
     drop(table);
     Ok(())
 }
@@ -198,13 +201,6 @@ fn die_plainly(futures: &mut [Plain], actor: ActorId) -> usize {
         }
     }
     count
-}
-
-/// The next number of a fixed sequence that looks random.
-fn shuffled(number: u32) -> u32 {
-    let number = number ^ (number << 13);
-    let number = number ^ (number >> 17);
-    number ^ (number << 5)
 }
 
 /// Takes a step that the number chooses in the table and in the plain list, and compares what both
@@ -279,7 +275,7 @@ fn take_steps(
 ) -> Result<(), NoMemory> {
     let mut number = 2_463_534_242;
     for _ in 0..4_000 {
-        number = shuffled(number);
+        number = word_after(number);
         take_step(rt, table, futures, number)?;
         assert_waiting(rt, table, futures);
     }

@@ -3,6 +3,7 @@
 
 ghost use Rattle.std.specs.Prelude.{◌≡◌, ◌<◌, ◌^◌, [], length, IfOk, OnErr};
 
+use super::rows::word_after;
 use act_resolver::{Futures, Resolver};
 use act_types::{FutureId, MAX_ARGS, NoMemory};
 use std::alloc::Global;
@@ -55,38 +56,139 @@ fn take(
     }
 }
 
-/// Takes each step in turn, and compares the call that is ready after it. A step for which memory
-/// is refused changes nothing, and is taken once more.
-fn play(
+/// A step as a row writes it, with calls by their numbers.
+#[derive(Clone, Copy)]
+enum Change {
+    Reserve(usize),
+    Enter(&'static [u32]),
+    Told(u32),
+    Sent(u32),
+}
+
+use Change::{Enter, Reserve, Sent, Told};
+
+/// A case by its name: a step, and the call that is ready after it.
+type Row = (&'static str, Change, Option<u32>);
+
+/// A call, whether it is sent, and whether all that it waits for is known.
+type End = (u32, bool, bool);
+
+#[rattlefmt::skip]
+static CALLS_THAT_WAIT: [Row; 14] = [
+    ("room for the first", Reserve(1), None),
+    ("the first waits for none", Enter(&[]), Some(0)),
+    ("the first is sent", Sent(0), None),
+    ("room for the second", Reserve(1), None),
+    ("the second waits for the first, twice", Enter(&[0, 0]), None),
+    ("room for the third", Reserve(1), None),
+    ("the third waits for both", Enter(&[0, 1]), None),
+    ("the first is answered", Told(0), Some(1)),
+    ("the first is answered again", Told(0), Some(1)),
+    ("the second is answered, though it wasn't sent", Told(1), Some(2)),
+    ("the third is sent", Sent(2), None),
+    ("room for the fourth", Reserve(1), None),
+    ("the fourth waits for the third", Enter(&[2, 0]), None),
+    ("the third is answered", Told(2), Some(3)),
+];
+
+static ENDS_OF_WAITING: [End; 5] = [
+    (0, true, true),
+    (1, false, true),
+    (2, true, true),
+    (3, false, true),
+    (4, false, false),
+];
+
+#[rattlefmt::skip]
+static CALLS_OF_LITTLE_ROOM: [Row; 14] = [
+    ("room for two", Reserve(2), None),
+    ("the first waits for none", Enter(&[]), Some(0)),
+    ("the first is sent", Sent(0), None),
+    ("the second waits for the first", Enter(&[0]), None),
+    ("the third waits for both", Enter(&[0, 1]), None),
+    ("the fourth waits for the second", Enter(&[1]), None),
+    ("the fifth waits for the first", Enter(&[0]), None),
+    ("the sixth waits for none", Enter(&[]), Some(5)),
+    ("the seventh waits for the sixth", Enter(&[5]), Some(5)),
+    ("the eighth waits for none", Enter(&[]), Some(5)),
+    ("room for nine", Reserve(9), Some(5)),
+    ("the ninth waits for the first", Enter(&[0]), Some(5)),
+    ("the first is answered", Told(0), Some(1)),
+    ("the second is sent", Sent(1), Some(4)),
+];
+
+static ENDS_OF_LITTLE_ROOM: [End; 4] = [
+    (0, true, true),
+    (1, true, true),
+    (5, false, true),
+    (9, false, false),
+];
+
+/// The calls that a row has its call wait for.
+fn futures_of(change: &Change) -> [FutureId; 4] {
+    let mut futures = [FutureId::new(0); 4];
+    if let Enter(numbers) = *change {
+        for (future, number) in futures.iter_mut().zip(numbers) {
+            *future = FutureId::new(*number);
+        }
+    }
+    futures
+}
+
+fn step_of<'a>(rt: &impl Abort, change: &Change, futures: &'a [FutureId; 4]) -> Step<'a> {
+    match *change {
+        Reserve(count) => Step::Reserve(count),
+        Enter(numbers) => {
+            assert!(rt; numbers.len() <= 4);
+            Step::Enter(&futures[..numbers.len()])
+        }
+        Told(k) => Step::Told(FutureId::new(k)),
+        Sent(k) => Step::Sent(FutureId::new(k)),
+    }
+}
+
+/// Takes the step of a row, and once more where memory is refused, which changes nothing.
+fn take_row(
     rt: &impl Abort,
     resolver: &mut Resolver,
-    rows: &[(Step, Option<FutureId>)],
-) -> Result<(), NoMemory>
+    entered: u32,
+    row: &Row,
+) -> Result<u32, NoMemory>
+    requires { entered ≡ length resolver.old.calls }
+    ensures { IfOk result (λ entered. entered ≡ length resolver.new.calls) }
+{
+    let futures = futures_of(&row.1);
+    let step = step_of(rt, &row.1, &futures);
+    let before = resolver.ready();
+    let taken = take(rt, resolver, entered, &step);
+    if taken.is_ok() {
+        return taken;
+    }
+    assert_eq!(rt; resolver.ready(), before, "{}", row.0);
+    assert!(rt; !resolver.is_known(FutureId::new(entered)), "{}", row.0);
+    let again = take(rt, resolver, entered, &step);
+    assert!(rt; again.is_ok(), "{}", row.0);
+    again
+}
+
+/// Takes each step in turn, and compares the call that is ready after it.
+fn play(rt: &impl Abort, resolver: &mut Resolver, rows: &[Row]) -> Result<(), NoMemory>
     requires { resolver.old.calls ≡ [] }
 {
     let mut entered = 0;
-    for (step, ready) in rows {
-        let before = resolver.ready();
-        let mut taken = take(rt, resolver, entered, step);
-        if taken.is_err() {
-            assert_eq!(rt; resolver.ready(), before);
-            assert!(rt; !resolver.is_known(FutureId::new(entered)));
-            taken = take(rt, resolver, entered, step);
-            assert!(rt; taken.is_ok());
-        }
-        entered = taken?;
-        assert_eq!(rt; resolver.ready(), *ready);
+    for row in rows {
+        entered = take_row(rt, resolver, entered, row)?;
+        assert_eq!(rt; resolver.ready().map(FutureId::number), row.2, "{}", row.0);
     }
     Ok(())
 }
 
 /// Compares which of these calls are sent and known.
-fn assert_ends(rt: &impl Abort, resolver: &Resolver, ends: &[(FutureId, bool, bool)]) {
+fn assert_ends(rt: &impl Abort, resolver: &Resolver, ends: &[End]) {
     for (k, sent, known) in ends {
-        assert_eq!(rt;
-            (resolver.is_sent(*k), resolver.is_known(*k)),
-            (*sent, *known)
-        );
+        let call = FutureId::new(*k);
+        let seen = (resolver.is_sent(call), resolver.is_known(call));
+        assert_eq!(rt; seen, (*sent, *known), "of {k}");
     }
 }
 
@@ -94,8 +196,8 @@ fn assert_ends(rt: &impl Abort, resolver: &Resolver, ends: &[(FutureId, bool, bo
 fn assert_played(
     rt: &impl Abort,
     alloc: Global,
-    rows: &[(Step, Option<FutureId>)],
-    ends: &[(FutureId, bool, bool)],
+    rows: &[Row],
+    ends: &[End],
 ) -> Result<(), NoMemory> {
     let mut resolver = Resolver::new(alloc);
     let played = play(rt, &mut resolver, rows);
@@ -108,61 +210,14 @@ fn assert_played(
 
 #[test]
 fn calls_wait_for_answers(rt: HostRuntime) -> Result<(), Fail> {
-    let [c0, c1, c2, c3, c4] = [0, 1, 2, 3, 4].map(FutureId::new);
-    let rows: [(Step, Option<FutureId>); 14] = [
-        (Step::Reserve(1), None),
-        (Step::Enter(&[]), Some(c0)),
-        (Step::Sent(c0), None),
-        (Step::Reserve(1), None),
-        (Step::Enter(&[c0, c0]), None),
-        (Step::Reserve(1), None),
-        (Step::Enter(&[c0, c1]), None),
-        (Step::Told(c0), Some(c1)),
-        (Step::Told(c0), Some(c1)),
-        (Step::Told(c1), Some(c2)),
-        (Step::Sent(c2), None),
-        (Step::Reserve(1), None),
-        (Step::Enter(&[c2, c0]), None),
-        (Step::Told(c2), Some(c3)),
-    ];
-    let ends = [
-        (c0, true, true),
-        (c1, false, true),
-        (c2, true, true),
-        (c3, false, true),
-        (c4, false, false),
-    ];
-    assert_played(&rt, rt.alloc(), &rows, &ends)?;
+    assert_played(&rt, rt.alloc(), &CALLS_THAT_WAIT, &ENDS_OF_WAITING)?;
     Ok(())
 }
 
 /// Memory is refused from outside, at most once.
 #[test]
 fn refused_memory_changes_nothing(rt: HostRuntime) -> Result<(), Fail> {
-    let [c0, c1, c5, c9] = [0, 1, 5, 9].map(FutureId::new);
-    let rows: [(Step, Option<FutureId>); 14] = [
-        (Step::Reserve(2), None),
-        (Step::Enter(&[]), Some(c0)),
-        (Step::Sent(c0), None),
-        (Step::Enter(&[c0]), None),
-        (Step::Enter(&[c0, c1]), None),
-        (Step::Enter(&[c1]), None),
-        (Step::Enter(&[c0]), None),
-        (Step::Enter(&[]), Some(c5)),
-        (Step::Enter(&[c5]), Some(c5)),
-        (Step::Enter(&[]), Some(c5)),
-        (Step::Reserve(9), Some(c5)),
-        (Step::Enter(&[c0]), Some(c5)),
-        (Step::Told(c0), Some(c1)),
-        (Step::Sent(c1), Some(FutureId::new(4))),
-    ];
-    let ends = [
-        (c0, true, true),
-        (c1, true, true),
-        (c5, false, true),
-        (c9, false, false),
-    ];
-    assert_played(&rt, rt.alloc(), &rows, &ends)?;
+    assert_played(&rt, rt.alloc(), &CALLS_OF_LITTLE_ROOM, &ENDS_OF_LITTLE_ROOM)?;
     Ok(())
 }
 
@@ -305,9 +360,7 @@ impl Random {
         requires { 0 < bound }
         ensures { result < bound }
     {
-        self.state ^= self.state << 13;
-        self.state ^= self.state >> 17;
-        self.state ^= self.state << 5;
+        self.state = word_after(self.state);
         self.state % bound
     }
 }

@@ -103,3 +103,10 @@ pub fn actor(rt: &impl Abort, number: u8) -> ActorId {
 pub fn caller(rt: &impl Abort, number: u8) -> CallerId {
     CallerId::new(number).expect(rt, "no caller has this number")
 }
+
+/// The next of a row of random words, by a xorshift generator.
+pub fn word_after(word: u32) -> u32 {
+    let word = word ^ (word << 13);
+    let word = word ^ (word >> 17);
+    word ^ (word << 5)
+}
