@@ -5,7 +5,9 @@ ghost use Rattle.act_actor.specs.Cast.{CallersDiffer};
 use super::rows::Verb::{Add, At, Get, Push, Put, Size, Terminate};
 use super::rows::Why::{BadArgs, Dependency, NoKey};
 use super::rows::Word::{Int, Txt, Unit};
-use super::rows::{Verb, Why, Word, actor, answer_of, caller, method, value_of};
+use super::rows::{
+    Verb, Why, Word, actor, answer_of, assert_is, assert_reads, caller, method, value_of,
+};
 use act_actor::{Arrival, Cast, Live, Retired, actors_of, cast_fits, limits_of};
 use act_kinds::{Actor, Boxed, Counter, ListKind, Table};
 use act_types::{
@@ -145,7 +147,7 @@ fn assert_arrives<K: Actor>(
 ) {
     let arrived = live.arrive(packet);
     let wanted = Ok(arrival);
-    assert_eq!(rt; arrived, wanted, "{name}");
+    assert_is(rt, name, &arrived, &wanted);
     drop(arrived);
     drop(wanted);
 }
@@ -165,7 +167,7 @@ fn assert_reply(
             return Err(refused);
         }
     };
-    assert_eq!(rt; ran, wanted, "{}", row.0);
+    assert_is(rt, row.0, &ran, &wanted);
     drop(ran);
     drop(wanted);
     Ok(())
@@ -219,7 +221,7 @@ fn play<K: Actor>(
     for row in rows {
         let is_next = row.1 as usize == live.log().len();
         let has_next = live.has_next(CallerId::new(1).unwrap());
-        assert_eq!(rt; has_next, is_next, "{}", row.0);
+        assert_is(rt, row.0, &has_next, &is_next);
         assert_runs(rt, alloc, live, row, is_next)?;
     }
     Ok(())
@@ -249,8 +251,8 @@ fn assert_alike<K: Actor>(
     live: &Live<K>,
     other: &Live<K>,
 ) -> Result<(), NoMemory> {
-    assert!(rt; live.holds_none() && other.holds_none());
-    assert_eq!(rt; live.log().len(), other.log().len());
+    let shown = (live.holds_none(), other.holds_none(), live.log().len());
+    assert_is(rt, "both actors", &shown, &(true, true, other.log().len()));
     let text = text_of(rt, alloc, other)?;
     let done = assert_text(rt, alloc, live, text.as_str());
     drop(text);
@@ -283,7 +285,7 @@ fn not_at_once_before<K: Actor>(
     live: &mut Live<K>,
 ) -> Result<(), NoMemory> {
     arrive_new(rt, alloc, live, &HELD)?;
-    assert!(rt; !live.holds_none());
+    assert_is(rt, HELD.0, &live.holds_none(), &false);
     run_at_once(rt, alloc, live, &NEXT, false)?;
     arrive_new(rt, alloc, live, &NEXT)?;
     assert_runs(rt, alloc, live, &NEXT, true)
@@ -332,7 +334,7 @@ fn end_at_once<K: Actor>(
     live: &mut Live<K>,
 ) -> Result<(), NoMemory> {
     run_at_once(rt, alloc, live, &FIRST_END, true)?;
-    assert!(rt; live.terminated());
+    assert_is(rt, FIRST_END.0, &live.terminated(), &true);
     run_at_once(rt, alloc, live, &AFTER_THE_END, false)
 }
 
@@ -370,7 +372,7 @@ fn play_and_kill<K: Actor>(
 fn assert_killed<K: Actor>(rt: &impl Abort, live: Live<K>, ran: usize) {
     let id = live.id();
     let dead = live.kill();
-    assert_eq!(rt; (dead.id(), dead.log().len()), (id, ran));
+    assert_is(rt, "killed", &(dead.id(), dead.log().len()), &(id, ran));
     drop(dead);
 }
 
@@ -425,7 +427,7 @@ fn note<K: Actor>(rt: &impl Abort, live: &mut Live<K>, notes: &[Note]) {
             actor: actor(rt, *to),
             after: *after,
         };
-        assert_eq!(rt; live.released(note), *arrival, "{name}");
+        assert_is(rt, name, &live.released(note), arrival);
     }
 }
 
@@ -449,7 +451,7 @@ fn tell_retired(
 ) -> Result<(), NoMemory> {
     retired.state_text(text)?;
     let seen = (retired.id().number(), retired.log().len());
-    assert_eq!(rt; seen, (1, 1));
+    assert_is(rt, "retired", &seen, &(1, 1));
     Ok(())
 }
 
@@ -472,7 +474,7 @@ fn add_two<K: Actor>(
     drained: bool,
 ) -> Result<(), NoMemory> {
     play(rt, alloc, live, &ADD_TWO)?;
-    assert_eq!(rt; live.drained(), drained);
+    assert_is(rt, "drained", &live.drained(), &drained);
     Ok(())
 }
 
@@ -496,7 +498,7 @@ fn assert_retires(
         }
     };
     if done.is_ok() {
-        assert_eq!(rt; text.as_str(), wanted);
+        assert_reads(rt, "the text of the state", text.as_str(), wanted);
     }
     drop(text);
     done
@@ -522,10 +524,10 @@ fn play_to_the_end(
     play(rt, alloc, live, &REFUSED_ENDS)?;
     note(rt, live, &NOTE_AFTER_THREE);
     arrive_each(rt, alloc, live, &THE_END)?;
-    assert!(rt; !live.terminated());
+    assert_is(rt, "before its turn", &live.terminated(), &false);
     assert_runs(rt, alloc, live, &THE_END[0], true)?;
     let ended = (live.terminated(), live.has_next(c1), live.drained());
-    assert_eq!(rt; ended, (true, false, false));
+    assert_is(rt, "after its turn", &ended, &(true, false, false));
     assert_runs(rt, alloc, live, &THE_END[1], false)
 }
 
@@ -567,7 +569,11 @@ static CASTS: [(&str, &[Role], bool); 8] = [
 static THREE_ROLES: [Role; 3] = [(3, [1, 2], Some(7)), (2, [1, 3], None), (1, [3, 2], None)];
 
 /// The actors that name a caller.
-static NAMED: [(u8, &[u8]); 3] = [(1, &[3, 2]), (2, &[3, 1]), (9, &[])];
+static NAMED: [(&str, u8, &[u8]); 3] = [
+    ("the first caller", 1, &[3, 2]),
+    ("the second caller", 2, &[3, 1]),
+    ("a stranger", 9, &[]),
+];
 
 fn cast_of(rt: &impl Abort, alloc: Global, role: &Role) -> Result<Cast<Counter>, NoMemory> {
     let mut callers = ListOf::new(alloc);
@@ -598,7 +604,7 @@ fn casts_of(
 fn casts_that_fit(rt: HostRuntime) -> Result<(), Fail> {
     for (name, roles, fits) in &CASTS {
         let casts = casts_of(&rt, rt.alloc(), roles)?;
-        assert_eq!(rt; cast_fits(casts.as_slice()), *fits, "{name}");
+        assert_is(&rt, name, &cast_fits(casts.as_slice()), fits);
         drop(casts);
     }
     Ok(())
@@ -609,18 +615,12 @@ fn assert_named(
     rt: &impl Abort,
     alloc: Global,
     casts: &[Cast<Counter>],
-    name: u8,
-    wanted: &[u8],
+    row: &(&str, u8, &[u8]),
 ) -> Result<(), NoMemory> {
-    let actors = actors_of(alloc, casts, caller(rt, name))?;
-    assert!(rt;
-        actors
-            .as_slice()
-            .iter()
-            .map(|a| a.number())
-            .eq(wanted.iter().copied()),
-        "c{name}"
-    );
+    let (name, number, wanted) = *row;
+    let actors = actors_of(alloc, casts, caller(rt, number))?;
+    let numbers = actors.as_slice().iter().map(|a| a.number());
+    assert_is(rt, name, &numbers.eq(wanted.iter().copied()), &true);
     drop(actors);
     Ok(())
 }
@@ -630,8 +630,8 @@ fn assert_all_named(
     alloc: Global,
     casts: &[Cast<Counter>],
 ) -> Result<(), NoMemory> {
-    for (name, wanted) in &NAMED {
-        assert_named(rt, alloc, casts, *name, wanted)?;
+    for row in &NAMED {
+        assert_named(rt, alloc, casts, row)?;
     }
     let limits = limits_of(alloc, casts, caller(rt, 1))?;
     let wanted = [(actor(rt, 3), Some(7)), (actor(rt, 2), None)];
@@ -654,8 +654,8 @@ fn text_of<K: Actor>(rt: &impl Abort, alloc: Global, live: &Live<K>) -> Result<S
     let mut text = String::new(alloc);
     text.push_str("is ")?;
     if live.state_text(&mut text).is_err() {
-        assert_eq!(rt; text.as_str(), "is ");
-        assert!(rt; live.state_text(&mut text).is_ok());
+        assert_reads(rt, "a text that was refused", text.as_str(), "is ");
+        assert_is(rt, "the text again", &live.state_text(&mut text), &Ok(()));
     }
     Ok(text)
 }
@@ -667,7 +667,7 @@ fn assert_text<K: Actor>(
     wanted: &str,
 ) -> Result<(), NoMemory> {
     let text = text_of(rt, alloc, live)?;
-    assert_eq!(rt; text.as_str(), wanted);
+    assert_reads(rt, "the text of the state", text.as_str(), wanted);
     drop(text);
     Ok(())
 }
@@ -680,10 +680,10 @@ fn bring_back<K: Actor>(
     back: Packet,
     wanted: Packet,
 ) {
-    assert_eq!(rt; back, wanted, "{name}");
+    assert_is(rt, name, &back, &wanted);
     drop(wanted);
     let arrival = live.arrival(back.actor, back.caller, back.number);
-    assert_eq!(rt; arrival, Arrival::New, "{name}");
+    assert_is(rt, name, &arrival, &Arrival::New);
     assert_arrives(rt, live, name, back, Arrival::New);
 }
 
@@ -706,12 +706,8 @@ fn bring_at_last<K: Actor>(
     match live.arrive(packet) {
         Ok(_) => drop(wanted),
         Err(back) => {
-            assert_eq!(rt;
-                live.has_next(CallerId::new(1).unwrap()),
-                before,
-                "{}",
-                row.0
-            );
+            let after = live.has_next(CallerId::new(1).unwrap());
+            assert_is(rt, row.0, &after, &before);
             bring_back(rt, live, row.0, back, wanted);
         }
     }
@@ -741,10 +737,11 @@ fn run_again<K: Actor>(
     place: usize,
 ) -> Result<Option<Reply>, NoMemory> {
     let caller = CallerId::new(1).unwrap();
-    assert_eq!(rt; (live.has_next(caller), live.log().len()), (true, place));
+    let shown = (live.has_next(caller), live.log().len());
+    assert_is(rt, "a run that was refused", &shown, &(true, place));
     assert_text(rt, alloc, live, before)?;
     let again = live.run(caller);
-    assert!(rt; again.is_ok());
+    assert_is(rt, "the run again", &again.is_ok(), &true);
     again
 }
 
@@ -775,7 +772,7 @@ fn opened_list(rt: &impl Abort, alloc: Global) -> Result<Live<ListKind>, NoMemor
     }
     drop(live);
     let again = opened(alloc, ListKind::open(alloc));
-    assert!(rt; again.is_ok());
+    assert_is(rt, "opened again", &again.is_ok(), &true);
     again
 }
 

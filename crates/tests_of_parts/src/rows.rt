@@ -3,6 +3,7 @@
 
 use act_types::{ActorId, Answer, CallerId, Fault, FutureId, Method, NoMemory, Text, Value};
 use std::alloc::Global;
+use std::fmt::Debug;
 use std::process::Abort;
 
 /// A value.
@@ -109,4 +110,15 @@ pub fn word_after(word: u32) -> u32 {
     let word = word ^ (word << 13);
     let word = word ^ (word >> 17);
     word ^ (word << 5)
+}
+
+/// Compares what a case gave with what it is to give. An assertion is dear to prove, and this one
+/// is proved once for each type.
+pub fn assert_is<T: PartialEq + Debug>(rt: &impl Abort, name: &str, got: &T, wanted: &T) {
+    assert_eq!(rt; *got, *wanted, "{name}");
+}
+
+/// The same of texts.
+pub fn assert_reads(rt: &impl Abort, name: &str, got: &str, wanted: &str) {
+    assert_eq!(rt; got, wanted, "{name}");
 }
