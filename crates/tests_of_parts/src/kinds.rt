@@ -7,7 +7,7 @@ use super::rows::Why::{
     BadAmount, BadArgs, Insufficient, KindFull, NoItem, NoItems, NoKey, NoMethod, Overflow,
 };
 use super::rows::Word::{Int, Txt, Unit};
-use super::rows::{Verb, Why, Word, answer_of, method, value_of};
+use super::rows::{Verb, Why, Word, answer_of, assert_is, assert_reads, method, value_of};
 use act_kinds::{Account, Actor, Boxed, Counter, ListKind, Table};
 use act_types::{Answer, Fault, MAX_ITEMS, Method, NoMemory, Text, Value};
 use std::alloc::Global;
@@ -120,7 +120,7 @@ fn assert_answered(
 ) -> Result<(), NoMemory> {
     match answer_of(alloc, &row.3) {
         Ok(wanted) => {
-            assert_eq!(rt; answered, wanted, "{}", row.0);
+            assert_is(rt, row.0, &answered, &wanted);
             drop(answered);
             drop(wanted);
             Ok(())
@@ -143,7 +143,7 @@ fn play_row<A: Actor>(
     let answered = asked(alloc, actor, row.1, row.2)?;
     assert_answered(rt, alloc, row, answered)?;
     let text = text_of(alloc, actor)?;
-    assert_eq!(rt; text.as_str(), state, "{}", row.0);
+    assert_reads(rt, row.0, text.as_str(), state);
     drop(text);
     Ok(())
 }
@@ -264,15 +264,20 @@ fn fill_list(alloc: Global, list: &mut ListKind) -> Result<(), NoMemory> {
 /// A full list takes no item more.
 fn push_more(rt: &impl Abort, alloc: Global, list: &mut ListKind) -> Result<(), NoMemory> {
     let answered = asked(alloc, list, Push, &[Int(1)])?;
-    assert!(rt; matches!(answered, Err(Fault::KindFull)));
+    let is_full = matches!(answered, Err(Fault::KindFull));
+    assert_is(rt, "an item too many", &is_full, &true);
     drop(answered);
     Ok(())
 }
 
 fn assert_long(rt: &impl Abort, text: &str) {
-    assert_eq!(rt; text.len(), 4 + MAX_ITEMS * 67);
-    assert!(rt; text.starts_with("list \"kkk"));
-    assert!(rt; text.ends_with("kkk\""));
+    let ends = (text.starts_with("list \"kkk"), text.ends_with("kkk\""));
+    assert_is(
+        rt,
+        "the longest text",
+        &(text.len(), ends),
+        &(4 + MAX_ITEMS * 67, (true, true)),
+    );
 }
 
 fn fill_and_push(rt: &impl Abort, alloc: Global, list: &mut ListKind) -> Result<(), NoMemory> {

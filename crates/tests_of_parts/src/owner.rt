@@ -1,7 +1,7 @@
 //! One caller from its first call to a death, calls that wait for answers, forged notices, the most
 //! calls and copies, and refused memory.
 
-use super::rows::{actor, caller};
+use super::rows::{actor, assert_is, caller};
 use act_owner::SendRefusal::{Answered, NoFuture, NotReady};
 use act_owner::SubmitRefusal::{BadFuture, NoActor, PendingLimit, TooManyArgs};
 use act_owner::{Collected, HandleRefusal, Owner, SendRefusal, SubmitRefusal};
@@ -480,7 +480,7 @@ fn asked_again(
         Told::NotSubmitted(SubmitRefusal::NoMemory)
         | Told::NotSent(SendRefusal::NoMemory)
         | Told::Reserved(false) => {
-            assert_eq!(rt; shown(rt, owner), before, "{}", row.0);
+            assert_is(rt, row.0, &shown(rt, owner), &before);
             asked(rt, alloc, owner, row.1)
         }
         _ => Ok(told),
@@ -491,7 +491,7 @@ fn asked_again(
 fn play(rt: &impl Abort, alloc: Global, owner: &mut Owner, rows: &[Row]) -> Result<(), NoMemory> {
     for row in rows {
         let told = asked_again(rt, alloc, owner, row)?;
-        assert_eq!(rt; told, row.2, "{}", row.0);
+        assert_is(rt, row.0, &told, &row.2);
     }
     Ok(())
 }
@@ -518,7 +518,7 @@ fn opened_again(rt: &impl Abort, alloc: Global, limit: Option<u32>) -> Result<Ow
     }
     drop(owner);
     let again = opened(rt, alloc, limit);
-    assert!(rt; again.is_ok());
+    assert_is(rt, "opened again", &again.is_ok(), &true);
     again
 }
 
@@ -575,8 +575,9 @@ fn calls_wait_for_answers(rt: HostRuntime) -> Result<(), Fail> {
 fn play_forged(rt: &impl Abort, alloc: Global, owner: &mut Owner) -> Result<(), NoMemory> {
     play(rt, alloc, owner, &THREE_CALLS)?;
     play(rt, alloc, owner, &AFTER_THREE_CALLS)?;
-    for (name, ask, told) in &FORGED {
-        assert_eq!(rt; asked(rt, alloc, owner, *ask)?, *told, "{name}");
+    for (name, ask, wanted) in &FORGED {
+        let told = asked(rt, alloc, owner, *ask)?;
+        assert_is(rt, name, &told, wanted);
         play(rt, alloc, owner, &AFTER_THREE_CALLS)?;
     }
     play(rt, alloc, owner, &GENUINE)
@@ -619,10 +620,9 @@ fn the_most_calls(rt: HostRuntime) -> Result<(), Fail> {
     let a1 = ActorId::new(1).unwrap();
     let mut owner = opened(&rt, rt.alloc(), None)?;
     let last = last_refused(rt.alloc(), &mut owner, a1, 65_537);
-    assert_eq!(rt;
-        (last, owner.count()),
-        (Some((65_536, SubmitRefusal::TooManyCalls)), 65_536)
-    );
+    let seen = (last, owner.count());
+    let wanted = (Some((65_536, SubmitRefusal::TooManyCalls)), 65_536);
+    assert_is(&rt, "the last of 65,537 calls", &seen, &wanted);
     drop(owner);
     Ok(())
 }
@@ -630,7 +630,7 @@ fn the_most_calls(rt: HostRuntime) -> Result<(), Fail> {
 /// Copies the caller's one handle of an actor until it has so many.
 fn assert_copies(rt: &impl Abort, owner: &mut Owner, a: ActorId, most: u32) {
     for copies in 2..most {
-        assert_eq!(rt; owner.copy(a), Ok(copies));
+        assert_is(rt, "a copy", &owner.copy(a), &Ok(copies));
     }
 }
 
@@ -639,10 +639,9 @@ fn the_most_copies(rt: HostRuntime) -> Result<(), Fail> {
     let a1 = ActorId::new(1).unwrap();
     let mut owner = opened(&rt, rt.alloc(), None)?;
     assert_copies(&rt, &mut owner, a1, 65_536);
-    assert_eq!(rt;
-        (owner.copy(a1), owner.holds(a1)),
-        (Err(HandleRefusal::TooManyCopies), 65_535)
-    );
+    let seen = (owner.copy(a1), owner.holds(a1));
+    let wanted = (Err(HandleRefusal::TooManyCopies), 65_535);
+    assert_is(&rt, "one copy too many", &seen, &wanted);
     drop(owner);
     Ok(())
 }
