@@ -113,7 +113,7 @@ pub fn word_after(word: u32) -> u32 {
 }
 
 /// Compares what a case gave with what it is to give. An assertion is dear to prove, and this one
-/// is proved once for each type.
+/// is proved once, for every type.
 pub fn assert_is<T: PartialEq + Debug>(rt: &impl Abort, name: &str, got: &T, wanted: &T) {
     assert_eq!(rt; *got, *wanted, "{name}");
 }
