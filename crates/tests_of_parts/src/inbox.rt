@@ -1,7 +1,7 @@
 //! The order in which calls come, and in which they are handed out; calls that come where memory is
 //! refused; and an inbox beside a plain list of what it holds.
 
-use super::rows::{Verb, caller, method, word_after};
+use super::rows::{Verb, assert_is, caller, method, word_after};
 use act_inbox::{Arrival, Inbox};
 use act_types::{
     ActorId, CALLER_NUMBERS, CallerId, FutureId, Method, NoMemory, Packet, ReleaseNote, Settled,
@@ -67,10 +67,9 @@ fn call_of(alloc: Global, number: u32) -> Result<Packet, NoMemory> {
 }
 
 fn arrive(rt: &impl Abort, inbox: &mut Inbox, name: &str, packet: Packet, arrival: Arrival) {
-    let number = packet.number;
     let arrived = inbox.arrive(packet);
     let wanted = Ok(arrival);
-    assert_eq!(rt; arrived, wanted, "{name}, call {number}");
+    assert_is(rt, name, &arrived, &wanted);
     drop(arrived);
     drop(wanted);
 }
@@ -103,7 +102,7 @@ fn method_of(packet: Packet) -> Method {
 /// Takes out the call of caller 1 that is next, if it came.
 fn take(rt: &impl Abort, inbox: &mut Inbox, wanted: Option<u32>) {
     let taken = inbox.next(CallerId::new(1).unwrap());
-    assert_eq!(rt; taken.map(number_of), wanted);
+    assert_is(rt, "the call taken", &taken.map(number_of), &wanted);
 }
 
 /// Brings calls of caller 1 and of a stranger.
@@ -111,7 +110,7 @@ fn bring_each(rt: &impl Abort, alloc: Global, inbox: &mut Inbox) -> Result<(), N
     for (name, from, number, verb, arrival, has_next) in &ARRIVALS {
         let packet = packet_of(alloc, caller(rt, *from), *number, method(*verb))?;
         arrive(rt, inbox, name, packet, *arrival);
-        assert_eq!(rt; inbox.has_next(caller(rt, 1)), *has_next, "{name}");
+        assert_is(rt, name, &inbox.has_next(caller(rt, 1)), has_next);
     }
     Ok(())
 }
@@ -124,8 +123,8 @@ fn note_each(rt: &impl Abort, inbox: &mut Inbox) {
             actor: ActorId::new(1).unwrap(),
             after: *after,
         };
-        assert_eq!(rt; inbox.released(note), *arrival, "{name}");
-        assert_eq!(rt; inbox.drained(), *drained, "{name}");
+        assert_is(rt, name, &inbox.released(note), arrival);
+        assert_is(rt, name, &inbox.drained(), drained);
     }
 }
 
@@ -135,9 +134,9 @@ fn show_and_take(rt: &impl Abort, inbox: &mut Inbox) {
     for wanted in [Some(Method::Get), None] {
         let shown = inbox.peek(c1).map(|packet| packet.method);
         let taken = inbox.next(c1).map(method_of);
-        assert_eq!(rt; shown, wanted);
-        assert_eq!(rt; taken, wanted);
-        assert_eq!(rt; inbox.handed(c1), 1);
+        assert_is(rt, "the call shown", &shown, &wanted);
+        assert_is(rt, "the call taken", &taken, &wanted);
+        assert_is(rt, "handed out", &inbox.handed(c1), &1);
     }
 }
 
@@ -201,16 +200,22 @@ fn opened(rt: &impl Abort, alloc: Global) -> Result<Inbox, NoMemory> {
     }
     drop(opened);
     let again = Inbox::open(alloc, &callers);
-    assert!(rt; again.is_ok());
+    assert_is(rt, "opened again", &again.is_ok(), &true);
     again
 }
 
 /// Brings a call that came back, since memory was refused.
 fn bring_again(rt: &impl Abort, inbox: &mut Inbox, back: Packet, before: (bool, u32)) {
     let c1 = CallerId::new(1).unwrap();
-    assert_eq!(rt; (inbox.has_next(c1), inbox.handed(c1)), before);
-    assert_eq!(rt; inbox.arrival(back.caller, back.number), Arrival::New);
-    arrive(rt, inbox, "one that came back", back, Arrival::New);
+    let name = "one that came back";
+    assert_is(rt, name, &(inbox.has_next(c1), inbox.handed(c1)), &before);
+    assert_is(
+        rt,
+        name,
+        &inbox.arrival(back.caller, back.number),
+        &Arrival::New,
+    );
+    arrive(rt, inbox, name, back, Arrival::New);
 }
 
 /// Brings a call, and what came back of it where memory is refused.
@@ -231,7 +236,7 @@ fn bring_at_last(
         }
     };
     if let Err(back) = inbox.arrive(same) {
-        assert_eq!(rt; back, call);
+        assert_is(rt, "what came back", &back, &call);
         bring_again(rt, inbox, back, before);
     }
     arrive(rt, inbox, "the same again", call, Arrival::Repeat);
@@ -385,14 +390,25 @@ fn bring_to_both(
 ) -> Result<(), AllocError> {
     let arrival = plain.arrive(call)?;
     let packet = call.packet(alloc);
-    assert_eq!(rt; inbox.arrival(packet.caller, packet.number), arrival);
+    let told = inbox.arrival(packet.caller, packet.number);
+    assert_is(rt, "what a random call would be", &told, &arrival);
     if may_pass && passed_by(inbox, &packet) {
-        assert_eq!(rt; plain.next(call.caller), Some(call));
+        assert_is(
+            rt,
+            "a random call passed by",
+            &plain.next(call.caller),
+            &Some(call),
+        );
         drop(packet);
     } else {
         arrive(rt, inbox, "a random call", packet, arrival);
     }
-    assert_eq!(rt; inbox.is_empty(), plain.held.is_empty());
+    assert_is(
+        rt,
+        "after a random call",
+        &inbox.is_empty(),
+        &plain.held.is_empty(),
+    );
     Ok(())
 }
 
@@ -408,7 +424,7 @@ fn random_step(
 ) -> Result<(), AllocError> {
     if word / 3 % 3 == 0 {
         let taken = inbox.next(caller).map(Call::shown);
-        assert_eq!(rt; taken, plain.next(caller));
+        assert_is(rt, "a random call taken", &taken, &plain.next(caller));
         return Ok(());
     }
     let call = call_near(plain, caller, word, step);
@@ -461,10 +477,15 @@ fn pass_each_by(rt: &impl Abort, alloc: Global, inbox: &mut Inbox) -> Result<(),
     let c1 = CallerId::new(1).unwrap();
     for (name, number, passes) in &PASSES {
         let packet = call_of(alloc, *number)?;
-        assert_eq!(rt; passed_by(inbox, &packet), *passes, "{name}");
+        assert_is(rt, name, &passed_by(inbox, &packet), passes);
         drop(packet);
     }
-    assert_eq!(rt; (inbox.handed(c1), inbox.has_next(c1)), (2, false));
+    assert_is(
+        rt,
+        "passed by",
+        &(inbox.handed(c1), inbox.has_next(c1)),
+        &(2, false),
+    );
     Ok(())
 }
 
@@ -476,9 +497,9 @@ fn bring_beside_one_held(
 ) -> Result<(), NoMemory> {
     bring(rt, alloc, inbox, 1, Arrival::Repeat)?;
     bring(rt, alloc, inbox, 3, Arrival::New)?;
-    assert_eq!(rt; inbox.is_empty(), false);
+    assert_is(rt, "one is held", &inbox.is_empty(), &false);
     let between = call_of(alloc, 2)?;
-    assert_eq!(rt; passed_by(inbox, &between), false);
+    assert_is(rt, "between", &passed_by(inbox, &between), &false);
     drop(between);
     bring(rt, alloc, inbox, 2, Arrival::New)
 }
@@ -489,7 +510,7 @@ fn pass_bring_and_take(rt: &impl Abort, alloc: Global, inbox: &mut Inbox) -> Res
     for wanted in [Some(2), Some(3), None] {
         take(rt, inbox, wanted);
     }
-    assert_eq!(rt; inbox.is_empty(), true);
+    assert_is(rt, "all went out", &inbox.is_empty(), &true);
     Ok(())
 }
 

@@ -2,7 +2,7 @@
 //! futures of each wait, step by step; a table that grows where memory is refused; and random steps that compare a
 //! table with a plain list.
 
-use super::rows::{actor, word_after};
+use super::rows::{actor, assert_is, word_after};
 use act_replies::{Kept, ReplyTable};
 use act_types::{ActorId, Answer, Fault, FutureId, MAX_CALLS, NoMemory, Value};
 use std::process::Abort;
@@ -76,9 +76,9 @@ fn take(rt: &impl Abort, table: &mut ReplyTable, step: Step) -> Result<Told, NoM
 /// Takes each step in turn, of which this is to be told.
 fn play(rt: &impl Abort, table: &mut ReplyTable, rows: &[Row]) -> Result<(), NoMemory> {
     for (name, step, told, pending) in rows {
-        assert_eq!(rt; take(rt, table, *step)?, *told, "{name}");
+        assert_is(rt, name, &take(rt, table, *step)?, told);
         let counted = (table.pending(actor(rt, 1)), table.pending(actor(rt, 2)));
-        assert_eq!(rt; counted, *pending, "{name}");
+        assert_is(rt, name, &counted, pending);
     }
     Ok(())
 }
@@ -94,7 +94,7 @@ fn assert_first_stays(rt: &impl Abort, table: &ReplyTable) {
     assert_answer(rt, table, 1, None);
     assert_answer(rt, table, 2, Some(Err(Fault::ActorDied)));
     assert_answer(rt, table, 9, None);
-    assert_eq!(rt; (table.unanswered(), table.count()), (1, 3));
+    assert_is(rt, "at the end", &shown(table), &(3, 1));
 }
 
 /// The same after room was asked for.
@@ -135,13 +135,13 @@ fn shown(table: &ReplyTable) -> (u32, u32) {
 fn enter_again(rt: &impl Abort, table: &mut ReplyTable, a: ActorId) -> Result<FutureId, NoMemory> {
     let before = shown(table);
     if table.count() > 4 && table.reserve_one().is_err() {
-        assert_eq!(rt; shown(table), before);
-        assert_eq!(rt; table.reserve_one(), Ok(()));
+        assert_is(rt, "after a refusal", &shown(table), &before);
+        assert_is(rt, "room again", &table.reserve_one(), &Ok(()));
     }
     assert!(rt; table.count() < MAX_CALLS);
     let entered = table.enter(a);
     if entered.is_err() {
-        assert_eq!(rt; shown(table), before);
+        assert_is(rt, "after a refusal", &shown(table), &before);
         return table.enter(a);
     }
     entered
@@ -151,8 +151,9 @@ fn enter_again(rt: &impl Abort, table: &mut ReplyTable, a: ActorId) -> Result<Fu
 fn fill(rt: &impl Abort, table: &mut ReplyTable) {
     let a1 = ActorId::new(1).unwrap();
     for count in 0..17 {
-        assert_eq!(rt; table.count(), count);
-        assert_eq!(rt; enter_again(rt, table, a1), Ok(FutureId::new(count)));
+        assert_is(rt, "how many", &table.count(), &count);
+        let entered = enter_again(rt, table, a1);
+        assert_is(rt, "entered", &entered, &Ok(FutureId::new(count)));
         table.keep(FutureId::new(2), Ok(Value::Int(5)));
     }
 }
@@ -215,12 +216,12 @@ fn take_step(
     match number / 3 % 32 {
         0 => {
             let told = die_plainly(futures, actor);
-            assert_eq!(rt; table.died(actor) as usize, told);
+            assert_is(rt, "a death", &(table.died(actor) as usize), &told);
         }
         1..=12 => {
             assert!(rt; table.count() < MAX_CALLS);
             let future = table.enter(actor)?;
-            assert_eq!(rt; future.number() as usize, futures.len());
+            assert_is(rt, "a future", &(future.number() as usize), &futures.len());
             futures.push(Plain {
                 actor,
                 answer: None,
@@ -230,7 +231,8 @@ fn take_step(
             let future = FutureId::new(number / 96 % (table.count() + 2));
             let answer = i64::from(number);
             let told = keep_plainly(futures, future.number() as usize, Ok(Value::Int(answer)));
-            assert_eq!(rt; table.keep(future, Ok(Value::Int(answer))), told);
+            let kept = table.keep(future, Ok(Value::Int(answer)));
+            assert_is(rt, "an answer", &kept, &told);
         }
     }
     Ok(())
@@ -242,22 +244,23 @@ fn assert_waiting(rt: &impl Abort, table: &ReplyTable, futures: &[Plain]) {
         .iter()
         .filter(|future| future.answer.is_none())
         .count();
-    assert_eq!(rt; table.unanswered() as usize, open);
+    assert_is(rt, "those that wait", &(table.unanswered() as usize), &open);
     for number in 1..4 {
         let actor = ActorId::new(number).unwrap();
         let last = futures.iter().rposition(|future| waits(future, actor));
         let told = table
             .waiting_of(actor)
             .map(|future| future.number() as usize);
-        assert_eq!(rt; told, last, "of {actor}");
+        assert_is(rt, "the last of an actor", &(number, told), &(number, last));
         let count = futures.iter().filter(|future| waits(future, actor)).count();
-        assert_eq!(rt; table.pending(actor) as usize, count, "of {actor}");
+        let told = table.pending(actor) as usize;
+        assert_is(rt, "those of an actor", &(number, told), &(number, count));
     }
 }
 
 /// The table and the plain list have the same answers.
 fn assert_same(rt: &impl Abort, table: &ReplyTable, futures: &[Plain]) {
-    assert_eq!(rt; table.count() as usize, futures.len());
+    assert_is(rt, "futures", &(table.count() as usize), &futures.len());
     for (k, future) in (0..table.count()).zip(futures.iter()) {
         assert_eq!(rt;
             table.answer(FutureId::new(k)),

@@ -3,7 +3,7 @@
 
 ghost use Rattle.std.specs.Prelude.{◌≡◌, ◌<◌, ◌^◌, [], length, IfOk, OnErr};
 
-use super::rows::word_after;
+use super::rows::{assert_is, word_after};
 use act_resolver::{Futures, Resolver};
 use act_types::{FutureId, MAX_ARGS, NoMemory};
 use std::alloc::Global;
@@ -164,10 +164,15 @@ fn take_row(
     if taken.is_ok() {
         return taken;
     }
-    assert_eq!(rt; resolver.ready(), before, "{}", row.0);
-    assert!(rt; !resolver.is_known(FutureId::new(entered)), "{}", row.0);
+    assert_is(rt, row.0, &resolver.ready(), &before);
+    assert_is(
+        rt,
+        row.0,
+        &resolver.is_known(FutureId::new(entered)),
+        &false,
+    );
     let again = take(rt, resolver, entered, &step);
-    assert!(rt; again.is_ok(), "{}", row.0);
+    assert_is(rt, row.0, &again.is_ok(), &true);
     again
 }
 
@@ -178,7 +183,7 @@ fn play(rt: &impl Abort, resolver: &mut Resolver, rows: &[Row]) -> Result<(), No
     let mut entered = 0;
     for row in rows {
         entered = take_row(rt, resolver, entered, row)?;
-        assert_eq!(rt; resolver.ready().map(FutureId::number), row.2, "{}", row.0);
+        assert_is(rt, row.0, &resolver.ready().map(FutureId::number), &row.2);
     }
     Ok(())
 }
@@ -187,8 +192,8 @@ fn play(rt: &impl Abort, resolver: &mut Resolver, rows: &[Row]) -> Result<(), No
 fn assert_ends(rt: &impl Abort, resolver: &Resolver, ends: &[End]) {
     for (k, sent, known) in ends {
         let call = FutureId::new(*k);
-        let seen = (resolver.is_sent(call), resolver.is_known(call));
-        assert_eq!(rt; seen, (*sent, *known), "of {k}");
+        let seen = (*k, resolver.is_sent(call), resolver.is_known(call));
+        assert_is(rt, "at the end", &seen, &(*k, *sent, *known));
     }
 }
 
@@ -242,7 +247,7 @@ fn send_in_turn(rt: &impl Abort, resolver: &mut Resolver, mut entered: u32) -> R
 {
     for number in 1..entered {
         let k = FutureId::new(number);
-        assert_eq!(rt; resolver.ready(), Some(k));
+        assert_is(rt, "in its turn", &resolver.ready(), &Some(k));
         entered = take(rt, resolver, entered, &Step::Sent(k))?;
     }
     Ok(())
@@ -259,7 +264,7 @@ fn wait_for_one(rt: &impl Abort, resolver: &mut Resolver, count: u32) -> Result<
     );
     let entered = take(rt, resolver, entered, &Step::Told(c0))?;
     send_in_turn(rt, resolver, entered)?;
-    assert_eq!(rt; resolver.ready(), None);
+    assert_is(rt, "all were sent", &resolver.ready(), &None);
     Ok(())
 }
 
@@ -342,10 +347,16 @@ fn scan_step(rt: &impl Abort, calls: &mut Vec<Scanned>, step: &Step) -> Result<(
 /// The resolver answers as the plain scan does.
 fn assert_same(rt: &impl Abort, resolver: &Resolver, calls: &[Scanned]) {
     assert!(rt; calls.len() < u32::MAX as usize);
-    assert_eq!(rt; resolver.ready(), first_ready(calls));
+    assert_is(
+        rt,
+        "the first that is ready",
+        &resolver.ready(),
+        &first_ready(calls),
+    );
     for k in (0..calls.len() as u32 + 1).map(FutureId::new) {
-        assert_eq!(rt; resolver.is_known(k), is_known(calls, k));
-        assert_eq!(rt; resolver.is_sent(k), is_sent(calls, k));
+        let seen = (k, resolver.is_known(k), resolver.is_sent(k));
+        let wanted = (k, is_known(calls, k), is_sent(calls, k));
+        assert_is(rt, "a call", &seen, &wanted);
     }
 }
 
