@@ -22,8 +22,9 @@ use std::alloc::Global;
 pub const MAX_KILLS: u32 = 65_536;
 
 /// A caller, as its own code has it while it runs. What is ready is sent, and what comes is
-/// collected, in the calls that wait, and in others from time to time. A call that was refused memory
-/// may be made again.
+/// collected, in `turn` and in the calls that wait, and in `submit` and `kill` from time to time. The
+/// calls that only tell (`answer`, `pending`, `count`) make no progress: code that polls takes a
+/// `turn` each time. A call that was refused memory may be made again.
 pub trait Session {
     ghost seen: { Self → SessionView };
 

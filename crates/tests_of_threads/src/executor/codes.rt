@@ -2,6 +2,7 @@
 
 mod bad;
 mod doing;
+mod listed;
 mod waits;
 
 use super::gates::Meeting;
@@ -134,6 +135,26 @@ fn an_answer_handed_on(rt: HostRuntime) -> Result<(), Fail> {
     let Ids { a1, a2, .. } = few_ids();
     let wanted = "c1: 4 4\nc2:\na1 retired counter 4: c1.0\na2 retired counter 4: c1.1\n";
     tell(&rt, rt.alloc(), Doing::HandsOn(a1, a2, 4), &[], wanted)?;
+    Ok(())
+}
+
+/// A code waits for either of two answers, and one for both.
+#[test]
+fn answers_of_several(rt: HostRuntime) -> Result<(), Fail> {
+    let Ids { a1, a2, .. } = few_ids();
+    let wanted = "c1: 1 1\nc2:\na1 retired counter 1: c1.0\na2 retired counter 1: c1.1\n";
+    tell(&rt, rt.alloc(), Doing::WaitsForAny(a1, a2), &[], wanted)?;
+    tell(&rt, rt.alloc(), Doing::WaitsForAll(a1, a2), &[], wanted)?;
+    Ok(())
+}
+
+/// A code is refused a wait for any of no futures, or of one that isn't its own; and a code polls.
+#[test]
+fn turns_and_no_futures(rt: HostRuntime) -> Result<(), Fail> {
+    let Ids { a1, .. } = few_ids();
+    let wanted = "c1: 1\nc2:\na1 retired counter 1: c1.0\na2 retired counter 0:\n";
+    tell(&rt, rt.alloc(), Doing::WaitsForAnyOfNone(a1), &[], wanted)?;
+    tell(&rt, rt.alloc(), Doing::Polls(a1), &[], wanted)?;
     Ok(())
 }
 

@@ -19,6 +19,14 @@ pub(super) enum Doing {
     GivesUp(ActorId, u32),
     /// Submits nothing.
     Rests,
+    /// Adds 1 to both, and waits for either answer.
+    WaitsForAny(ActorId, ActorId),
+    /// Waits for any of futures that it doesn't have all.
+    WaitsForAnyOfNone(ActorId),
+    /// Adds 1 to both, and waits for both answers.
+    WaitsForAll(ActorId, ActorId),
+    /// Adds 1, and takes turns until it is answered.
+    Polls(ActorId),
     /// Waits for a future that it doesn't have.
     WaitsForNone,
     /// Lets its handle go, uses it all the same, and goes on with the other.
@@ -124,6 +132,10 @@ impl Code for Doing {
             Doing::AddsToEach => add_to_each(session),
             Doing::GivesUp(a, calls) => give_up(session, *a, *calls),
             Doing::Rests => Ok(()),
+            Doing::WaitsForAny(one, other) => super::listed::wait_for_any(session, *one, *other),
+            Doing::WaitsForAnyOfNone(a) => super::listed::wait_for_any_of_none(session, *a),
+            Doing::WaitsForAll(one, other) => super::listed::wait_for_all(session, *one, *other),
+            Doing::Polls(a) => super::listed::poll(session, *a),
             Doing::WaitsForNone => super::bad::wait_for_none(session),
             Doing::LetsGo(a, other) => super::bad::let_go(session, *a, *other),
             Doing::AsksAStranger(a) => super::bad::ask_a_stranger(session, *a),

@@ -59,6 +59,32 @@ impl Code for AsksBoth {
     }
 }
 
+/// Calls both actors, and then waits for both answers, by `wait_all`.
+#[derive(Clone, Copy)]
+struct WaitsForBoth {
+    one: ActorId,
+    other: ActorId,
+}
+
+impl Code for WaitsForBoth {
+    ghost use Rattle.std.specs.Prelude.{◌≡◌, [], ◌∷◌, ◌++◌, ◌+◌, length};
+    ghost use Rattle.act_types.specs.declared.call.Method.TheVariants.{Get};
+    ghost use Rattle.act_rules.specs.declared.script.Step.TheVariants.{Submit, Await};
+
+    ghost tells = { λ code old new. new.did ≡
+        old.did ++ Submit code.one Get [] ∷ Submit code.other Get [] ∷ Await (length old.calls) ∷
+        Await (length old.calls + 1) ∷ [] };
+
+    fn run<S: Session>(&mut self, session: &mut S) -> Result<(), GaveUp> {
+        let alloc = session.alloc();
+        let k = session.submit(self.one, Method::Get, ListOf::new(alloc))?;
+        let j = session.submit(self.other, Method::Get, ListOf::new(alloc))?;
+        session.turn()?;
+        session.wait_all(&[k, j])?;
+        Ok(())
+    }
+}
+
 /// Caller 1 has this code, and each of its two calls is answered 0.
 fn runs<R: Threads + Wait + Sync + Abort, C: Code + Send>(
     rt: &R,
@@ -82,6 +108,14 @@ fn runs<R: Threads + Wait + Sync + Abort, C: Code + Send>(
 fn a_code_that_waits(rt: HostRuntime) -> Result<(), Fail> {
     let Ids { a1, a2, .. } = few_ids();
     let code = OneAfterAnother { one: a1, other: a2 };
+    runs(&rt, rt.alloc(), code)?;
+    Ok(())
+}
+
+#[test]
+fn a_code_that_waits_for_both(rt: HostRuntime) -> Result<(), Fail> {
+    let Ids { a1, a2, .. } = few_ids();
+    let code = WaitsForBoth { one: a1, other: a2 };
     runs(&rt, rt.alloc(), code)?;
     Ok(())
 }
