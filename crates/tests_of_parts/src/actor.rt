@@ -776,6 +776,17 @@ fn opened_list(rt: &impl Abort, alloc: Global) -> Result<Live<ListKind>, NoMemor
     again
 }
 
+/// Makes room for the calls of a list, and once more where memory is refused. Nothing runs by it.
+fn make_room<K: Actor>(rt: &impl Abort, live: &mut Live<K>) {
+    let has_room = live.reserve(OF_A_LIST.len()).is_ok() || live.reserve(OF_A_LIST.len()).is_ok();
+    assert_is(
+        rt,
+        "room for calls",
+        &(has_room, live.log().len()),
+        &(true, 0),
+    );
+}
+
 /// Brings the calls of a list in reverse, and runs them in turn.
 fn play_list<K: Actor>(rt: &impl Abort, alloc: Global, live: &mut Live<K>) -> Result<(), NoMemory> {
     for row in OF_A_LIST.iter().rev() {
@@ -797,6 +808,7 @@ fn run_list<K: Actor>(rt: &impl Abort, alloc: Global, live: &mut Live<K>) -> Res
 #[test]
 fn refused_memory_changes_nothing(rt: HostRuntime) -> Result<(), Fail> {
     let mut live = opened_list(&rt, rt.alloc())?;
+    make_room(&rt, &mut live);
     let done = play_list(&rt, rt.alloc(), &mut live);
     drop(live);
     done?;

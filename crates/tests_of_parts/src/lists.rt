@@ -42,6 +42,14 @@ fn lists_of_none_to_three(rt: HostRuntime) -> Result<(), Fail> {
     Ok(())
 }
 
+#[test]
+fn a_list_of_one(rt: HostRuntime) -> Result<(), Fail> {
+    let one = SmallList::one(rt.alloc(), Value::Int(7));
+    let list = list_of(rt.alloc(), &[7])?;
+    assert_hold(&rt, &one, &list, &[7]);
+    Ok(())
+}
+
 /// Whether lists of these numbers are equal.
 fn are_equal(alloc: Global, one: &[i64], other: &[i64]) -> Result<bool, NoMemory> {
     let one = small_list(alloc, one)?;

@@ -645,3 +645,13 @@ fn the_most_copies(rt: HostRuntime) -> Result<(), Fail> {
     drop(owner);
     Ok(())
 }
+
+#[test]
+fn of_one_actor(rt: HostRuntime) -> Result<(), Fail> {
+    let a1 = ActorId::new(1).unwrap();
+    let a2 = ActorId::new(2).unwrap();
+    let owner = Owner::open(rt.alloc(), caller(&rt, 1), &[a1])?;
+    let seen = (owner.holds(a1), owner.holds(a2));
+    assert_is(&rt, "a caller of one actor", &seen, &(1, 0));
+    Ok(())
+}

@@ -232,6 +232,7 @@ fn enter_waiting(rt: &impl Abort, resolver: &mut Resolver, count: u32) -> Result
     ensures { IfOk result (λ entered. entered ≡ length resolver.new.calls) }
 {
     let c0 = FutureId::new(0);
+    resolver.reserve_calls(1 + count as usize)?;
     resolver.reserve_one()?;
     let mut entered = take(rt, resolver, 0, &Step::Enter(&[]))?;
     for _ in 0..count {
