@@ -4,8 +4,8 @@ use super::doing::int;
 use act_executor::{GaveUp, Session, WaitRefusal};
 use act_types::{ActorId, FutureId, Method, Value};
 
-/// How many turns a code that polls takes at most, before it waits.
-const MAX_TURNS: u32 = 1_000;
+/// How many turns a code that polls takes at most. Where turns send and collect, few are needed.
+const MAX_TURNS: u32 = 1_000_000_000;
 
 /// Goes on where this holds.
 fn hold(is_so: bool) -> Result<(), GaveUp> {
@@ -60,7 +60,7 @@ pub(super) fn wait_for_all<S: Session>(
     hold(session.wait_all(&[futures[0], FutureId::new(7)]) == Err(WaitRefusal::NoFuture))
 }
 
-/// Calls an actor, and takes turns until the answer is there. An answer comes by a turn or a wait alone.
+/// Calls an actor, and takes turns until the answer is there. Without a wait it comes by turns alone.
 pub(super) fn poll<S: Session>(session: &mut S, a: ActorId) -> Result<(), GaveUp> {
     let k = add_one(session, a)?;
     for _ in 0..MAX_TURNS {
@@ -69,6 +69,5 @@ pub(super) fn poll<S: Session>(session: &mut S, a: ActorId) -> Result<(), GaveUp
             return hold(is_answered_one(session, k));
         }
     }
-    session.wait(k)?;
-    hold(is_answered_one(session, k))
+    Err(GaveUp)
 }
