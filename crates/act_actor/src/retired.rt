@@ -46,6 +46,14 @@ impl<K: Actor> Retired<K> {
         &self.kind
     }
 
+    /// Its kind, given back as its last call left it. Its run list is let go.
+    pub fn into_kind(self) -> K
+        ensures { K.state result ≡ (retired_view K.state self).state }
+    {
+        let Retired { kind, .. } = self;
+        kind
+    }
+
     /// Appends the state's text, or leaves the text as it was.
     pub fn state_text(&self, text: &mut String) -> Result<(), NoMemory>
         ensures ok { OnOk result

@@ -455,15 +455,30 @@ fn tell_retired(
     Ok(())
 }
 
+/// The kind that the actor gives back has the state that it retired with.
+fn give_back(
+    rt: &impl Abort,
+    retired: Retired<Counter>,
+    text: &mut String,
+) -> Result<(), NoMemory> {
+    let told = tell_retired(rt, &retired, text);
+    let kind = retired.into_kind();
+    told?;
+    let mut again = String::new(*text.allocator());
+    kind.state_text(&mut again)?;
+    assert_reads(rt, "given back", again.as_str(), text.as_str());
+    Ok(())
+}
+
 /// Adds the text of the state that the actor retired with, or none where it didn't retire.
 fn retire(rt: &impl Abort, live: Live<Counter>, text: &mut String) -> Result<(), NoMemory> {
-    let ended = live.retire();
-    let told = match &ended {
-        Ok(retired) => tell_retired(rt, retired, text),
-        Err(_) => Ok(()),
-    };
-    drop(ended);
-    told
+    match live.retire() {
+        Ok(retired) => give_back(rt, retired, text),
+        Err(live) => {
+            drop(live);
+            Ok(())
+        }
+    }
 }
 
 /// Brings and runs the call, after which the actor is drained or not.
