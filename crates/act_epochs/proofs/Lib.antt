@@ -1,0 +1,4 @@
+pub mod Lists
+pub mod OneEpoch
+pub mod AllEpochs
+pub mod Growing

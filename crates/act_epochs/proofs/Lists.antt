@@ -1,0 +1,104 @@
+-- Laws of lists: prefixes of joined lists, lists in which no element stands twice, and runs one after another.
+use Rattle.std.proofs.Common.{◌≡◌, ◌≢◌, ℕ, zero, suc, ◌+◌, ◌≤◌, List, [], ◌∷◌, ◌++◌, length, Option, Some, None, refl, ap, sym, ◌∙◌, arith, append_assoc, append-nil, All, AllPairs}
+use Rattle.std.specs.Prelude.{filter_map, slice_get}
+use Rattle.std.specs.List.{enumerate_from, cons_option}
+use Rattle.std.proofs.lemmas.List.Elements.{All-nil, All-cons, All-head, All-tail, All-append, All-weaker}
+use Rattle.std.proofs.lemmas.List.Kept.{AllPairs-cons}
+use Rattle.act_types.specs.KindState.{KindState}
+use Rattle.act_rules.specs.declared.history.RunItem.{RunItem}
+use Rattle.act_rules.specs.RunList.{Answer, after_item, answers_from, answer_at, state_after}
+use Rattle.act_rules.specs.Consistent.{IsPrefix}
+use Rattle.act_rules.proofs.Kept.{answers_from-append, length-answers_from, answer_at-front}
+use Rattle.act_executor.proofs.Elements.{IsIn}
+
+-- ---- prefixes
+
+-- a prefix behind the same list
+pub front_behind : {A : Type 0} (xs ys zs : List A) → IsPrefix ys zs → IsPrefix (xs ++ ys) (xs ++ zs)
+front_behind xs ys zs f = (f.0, append_assoc xs ys f.0 ∙ ap (λ l. xs ++ l) f.1)
+
+-- a prefix, where nothing follows it and the whole goes on
+pub front_before : {A : Type 0} (xs ys zs : List A) → IsPrefix xs ys → IsPrefix (xs ++ []) (ys ++ zs)
+front_before {A} xs ys zs f = (
+  f.0 ++ zs,
+  ap (λ (l : List A). l ++ (f.0 ++ zs)) (append-nil xs) ∙ sym (append_assoc xs f.0 zs) ∙ ap (λ (l : List A). l ++ zs) f.1,
+)
+
+-- ---- what a list is made of
+
+pub record CameFrom {A B : Type 0} (f : A → Option B) (xs : List A) (y : B) : Type 0 where
+  pub one : A
+  pub inside : IsIn xs one
+  pub gives : f one ≡ Some y
+
+pub came_from : {A B : Type 0} (f : A → Option B) (xs : List A) (k : ℕ) (y : B) → slice_get (filter_map f xs) k ≡ Some y → CameFrom f xs y
+came_from f [] k y e = cc
+came_from {A} {B} f (x ∷ xs) k y e = go (f x) refl k (λ (m : ℕ). came_from f xs m y) e
+  where
+    later : CameFrom f xs y → CameFrom f (x ∷ xs) y
+    later r = record { one = r.one; inside = record { place = suc r.inside.place; at = r.inside.at }; gives = r.gives }
+
+    go : (o : Option B) → f x ≡ o → (k : ℕ) → ((m : ℕ) → slice_get (filter_map f xs) m ≡ Some y → CameFrom f xs y) → slice_get (cons_option o (filter_map f xs)) k ≡ Some y → CameFrom f (x ∷ xs) y
+    go None is k rest e = later (rest k e)
+    go (Some z) is zero rest e = record { one = x; inside = record { place = 0; at = refl }; gives = is ∙ e }
+    go (Some z) is (suc m) rest e = later (rest m e)
+
+-- an element that gives something stands for it
+pub goes_to : {A B : Type 0} (f : A → Option B) (xs : List A) (k : ℕ) (x : A) (y : B) → slice_get xs k ≡ Some x → f x ≡ Some y → IsIn (filter_map f xs) y
+goes_to f [] k x y e gives = cc
+goes_to {A} {B} f (z ∷ xs) zero x y e gives =
+    let same : z ≡ x = cc in
+    let here : f z ≡ Some y = ap f same ∙ gives in
+    record { place = 0; at = ap (λ (o : Option B). slice_get (cons_option o (filter_map f xs)) 0) here }
+goes_to {A} {B} f (z ∷ xs) (suc k) x y e gives = go (f z) (goes_to f xs k x y e gives)
+  where
+    go : (o : Option B) → IsIn (filter_map f xs) y → IsIn (cons_option o (filter_map f xs)) y
+    go None i = i
+    go (Some w) i = record { place = suc i.place; at = i.at }
+
+-- ---- no element stands twice
+
+pub pairs_append : {A : Type 0} (R : A → A → Type 0) (xs ys : List A) → AllPairs R xs → AllPairs R ys → All (λ x. All (R x) ys) xs → AllPairs R (xs ++ ys)
+pairs_append R [] ys first second apart = second
+pairs_append R (x ∷ xs) ys first second apart =
+    AllPairs-cons R x (xs ++ ys)
+    (All-append (R x) xs ys (λ k d below. first 0 (suc k) d (omega arith) (omega (arith, below))) (All-head (λ z. All (R z) ys) x xs apart))
+    (pairs_append R xs ys (λ i j d lt below. first (suc i) (suc j) d (omega (arith, lt)) (omega (arith, below))) second (All-tail (λ z. All (R z) ys) x xs apart))
+
+pub from_number : {A : Type 0} (n : ℕ) (xs : List A) → All (λ (p : ℕ × A). n ≤ p.0) (enumerate_from n xs)
+from_number n [] = All-nil (λ p. n ≤ p.0)
+from_number {A} n (x ∷ xs) =
+    let here : n ≤ n = omega arith in
+    All-cons (λ (p : ℕ × A). n ≤ p.0) (n, x) (enumerate_from (n + 1) xs) here
+    (All-weaker (λ (p : ℕ × A). n + 1 ≤ p.0) (λ (p : ℕ × A). n ≤ p.0) (λ p more. omega (arith, more)) (enumerate_from (n + 1) xs) (from_number (n + 1) xs))
+
+-- the places of a list differ
+pub places_apart : {A : Type 0} (n : ℕ) (xs : List A) → AllPairs (λ (one other : ℕ × A). one.0 ≢ other.0) (enumerate_from n xs)
+places_apart n [] = λ i j d lt below. absurd (omega arith)
+places_apart {A} n (x ∷ xs) =
+    AllPairs-cons (λ (one other : ℕ × A). one.0 ≢ other.0) (n, x) (enumerate_from (n + 1) xs)
+    (All-weaker (λ (p : ℕ × A). n + 1 ≤ p.0) (λ (p : ℕ × A). n ≢ p.0) (λ p more same. omega (arith, more, same)) (enumerate_from (n + 1) xs) (from_number (n + 1) xs))
+    (places_apart (n + 1) xs)
+
+-- ---- runs, one after another
+
+pub state_after-append : (state : KindState) (xs ys : List RunItem) → state_after state (xs ++ ys) ≡ state_after (state_after state xs) ys
+state_after-append state [] ys = refl
+state_after-append state (x ∷ xs) ys = state_after-append (after_item state x).0 xs ys
+
+-- a place behind a list
+pub place_behind : {A : Type 0} (xs ys : List A) (k : ℕ) → slice_get (xs ++ ys) (length xs + k) ≡ slice_get ys k
+place_behind [] ys k = let e : 0 + k ≡ k = omega arith in ap (slice_get ys) e
+place_behind (x ∷ xs) ys k =
+    let e : length (x ∷ xs) + k ≡ suc (length xs + k) = omega arith in
+    ap (slice_get (x ∷ xs ++ ys)) e ∙ place_behind xs ys k
+
+-- the answer at a place of runs that others precede and follow
+pub answer_between : (state : KindState) (xs ys zs : List RunItem) (k : ℕ) (item : RunItem) → slice_get ys k ≡ Some item
+    → answer_at state (xs ++ (ys ++ zs)) (length xs + k) ≡ answer_at (state_after state xs) ys k
+answer_between state xs ys zs k item at =
+    let long : length (answers_from state xs) ≡ length xs = length-answers_from state xs in
+    ap (λ (l : List Answer). slice_get l (length xs + k)) (answers_from-append state xs (ys ++ zs))
+    ∙ ap (λ (n : ℕ). slice_get (answers_from state xs ++ answers_from (state_after state xs) (ys ++ zs)) (n + k)) (sym long)
+    ∙ place_behind (answers_from state xs) (answers_from (state_after state xs) (ys ++ zs)) k
+    ∙ answer_at-front (state_after state xs) ys (ys ++ zs) k item (zs, refl) at
