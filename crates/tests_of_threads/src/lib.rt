@@ -5,6 +5,8 @@
 #[cfg(test)]
 mod drive;
 #[cfg(test)]
+mod epochs;
+#[cfg(test)]
 mod executor;
 #[cfg(test)]
 mod lines;
