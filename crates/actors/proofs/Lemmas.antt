@@ -8,6 +8,8 @@ pub use Rattle.act_rules.proofs.KindFaults.{answer_alive}
 pub use Rattle.act_world.proofs.Answering.{alive_is}
 -- events in two parts, one after the other
 pub use Rattle.act_rules.proofs.Steps.{after_all-append, outcomes-append}
+-- one epoch more: it follows those before it, and its runs come last
+pub use Rattle.act_epochs.proofs.Growing.{are_more, left_more, runs_more, goes_on}
 -- what a plan's faults and its numbers are
 pub use Rattle.act_executor.proofs.Faults.{err_only}
 pub use Rattle.act_plans.proofs.Keys.{pairs_of_map}

@@ -35,6 +35,7 @@ pub use Rattle.act_executor.specs.declared.run.RunFault
 pub use Rattle.act_drive.specs.declared.refusals.WaitRefusal
 pub use Rattle.act_drive.specs.declared.refusals.KillRefusal
 pub use Rattle.act_replay.specs.declared.run.RecordFault
+pub use Rattle.act_service.specs.declared.epochs.EpochFault
 -- scripts
 pub use Rattle.act_rules.specs.declared.script.Mode
 pub use Rattle.act_rules.specs.declared.script.Role
@@ -51,4 +52,5 @@ pub mod Worlds
 pub mod Threads
 pub mod Codes
 pub mod Plays
+pub mod Epochs
 pub mod Scripts

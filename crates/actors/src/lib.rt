@@ -6,6 +6,7 @@
 //! - A world, which is played event by event: `World`, `Event`, and `Did` for what each event did.
 //! - The same in threads: `run_plans` for plans of `Step`, `run_callers` for callers that are `Code`.
 //! - Such a run with a list of events that ends so: `run_recorded`.
+//! - Runs that follow one another, for as long as a `Service` has codes to give: `run_epochs`.
 //! - One caller and one actor without either: `Owner`, `Live`, `Packet`, `Notice`.
 //! - Laws of every run, which you call where you need what they say: `kept_answers_stay` and others.
 //!
@@ -55,6 +56,10 @@ pub use act_plans::plans_fit;
 pub use act_replay::{RecordFault, Recorded, Source, play_of, run_recorded};
 pub use act_rules::{Plan, Step};
 pub use act_serve::{Ended, Finished, Gate, NoGate};
+
+// Runs in threads that follow one another.
+pub use act_epochs::{epochs_are_consistent, epochs_go_on, kept_over_epochs};
+pub use act_service::{EpochFault, Service, run_epochs};
 
 // Scripts.
 pub use act_rules::{KindName, Mode, Role, Wrong};
