@@ -2,6 +2,7 @@ pub mod Accounts
 pub mod Buyer
 pub mod Buyers
 pub mod Clerk
+pub mod Impatient
 pub mod Retry
 pub mod Runs
 pub mod Transfer
