@@ -1,0 +1,79 @@
+//! A teller: a caller that asks what its requests ask, in their order.
+
+ghost use Rattle.std.specs.Prelude.{◌≡◌, IfOk, Ok, map, codes};
+ghost use Rattle.actors.specs.Arg.TheVariants.{Plain};
+ghost use Rattle.actors.specs.Method.TheVariants.{Own};
+ghost use Rattle.own_kinds.specs.Bank.{bank_call};
+ghost use Rattle.example_bank.specs.Tellers.{number_arg, call_word, call_values};
+
+use crate::request::Request;
+use actors::{Arg, Code, FutureId, GaveUp, ListOf, Method, Name, NoMemory, Session, Value};
+use own_kinds::BankCall;
+use std::alloc::Global;
+
+/// Asks what its requests ask, in their order, and waits for the answers.
+#[derive(Debug, Drop)]
+pub(crate) struct Teller {
+    pub(crate) requests: Vec<Request>,
+}
+
+/// The method of a call, by which the bank knows it again.
+fn method_of(call: &BankCall) -> Method
+    ensures word { result ≡ Own (call_word call.now) }
+    ensures back { bank_call result (call_values call.now) ≡ Ok call.now }
+{
+    let word = match call {
+        BankCall::PayIn(_, _) => "pay_in",
+        BankCall::PayOut(_, _) => "pay_out",
+        BankCall::Transfer(_, _, _) => "transfer",
+        BankCall::Funds(_) => "funds",
+        BankCall::Total => "total",
+    };
+    Method::Own(Name::new(word).unwrap())
+}
+
+/// These numbers, as arguments.
+fn numbers(alloc: Global, given: &[i64]) -> Result<ListOf<Arg>, NoMemory>
+    ensures { IfOk result (λ args. args ≡ map number_arg given.now) }
+{
+    let mut args = ListOf::new(alloc);
+    for number in given {
+        args.push(Arg::Plain(Value::Int(*number)))?;
+    }
+    Ok(args)
+}
+
+/// The arguments of a call.
+fn args_of(alloc: Global, call: &BankCall) -> Result<ListOf<Arg>, NoMemory>
+    ensures { IfOk result (λ args. args ≡ map Plain (call_values call.now)) }
+{
+    match call {
+        BankCall::PayIn(account, amount) => numbers(alloc, &[*account, *amount]),
+        BankCall::PayOut(account, amount) => numbers(alloc, &[*account, *amount]),
+        BankCall::Transfer(from, to, amount) => numbers(alloc, &[*from, *to, *amount]),
+        BankCall::Funds(account) => numbers(alloc, &[*account]),
+        BankCall::Total => numbers(alloc, &[]),
+    }
+}
+
+impl Code for Teller {
+    ghost use Rattle.example_bank.specs.Tellers.{teller_tells};
+
+    ghost tells = { teller_tells };
+
+    fn calls(&self) -> usize {
+        self.requests.len()
+    }
+
+    fn run<S: Session>(&mut self, session: &mut S) -> Result<(), GaveUp> {
+        let alloc = session.alloc();
+        let mut futures = Vec::with_capacity(alloc, self.requests.len())?;
+        for request in &self.requests {
+            let method = method_of(&request.call);
+            let args = args_of(alloc, &request.call)?;
+            futures.push(session.submit(request.branch, method, args)?)?;
+        }
+        session.wait_all(&futures)?;
+        Ok(())
+    }
+}
