@@ -1,11 +1,13 @@
 #!/usr/bin/env python3
-"""Lists what somebody has to read who trusts the checker and nobody else, and writes the list to docs/audit.md.
+"""Writes docs/audit.md: what somebody has to read who trusts the checker and nobody else.
 
-    tools/audit.py [--check | --text]
+    tools/audit.py [--check | --text | ROOT]
 
-The list begins with the clauses of five public functions, and has every definition of ours that these
-reach by their words, and none that they don't reach. `--check` writes nothing, and fails where the page
-isn't that of the sources. `--text` prints the definitions themselves, in reading order.
+The page begins with the headline, `Consistent` of act_rules, with each definition that it reaches, quoted. Below stand
+the roots: the public functions whose clauses are promises, each with its clauses and with the number of definitions
+that these reach by their words. `--check` writes nothing, and fails where the page isn't that of the sources. Given a
+root, as `run_plans`, the tool prints all that stands behind that one, in reading order, and none that doesn't; `--text`
+prints it for all roots together.
 
 How a word is followed:
 
@@ -18,13 +20,17 @@ How a word is followed:
     field is followed only where some listed text names a field of that name, since nobody asks for the others.
   - Of a function the clauses are read, and the types of the parameters that they name.
   - `K.state` is a word of the trait that bounds K; the trait stands for its declaration, clauses included.
-  - Words of std and of the kit's crates are listed by name, and not followed.
+  - Words of std and of the kit's crates are listed by name, and not followed. Those of the headline stand in a table.
+  - The headline takes `reply_of` and `KindState` by name, and `World::consistent` takes `IsReachedBy` so. The page
+    says why.
 
-Before the page is written, or compared, the list is checked: what a definition needs stands before it.
+Before the page is written, or compared, each list is checked: what a definition needs stands before it. So is the
+headline: its parts have all that it reaches.
 """
 import collections
 import pathlib
 import re
+import signal
 import sys
 import textwrap
 from dataclasses import dataclass, field
@@ -33,20 +39,12 @@ TOP = pathlib.Path(__file__).resolve().parent.parent
 CRATES = TOP / "crates"
 PAGE = TOP / "docs/audit.md"
 
-# The public functions, in reading order: the file, and the function's name.
-ROOTS = [
-    ("act_world", "world", "play"),
-    ("act_console", "console", "play_script"),
-    ("act_executor", "run", "run_plans"),
-    ("act_console", "threads", "threads_script"),
-    ("act_histories", "check", "check_history"),
-]
-
 # How wide a line of the page may be.
 MAX_COLUMNS = 120
 
-WORDS_OF_THE_LANGUAGE = set("record data where let in do λ → × : = ← . ; , ( ) { } ⟦ ⟧ Type Unit ⊥ _".split())
+WORDS_OF_THE_LANGUAGE = set("record data where let in do λ → × : = ← . ; , ( ) { } ⟦ ⟧ Type Unit tt ⊥ _".split())
 TYPES_OF_RUST = set("Vec Option Result String Box Self Drop Send Sync Copy Clone".split())
+SPEC_SORTS = {"abbrev", "unfoldable", "record", "data"}
 LOWER_CONSTRUCTORS = {"true", "false", "pos", "negsuc", "zero", "suc"}
 
 
@@ -328,6 +326,7 @@ class Sources:
 
     def __init__(self):
         self.files = {}
+        self.reaches = {}  # of each definition but types what it names
         self.crates = sorted(path.name for path in CRATES.iterdir() if (path / "src").is_dir())
 
     def is_own(self, crate):
@@ -342,15 +341,6 @@ class Sources:
                 raise Unread(f"there is no file {path.relative_to(TOP)}")
             self.files[path] = (SpecFile if part == "specs" else RustFile)(self, crate, path)
         return self.files[path]
-
-    def spec_files(self):
-        for crate in self.crates:
-            for path in sorted((CRATES / crate / "specs").glob("*.antt")):
-                if path.stem != "Lib":
-                    yield self.file(crate, "specs", [path.stem])
-
-    def count_of_definitions(self):
-        return sum(len({each for found in file.definitions.values() for each in found}) for file in self.spec_files())
 
     def follow(self, path, name, variant=None):
         """What a path and a name of `use` mean."""
@@ -621,7 +611,8 @@ def reach_of_trait(definition):
     words = re.findall(r"    ghost (\w+):", "\n".join(definition.lines))
     for number in numbers:
         if definition.first <= number < last:
-            reach_of_function(reach, file, function_at(file.lines, number), {}, None, words)
+            generics = generics_of(file.lines[number - 1].partition("(")[0])
+            reach_of_function(reach, file, function_at(file.lines, number), generics, None, words)
     return reach
 
 
@@ -658,16 +649,17 @@ def reach_of_type(definition, fields):
     return reach
 
 
-# The list.
+# What stands behind roots.
 
 
-class Audit:
-    """All that the clauses reach, in reading order: first by words alone, then what the views add."""
+class Reading:
+    """All that some roots reach, in reading order: first by words alone, then what the views add.
 
-    def __init__(self):
-        self.sources = Sources()
-        self.reaches = {}
-        self.clauses = [self.clause(*root) for root in ROOTS]
+    What is taken by name stands in the list, and nothing behind it does.
+    """
+
+    def __init__(self, sources, roots, by_name=()):
+        self.sources, self.roots, self.by_name = sources, roots, set(by_name)
         self.needs = {}  # of each listed definition what it names
         self.by_words = self.reached(with_views=False)
         self.check(self.by_words, [])
@@ -676,59 +668,30 @@ class Audit:
         self.check(self.by_views, self.by_words)
 
     def reached(self, with_views):
-        """What the clauses reach, with what each definition needs before it."""
+        """What the roots reach, with what each definition needs before it."""
         self.with_views, self.fields = with_views, set()
         while True:
             self.found, self.done, self.open = [], set(), []
-            for clause in self.clauses:
-                self.visit(clause)
+            for root in self.roots:
+                self.visit(root)
             fields = {name for definition in self.found for name in self.reach(definition).fields}
             if fields <= self.fields:
                 return self.found
             self.fields |= fields
 
-    def clause(self, crate, module, name):
-        """A public function as something to read."""
-        file = self.sources.file(crate, "src", [module])
-        numbers = [number for number, line in enumerate(file.lines, 1) if re.match(rf" *pub fn {name}\b", line)]
-        if len(numbers) != 1:
-            raise Unread(f"{file.path}: '{name}' is declared {len(numbers)} times")
-        function = function_at(file.lines, numbers[0])
-        return Definition(name, "function", crate, file.path, function.first, file.lines[function.first - 1 : function.last], file)
-
     def reach(self, definition):
         """What a definition names. Who reads a type that has a view reads the view, and the fields that this names."""
+        if definition in self.by_name:
+            return Reach()
         if definition.sort in ("struct", "enum", "type"):
             view = definition.scope.views.get(definition.name)
             if view and not self.with_views:
                 return Reach()
             reach = reach_of_type(definition, self.reach(view).fields if view else self.fields)
             return Reach([*reach.found, *([view] if view else [])], reach.fields)
-        if definition not in self.reaches:
-            self.reaches[definition] = self.reach_once(definition)
-        return self.reaches[definition]
-
-    def reach_once(self, definition):
-        if definition.sort in ("abbrev", "unfoldable", "record", "data"):
-            return reach_of_spec(definition)
-        if definition.sort == "view":
-            return reach_of_view(definition)
-        if definition.sort == "trait":
-            return reach_of_trait(definition)
-        if definition.sort == "const":
-            return Reach()
-        return self.reach_of_root(definition)
-
-    def reach_of_root(self, definition):
-        """What a function's clauses name; a method has the type and the parameters of the `impl` around it, too."""
-        reach, file = Reach(), definition.scope
-        generics, own_type = generics_of(" ".join(definition.lines).partition("(")[0]), None
-        if definition.lines[0].startswith(" "):
-            around = [line for line in file.lines[: definition.first] if line.startswith("impl")][-1]
-            found = re.match(r"(impl(?:<[^>]*>)?) (\w+)(?:<\w+>)? \{", around)
-            generics, own_type = generics | generics_of(found[1]), found[2]
-        reach_of_function(reach, file, function_at(file.lines, definition.first), generics, own_type)
-        return reach
+        if definition not in self.sources.reaches:
+            self.sources.reaches[definition] = reach_once(definition)
+        return self.sources.reaches[definition]
 
     def visit(self, definition):
         """Puts what a definition needs before it."""
@@ -757,7 +720,12 @@ class Audit:
                     raise Unread(f"{definition.name} stands before {other.name}, which it needs")
             there.add(definition)
 
-    # The page.
+    def behind(self):
+        """What the roots reach by words, without the roots."""
+        return [definition for definition in self.by_words if definition not in self.roots]
+
+    def own_needs(self, definition):
+        return [other for other in self.needs[definition] if isinstance(other, Definition)]
 
     def kit_words(self):
         """The words of std and of the kit that the list names, by module."""
@@ -769,35 +737,44 @@ class Audit:
         return words
 
 
-SPEC_SORTS = {"abbrev", "unfoldable", "record", "data"}
-HEAD = """# What to read to believe it
+def reach_once(definition):
+    if definition.sort in SPEC_SORTS:
+        return reach_of_spec(definition)
+    if definition.sort == "view":
+        return reach_of_view(definition)
+    if definition.sort == "trait":
+        return reach_of_trait(definition)
+    if definition.sort == "const":
+        return Reach()
+    return reach_of_root(definition)
 
-This page is for somebody who trusts the checker and nobody else. `python3 tools/audit.py` makes it, and `./test` fails
-where it is out of date.
 
-1. Five public functions carry what the service promises: `World::play`, `play_script`, `run_plans`,
-   `threads_script` and `check_history`. Their clauses (postconditions) are the promises.
-2. Each clause is proved of its function's body. What it means hangs on the definitions that it reaches by its words,
-   and on nothing else of ours.
-3. The first list has every definition that these clauses reach, and none that they don't reach. **What a definition
-   needs stands before it.**
+def reach_of_root(definition):
+    """What a function's clauses name; a method has the type and the parameters of the `impl` around it, too."""
+    reach, file = Reach(), definition.scope
+    generics, own_type = generics_of(" ".join(definition.lines).partition("(")[0]), None
+    if definition.lines[0].startswith(" "):
+        around = [line for line in file.lines[: definition.first] if line.startswith("impl")][-1]
+        found = re.match(r"(impl(?:<[^>]*>)?) (\w+)(?:<\w+>)? \{", around)
+        generics, own_type = generics | generics_of(found[1]), found[2]
+    reach_of_function(reach, file, function_at(file.lines, definition.first), generics, own_type)
+    return reach
 
-How to read the lists:
 
-- Read from the top. The first list has a part for each function, which ends with its clauses. What an earlier part has
-  isn't repeated.
-- Each item is a definition. It tells its file, the line of the file on which it begins, how many lines it has with its
-  comment, and which words of ours it needs.
-- What is in italics is declared in Rust: a type, a constant, a trait. A type stands there with its declaration; of its
-  fields those count that some listed text names.
-- Where a type has an `impl Model`, contracts see its values by the view of that (an abstraction function). The second
-  list has these views, and what they reach beyond the first list.
-- Words of std and of the kit stand at the end, by name alone. What is trusted beside them is told in the README.
-- For these clauses nothing else of ours has to be read: no proof, no other function, no test.
-  `python3 tools/audit.py --text` prints all that is listed, in the order of this page.
-- The tool fails where a word means nothing or two things. How it follows words is told in its head.
-- [glossary.md](glossary.md) has the words beside the field's.
-"""
+def function_named(sources, crate, module, name):
+    """A public function as something to read: its head with its clauses."""
+    file = sources.file(crate, "src", [module])
+    numbers = [number for number, line in enumerate(file.lines, 1) if re.match(rf" *pub fn {name}\b", line)]
+    if len(numbers) != 1:
+        raise Unread(f"{file.path}: '{name}' is declared {len(numbers)} times")
+    function = function_at(file.lines, numbers[0])
+    lines = file.lines[function.first - 1 : function.last]
+    return Definition(name, "function", crate, file.path, function.first, lines, file)
+
+
+def spec_named(sources, crate, module, name):
+    """A definition of a spec."""
+    return sources.file(crate, "specs", [module]).named(name)[0]
 
 
 def is_spec(definition):
@@ -809,113 +786,580 @@ def tally(definitions):
     return len(definitions), sum(len(definition.lines) for definition in definitions)
 
 
-def own_words(audit, definition, names):
-    """What a definition needs, by name, each once."""
-    return ", ".join(names[other] for other in audit.needs[definition] if isinstance(other, Definition))
+# The headline.
 
 
-def shown_names(audit):
-    """Each name as the page shows it; one that two definitions have stands with its module."""
-    listed = [*audit.by_words, *audit.by_views]
-    counts = collections.Counter(definition.name for definition in listed)
-    names = {}
-    for definition in listed:
-        module = f" ({definition.crate}, {definition.path.stem})" if counts[definition.name] > 1 else ""
-        name = f"`{definition.name}`" if definition.sort != "view" else definition.name
-        names[definition] = (name if is_spec(definition) or definition.sort == "function" else f"*{name}*") + module
-    return names
+@dataclass(frozen=True)
+class Part:
+    """A part of the headline: what leads there, the definitions that it ends with, and the clause, if it has one."""
+
+    title: str
+    before: str
+    last: tuple
+    clause: str = ""
+    after: str = ""
 
 
-def rows_of(audit, definitions, names):
-    """A line for each definition: where it stands, how many lines it has, and what it needs."""
+HEADLINE = ("act_rules", "Consistent", "Consistent")
+# What the headline takes by name: the kinds' table, and the states in which it answers.
+TABLE = ("act_rules", "Kinds", "reply_of")
+STATES = ("act_types", "KindState", "KindState")
+PARTS = [
+    Part(
+        "What is submitted",
+        "A call of a caller, and what it carries. `Own` is for kinds of one's own.",
+        ("Submission",),
+    ),
+    Part(
+        "What ran",
+        "A run list has an item for each call that its actor ran. An argument is settled there: a future is replaced by"
+        " its value, or it failed.",
+        ("RunItem",),
+    ),
+    Part(
+        "What is kept",
+        "An answer is a value or a fault. A caller has one place for each future.",
+        ("Answer", "kept_at"),
+    ),
+    Part(
+        "Order, and each call once",
+        "The clause compares two lists of pairs, (number, future). One is what the actor ran of the caller's calls. The"
+        " other is what the caller submitted to that actor, numbered from 0.",
+        ("IsPrefix", "items_of", "calls_to"),
+        "in_order",
+        "An example: a caller submits to a1, to a2 and to a1 again, so that its calls to a1 have the futures 0 and 2."
+        " What a1 ran of this caller is then one of `[]`, `(0, 0)`, or `(0, 0), (1, 2)`. So the second never runs"
+        " before the first, none is passed over, and none runs twice.",
+    ),
+    Part(
+        "As it was submitted",
+        "Of each item that ran there is a submission: the caller's call with that future.",
+        ("IsAsSubmitted",),
+        "as_submitted",
+        "So a call runs with the method and the values that were submitted. A future among its arguments has an answer"
+        " by then, and the item has that answer's value, or that it failed.",
+    ),
+    Part(
+        "Answers",
+        "From the actor's opening state on, the items of its run list are answered one after another, each in the state"
+        " that the items before it left.",
+        ("IsAnswerOfRun",),
+        "answers",
+        "So an answer comes of one run of that very call. No other place of any run list has the call (`only`), so it"
+        " ran once at one actor. An actor's answers are those of a plain object that is called item by item.",
+    ),
+    Part(
+        "Deaths",
+        "The clause `answers` leaves one answer out, `ActorDied`. This one has it.",
+        ("IsCallToDead",),
+        "deaths",
+        "So no call to an actor that lives, or that retired, is ever answered by a death.",
+    ),
+]
+PARAMETERS = [
+    ("opening a", "the state in which actor a begins; `None` where there is no such actor"),
+    ("calls c", "what caller c submitted and was accepted, in order; a call's place is its future"),
+    ("runs a", "what actor a ran, in order: its run list"),
+    ("kept c", "the answers that caller c has, by future; `None` where it has none yet"),
+    ("is_dead a", "whether actor a is dead: it took a kill, or a `terminate` ended it"),
+]
+# How the definitions are written: the words of std that a line is for, what is written, and how it is read.
+NOTATION = [
+    ("", "`name : A → B`, `name x = ..`", "a function: its type, then equations, of which the first that fits counts"),
+    ("", "`abbrev pub`, `Type 0`", "begins a definition; what gives a `Type 0` is a type, or a property"),
+    ("", "`record`, `data`", "a struct, an enum; a property that is a record holds if each `pub` line can be given"),
+    ("", "`(x : A) → P`, `P → Q`", "for each x of A, P; if P, then Q"),
+    ("", "`(x : A) × P`, `P × Q`", "there is an x of A with P; both P and Q"),
+    ("", "`A × B`, `pair.0`, `pair.1`", "the type of pairs, and the two parts of a pair"),
+    ("", "`λ x. e`, `{A : Type 0}`", "the closure that gives e for x; a parameter that is left out where it is clear"),
+    ("ℕ Bool true", "`ℕ`, `Bool`", "the numbers from 0 on; true and false"),
+    ("List Option Some Result Ok Err", "`List A`, `Option A`, `Result A E`", "a `Vec`, and those of Rust"),
+    ("[] ◌∷◌ ◌++◌", "`[]`, `x ∷ xs`, `xs ++ ys`", "the empty list, x before xs, xs and then ys"),
+    ("◌≡◌ ◌≢◌", "`x ≡ y`, `x ≢ y`", "x is y; x is not y"),
+    ("◌==◌ IsTrue", "`m == n`, `IsTrue b`", "a test whether two numbers are equal; the test b succeeds"),
+    ("map filter take", "`map f xs`, `filter test xs`, `take n xs`", "as iterators do it, for lists"),
+    ("slice_get", "`slice_get xs k`", "`xs.get(k)`: the item at place k, from 0, or `None`"),
+    ("enumerate_from", "`enumerate_from 0 xs`", "each item with its place before it, from 0"),
+    ("AllByRecursion", "`AllByRecursion P xs`", "P holds of each item of xs"),
+    ("list_all", "`list_all test xs`", "whether each item of xs passes the test"),
+    ("option_and_then is_some", "`option_and_then f x`, `is_some x`", "`x.and_then(f)`, `x.is_some()`"),
+    ("string_bytes", "`string_bytes text`", "the bytes of a `String`"),
+]
+
+
+class Headline:
+    """The headline, cut into parts: what the tool quotes of it, and in which order."""
+
+    def __init__(self, sources):
+        self.record = spec_named(sources, *HEADLINE)
+        self.by_name = [spec_named(sources, *TABLE), spec_named(sources, *STATES)]
+        self.reading = Reading(sources, [self.record], self.by_name)
+        self.behind_table = Reading(sources, self.by_name)
+        self.viewed = [each for each in self.reading.behind() if not is_spec(each) and each.name in each.scope.views]
+        self.parts = list(self.cut())
+        self.check()
+
+    def cut(self):
+        """Each part with the definitions that it needs and no part before it has."""
+        passed = {self.record, *self.by_name, *self.viewed}
+        by_name = {definition.name: definition for definition in self.reading.by_words}
+        for part in PARTS:
+            needed = set()
+            for name in part.last:
+                self.gather(by_name[name], needed)
+            yield part, [each for each in self.reading.by_words if each in needed - passed]
+            passed |= needed
+
+    def gather(self, definition, needed):
+        if definition not in needed:
+            needed.add(definition)
+            for other in self.reading.own_needs(definition):
+                self.gather(other, needed)
+
+    def quoted(self):
+        return [self.record, *(definition for _, definitions in self.parts for definition in definitions)]
+
+    def check(self):
+        """The parts leave nothing out, and each word of std has its line."""
+        left_out = set(self.reading.by_words) - {*self.quoted(), *self.by_name, *self.viewed}
+        if left_out:
+            raise Unread(f"no part of the headline has {', '.join(sorted(each.name for each in left_out))}")
+        clauses = re.findall(r"^  pub (\w+) :", "\n".join(self.record.lines), re.MULTILINE)
+        if clauses != [part.clause for part in PARTS if part.clause]:
+            raise Unread(f"the parts of the headline have other clauses than {', '.join(clauses)}")
+        named = {word for words in self.reading.kit_words().values() for word in words}
+        told = {word for words, _, _ in NOTATION for word in words.split()}
+        if named != told:
+            raise Unread(f"the headline names these words of std, or its table does: {' '.join(sorted(named ^ told))}")
+
+    def clause(self, name):
+        """A field of the record, with its comment."""
+        text = "\n".join(self.record.lines[1:])
+        found = re.search(rf"^  --[^\n]*\n  pub {name} :.*(?:\n   .*)*", text, re.MULTILINE)
+        return textwrap.dedent(found[0]).split("\n")
+
+
+# The roots.
+
+
+@dataclass(frozen=True)
+class Root:
+    """A public function whose clauses are a promise, and what it promises."""
+
+    crate: str
+    module: str
+    name: str
+    says: str
+    by_name: tuple = ()
+
+
+REACHED = ("act_world", "IsReachedBy", "IsReachedBy")
+PLAYED = ("act_world", "IsReachedBy", "HasPlayed")
+CONSISTENT = Root("act_world", "world", "consistent", "the headline of a world, between any two events", REACHED)
+BEFORE_LAWS = [
+    CONSISTENT,
+    Root("act_world", "world", "play", "a list of events does and tells what the rules say"),
+]
+LAWS = ("act_rules", "laws")
+WORLDS_TITLE = "Of which worlds it holds"
+LAWS_TITLE = "The laws of act_rules"
+# What the page quotes of the headline of a world: the words of this file, and some that these need.
+OF_A_WORLD = ("act_world", "Headline")
+ALSO_OF_A_WORLD = {"ActorSpec", "cast_of", "opening_of", "is_owner", "is_dead_slot"}
+AFTER_LAWS = [
+    Root("act_executor", "run", "run_plans", "callers with plans, in threads: the headline, and a play that ends so"),
+    Root("act_executor", "by_code", "run_callers", "the same with callers that are code"),
+    Root("act_console", "console", "play_script", "a script's bytes give the bytes of its report"),
+    Root("act_console", "threads", "threads_script", "in threads they give the summary of a run by the rules"),
+    Root("act_record", "record", "record_script", "a run in threads is written as a play that ends the same"),
+    Root("act_histories", "check", "check_history", "a play that is written for a history ends as that says"),
+]
+
+
+def laws_of(sources):
+    """The laws, each with its first sentence."""
+    file = sources.file(LAWS[0], "src", [LAWS[1]])
+    for says, name in re.findall(r"^/// (.*)\.\n(?:#.*\n)*pub fn (\w+)", "\n".join(file.lines), re.MULTILINE):
+        yield Root(*LAWS, name, says[0].lower() + says[1:])
+
+
+class Audit:
+    """The headline, and each root with what stands behind it."""
+
+    def __init__(self):
+        self.sources = Sources()
+        self.headline = Headline(self.sources)
+        self.laws = list(laws_of(self.sources))
+        self.roots = [*BEFORE_LAWS, *self.laws, *AFTER_LAWS]
+        self.functions = {root: function_named(self.sources, root.crate, root.module, root.name) for root in self.roots}
+        self.readings = {root: self.reading_of(root) for root in self.roots}
+        self.whole = Reading(self.sources, list(self.functions.values()))
+
+    def reading_of(self, root):
+        by_name = [spec_named(self.sources, *root.by_name)] if root.by_name else []
+        return Reading(self.sources, [self.functions[root]], by_name)
+
+    def properties(self, root):
+        """The properties that a root's clauses name, but those taken by name: their words are the promise."""
+        reading = self.readings[root]
+        for definition in reading.own_needs(self.functions[root]):
+            if is_spec(definition) and definition.name[0].isupper() and definition not in reading.by_name:
+                yield definition
+
+
+# The page.
+
+HEAD = """\
+# What to read to believe it
+
+This page is for somebody who trusts the checker and nobody else. The checker finds that each function keeps its
+clauses (postconditions). What a clause means hangs on the definitions that it names, so these have to be read. The
+headline takes about fifteen minutes. The [roots](#the-roots) below it have all that is promised, and take longer.
+
+`python3 tools/audit.py` writes this page, and `./test` fails where it is out of date. Each block of code is quoted from
+the sources. The sentences around the blocks only help to read them. [glossary.md](glossary.md) has the words.
+
+## The headline
+
+An actor ran each caller's calls in the order in which they were submitted: it passed none over, and ran none twice. An
+answer that a caller has is that of the call's one run, or says that the actor is dead. So it is in a world between any
+two events, and in what a run in threads leaves:
+"""
+WHAT_IT_SPEAKS_OF = """\
+It has four clauses, and they speak of five things. Callers c, actors a and futures k are numbers. A future stands for
+the answer of a call.
+"""
+BEFORE_PARTS = """\
+Each part below has the definitions that one thing or one clause needs; with the record above these are {count}, of
+{lines} lines. What a definition needs stands before it. They are written so:
+"""
+BEFORE_VIEWS = """\
+Types of Rust stand for themselves; a `u32` is a number of `ℕ`, and a `Vec` is a list. Of these types contracts see
+something simpler (their views, or abstraction functions):
+"""
+AFTER_A_KILL = """\
+### After a kill
+
+An actor that takes a kill is dead, and so is one that a `terminate` ended in its turn. The four clauses hold of it as
+of any other:
+
+- What it ran is still a prefix of what each caller submitted to it, each call once.
+- For a call to it, a caller keeps the answer of the call's run, or the death (`ActorDied`), or nothing yet.
+
+Two [laws](#the-laws-of-act_rules) add what no single moment can show. Nothing more runs at an actor that is dead or
+retired (`nothing_runs_after_the_end`). An answer that is kept stays (`kept_answers_stay`).
+"""
+WHAT_IT_DOESNT_SAY = """\
+### What it doesn't say
+
+- **That anything happens.** A call may never run, and its future may stay open: a prefix may be empty. A kill that is
+  asked may never be taken. But a retired actor ran all (`retired_ran_all`), and where a run in threads ends, each call
+  is answered (`answered` of `IsJoined`).
+- **An order between two callers, or between two actors.** Each pair of a caller and an actor has its own.
+- **That a call never ran whose answer is a death.** An actor may run it, and be dead before the reply comes. In
+  threads such a call never ran (`ran` of `IsJoined`).
+- **That `calls` has what somebody asked for.** `apply` says so by the rules (`outcome`), with more behind it. What the
+  lists hold is shown: a program reads the same ones by `World::owner` and `World::stage`.
+- **What a kind answers.** That is the table, `reply_of`.
+- **Time, and the machine.** The README tells [what is trusted](../README.md#what-it-stands-on) beside the checker.
+"""
+OF_WHICH_WORLDS = """\
+A world has callers and actors, and events move it. The headline holds of each world that the calls below make. In a
+clause, `self.old` is the world before the call and `self.new` after it, and `result` is what the call gives. `IfOk`
+and `OnOk` speak of results that are `Ok`, and `world_view K.state` is what contracts see of a world.
+"""
+AFTER_WORLDS = """\
+`IsReachedBy` needn't be unfolded. `World::open` gives it, `apply` and `play` carry it on, and `World::consistent`
+spends it. So whatever it says, each world that these calls make is consistent. `apply_owned` and `play_reserved` carry
+it on by the same clauses, and `make_room` changes nothing. No other public function can change a world. Where memory
+is refused, `apply` leaves the world as it was (`err`), and `play` has played the events before.
+
+In threads there is no such word: what `run_plans` and `run_callers` leave is `Consistent` (`IsJoined`, below).
+
+So the five things are read off a world. What its casts tell of an actor (`opening_of`) is its opening state. Here
+`option_map_or f x d` is `x.map_or(d, f)`, `option_map` is `map`, and `find` gives the first item of a list that passes.
+"""
+ROOTS = """\
+## The roots
+
+The clauses of these public functions are what the service promises. The table has what stands behind each: the
+definitions that its clauses reach by their words, and the declarations in Rust. `World::consistent` takes
+`IsReachedBy` by name, and the others unfold all. For these clauses nothing else of ours has to be read: no proof, no
+other function, no test.
+
+`python3 tools/audit.py run_plans` prints all that stands behind `run_plans`, in reading order, and so for each root.
+Then come the views (abstraction functions) of types, and the words of std and of the kit by name. `--text` prints it
+for all roots together. The tool fails where a word means nothing or two things; its head tells how it follows words.
+
+Below the table stand the clauses of each root, with the properties that they name and that this page hasn't shown.
+There `Unit {0}` always holds and `⊥` never, and `R.remaining` is a word of the trait that bounds `R`.
+"""
+TABLE_BY_NAME = (
+    "{table} is the kinds' table. It says what a counter, a table, an account, a list or a kind of one's own answers in"
+    " a state ({states}), and which state comes next. The headline only passes states on, and holds whatever the table"
+    " says. So both are taken by name. They have {count} definitions of {lines} lines: read them to know what `deposit`"
+    " answers."
+)
+
+
+def quoted(definition):
+    """The text of a definition, without Rust's attributes."""
+    lines = [line for line in [*definition.within, *definition.lines] if not re.match(r" *#\[", line)]
+    return textwrap.dedent("\n".join(lines)).split("\n")
+
+
+def block(texts):
+    """Texts in a fence, with an empty line between any two."""
+    return "\n".join(["```", "\n\n".join("\n".join(text) for text in texts), "```"])
+
+
+def linked(path, shown):
+    return f"[{shown}](../{path.relative_to(TOP)})"
+
+
+def places(definitions):
+    """Where definitions stand, by file."""
+    by_file = collections.defaultdict(list)
     for definition in definitions:
-        place = f"[{definition.path.relative_to(CRATES)}:{definition.first}](../{definition.path.relative_to(TOP)}#L{definition.first})"
-        needs = own_words(audit, definition, names)
-        lines = len(definition.lines)
-        yield filled(f"- {names[definition]}, {place}, {lines} line{'s' * (lines > 1)}" + (f", needs {needs}" if needs else ""))
+        by_file[definition.path].append(f"`{definition.name}`")
+    for path, names in by_file.items():
+        yield filled(f"- {', '.join(names)}: {linked(path, path.relative_to(CRATES))}", "  ")
+    yield ""
 
 
-def filled(listed):
-    """An item of a list, in lines of at most 120 columns, and of as many bytes where its words are signs."""
-    for width in range(MAX_COLUMNS, MAX_COLUMNS // 2, -1):
-        lines = textwrap.wrap(listed, width, subsequent_indent="  ", break_long_words=False, break_on_hyphens=False)
-        if all(len(line.encode()) <= MAX_COLUMNS for line in lines):
-            break
-    return "\n".join(lines)
+def filled(text, indent=""):
+    """A text in lines of at most 120 columns."""
+    return textwrap.fill(text, MAX_COLUMNS, subsequent_indent=indent, break_long_words=False, break_on_hyphens=False)
 
 
-def sections_of(audit):
-    """The first list, cut after each function."""
-    section = []
-    for definition in audit.by_words:
-        section.append(definition)
-        if definition.sort == "function":
-            yield section
-            section = []
+def renamed(definitions):
+    """The words that a quoted text has another name for: `Nothing`, where its file takes in `Unit as Nothing`."""
+    found = {}
+    for definition in definitions:
+        for token in tokens_of(definition.lines):
+            path, name = definition.scope.targets.get(token.text, ("", token.text))
+            if name != token.text and "◌" not in name:
+                *_, owner = path.removesuffix(".TheVariants").split(".")
+                found[token.text] = f"`{token.text}` is `{name if owner == name else f'{owner}::{name}'}`"
+    if found:
+        yield f"Here {', and '.join(found.values())}.\n"
 
 
-def totals_of(audit):
-    """The totals, by crate."""
-    listed = {"first list": audit.by_words, "second list": audit.by_views}
-    yield "| | Definitions | Lines | In Rust | Lines | Views add: definitions | Lines | In Rust, with the views | Lines |"
-    yield "| --- | " + " | ".join(["---:"] * 8) + " |"
-    for crate in [*audit.sources.crates, None]:
-        cells = []
-        for definitions in listed.values():
-            here = [each for each in definitions if each.sort != "function" and crate in (each.crate, None)]
-            cells += [*tally([each for each in here if is_spec(each)]), *tally([each for each in here if not is_spec(each)])]
-        if any(cells):
-            yield f"| {crate or '**all**'} | " + " | ".join(map(str, cells)) + " |"
+def table_of(heads, rows):
+    rows = list(rows)
+    yield "| " + " | ".join(heads) + " |"
+    yield "| " + " | ".join("---:" if isinstance(cell, int) else "---" for cell in rows[0]) + " |"
+    for row in rows:
+        yield "| " + " | ".join(map(str, row)) + " |"
 
 
-def page_of(audit):
-    names = shown_names(audit)
-    clauses = [definition for definition in audit.by_words if definition.sort == "function"]
+def part_of_page(headline, part, definitions):
+    yield f"### {part.title}\n"
+    yield filled(part.before) + "\n"
+    if any(other in headline.by_name for each in definitions for other in headline.reading.own_needs(each)):
+        yield table_by_name(headline)
+    yield from renamed(definitions)
+    yield block([*map(quoted, definitions), *([headline.clause(part.clause)] if part.clause else [])])
+    yield from ["", *places(definitions)]
+    if part.after:
+        yield filled(part.after) + "\n"
+
+
+def table_by_name(headline):
+    count, lines = tally([each for each in headline.behind_table.by_words if is_spec(each)])
+    table, states = (linked(each.path, f"`{each.name}`") for each in headline.by_name)
+    return filled(TABLE_BY_NAME.format(table=table, states=states, count=count, lines=lines)) + "\n"
+
+
+def views_of(headline):
+    """The types of Rust that contracts see as something else."""
+    for definition in headline.viewed:
+        text = "\n".join(definition.scope.views[definition.name].lines)
+        value, view = (re.search(rf"ghost {word} = \{{ (.*?) \}};", text)[1] for word in ("Value", "view"))
+        yield linked(definition.path, f"`{definition.name}`"), f"`{value}`", f"`{view}`"
+
+
+def headline_of_page(headline):
     yield HEAD
-    specs, lines = tally([each for each in audit.by_words if is_spec(each)])
-    types, lines_of_types = tally([each for each in audit.by_words if not is_spec(each) and each not in clauses])
-    yield f"The five functions have {tally(clauses)[1]} lines of clauses, their heads included. They reach"
-    yield f"**{specs} definitions of {lines} lines**, of the {audit.sources.count_of_definitions()} in all specs,"
-    yield f"and {types} declarations in Rust of {lines_of_types} lines. By crate, with what the views add:\n"
-    yield from totals_of(audit)
-    yield "\n## What the clauses reach\n"
-    for section in sections_of(audit):
-        yield f"### {title_of(section[-1])}\n"
-        yield from rows_of(audit, section, names)
-        yield ""
-    yield "## How contracts see the values\n"
-    yield from rows_of(audit, audit.by_views, names)
-    yield "\n## Words of std and of the kit\n"
-    for module, words in sorted(audit.kit_words().items()):
-        yield filled(f"- {module}: " + ", ".join(f"`{word}`" for word in sorted(words)))
+    yield block([quoted(headline.record)])
+    yield from ["", *places([headline.record])]
+    yield WHAT_IT_SPEAKS_OF
+    yield from table_of(["Written", "What it is"], ((f"`{name}`", what) for name, what in PARAMETERS))
+    count, lines = tally(headline.quoted())
+    yield "\n" + BEFORE_PARTS.format(count=count, lines=lines)
+    yield from table_of(["Written", "Read"], ((written, read) for _, written, read in NOTATION))
+    yield f"\n{BEFORE_VIEWS}"
+    yield from table_of(["Type", "Contracts see", "By"], views_of(headline))
+    yield ""
+    for part, definitions in headline.parts:
+        yield from part_of_page(headline, part, definitions)
+
+
+def named_clause(function, name):
+    """A function's head up to its clauses, and the clause of this name."""
+    text = "\n".join(function.lines)
+    head = re.match(r" *pub fn [^{]*?(?=\n +(?:requires|ensures))", text)[0]
+    found = re.search(rf"^ *ensures {name} \{{", text, re.MULTILINE)
+    return textwrap.dedent(f"{head}\n{text[found.start() : closing(text, found.end() - 1) + 1]}").split("\n")
+
+
+# The public functions that can change a world, which the page speaks of.
+CHANGING = {"make_room", "apply", "apply_owned", "play", "play_reserved"}
+# Those that the page quotes, each with the clause by which a world is reached.
+CLAUSE_OF = {"open": "reached", "apply": "reached", "play": "ok"}
+WORLD = ("act_world", "world")
+
+
+def check_changing():
+    """The page names each public function that can change a world."""
+    folder = CRATES / WORLD[0] / "src"
+    texts = {path.stem: re.sub(r"//.*", "", path.read_text()) for path in sorted(folder.glob("*.rt"))}
+    there = set(re.findall(r"pub fn (\w+)(?:<[^>]*>)?\(\s*&mut self", texts.pop(WORLD[1])))
+    elsewhere = [name for name, text in texts.items() if re.search(r"&mut World\b|\bimpl\b.* World\b", text)]
+    if there != CHANGING or elsewhere:
+        raise Unread(f"other functions change a world: {', '.join(sorted(there ^ CHANGING) + elsewhere)}")
+
+
+def is_of_a_world(definition):
+    return (definition.crate, definition.path.stem) == OF_A_WORLD or definition.name in ALSO_OF_A_WORLD
+
+
+def worlds_of_page(audit):
+    """By which calls a world is reached, and what the headline is of a world."""
+    check_changing()
+    functions = {name: function_named(audit.sources, *WORLD, name) for name in CLAUSE_OF}
+    clauses = [named_clause(functions[name], CLAUSE_OF[name]) for name in functions]
+    consistent = audit.functions[CONSISTENT]
+    played = spec_named(audit.sources, *PLAYED)
+    shown = [definition for definition in audit.readings[CONSISTENT].behind() if is_of_a_world(definition)]
+    yield f"## {WORLDS_TITLE}\n"
+    yield OF_WHICH_WORLDS
+    yield from renamed([*functions.values(), consistent])
+    yield block([*clauses, quoted(played), quoted(consistent)])
+    yield from ["", *places([*functions.values(), consistent, played])]
+    yield AFTER_WORLDS
+    yield block(map(quoted, shown))
+    yield from ["", *places(shown)]
+    return {played, *shown}
+
+
+# The roots on the page.
+
+
+def numbers_of(reading):
+    """How many definitions stand behind roots, with their lines, and how many declarations of Rust."""
+    specs, others = [[each for each in reading.behind() if is_spec(each) is wanted] for wanted in (True, False)]
+    return *tally(specs), *tally(others)
+
+
+def name_of(function):
+    return f"World::{function.name}" if function.lines[0].startswith(" ") else function.name
 
 
 def title_of(function):
-    inside = "World::" if function.lines[0].startswith(" ") else ""
-    return f"`{inside}{function.name}` of {function.crate}"
+    return f"`{name_of(function)}` of {function.crate}"
 
 
-def text_of(audit):
-    """All that is listed, in reading order."""
-    for definition in [*audit.by_words, *audit.by_views]:
-        yield f"== {definition.place()}\n" + "\n".join(definition.lines) + "\n"
+def anchored(shown, title):
+    anchor = re.sub(r"[^\w\- ]", "", title.lower()).replace(" ", "-")
+    return f"[{shown}](#{anchor})"
+
+
+def titles_of(audit):
+    """Under which title each root stands: the laws have one."""
+    for root in audit.roots:
+        title = LAWS_TITLE if root in audit.laws else title_of(audit.functions[root])
+        yield root, WORLDS_TITLE if root == CONSISTENT else title
+
+
+def rows_of_roots(audit, titles):
+    for root in audit.roots:
+        yield anchored(f"`{name_of(audit.functions[root])}`", titles[root]), *numbers_of(audit.readings[root])
+    yield "all of them", *numbers_of(audit.whole)
+
+
+def roots_under(audit, roots, shown):
+    """The clauses of roots, and the properties that these name, where the page hasn't shown them."""
+    texts = []
+    if len(roots) == 1:
+        yield f"{roots[0].says[0].upper()}{roots[0].says[1:]}.\n"
+    for root in roots:
+        properties = [each for each in audit.properties(root) if each not in shown]
+        shown.update(properties)
+        texts += [audit.functions[root], *properties]
+    yield from renamed(texts)
+    yield block(map(quoted, texts))
+    yield from ["", *places(texts)]
+
+
+def roots_of_page(audit, shown):
+    titles = dict(titles_of(audit))
+    yield ROOTS
+    yield from table_of(["Root", "Definitions", "Lines", "In Rust", "Lines"], rows_of_roots(audit, titles))
+    yield ""
+    for title in dict.fromkeys(title for root, title in titles.items() if root != CONSISTENT):
+        yield f"### {title}\n"
+        yield from roots_under(audit, [root for root in audit.roots if titles[root] == title], shown)
+
+
+def page_of(audit):
+    yield from headline_of_page(audit.headline)
+    yield AFTER_A_KILL
+    yield WHAT_IT_DOESNT_SAY
+    shown = {*audit.headline.quoted()}
+    shown |= yield from worlds_of_page(audit)
+    yield from roots_of_page(audit, shown)
+
+
+# What is printed.
+
+
+def text_of(audit, reading):
+    """All that stands behind roots, in reading order, then the views, and the words of the kit by name."""
+    headline = set(audit.headline.quoted())
+    for definition in [*reading.by_words, *reading.by_views]:
+        told = ["of the headline"] if definition in headline else []
+        if needs := [other.name for other in reading.own_needs(definition)]:
+            told.append(f"needs {', '.join(needs)}")
+        yield ", ".join([f"== {definition.place()}", *told])
+        yield "\n".join([*definition.within, *definition.lines]) + "\n"
+    yield "== words of std and of the kit"
+    for module, words in sorted(reading.kit_words().items()):
+        yield filled(f"{module}: {' '.join(sorted(words))}", "  ")
+
+
+def reading_named(audit, name):
+    """What stands behind the root of this name, or behind all."""
+    if name == "--text":
+        return audit.whole
+    found = [root for root in audit.roots if root.name == name.removeprefix("World::")]
+    if not found:
+        sys.exit(f"audit: no root '{name}'; the roots are {', '.join(root.name for root in audit.roots)}")
+    return audit.readings[found[0]]
+
+
+def compare(page):
+    if not PAGE.exists() or PAGE.read_text() != page:
+        sys.exit("audit: docs/audit.md isn't that of the sources; `python3 tools/audit.py` writes it anew")
 
 
 def main():
     words = sys.argv[1:]
-    if words not in ([], ["--check"], ["--text"]):
+    if len(words) > 1 or words and words[0].startswith("-") and words[0] not in ("--check", "--text"):
         sys.exit(__doc__.split("\n\n")[1])
     try:
         audit = Audit()
         page = "\n".join(page_of(audit)) + "\n"
     except Unread as why:
         sys.exit(f"audit: {why}")
-    if words == ["--text"]:
-        print("\n".join(text_of(audit)))
-    elif words == ["--check"]:
-        if not PAGE.exists() or PAGE.read_text() != page:
-            sys.exit("audit: docs/audit.md isn't that of the sources; `python3 tools/audit.py` writes it anew")
-        print(f"audit: {len(audit.by_words) + len(audit.by_views)} definitions and declarations are as docs/audit.md lists them")
+    if words == ["--check"]:
+        compare(page)
+        count = len(audit.whole.by_words) + len(audit.whole.by_views)
+        print(f"audit: docs/audit.md is that of the sources; {count} definitions and declarations stand behind it")
+    elif words:
+        # Who reads a part of it closes the rest.
+        signal.signal(signal.SIGPIPE, signal.SIG_DFL)
+        print("\n".join(text_of(audit, reading_named(audit, words[0]))))
     else:
         PAGE.write_text(page)
 

@@ -7,8 +7,7 @@ with a name and its file, which must have that name. Each crate of crates.txt ha
 tells on which crates it stands.
 
 No page, and none of those READMEs, has a line over 120 columns, but where a block quotes a file, or a sentence of over
-30 words. Of docs/audit.md the sentences before its second heading count, since its lists hold none, and of docs/edits.md,
-which is a list, none do. It is counted so:
+30 words. Of docs/edits.md, which is a list, none count. It is counted so:
 
   - Prose is what stands in no block: neither behind a fence nor four spaces in. Headings and pictures are none.
   - A paragraph, an item of a list and a cell of a table are each a text of their own.
@@ -26,7 +25,6 @@ VERSIONED = ["README.md", "crates.txt", "crates/ray_actors/src/main.rt"]
 GLOSSARY = "docs/glossary.md"
 PAGES = ["*.md", "docs/*.md", "examples/*.md", "tools/*.md", "crates/*/README.md"]
 WRITTEN_BY_TOOLS = {"docs/edits.md"}
-HEAD_ALONE = {"docs/audit.md"}
 # What a crate's README may have.
 MAX_LINES = 30
 MAX_COLUMNS = 120
@@ -109,20 +107,10 @@ def lines_of(page):
         fenced ^= is_fence
 
 
-def lines_of_prose(page):
-    """The lines of a page whose sentences count."""
-    headings = 0
-    for number, line, in_block in lines_of(page):
-        headings += not in_block and line.startswith("#")
-        if page in HEAD_ALONE and headings > 1:
-            return
-        yield number, line, in_block
-
-
 def texts_of(page):
     """The texts of a page, each with the number of its first line."""
     first, text = 0, []
-    for number, line, in_block in [*lines_of_prose(page), (0, "", False)]:
+    for number, line, in_block in [*lines_of(page), (0, "", False)]:
         item = re.match(r" *(?:[-*]|\d+\.) +", line)
         ends = in_block or not line.strip() or line.startswith(("#", "|", "!["))
         if text and (ends or item):

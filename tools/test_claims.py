@@ -154,7 +154,7 @@ class Sentences(unittest.TestCase):
     def test_a_long_sentence_is_told_on_each_page(self):
         sentence = " ".join(["word"] * (pages.MAX_WORDS + 1)) + "."
         for page in sorted(pages.plain_pages()):
-            with self.subTest(page), mock.patch.object(pages, "lines_of_prose", lambda _: [(1, sentence, False)]):
+            with self.subTest(page), mock.patch.object(pages, "lines_of", lambda _: [(1, sentence, False)]):
                 self.assertEqual(len(list(pages.faults_of_sentences(page))), 1)
 
     def test_all_pages_of_docs_are_held_to_it(self):
