@@ -78,7 +78,7 @@ def counted():
     yield examples_page, r"The first (\w+) list events", lambda it: examples(it, "play")
     yield examples_page, r"in one of the first (\w+);", lambda it: examples(it, "play")
     yield examples_page, r"the last (\w+) are for threads", lambda it: examples(it, "threads")
-    yield examples_page, r"(\w+) such records lie here", lambda it: len(paths_of(it, r"examples/\w+\.play"))
+    yield examples_page, r"(\w+) such plays lie here", lambda it: len(paths_of(it, r"examples/\w+\.play"))
     yield examples_page, r"script, in (\w+) lines", lambda it: lines_of_history(it, "examples/out_of_order.history")
     yield "README.md", r"`crates/own_kinds` has (\w+) to copy", lambda it: structs_with(it, "own_kinds", "Actor")
     yield "README.md", r"`crates/own_callers` has (\w+) to copy", lambda it: structs_with(it, "own_callers", "Code")

@@ -30,6 +30,7 @@ OVER_ANY = [
     "commands.py", "readme.py", "recorded.py --noted --program {record} --player {run}", "pictures.py --check",
     "fuzz.py --program {run}", "threads.py --program {run}", "check_histories.py --program {check} --runs {run}",
     "explained.py --program {run}", "plain_play.py --small --may-miss --program {run}",
+    "test_ray_history.py --program {check}", "peers_checked.py --small --may-miss --program {check}",
 ]  # fmt: skip
 # What runs the programs as two compilers made them, and what can run over one of them that isn't proved.
 ROWS, ROWS_OF_ONE = "rows.py", "rows.py --program {run}"
@@ -37,7 +38,7 @@ ROWS, ROWS_OF_ONE = "rows.py", "rows.py --program {run}"
 QUICKLY = {"recorded": "--count 100 --unrefused"}
 # What needs proved programs: some refuse memory from outside, and the others run programs that the gate alone leaves.
 OVER_PROVED = [
-    "sweep_memory.py", "sweep_tests.py", "code_runs.py", "peers.py --small --may-miss",
+    "sweep_memory.py", "sweep_tests.py", "code_runs.py", "explored.py --count 100", "peers.py --small --may-miss",
     "call_cost.py --small --may-miss", "long_runs.py --small --may-miss",
 ]  # fmt: skip
 HOW_LONG = "takes an hour to an hour and a half on four quiet cores, twice that on two"
