@@ -681,7 +681,7 @@ class PageShown(Scratch):
         of_each_sort = {"tools/try_tests.py tests_of_low", "tools/pages.py", "tools/rows.py --program /a"}
         self.assertLessEqual(of_each_sort, {*ran})
         self.assertIn("tools/recorded.py --noted --program /b --player /a --count 100 --unrefused", ran)
-        self.assertFalse([words for words in ran if "sweep" in words or "peers" in words or "--quick" in words])
+        self.assertFalse([words for words in ran if "sweep" in words or "peers.py" in words or "--quick" in words])
         self.assertIn("test: not run, as they need proved programs: sweep_memory, ", said)
 
     def test_each_quick_step_that_fails_is_named(self):
