@@ -20,7 +20,7 @@ import tempfile
 import program
 from program import TOP
 
-COMMANDS = ["run", "draw", "record", "check", "explain", "examples", "test"]
+COMMANDS = ["run", "draw", "record", "check", "explore", "explain", "examples", "test"]
 # How a command ends that doesn't end with 0: the history that is shown breaks a rule.
 ENDS = {"./check": 5}
 # What runs this tool isn't run here.

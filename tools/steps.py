@@ -17,6 +17,7 @@ import sys
 from concurrent.futures import ThreadPoolExecutor
 from contextlib import contextmanager
 
+import explore
 import program
 from gate import crates_with_tests, gate, put_back, sources_of
 from page import Page
@@ -25,7 +26,7 @@ CHECKS = [
     "rows_of_theorems.py", "rows_in_test.py --check", "audit.py --check", "test_edits.py", "more_edits.py --check",
     "pages.py", "claims.py", "test_claims.py", "quoted.py", "door.py",
 ]  # fmt: skip
-# What can run over any programs: {run}, {record} and {check} stand for those that these commands take.
+# What can run over any programs: {run}, {record}, {check} and {explore} stand for those that these commands take.
 OVER_ANY = [
     "commands.py", "readme.py", "recorded.py --noted --program {record} --player {run}", "pictures.py --check",
     "fuzz.py --program {run}", "threads.py --program {run}", "check_histories.py --program {check} --runs {run}",
@@ -38,16 +39,18 @@ ROWS, ROWS_OF_ONE = "rows.py", "rows.py --program {run}"
 QUICKLY = {"recorded": "--count 100 --unrefused"}
 # What needs proved programs: some refuse memory from outside, and the others run programs that the gate alone leaves.
 OVER_PROVED = [
-    "sweep_memory.py", "sweep_tests.py", "code_runs.py", "explored.py --count 100", "peers.py --small --may-miss",
+    "sweep_memory.py", "sweep_tests.py", "code_runs.py", "explored.py --count 100 --program {explore} --runner {run}",
+    "peers.py --small --may-miss",
     "call_cost.py --small --may-miss", "long_runs.py --small --may-miss",
 ]  # fmt: skip
 HOW_LONG = "takes an hour to an hour and a half on four quiet cores, twice that on two"
 # What finds or builds the programs, and tells last where each is.
 BUILD = "programs"
-TAKE = """import program
+TAKE = """import explore
+import program
 taken = [program.kept("test", each) for each in (program.RUNS, program.RECORDS, program.CHECKS)]
-print(*taken, sep="\\n")"""
-PROGRAMS = {"run": program.RUNS, "record": program.RECORDS, "check": program.CHECKS}
+print(*taken, explore.kept(), sep="\\n")"""
+PROGRAMS = {"run": program.RUNS, "record": program.RECORDS, "check": program.CHECKS, "explore": explore.EXPLORES}
 
 
 def tools():

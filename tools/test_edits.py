@@ -670,7 +670,7 @@ class PageShown(Scratch):
             ran.append(" ".join(map(str, words[1:])))
             return (name or ran[-1]) not in failing
 
-        build = (1, ["no kit"]) if "build" in failing else (0, ["note", "/a", "/b", "/c"])
+        build = (1, ["no kit"]) if "build" in failing else (0, ["note", "/a", "/b", "/c", "/d"])
         page.run, page.ran = run, lambda *_: build
         with mock.patch.object(steps, "crates_to_try", lambda: ["tests_of_low"]):
             return steps.run_quick(page), ran, self.out.getvalue()
