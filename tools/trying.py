@@ -311,7 +311,7 @@ class Trial:
         """The status of a check of the whole crate with these texts, and its lines. What is kept stays as it was."""
         with tempfile.TemporaryDirectory(prefix="edit-alone-") as room:
             self.wait()
-            kit().linked(self.kept, f"{room}/kept")
+            shutil.copytree(self.kept, f"{room}/kept")
             ran = checked(self.crate, texts, ONE_JOB, f"{room}/kept")
         return ran.returncode, ran.stdout.rstrip("\n").split("\n")
 
