@@ -1108,9 +1108,19 @@ def quoted(definition):
     return textwrap.dedent("\n".join(lines)).split("\n")
 
 
+def folded(line):
+    """A line of a source, as the page has it: what is too wide goes on in the next line, further in."""
+    at = max(line.rfind(f" {sign} ", 0, MAX_COLUMNS - 1) for sign in "→×") if len(line) > MAX_COLUMNS else -1
+    if at < 0:
+        return [line]
+    further = " " * (len(line) - len(line.lstrip()) + 4)
+    return [line[: at + 2], *folded(further + line[at + 3 :])]
+
+
 def block(texts):
     """Texts in a fence, with an empty line between any two."""
-    return "\n".join(["```", "\n\n".join("\n".join(text) for text in texts), "```"])
+    shown = ("\n".join(part for line in text for part in folded(line)) for text in texts)
+    return "\n".join(["```", "\n\n".join(shown), "```"])
 
 
 def linked(path, shown):
