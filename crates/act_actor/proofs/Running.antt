@@ -6,7 +6,8 @@ use Rattle.act_types.specs.declared.call.Packet.{Packet}
 use Rattle.act_types.specs.declared.call.Reply.{Reply}
 use Rattle.act_rules.specs.RunList.{after_item, state_after, answer_at}
 use Rattle.act_rules.proofs.RunLists.{state_after-push, answer_at-push}
-use Rattle.act_actor.specs.View.{ActorView}
+use Rattle.act_actor.specs.View.{LiveView, ActorView}
+use Rattle.act_actor.specs.StateViews.{live_view}
 use Rattle.act_actor.specs.Actor.{item_of, reply_of_run, HasRunCall, HasRunFrom}
 
 -- an actor that ran one more packet
@@ -38,13 +39,17 @@ answers_next : (caller : ℕ) (before after : ActorView) (next : Option Packet) 
 answers_next caller before after None reply is ran = rw is tt
 answers_next caller before after (Some packet) reply is ran = rw is (λ opening from. answer_more opening caller packet before after ran from)
 
--- the same where memory served
-pub follows_when_ok : {E : Type 0} (caller : ℕ) (before after : ActorView) (next : Option Packet) (result : Result (Option Reply) E)
-    → IfOk result (λ reply. reply ≡ option_map (reply_of_run before) next) → IfOk result (λ reply. IfNone reply (after ≡ before))
-    → OnOk result (IfSome next (λ packet. HasRunCall caller packet before after))
-    → OnOk result ((opening : KindState) → HasRunFrom opening before → HasRunFrom opening after)
-follows_when_ok caller before after next (Ok reply) is gap ran = follows_next caller before after next reply is gap ran
-follows_when_ok caller before after next (Err error) is gap ran = tt
+-- the same where memory served, of an actor that changed only if it ran a call
+pub follows_when_ok : {E S : Type 0} (read : S → KindState) (caller : ℕ) (before after : LiveView S) (next : Option Packet) (result : Result (Option Reply) E)
+    → IfOk result (λ reply. reply ≡ option_map (reply_of_run (live_view read before)) next) → IfOk result (λ reply. IfNone reply (after ≡ before))
+    → OnOk result (IfSome next (λ packet. HasRunCall caller packet (live_view read before) (live_view read after)))
+    → OnOk result ((opening : KindState) → HasRunFrom opening (live_view read before) → HasRunFrom opening (live_view read after))
+follows_when_ok read caller before after next (Ok reply) is gap ran = follows_next caller (live_view read before) (live_view read after) next reply is (unchanged reply gap) ran
+  where
+    unchanged : (reply : Option Reply) → IfNone reply (after ≡ before) → IfNone reply (live_view read after ≡ live_view read before)
+    unchanged None same = ap (live_view read) same
+    unchanged (Some reply) same = tt
+follows_when_ok read caller before after next (Err error) is gap ran = tt
 
 pub answers_when_ok : {E : Type 0} (caller : ℕ) (before after : ActorView) (next : Option Packet) (result : Result (Option Reply) E)
     → IfOk result (λ reply. reply ≡ option_map (reply_of_run before) next) → OnOk result (IfSome next (λ packet. HasRunCall caller packet before after))

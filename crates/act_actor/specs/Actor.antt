@@ -9,7 +9,7 @@ use Rattle.act_rules.specs.declared.history.RunItem.{RunItem}
 use Rattle.act_rules.specs.declared.outcome.Arrival.{Arrival}
 use Rattle.act_rules.specs.declared.outcome.Arrival.TheVariants.{New, Stranger}
 use Rattle.act_inbox.specs.Inbox.{InboxView, call_arrival, note_arrival, handed_of, with_held, next_of, HoldsNone, IsNextTaken, IsDrained}
-use Rattle.act_actor.specs.View.{ActorView}
+use Rattle.act_actor.specs.View.{LiveView, ActorView}
 
 -- what the caller's call of this number to an actor is to the one of this name
 abbrev pub call_arrival_at : ℕ → InboxView → ℕ → ℕ → ℕ → Arrival
@@ -75,7 +75,7 @@ pub record RunsAtOnce (packet : Packet) (id : ℕ) (log : List RunItem) (inbox :
   pub numbered : packet.number ≡ handed_of inbox packet.caller
 
 -- the actor after a new packet arrived
-abbrev pub with_packet : Packet → ActorView → ActorView
+abbrev pub with_packet : {S : Type 0} → Packet → LiveView S → LiveView S
 with_packet packet actor = record actor { inbox = with_held packet actor.inbox }
 
 -- the actor took the caller's packet, and it ran

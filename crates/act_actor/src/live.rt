@@ -1,7 +1,7 @@
 //! An actor that runs.
 //!
-//! `K` is the kind, mostly a box. A clause names what is seen of an actor by `live_view` at the
-//! kind's state.
+//! `K` is the kind, mostly a box. Where a call is run, a clause names what is seen of an actor by
+//! `live_view` at the kind's state.
 
 ghost use Rattle.std.specs.Prelude.{◌≡◌, ◌≢◌, ◌<◌, ◌≤◌, ◌*◌, ◌↔◌, ◌++◌, ℕ, [], length, Some, IfOk, OnOk, IfErr, OnErr, IfSome, IfNone, IsOk, IsSome, is_some, IsTrue, Ok, Err, MatchResult};
 ghost use Rattle.std.specs.Option.{option_map};
@@ -14,7 +14,7 @@ ghost use Rattle.act_rules.specs.declared.outcome.Arrival.TheVariants.{New};
 ghost use Rattle.act_inbox.specs.Inbox.{IsOpened, note_of, waiting_packet, held_at, note_after, waiting_after, held_after, IsTakenIn, HoldsNone};
 ghost use Rattle.act_actor.specs.Cast.{CallersDiffer};
 ghost use Rattle.act_actor.specs.Actor.{item_of, reply_of_run, call_arrival_at, arrival_at, note_arrival_at, next_call, with_packet, MayRetire, RunsAtOnce, HasRunCall, HasRunFrom};
-ghost use Rattle.act_actor.specs.StateViews.{live_view, retired_view};
+ghost use Rattle.act_actor.specs.StateViews.{live_view};
 ghost use Rattle.act_types.specs.declared.call.Method.TheVariants.{Terminate};
 
 use crate::{Dead, Retired};
@@ -46,7 +46,7 @@ impl<K> Model for Live<K> {
 
     ghost Value = { LiveView K };
 
-    ghost view = { λ live. record { id = live.id; inbox = live.inbox; log = live.log.items; kind = live.kind } };
+    ghost view = { λ live. record { id = live.id; inbox = live.inbox; log = live.log.items; state = live.kind } };
 
     // Each call that was handed out stands in the log, and the inbox hands out no more than that.
     ghost invariant = { λ live.
@@ -71,7 +71,7 @@ fn item_of(packet: Packet) -> RunItem
 fn answer_of<K: Actor>(alloc: Global, kind: &mut K, packet: &Packet) -> Result<Answer, NoMemory>
     ensures answer { IfOk result (λ answer. answer ≡ (after_item (K.state kind.old) (item_of packet.now)).1) }
     ensures moved { OnOk result (K.state kind.new ≡ (after_item (K.state kind.old) (item_of packet.now)).0) }
-    ensures err { OnErr result (K.state kind.new ≡ K.state kind.old) }
+    ensures err { OnErr result (kind.new ≡ kind.old) }
 {
     if let [Settled::Good(value)] = packet.args.as_slice() {
         return match packet.method {
@@ -108,7 +108,7 @@ fn log_reply<K: Actor>(
     ensures room { OnOk result (vec_len log.new < vec_capacity log.new) }
     ensures log { log.new.items ≡ log.old.items }
     ensures moved { OnOk result (K.state kind.new ≡ (after_item (K.state kind.old) (item_of packet.now)).0) }
-    ensures err { OnErr result (K.state kind.new ≡ K.state kind.old) }
+    ensures err { OnErr result (kind.new ≡ kind.old) }
 {
     log.reserve(1)?;
     let answer = answer_of(*log.allocator(), kind, packet)?;
@@ -130,10 +130,10 @@ impl<K: Actor> Live<K> {
         kind: K,
     ) -> Result<Live<K>, NoMemory>
         requires distinct { CallersDiffer callers.now }
-        ensures id { IfOk result (λ live. (live_view K.state live).id ≡ id) }
-        ensures inbox { IfOk result (λ live. IsOpened callers.now (live_view K.state live).inbox) }
-        ensures log { IfOk result (λ live. (live_view K.state live).log ≡ []) }
-        ensures state { IfOk result (λ live. (live_view K.state live).state ≡ K.state kind) }
+        ensures id { IfOk result (λ live. live.id ≡ id) }
+        ensures inbox { IfOk result (λ live. IsOpened callers.now live.inbox) }
+        ensures log { IfOk result (λ live. live.log ≡ []) }
+        ensures kind { IfOk result (λ live. live.state ≡ kind) }
     {
         Ok(Live {
             id,
@@ -145,14 +145,14 @@ impl<K: Actor> Live<K> {
 
     /// Its name.
     pub fn id(&self) -> ActorId
-        ensures { result ≡ (live_view K.state self.now).id }
+        ensures { result ≡ self.now.id }
     {
         self.id
     }
 
     /// What it ran.
     pub fn log(&self) -> &[RunItem]
-        ensures value { result.now ≡ (live_view K.state self.now).log }
+        ensures value { result.now ≡ self.now.log }
         ensures few { length result.now ≤ MAX_CALLERS * MAX_CALLS }
     {
         self.log.as_slice()
@@ -160,7 +160,7 @@ impl<K: Actor> Live<K> {
 
     /// Its kind, to look at. Only a call that it runs changes it.
     pub fn kind(&self) -> &K
-        ensures { K.state result.now ≡ (live_view K.state self.now).state }
+        ensures { result.now ≡ self.now.state }
     {
         &self.kind
     }
@@ -168,7 +168,7 @@ impl<K: Actor> Live<K> {
     /// Makes room for so many calls more among those that it ran, so that memory is asked for once and
     /// not call by call.
     pub fn reserve(&mut self, count: usize) -> Result<(), NoMemory>
-        ensures { live_view K.state self.new ≡ live_view K.state self.old }
+        ensures { self.new ≡ self.old }
     {
         self.log.reserve(count)?;
         Ok(())
@@ -177,7 +177,7 @@ impl<K: Actor> Live<K> {
     /// Appends the state's text, or leaves the text as it was.
     pub fn state_text(&self, text: &mut String) -> Result<(), NoMemory>
         ensures ok { OnOk result
-            (string_bytes text.new ≡ string_bytes text.old ++ state_text (live_view K.state self.now).state) }
+            (string_bytes text.new ≡ string_bytes text.old ++ state_text (K.state self.now.state)) }
         ensures err { OnErr result (string_bytes text.new ≡ string_bytes text.old) }
     {
         self.kind.state_text(text)
@@ -185,30 +185,19 @@ impl<K: Actor> Live<K> {
 
     /// Takes in a packet. An `Err` hands it back for want of memory.
     pub fn arrive(&mut self, packet: Packet) -> Result<Arrival, Packet>
-        ensures arrival { let before = live_view K.state self.old in
-            IfOk result (λ arrival. arrival ≡ arrival_at before.id before.inbox packet) }
-        ensures same { let after = live_view K.state self.new in
-            after ≡ record (live_view K.state self.old) { inbox = after.inbox } }
-        ensures lanes { (live_view K.state self.new).inbox.lanes ≡ (live_view K.state self.old).inbox.lanes }
-        ensures notes { let before = (live_view K.state self.old).inbox in
-            let after = (live_view K.state self.new).inbox in
-            (caller : ℕ) → note_of after caller ≡ note_of before caller }
-        ensures waiting { let before = (live_view K.state self.old).inbox in
-            let after = (live_view K.state self.new).inbox in
-            IfOk result (λ arrival. (caller number : ℕ) →
-            waiting_packet after caller number ≡ waiting_after arrival packet before caller number) }
-        ensures held { let before = (live_view K.state self.old).inbox in
-            let after = (live_view K.state self.new).inbox in
-            IfOk result (λ arrival. (caller number : ℕ) →
-            held_at after caller number ≡ held_after arrival packet before caller number) }
-        ensures elsewhere { packet.actor ≢ (live_view K.state self.old).id →
-            live_view K.state self.new ≡ live_view K.state self.old }
-        ensures unless_new { IfOk result (λ arrival. arrival ≢ New →
-            live_view K.state self.new ≡ live_view K.state self.old) }
-        ensures memory_last { let before = live_view K.state self.old in
-            OnErr result (arrival_at before.id before.inbox packet ≡ New) }
+        ensures arrival { IfOk result (λ arrival. arrival ≡ arrival_at self.old.id self.old.inbox packet) }
+        ensures same { self.new ≡ record self.old { inbox = self.new.inbox } }
+        ensures lanes { self.new.inbox.lanes ≡ self.old.inbox.lanes }
+        ensures notes { (caller : ℕ) → note_of self.new.inbox caller ≡ note_of self.old.inbox caller }
+        ensures waiting { IfOk result (λ arrival. (caller number : ℕ) →
+            waiting_packet self.new.inbox caller number ≡ waiting_after arrival packet self.old.inbox caller number) }
+        ensures held { IfOk result (λ arrival. (caller number : ℕ) →
+            held_at self.new.inbox caller number ≡ held_after arrival packet self.old.inbox caller number) }
+        ensures elsewhere { packet.actor ≢ self.old.id → self.new ≡ self.old }
+        ensures unless_new { IfOk result (λ arrival. arrival ≢ New → self.new ≡ self.old) }
+        ensures memory_last { OnErr result (arrival_at self.old.id self.old.inbox packet ≡ New) }
         ensures back { IfErr result (λ back. back ≡ packet) }
-        ensures err { OnErr result (live_view K.state self.new ≡ live_view K.state self.old) }
+        ensures err { OnErr result (self.new ≡ self.old) }
     {
         if packet.actor != self.id {
             return Ok(Arrival::Stranger);
@@ -218,17 +207,13 @@ impl<K: Actor> Live<K> {
 
     /// Takes in a packet that is new to the actor. An `Err` hands it back for want of memory.
     pub fn hold(&mut self, packet: Packet) -> Result<(), Packet>
-        requires is_new { let before = live_view K.state self.old in arrival_at before.id before.inbox packet ≡ New }
-        ensures same { let after = live_view K.state self.new in
-            after ≡ record (live_view K.state self.old) { inbox = after.inbox } }
-        ensures taken { OnOk result
-            (IsTakenIn packet New (live_view K.state self.old).inbox (live_view K.state self.new).inbox) }
-        ensures held { let before = (live_view K.state self.old).inbox in
-            let after = (live_view K.state self.new).inbox in
-            OnOk result ((caller number : ℕ) →
-            held_at after caller number ≡ held_after New packet before caller number) }
+        requires is_new { arrival_at self.old.id self.old.inbox packet ≡ New }
+        ensures same { self.new ≡ record self.old { inbox = self.new.inbox } }
+        ensures taken { OnOk result (IsTakenIn packet New self.old.inbox self.new.inbox) }
+        ensures held { OnOk result ((caller number : ℕ) →
+            held_at self.new.inbox caller number ≡ held_after New packet self.old.inbox caller number) }
         ensures back { IfErr result (λ back. back ≡ packet) }
-        ensures err { OnErr result (live_view K.state self.new ≡ live_view K.state self.old) }
+        ensures err { OnErr result (self.new ≡ self.old) }
     {
         self.inbox.hold(packet)
     }
@@ -236,8 +221,7 @@ impl<K: Actor> Live<K> {
     /// What the caller's call of this number to an actor is to this one, before its packet is taken
     /// in: the names alone tell it.
     pub fn arrival(&self, actor: ActorId, caller: CallerId, number: u32) -> Arrival
-        ensures value { let now = live_view K.state self.now in
-            result ≡ call_arrival_at now.id now.inbox actor caller number }
+        ensures value { result ≡ call_arrival_at self.now.id self.now.inbox actor caller number }
     {
         if actor != self.id {
             return Arrival::Stranger;
@@ -247,17 +231,11 @@ impl<K: Actor> Live<K> {
 
     /// Takes in that a caller's last handle copy is gone. Only its first note counts.
     pub fn released(&mut self, note: ReleaseNote) -> Arrival
-        ensures arrival { let before = live_view K.state self.old in
-            result ≡ note_arrival_at before.id before.inbox note }
-        ensures same { let after = live_view K.state self.new in
-            after ≡ record (live_view K.state self.old) { inbox = after.inbox } }
-        ensures calls { let before = (live_view K.state self.old).inbox in
-            let after = (live_view K.state self.new).inbox in
-            (after.lanes ≡ before.lanes) × (after.held ≡ before.held) }
-        ensures notes { let before = (live_view K.state self.old).inbox in
-            let after = (live_view K.state self.new).inbox in
-            (caller : ℕ) → note_of after caller ≡ note_after result note before caller }
-        ensures unless_new { result ≢ New → live_view K.state self.new ≡ live_view K.state self.old }
+        ensures arrival { result ≡ note_arrival_at self.old.id self.old.inbox note }
+        ensures same { self.new ≡ record self.old { inbox = self.new.inbox } }
+        ensures calls { (self.new.inbox.lanes ≡ self.old.inbox.lanes) × (self.new.inbox.held ≡ self.old.inbox.held) }
+        ensures notes { (caller : ℕ) → note_of self.new.inbox caller ≡ note_after result note self.old.inbox caller }
+        ensures unless_new { result ≢ New → self.new ≡ self.old }
     {
         if note.actor != self.id {
             return Arrival::Stranger;
@@ -268,7 +246,7 @@ impl<K: Actor> Live<K> {
     /// Whether the last call that ran was a `terminate` that ended the actor: one without
     /// arguments. It runs no call any more, and is to be killed by whoever holds it.
     pub fn terminated(&self) -> bool
-        ensures { result ≡ has_terminated (live_view K.state self.now).log }
+        ensures { result ≡ has_terminated self.now.log }
     {
         self.log.last().is_some_and(is_end)
     }
@@ -276,14 +254,14 @@ impl<K: Actor> Live<K> {
     /// Whether it did not terminate, each caller's note came, and all calls of which it tells were
     /// run.
     pub fn drained(&self) -> bool
-        ensures { let now = live_view K.state self.now in IsTrue result ↔ MayRetire now.log now.inbox }
+        ensures { IsTrue result ↔ MayRetire self.now.log self.now.inbox }
     {
         !self.terminated() && self.inbox.drained()
     }
 
     /// Whether the caller's next call came, and the actor did not terminate.
     pub fn has_next(&self, caller: CallerId) -> bool
-        ensures { let now = live_view K.state self.now in result ≡ is_some (next_call now.log now.inbox caller) }
+        ensures { result ≡ is_some (next_call self.now.log self.now.inbox caller) }
     {
         !self.terminated() && self.inbox.has_next(caller)
     }
@@ -291,16 +269,13 @@ impl<K: Actor> Live<K> {
     /// Runs the caller's next call. Each growth comes before the kind is asked, and the call leaves
     /// the inbox after it.
     fn run_next(&mut self, caller: CallerId) -> Result<Option<Reply>, NoMemory>
-        ensures reply { let before = live_view K.state self.old in
-            IfOk result (λ reply. reply ≡ option_map (reply_of_run before) (next_call before.log before.inbox caller)) }
-        ensures gap { IfOk result (λ reply. IfNone reply (live_view K.state self.new ≡ live_view K.state self.old)) }
-        ensures ran { let before = live_view K.state self.old in
-            let after = live_view K.state self.new in
-            OnOk result (IfSome (next_call before.log before.inbox caller) (λ packet.
-            HasRunCall caller packet before after)) }
-        ensures memory_last { let before = live_view K.state self.old in
-            OnErr result (IsSome (next_call before.log before.inbox caller)) }
-        ensures err { OnErr result (live_view K.state self.new ≡ live_view K.state self.old) }
+        ensures reply { IfOk result (λ reply.
+            reply ≡ option_map (reply_of_run (live_view K.state self.old)) (next_call self.old.log self.old.inbox caller)) }
+        ensures gap { IfOk result (λ reply. IfNone reply (self.new ≡ self.old)) }
+        ensures ran { OnOk result (IfSome (next_call self.old.log self.old.inbox caller) (λ packet.
+            HasRunCall caller packet (live_view K.state self.old) (live_view K.state self.new))) }
+        ensures memory_last { OnErr result (IsSome (next_call self.old.log self.old.inbox caller)) }
+        ensures err { OnErr result (self.new ≡ self.old) }
     {
         if self.terminated() {
             return Ok(None);
@@ -316,33 +291,27 @@ impl<K: Actor> Live<K> {
 
     /// Runs the caller's next call, if it came and the actor did not terminate.
     pub fn run(&mut self, caller: CallerId) -> Result<Option<Reply>, NoMemory>
-        ensures reply { let before = live_view K.state self.old in
-            IfOk result (λ reply. reply ≡ option_map (reply_of_run before) (next_call before.log before.inbox caller)) }
-        ensures gap { IfOk result (λ reply. IfNone reply (live_view K.state self.new ≡ live_view K.state self.old)) }
-        ensures ran { let before = live_view K.state self.old in
-            let after = live_view K.state self.new in
-            OnOk result (IfSome (next_call before.log before.inbox caller) (λ packet.
-            HasRunCall caller packet before after)) }
+        ensures reply { IfOk result (λ reply.
+            reply ≡ option_map (reply_of_run (live_view K.state self.old)) (next_call self.old.log self.old.inbox caller)) }
+        ensures gap { IfOk result (λ reply. IfNone reply (self.new ≡ self.old)) }
+        ensures ran { OnOk result (IfSome (next_call self.old.log self.old.inbox caller) (λ packet.
+            HasRunCall caller packet (live_view K.state self.old) (live_view K.state self.new))) }
 
         // The state is what the log leaves, whatever the kind was when it was opened.
-        ensures follows { let before = live_view K.state self.old in
-            let after = live_view K.state self.new in
-            OnOk result ((opening : KindState) → HasRunFrom opening before → HasRunFrom opening after) }
-        ensures answers { let before = live_view K.state self.old in
-            let after = live_view K.state self.new in
-            IfOk result (λ reply. IfSome reply (λ reply.
-            (opening : KindState) → HasRunFrom opening before →
-            answer_at opening after.log reply.place ≡ Some reply.answer)) }
-        ensures memory_last { let before = live_view K.state self.old in
-            OnErr result (IsSome (next_call before.log before.inbox caller)) }
-        ensures err { OnErr result (live_view K.state self.new ≡ live_view K.state self.old) }
+        ensures follows { OnOk result ((opening : KindState) →
+            HasRunFrom opening (live_view K.state self.old) → HasRunFrom opening (live_view K.state self.new)) }
+        ensures answers { IfOk result (λ reply. IfSome reply (λ reply.
+            (opening : KindState) → HasRunFrom opening (live_view K.state self.old) →
+            answer_at opening self.new.log reply.place ≡ Some reply.answer)) }
+        ensures memory_last { OnErr result (IsSome (next_call self.old.log self.old.inbox caller)) }
+        ensures err { OnErr result (self.new ≡ self.old) }
     {
         self.run_next(caller)
     }
 
     /// Whether no call is held.
     pub fn holds_none(&self) -> bool
-        ensures { IsTrue result ↔ HoldsNone (live_view K.state self.now).inbox }
+        ensures { IsTrue result ↔ HoldsNone self.now.inbox }
     {
         self.inbox.is_empty()
     }
@@ -350,8 +319,7 @@ impl<K: Actor> Live<K> {
     /// Whether the actor did not terminate, no call is held, and this one is its caller's next and
     /// new: if it arrived, it would be the one call to run.
     pub fn runs_at_once(&self, packet: &Packet) -> bool
-        ensures { let now = live_view K.state self.now in
-            IsTrue result ↔ RunsAtOnce packet.now now.id now.log now.inbox }
+        ensures { IsTrue result ↔ RunsAtOnce packet.now self.now.id self.now.log self.now.inbox }
     {
         if self.terminated() || !self.inbox.is_empty() {
             return false;
@@ -362,14 +330,13 @@ impl<K: Actor> Live<K> {
     /// Runs a call at once, as `arrive` and then `run` do. It never stands in the inbox, each growth
     /// comes before the kind is asked, and the packet is dropped where memory is refused.
     pub fn run_now(&mut self, packet: Packet) -> Result<Reply, NoMemory>
-        requires at_once { let before = live_view K.state self.old in
-            RunsAtOnce packet before.id before.log before.inbox }
+        requires at_once { RunsAtOnce packet self.old.id self.old.log self.old.inbox }
         ensures reply { IfOk result (λ reply.
             reply ≡ reply_of_run (with_packet packet (live_view K.state self.old)) packet) }
-        ensures ran { let before = live_view K.state self.old in
-            OnOk result (HasRunCall packet.caller packet (with_packet packet before) (live_view K.state self.new)) }
-        ensures alone { HoldsNone (live_view K.state self.new).inbox }
-        ensures err { OnErr result (live_view K.state self.new ≡ live_view K.state self.old) }
+        ensures ran { OnOk result
+            (HasRunCall packet.caller packet (with_packet packet (live_view K.state self.old)) (live_view K.state self.new)) }
+        ensures alone { HoldsNone self.new.inbox }
+        ensures err { OnErr result (self.new ≡ self.old) }
     {
         let reply = log_reply(&mut self.log, self.id, &mut self.kind, &packet)?;
         self.inbox.pass_by(&packet);
@@ -379,7 +346,7 @@ impl<K: Actor> Live<K> {
 
     /// Ends the actor. Its kind and the calls that it holds are dropped.
     pub fn kill(self) -> Dead
-        ensures { result ≡ record { id = (live_view K.state self).id; log = (live_view K.state self).log } }
+        ensures { result ≡ record { id = self.id; log = self.log } }
     {
         let Live { id, log, .. } = self;
         Dead::new(id, log)
@@ -387,11 +354,9 @@ impl<K: Actor> Live<K> {
 
     /// Ends the actor once it is drained; else an `Err` hands it back.
     pub fn retire(self) -> Result<Retired<K>, Live<K>>
-        ensures when { let live = live_view K.state self in IsOk result ↔ MayRetire live.log live.inbox }
-        ensures ok { let live = live_view K.state self in
-            IfOk result (λ retired. retired_view K.state retired
-            ≡ record { id = live.id; log = live.log; state = live.state }) }
-        ensures err { IfErr result (λ live. live_view K.state live ≡ live_view K.state self) }
+        ensures when { IsOk result ↔ MayRetire self.log self.inbox }
+        ensures ok { IfOk result (λ retired. retired ≡ record { id = self.id; log = self.log; state = self.state }) }
+        ensures err { IfErr result (λ live. live ≡ self) }
     {
         if !self.drained() {
             return Err(self);

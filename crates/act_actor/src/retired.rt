@@ -3,11 +3,11 @@
 ghost use Rattle.std.specs.Prelude.{◌≡◌, ◌++◌, OnOk, OnErr};
 ghost use Rattle.std.specs.String.{string_bytes};
 ghost use Rattle.act_types.specs.Texts.{state_text};
-ghost use Rattle.act_actor.specs.StateViews.{retired_view};
 
 use act_kinds::{Actor, Boxed};
 use act_rules::RunItem;
 use act_types::{ActorId, NoMemory};
+use std::marker::Model;
 
 /// An actor that ended once all that was submitted to it had run.
 #[derive(Drop)]
@@ -17,38 +17,46 @@ pub struct Retired<K = Boxed> {
     kind: K,
 }
 
+impl<K> Model for Retired<K> {
+    ghost use Rattle.act_actor.specs.View.{LeftView};
+
+    ghost Value = { LeftView K };
+
+    ghost view = { λ retired. record { id = retired.id; log = retired.log.items; state = retired.kind } };
+}
+
 impl<K: Actor> Retired<K> {
     /// A retired actor of this name, which ran these calls and left its kind so.
     pub(crate) fn new(id: ActorId, log: Vec<RunItem>, kind: K) -> Retired<K>
-        ensures { retired_view K.state result ≡ record { id = id; log = log.items; state = K.state kind } }
+        ensures { result ≡ record { id = id; log = log.items; state = kind } }
     {
         Retired { id, log, kind }
     }
 
     /// Its name.
     pub fn id(&self) -> ActorId
-        ensures { result ≡ (retired_view K.state self.now).id }
+        ensures { result ≡ self.now.id }
     {
         self.id
     }
 
     /// What it ran.
     pub fn log(&self) -> &[RunItem]
-        ensures { result.now ≡ (retired_view K.state self.now).log }
+        ensures { result.now ≡ self.now.log }
     {
         self.log.as_slice()
     }
 
     /// Its kind, as its last call left it.
     pub fn kind(&self) -> &K
-        ensures { K.state result.now ≡ (retired_view K.state self.now).state }
+        ensures { result.now ≡ self.now.state }
     {
         &self.kind
     }
 
     /// Its kind, given back as its last call left it. Its run list is let go.
     pub fn into_kind(self) -> K
-        ensures { K.state result ≡ (retired_view K.state self).state }
+        ensures { result ≡ self.state }
     {
         let Retired { kind, .. } = self;
         kind
@@ -57,7 +65,7 @@ impl<K: Actor> Retired<K> {
     /// Appends the state's text, or leaves the text as it was.
     pub fn state_text(&self, text: &mut String) -> Result<(), NoMemory>
         ensures ok { OnOk result
-            (string_bytes text.new ≡ string_bytes text.old ++ state_text (retired_view K.state self.now).state) }
+            (string_bytes text.new ≡ string_bytes text.old ++ state_text (K.state self.now.state)) }
         ensures err { OnErr result (string_bytes text.new ≡ string_bytes text.old) }
     {
         self.kind.state_text(text)

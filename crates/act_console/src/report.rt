@@ -328,7 +328,7 @@ fn play_all<K: Actor>(
     events: ListOf<Event>,
     text: &mut String,
 ) -> Result<(), NoMemory>
-    requires room { HasRoom (length events) (world_view K.state world.old).network }
+    requires room { HasRoom (length events) world.old.network }
     ensures { OnOk result (AreTold events (world_view K.state world.old) (world_view K.state world.new)
         (string_bytes text.old) (string_bytes text.new)) }
 {
@@ -354,7 +354,7 @@ pub(crate) fn play_and_report<K: Actor>(
     world: &mut World<K>,
     events: ListOf<Event>,
 ) -> Result<String, NoMemory>
-    requires room { HasRoom (length events) (world_view K.state world.old).network }
+    requires room { HasRoom (length events) world.old.network }
     ensures report { IfOk result (λ text.
         (casts : List ActorSpec) → IsReachedBy casts [] (world_view K.state world.old) →
         string_bytes text ≡ report (opening casts) events) }

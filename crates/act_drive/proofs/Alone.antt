@@ -8,7 +8,9 @@ use Rattle.act_types.specs.declared.call.Notice.TheVariants.{Answered}
 use Rattle.act_rules.specs.declared.history.RunItem.{RunItem}
 use Rattle.act_rules.specs.Consistent.{IsPrefix}
 use Rattle.act_rules.proofs.Lists.{All-two}
-use Rattle.act_actor.specs.View.{ActorView}
+use Rattle.act_types.specs.KindState.{KindState}
+use Rattle.act_actor.specs.View.{LiveView, ActorView}
+use Rattle.act_actor.specs.StateViews.{live_view}
 use Rattle.act_actor.specs.Actor.{item_of, reply_of_run, next_call, HasRunCall}
 use Rattle.std.proofs.lemmas.List.Elements.{All-push}
 use Rattle.std.proofs.lemmas.List.Quantifiers.{all_pairs_push}
@@ -100,14 +102,14 @@ named caller before after (Some packet) reply is ran =
     let at : slice_get after.log reply.place ≡ Some (item_of packet) = subst (λ (l : List RunItem). slice_get l reply.place ≡ Some (item_of packet)) (sym ran.log) (subst (λ (n : ℕ). slice_get (before.log ++ item_of packet ∷ []) n ≡ Some (item_of packet)) (sym (ap (λ (r : Reply). r.place) same)) (get_last before.log (item_of packet))) in
     (ran.id, (item_of packet ∷ [], sym ran.log), (ap (λ (r : Reply). r.actor) same, (item_of packet, at, ap (λ (r : Reply). r.caller) same, ap (λ (r : Reply). r.future) same)))
 
-same_front : (before after : ActorView) → after ≡ before → IsPrefix before.log after.log
-same_front before after same = ([], append-nil before.log ∙ sym (ap (λ (a : ActorView). a.log) same))
+same_front : {S : Type 0} (before after : LiveView S) → after ≡ before → IsPrefix before.log after.log
+same_front before after same = ([], append-nil before.log ∙ sym (ap (λ a. a.log) same))
 
-pub run_named : {E : Type 0} (caller : ℕ) (before after : ActorView) (result : Result (Option Reply) E) → IfOk result (λ reply. reply ≡ option_map (reply_of_run before) (next_call before.log before.inbox caller)) → OnOk result (IfSome (next_call before.log before.inbox caller) (λ packet. HasRunCall caller packet before after)) → IfOk result (λ reply. IfNone reply (after ≡ before)) → OnErr result (after ≡ before)
+pub run_named : {E S : Type 0} (read : S → KindState) (caller : ℕ) (before after : LiveView S) (result : Result (Option Reply) E) → IfOk result (λ reply. reply ≡ option_map (reply_of_run (live_view read before)) (next_call before.log before.inbox caller)) → OnOk result (IfSome (next_call before.log before.inbox caller) (λ packet. HasRunCall caller packet (live_view read before) (live_view read after))) → IfOk result (λ reply. IfNone reply (after ≡ before)) → OnErr result (after ≡ before)
     → (after.id ≡ before.id) × IsPrefix before.log after.log × IfOk result (λ ran. IfSome ran (λ reply. (reply.actor ≡ before.id) × NamesPlace after.log (Answered reply)))
-run_named caller before after (Err e) told ran gap same = (ap (λ (a : ActorView). a.id) same, same_front before after same, tt)
-run_named caller before after (Ok None) told ran gap same = (ap (λ (a : ActorView). a.id) gap, same_front before after gap, tt)
-run_named caller before after (Ok (Some reply)) told ran gap same = named caller before after (next_call before.log before.inbox caller) reply told ran
+run_named read caller before after (Err e) told ran gap same = (ap (λ a. a.id) same, same_front before after same, tt)
+run_named read caller before after (Ok None) told ran gap same = (ap (λ a. a.id) gap, same_front before after gap, tt)
+run_named read caller before after (Ok (Some reply)) told ran gap same = named caller (live_view read before) (live_view read after) (next_call before.log before.inbox caller) reply told ran
 
 pub given_on : (result : Result Unit Notice) (old new : ReplyExecView) (log : List RunItem) (reply : Reply) → OnOk result (new ≡ record old { given = old.given ++ Answered reply ∷ []; seen = log }) → OnErr result (new ≡ old) → IsPrefix old.seen log → All IsNoDeath old.given
     → (new.line ≡ old.line) × (new.actor ≡ old.actor) × IsPrefix new.seen log × All IsNoDeath new.given

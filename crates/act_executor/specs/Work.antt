@@ -7,7 +7,6 @@ use Rattle.act_rules.specs.declared.script.Step.{Step}
 use Rattle.act_rules.specs.Plans.{first_bad}
 use Rattle.act_handles.specs.Handles.{actors_in}
 use Rattle.act_owner.specs.Owner.{OwnerView, opened_under}
-use Rattle.act_actor.specs.StateViews.{live_view}
 use Rattle.act_actor.specs.declared.cast.Cast.{Cast}
 use Rattle.act_mailbox.specs.declared.control.Asked.{Asked}
 use Rattle.act_mailbox.specs.Passes.{PutterView, new_putter}
@@ -32,14 +31,14 @@ use Rattle.act_executor.specs.declared.work.Serving.{Serving}
 use Rattle.act_executor.specs.declared.work.Driving.{Driving}
 
 -- an actor's thread may run
-abbrev pub CanServe : {K G N : Type 0} → (K → KindState) → Serving K G N → Type 0
-CanServe state serving = let now = live_view state serving.live in
-    PassesOf serving.lines now.id now.log serving.passes × IsFreshExec serving.lines.replies.now now serving.passes
+abbrev pub CanServe : {K G N : Type 0} → Serving K G N → Type 0
+CanServe serving = PassesOf serving.lines serving.live.id serving.live.log serving.passes
+    × IsFreshExec serving.lines.replies.now serving.live serving.passes
 
 -- what it leaves
 abbrev pub IsServedBy : {K G N : Type 0} → (K → KindState) → Serving K G N → Finished K → Type 0
-IsServedBy state serving finished = let now = live_view state serving.live in
-    HasServed now.state now.id serving.lines.replies.now serving.passes (end_view state finished.ended) finished.passes
+IsServedBy state serving finished = HasServed (state serving.live.state) serving.live.id serving.lines.replies.now
+    serving.passes (end_view state finished.ended) finished.passes
 
 -- a caller's thread may run
 abbrev pub CanDrive : {D N : Type 0} → Driving D N → Type 0
@@ -59,8 +58,12 @@ pub record ActorStart : Type 0 where
   pub replies : List RepliesView
 
 abbrev pub serving_start : {K G N : Type 0} → (K → KindState) → Serving K G N → ActorStart
-serving_start state serving = let now = live_view state serving.live in
-    record { id = now.id; state = now.state; passes = serving.passes; replies = serving.lines.replies.now }
+serving_start state serving = record {
+  id = serving.live.id;
+  state = state serving.live.state;
+  passes = serving.passes;
+  replies = serving.lines.replies.now;
+}
 
 abbrev pub cast_start : {K : Type 0} → (K → KindState) → List RepliesView → Cast K × Endpoint ExecPasses → ActorStart
 cast_start state replies given = record {

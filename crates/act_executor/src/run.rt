@@ -154,7 +154,7 @@ fn run_tasks<
     drivings: Vec<Driving<D, N>>,
     starter: Starter,
 ) -> Result<(Ends<K>, Pages<N>), RunFault>
-    requires servings { All (CanServe K.state) servings.items }
+    requires servings { All CanServe servings.items }
     requires drivings { All CanDrive drivings.items }
     requires starter { CanStop starter }
     ensures actors { IfOk result (λ ran. Each (IsServedBy K.state) servings.entry.items ran.0.actors.items) }

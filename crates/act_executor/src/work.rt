@@ -39,7 +39,7 @@ pub(crate) struct Serving<'a, K, G, N> {
 impl<'a, K: Actor + Send, G: Gate, N: Notes + Send + Drop> Task for Serving<'a, K, G, N> {
     type Output = (Finished<K>, N);
 
-    ghost ready = { CanServe K.state };
+    ghost ready = { CanServe };
 
     ghost done = { λ serving served. IsServedBy K.state serving served.0 };
 
@@ -132,7 +132,7 @@ fn one_serving<'a, K: Actor, G, N: Notes + Drop>(
     requires callers { CallersDiffer cast.callers }
     requires place { (exec.place < length lines.now.mails.items) × (exec.place < length lines.now.controls.items) }
     requires exec { IsExec lines.now cast exec }
-    ensures ready { IfOk result (CanServe K.state) }
+    ensures ready { IfOk result CanServe }
     ensures start { IfOk result (λ serving.
         serving_start K.state serving ≡ cast_start K.state lines.now.replies.items (cast, exec)) }
 {
@@ -174,7 +174,7 @@ pub(crate) fn servings<'a, K: Actor, G, N: Notes + Drop>(
     requires places { All (λ exec. (exec.place < length lines.now.mails.items) ×
         (exec.place < length lines.now.controls.items)) execs.items }
     requires execs { Each (IsExec lines.now) casts.items execs.items }
-    ensures ready { IfOk result (λ servings. All (CanServe K.state) servings.items) }
+    ensures ready { IfOk result (λ servings. All CanServe servings.items) }
     ensures starts { IfOk result (λ servings.
         map (serving_start K.state) servings.items ≡
         map (cast_start K.state lines.now.replies.items) (zip casts.items execs.items)) }
@@ -200,8 +200,8 @@ fn add_serving<'a, K: Actor, G, N: Notes + Drop>(
     requires callers { CallersDiffer cast.callers }
     requires place { (exec.place < length lines.now.mails.items) × (exec.place < length lines.now.controls.items) }
     requires exec { IsExec lines.now cast exec }
-    requires ready { All (CanServe K.state) servings.old.items }
-    ensures ready { IfOk result (λ _. All (CanServe K.state) servings.new.items) }
+    requires ready { All CanServe servings.old.items }
+    ensures ready { IfOk result (λ _. All CanServe servings.new.items) }
     ensures starts { IfOk result (λ _.
         map (serving_start K.state) servings.new.items ≡
         map (serving_start K.state) servings.old.items ++ cast_start K.state lines.now.replies.items (cast, exec) ∷ []) }

@@ -78,7 +78,7 @@ impl Actor for Account {
             ≡ (step_of_reply (AccountAt self.old) (reply_of (AccountAt self.old) method.now args.now)).1) }
         ensures moved { OnOk result (AccountAt self.new
             ≡ (step_of_reply (AccountAt self.old) (reply_of (AccountAt self.old) method.now args.now)).0) }
-        ensures err { OnErr result (AccountAt self.new ≡ AccountAt self.old) }
+        ensures err { OnErr result (self.new ≡ self.old) }
         ensures memory_last { OnErr result (IsOk (reply_of (AccountAt self.old) method.now args.now)) }
         ensures memory { OnErr result (IsTrue (takes_memory_of (AccountAt self.old) method.now)) }
     {

@@ -24,8 +24,8 @@ pub trait Actor: Drop {
         ensures moved { OnOk result
             (state self.new ≡ (step_of_reply (state self.old) (reply_of (state self.old) method.now args.now)).0) }
 
-        // Want of memory comes only where no fault does, and leaves the state.
-        ensures err { OnErr result (state self.new ≡ state self.old) }
+        // Want of memory comes only where no fault does, and leaves the kind as it was.
+        ensures err { OnErr result (self.new ≡ self.old) }
         ensures memory_last { OnErr result (IsOk (reply_of (state self.old) method.now args.now)) };
 
     /// Appends the state's text, or leaves the text as it was.

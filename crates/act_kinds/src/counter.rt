@@ -58,7 +58,7 @@ impl Actor for Counter {
             ≡ (step_of_reply (CounterAt self.old) (reply_of (CounterAt self.old) method.now args.now)).1) }
         ensures moved { OnOk result (CounterAt self.new
             ≡ (step_of_reply (CounterAt self.old) (reply_of (CounterAt self.old) method.now args.now)).0) }
-        ensures err { OnErr result (CounterAt self.new ≡ CounterAt self.old) }
+        ensures err { OnErr result (self.new ≡ self.old) }
         ensures memory_last { OnErr result (IsOk (reply_of (CounterAt self.old) method.now args.now)) }
         ensures memory { OnErr result (IsTrue (takes_memory_of (CounterAt self.old) method.now)) }
     {

@@ -104,7 +104,7 @@ impl Actor for ListKind {
             ≡ (step_of_reply (ItemsOf self.old) (reply_of (ItemsOf self.old) method.now args.now)).1) }
         ensures moved { OnOk result (ItemsOf self.new
             ≡ (step_of_reply (ItemsOf self.old) (reply_of (ItemsOf self.old) method.now args.now)).0) }
-        ensures err { OnErr result (ItemsOf self.new ≡ ItemsOf self.old) }
+        ensures err { OnErr result (self.new ≡ self.old) }
         ensures memory_last { OnErr result (IsOk (reply_of (ItemsOf self.old) method.now args.now)) }
         ensures memory { OnErr result (IsTrue (takes_memory_of (ItemsOf self.old) method.now)) }
     {

@@ -117,7 +117,7 @@ impl Actor for Table {
             ≡ (step_of_reply (TableOf self.old) (reply_of (TableOf self.old) method.now args.now)).1) }
         ensures moved { OnOk result (TableOf self.new
             ≡ (step_of_reply (TableOf self.old) (reply_of (TableOf self.old) method.now args.now)).0) }
-        ensures err { OnErr result (TableOf self.new ≡ TableOf self.old) }
+        ensures err { OnErr result (self.new ≡ self.old) }
         ensures memory_last { OnErr result (IsOk (reply_of (TableOf self.old) method.now args.now)) }
         ensures memory { OnErr result (IsTrue (takes_memory_of (TableOf self.old) method.now)) }
     {

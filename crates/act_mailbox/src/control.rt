@@ -1,7 +1,6 @@
 //! The control line of an actor: kills, each with its asker.
 
 ghost use Rattle.std.specs.Prelude.{◌≡◌, ◌≢◌, ℕ, [], ◌∷◌, ◌++◌, length, map, zip, AllPairs, Contains, IfOk, OnOk, IfErr, OnErr, IfSome, IfNone, ◌<◌, ◌^◌};
-ghost use Rattle.act_actor.specs.StateViews.{live_view};
 ghost use Rattle.act_rules.specs.Consistent.{IsPrefix};
 ghost use Rattle.act_mailbox.specs.Lines.{items_from};
 ghost use Rattle.act_mailbox.specs.Passes.{new_putter};
@@ -136,10 +135,10 @@ impl Control {
         live: &Live<K>,
     ) -> Option<KillNote>
         requires pass { pass.old.line ≡ self.now.line }
-        requires actor { (live_view K.state live.now).id ≡ pass.old.actor }
-        ensures looked { pass.new.looked ≡ looked_after pass.old.looked (length (live_view K.state live.now).log) }
+        requires actor { live.now.id ≡ pass.old.actor }
+        ensures looked { pass.new.looked ≡ looked_after pass.old.looked (length live.now.log) }
         ensures taken { IfSome result (λ note.
-            HasTakenKill note (length (live_view K.state live.now).log) pass.old pass.new) }
+            HasTakenKill note (length live.now.log) pass.old pass.new) }
         ensures stamped { IfSome result (λ note. (n : ℕ) × (pass.new.stamps ≡ pass.old.stamps ++ n ∷ [])) }
         ensures none { IfNone result (pass.new ≡ record pass.old { looked = pass.new.looked }) }
     {

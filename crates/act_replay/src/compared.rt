@@ -47,7 +47,7 @@ fn play_in<J: Actor>(
     world: &mut World<J>,
     events: &[Event],
 ) -> Result<bool, NoMemory>
-    requires room { HasRoom (length events.now) (world_view J.state world.old).network }
+    requires room { HasRoom (length events.now) world.old.network }
     ensures accepted { IfOk result (λ is.
         (casts : List ActorSpec) → IsReachedBy casts [] (world_view J.state world.old) →
         IsTrue is ↔ All IsOk (outcomes (opening casts) events.now)) }
@@ -144,7 +144,7 @@ fn ends_so<J: Actor, K: Actor>(
     owners: &[Owner],
     actors: &[Finished<K>],
 ) -> Result<bool, NoMemory>
-    requires room { HasRoom (length events.now) (world_view J.state world.old).network }
+    requires room { HasRoom (length events.now) world.old.network }
     ensures { IfOk result (λ is.
         (casts : List ActorSpec) → IsReachedBy casts [] (world_view J.state world.old) →
         IsTrue is ↔

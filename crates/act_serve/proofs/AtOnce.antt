@@ -17,7 +17,8 @@ use Rattle.act_rules.specs.RunList.{has_terminated, NothingFollowsAnEnd}
 use Rattle.act_rules.proofs.Terminated.{nothing_follows-push}
 use Rattle.act_inbox.specs.Inbox.{is_packet_of, is_listed, handed_of, was_handed, next_of, arrival_of, with_held, HoldsNone}
 use Rattle.act_inbox.proofs.Packets.{new_listed, waits_holding}
-use Rattle.act_actor.specs.View.{ActorView}
+use Rattle.act_actor.specs.View.{LiveView}
+use Rattle.act_actor.specs.StateViews.{live_view}
 use Rattle.act_actor.specs.Actor.{item_of, reply_of_run, with_packet, RunsAtOnce, HasRunCall}
 use Rattle.act_mailbox.specs.declared.mail.Letter.{Letter}
 use Rattle.act_mailbox.specs.declared.mail.Letter.TheVariants.{Call}
@@ -38,7 +39,7 @@ under false true false o none = none
 under false false d o none = refl
 
 -- it has no next call
-pub none_next : (lines : List RepliesView) (actor : ActorView) (endpoint : Endpoint ReplyExecView) → HoldsNone actor.inbox → has_next lines actor endpoint ≡ false
+pub none_next : {S : Type 0} (lines : List RepliesView) (actor : LiveView S) (endpoint : Endpoint ReplyExecView) → HoldsNone actor.inbox → has_next lines actor endpoint ≡ false
 none_next lines actor endpoint none =
     let caller = caller_at lines endpoint.place in
     let count = handed_of actor.inbox caller in
@@ -50,7 +51,7 @@ at_actor : (b : Bool) (arrival : Arrival) → cond b arrival Stranger ≡ New �
 at_actor true arrival e = e
 at_actor false arrival e = absurd (cc)
 
-module _ (packet : Packet) (before : ActorView) (may : RunsAtOnce packet before.id before.log before.inbox) where
+module _ {S : Type 0} (packet : Packet) (before : LiveView S) (may : RunsAtOnce packet before.id before.log before.inbox) where
   is_new : arrival_of before.inbox packet ≡ New
   is_new = at_actor (packet.actor == before.id) (arrival_of before.inbox packet) may.is_new
 
@@ -69,14 +70,14 @@ module _ (packet : Packet) (before : ActorView) (may : RunsAtOnce packet before.
       fed_arrive callers letters packet before (with_held packet before.inbox) (Ok New) refl (λ _. refl) (sym may.is_new)
       (λ caller number. waits_holding before.inbox packet is_new caller number) tt h
 
-  pub serving_held : (opening : KindState) (callers : List ℕ) (lines : List RepliesView) (letters : List Letter) (endpoints : List (Endpoint ReplyExecView))
-      → IsServing opening callers lines letters before endpoints → IsServing opening callers lines (letters ++ Call packet ∷ []) (with_packet packet before) endpoints
+  pub serving_held : {read : S → KindState} (opening : KindState) (callers : List ℕ) (lines : List RepliesView) (letters : List Letter) (endpoints : List (Endpoint ReplyExecView))
+      → IsServing read opening callers lines letters before endpoints → IsServing read opening callers lines (letters ++ Call packet ∷ []) (with_packet packet before) endpoints
   serving_held opening callers lines letters endpoints h = record { fed = fed_held callers letters h.fed; follows = h.follows; given = h.given }
 
-  pub replied_now : {E : Type 0} (after : ActorView) (result : Result Reply E) → IfOk result (λ reply. reply ≡ reply_of_run (with_packet packet before) packet)
-      → OnOk result (HasRunCall packet.caller packet (with_packet packet before) after) → IfOk result (λ reply. HasReplied packet.caller reply (with_packet packet before) after)
-  replied_now after (Err error) is ran = tt
-  replied_now after (Ok reply) is ran = record {
+  pub replied_now : {E : Type 0} (read : S → KindState) (after : LiveView S) (result : Result Reply E) → IfOk result (λ reply. reply ≡ reply_of_run (with_packet packet (live_view read before)) packet)
+      → OnOk result (HasRunCall packet.caller packet (with_packet packet (live_view read before)) (live_view read after)) → IfOk result (λ reply. HasReplied read packet.caller reply (with_packet packet before) after)
+  replied_now read after (Err error) is ran = tt
+  replied_now read after (Ok reply) is ran = record {
     lived = may.lives;
     item = item_of packet;
     log = ran.log;
@@ -84,14 +85,14 @@ module _ (packet : Packet) (before : ActorView) (may : RunsAtOnce packet before.
     of_caller = refl;
     reply_is = is;
     state = ran.state;
-    fed = fed_run packet.caller packet (with_packet packet before) after next_held ran;
+    fed = fed_run read packet.caller packet (with_packet packet before) after next_held ran;
   }
 
 -- a call for which memory was refused came, and waits no more
-pub serving_refused : (opening : KindState) (callers : List ℕ) (lines : List RepliesView) (letters : List Letter) (packet : Packet) (before after : ActorView) (endpoints : List (Endpoint ReplyExecView))
-    → after ≡ before → IsServing opening callers lines letters before endpoints → IsServing opening callers lines (letters ++ Call packet ∷ []) after endpoints
-serving_refused opening callers lines letters packet before after endpoints same h =
-    subst (λ (actor : ActorView). IsServing opening callers lines (letters ++ Call packet ∷ []) actor endpoints) (sym same) (record {
+pub serving_refused : {S : Type 0} {read : S → KindState} (opening : KindState) (callers : List ℕ) (lines : List RepliesView) (letters : List Letter) (packet : Packet) (before after : LiveView S) (endpoints : List (Endpoint ReplyExecView))
+    → after ≡ before → IsServing read opening callers lines letters before endpoints → IsServing read opening callers lines (letters ++ Call packet ∷ []) after endpoints
+serving_refused {S} {read} opening callers lines letters packet before after endpoints same h =
+    subst (λ (actor : LiveView S). IsServing read opening callers lines (letters ++ Call packet ∷ []) actor endpoints) (sym same) (record {
       fed = fed_arrive callers letters packet before before.inbox (Err packet) refl (λ _. refl) tt tt refl h.fed;
       follows = h.follows;
       given = h.given;
@@ -99,7 +100,7 @@ serving_refused opening callers lines letters packet before after endpoints same
 
 -- ---- an actor that replied
 
-pub goes_on : (caller : ℕ) (reply : Reply) (before after : ActorView) → HasReplied caller reply before after → ActorGoesOn before after
+pub goes_on : {S : Type 0} {read : S → KindState} (caller : ℕ) (reply : Reply) (before after : LiveView S) → HasReplied read caller reply before after → ActorGoesOn before after
 goes_on caller reply before after ran = record {
   id = ran.id;
   front = (ran.item ∷ [], sym ran.log);
@@ -107,10 +108,10 @@ goes_on caller reply before after ran = record {
   last = λ before_it. subst NothingFollowsAnEnd (sym ran.log) (nothing_follows-push before.log ran.item before_it ran.lived);
 }
 
-pub one_longer : (caller : ℕ) (reply : Reply) (before after : ActorView) → HasReplied caller reply before after → length after.log ≡ length before.log + 1
+pub one_longer : {S : Type 0} {read : S → KindState} (caller : ℕ) (reply : Reply) (before after : LiveView S) → HasReplied read caller reply before after → length after.log ≡ length before.log + 1
 one_longer caller reply before after ran = ap (λ (l : List RunItem). length l) ran.log ∙ length-append before.log (ran.item ∷ [])
 
-pub endpoints_on : (lines : List RepliesView) (caller : ℕ) (reply : Reply) (before after : ActorView) (endpoints : List (Endpoint ReplyExecView)) → HasReplied caller reply before after
+pub endpoints_on : {S : Type 0} {read : S → KindState} (lines : List RepliesView) (caller : ℕ) (reply : Reply) (before after : LiveView S) (endpoints : List (Endpoint ReplyExecView)) → HasReplied read caller reply before after
     → All (IsAtItsEndpoint lines before.id before.log) endpoints → All (IsAtItsEndpoint lines after.id after.log) endpoints
 endpoints_on lines caller reply before after endpoints ran all k d lt = endpoint_on lines before.id after.id before.log after.log (get_or endpoints k d) ran.id (ran.item ∷ [], sym ran.log) (all k d lt)
 
@@ -125,9 +126,9 @@ module _ (lines : List RepliesView) (endpoints : List (Endpoint ReplyExecView)) 
   pub bare_given : (log : List RunItem) → map without_given (set endpoints at (replied_to log reply stamp endpoint)) ≡ map without_given endpoints
   bare_given log = map-set_same without_given endpoints at (replied_to log reply stamp endpoint) endpoint (ap without_given (sym (here endpoint)))
 
-  pub serving_given : (opening : KindState) (callers : List ℕ) (letters : List Letter) (caller : ℕ) (before after : ActorView)
-      → HasReplied caller reply before after → at < length endpoints → caller ≡ caller_at lines endpoint.place → EndpointsDiffer lines endpoints
-      → IsServing opening callers lines letters before endpoints → IsServing opening callers lines letters after (set endpoints at (replied_to after.log reply stamp endpoint))
+  pub serving_given : {S : Type 0} {read : S → KindState} (opening : KindState) (callers : List ℕ) (letters : List Letter) (caller : ℕ) (before after : LiveView S)
+      → HasReplied read caller reply before after → at < length endpoints → caller ≡ caller_at lines endpoint.place → EndpointsDiffer lines endpoints
+      → IsServing read opening callers lines letters before endpoints → IsServing read opening callers lines letters after (set endpoints at (replied_to after.log reply stamp endpoint))
   serving_given opening callers letters caller before after ran below mine differ h =
       serving_run opening callers lines letters caller reply before after endpoints at endpoint (replied_to after.log reply stamp endpoint).pass ran below here mine refl differ h
 

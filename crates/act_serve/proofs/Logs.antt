@@ -21,7 +21,8 @@ use Rattle.act_rules.specs.History.{contains}
 use Rattle.act_rules.proofs.Lists.{eq_turned, range_push}
 use Rattle.act_rules.proofs.RunLists.{items_of-push}
 use Rattle.act_inbox.specs.Inbox.{InboxView, is_packet_of, is_listed, handed_of, was_handed, waiting_packet, waiting_after, next_of, note_of, note_after, note_arrival, has_come as came_before}
-use Rattle.act_actor.specs.View.{ActorView}
+use Rattle.act_actor.specs.View.{LiveView}
+use Rattle.act_actor.specs.StateViews.{live_view}
 use Rattle.act_actor.specs.Actor.{item_of, packet_of_item, arrival_at, note_arrival_at, HasRunCall}
 use Rattle.act_mailbox.specs.declared.mail.Letter.{Letter}
 use Rattle.act_mailbox.specs.declared.mail.Letter.TheVariants.{Call, Note}
@@ -148,7 +149,7 @@ arrived_waits id packet inbox New c n p P is e old new = go (is_packet_of c n pa
 arrived_waits id packet inbox Repeat c n p P is e old new = old e
 arrived_waits id packet inbox Stranger c n p P is e old new = old e
 
-pub fed_arrive : (callers : List ℕ) (letters : List Letter) (packet : Packet) (before : ActorView) (inbox : InboxView) (result : Result Arrival Packet)
+pub fed_arrive : {S : Type 0} (callers : List ℕ) (letters : List Letter) (packet : Packet) (before : LiveView S) (inbox : InboxView) (result : Result Arrival Packet)
     → inbox.lanes ≡ before.inbox.lanes → ((c : ℕ) → note_of inbox c ≡ note_of before.inbox c)
     → IfOk result (λ arrival. arrival ≡ arrival_at before.id before.inbox packet)
     → IfOk result (λ arrival. (c n : ℕ) → waiting_packet inbox c n ≡ waiting_after arrival packet before.inbox c n)
@@ -208,7 +209,7 @@ noted note inbox id c arrival is listed = go (tells note.actor id) (tells note.c
         ∙ within (note_of inbox c)
         ∙ (λ i. option_or (note_of inbox c) (cond (sym d i && sym b i) (Some note.after) None))
 
-pub fed_note : (callers : List ℕ) (letters : List Letter) (note : ReleaseNote) (before : ActorView) (inbox : InboxView) (arrival : Arrival)
+pub fed_note : {S : Type 0} (callers : List ℕ) (letters : List Letter) (note : ReleaseNote) (before : LiveView S) (inbox : InboxView) (arrival : Arrival)
     → arrival ≡ note_arrival_at before.id before.inbox note → inbox.lanes ≡ before.inbox.lanes → inbox.held ≡ before.inbox.held
     → ((c : ℕ) → note_of inbox c ≡ note_after arrival note before.inbox c)
     → IsFed callers letters before → IsFed callers (letters ++ Note note ∷ []) (record before { inbox = inbox })
@@ -225,9 +226,10 @@ fed_note callers letters note before inbox arrival is lanes held notes h = recor
 
 -- ---- a call runs
 
-pub fed_run : (caller : ℕ) (packet : Packet) (before after : ActorView) → next_of before.inbox caller ≡ Some packet → HasRunCall caller packet before after
+pub fed_run : {S : Type 0} (read : S → KindState) (caller : ℕ) (packet : Packet) (before after : LiveView S) → next_of before.inbox caller ≡ Some packet
+    → HasRunCall caller packet (live_view read before) (live_view read after)
     → (callers : List ℕ) (letters : List Letter) → IsFed callers letters before → IsFed callers letters after
-fed_run caller packet before after next ran callers letters h = record {
+fed_run read caller packet before after next ran callers letters h = record {
   listed = λ c. ran.taken.listed c ∙ h.listed c;
   handed = λ c. ran.taken.handed c ∙ count_more c caller (handed_of before.inbox c) before.log (item_of packet) ran.taken.of_caller (h.handed c) ∙ ap (λ (l : List RunItem). length (items_of c l)) (sym ran.log);
   waits = λ c n p e. by (was_handed after.inbox c n) c n p (sym (ran.taken.waits c n) ∙ e);

@@ -11,7 +11,8 @@ use Rattle.act_types.specs.declared.call.Notice.TheVariants.{Answered}
 use Rattle.act_rules.specs.declared.history.RunItem.{RunItem}
 use Rattle.act_rules.proofs.Lists.{slice_get_last}
 use Rattle.act_rules.proofs.Finding.{find-None}
-use Rattle.act_actor.specs.View.{ActorView}
+use Rattle.act_types.specs.KindState.{KindState}
+use Rattle.act_actor.specs.View.{LiveView}
 use Rattle.act_actor.specs.Actor.{next_call}
 use Rattle.act_mailbox.specs.declared.mail.Letter.{Letter}
 use Rattle.act_mailbox.specs.Passes.{TakerView}
@@ -47,7 +48,7 @@ position_nowhere p (x ∷ xs) n le none =
     sym (ap (λ n. cond (nat_lt n long) (Some n) None) at ∙ ap (λ b. cond b (Some long) None) (le-ltb long long (omega arith)))
 
 -- whether the call of an endpoint's caller came, where the caller is known
-pub next_is : (lines : List RepliesView) (actor : ActorView) (endpoints : List (Endpoint ReplyExecView)) (k : ℕ) (d endpoint : Endpoint ReplyExecView) (line : RepliesView) (caller : ℕ) (told b : Bool)
+pub next_is : {S : Type 0} (lines : List RepliesView) (actor : LiveView S) (endpoints : List (Endpoint ReplyExecView)) (k : ℕ) (d endpoint : Endpoint ReplyExecView) (line : RepliesView) (caller : ℕ) (told b : Bool)
     → k < length endpoints → endpoint ≡ get_or endpoints k endpoint → endpoint.place < length lines → line ≡ get_or lines endpoint.place line → caller ≡ line.caller → told ≡ is_some (next_call actor.log actor.inbox caller) → told ≡ b
     → has_next lines actor (get_or endpoints k d) ≡ b
 next_is lines actor endpoints k d endpoint line caller told b lt here below is named came so =
@@ -73,26 +74,26 @@ pub somewhere : {X : Type 0} (p : X → Bool) (xs ys : List X) (found : Option �
 somewhere p xs ys found i d is alike some = subst (λ l. p (get_or l i d) ≡ true) alike (position-Some p xs i d (sym is ∙ some)).1
 
 -- the reply names the place where its call ran
-pub replied_place : (caller : ℕ) (reply : Reply) (before after : ActorView) (log : List RunItem) → HasReplied caller reply before after → log ≡ after.log → NamesPlace log (Answered reply)
+pub replied_place : {S : Type 0} {read : S → KindState} (caller : ℕ) (reply : Reply) (before after : LiveView S) (log : List RunItem) → HasReplied read caller reply before after → log ≡ after.log → NamesPlace log (Answered reply)
 replied_place caller reply before after log ran shown =
     subst (λ (l : List RunItem). NamesPlace l (Answered reply)) (sym (shown ∙ ran.log))
     (subst (λ (r : Reply). NamesPlace (before.log ++ ran.item ∷ []) (Answered r)) (sym ran.reply_is) (ran.item, slice_get_last before.log ran.item, refl, refl))
 
 -- no letter came, and no call ran
-pub idle_turn : (lines : List RepliesView) (endpoints given : List (Endpoint ReplyExecView)) (old new : TakerView Letter (Unit {0})) (before between after : ActorView)
+pub idle_turn : {S : Type 0} (lines : List RepliesView) (endpoints given : List (Endpoint ReplyExecView)) (old new : TakerView Letter (Unit {0})) (before between after : LiveView S)
     → new ≡ old → HasCome Nothing old.taken new.taken endpoints given before between → HasGone false lines given between after
     → (new ≡ old) × HasGone false lines endpoints before after
-idle_turn lines endpoints given old new before between after letters none still = (
+idle_turn {S} lines endpoints given old new before between after letters none still = (
   letters,
   (
     still.0 ∙ none.2,
     subst (λ (l : List (Endpoint ReplyExecView)). All (λ endpoint. has_next lines before endpoint ≡ false) l) none.1
-        (subst (λ (s : ActorView). All (λ endpoint. has_next lines s endpoint ≡ false) given) none.2 still.1),
+        (subst (λ (s : LiveView S). All (λ endpoint. has_next lines s endpoint ≡ false) given) none.2 still.1),
   ),
 )
 
 -- where one more letter was taken, something came
-pub came_some : {E : Type 0} (result : Result Received E) (letters : List Letter) (letter : Letter) (endpoints given : List (Endpoint ReplyExecView)) (old new : ActorView) (P : Type 0)
+pub came_some : {E S : Type 0} (result : Result Received E) (letters : List Letter) (letter : Letter) (endpoints given : List (Endpoint ReplyExecView)) (old new : LiveView S) (P : Type 0)
     → IfOk result (λ came. HasCome came letters (letters ++ letter ∷ []) endpoints given old new) → IfOk result (λ came. came ≡ Nothing → P)
 came_some (Ok Nothing) letters letter endpoints given old new P h = λ _. let long : length (letters ++ letter ∷ []) ≡ length letters = ap length h.0 in absurd (omega (arith, long, length-append letters (letter ∷ [])))
 came_some (Ok Held) letters letter endpoints given old new P h = λ e. absurd (cc)

@@ -17,7 +17,8 @@ use Rattle.act_rules.specs.RunList.{after_item, state_after, items_of, has_termi
 use Rattle.act_rules.proofs.RunLists.{state_after-push}
 use Rattle.act_rules.specs.History.{contains}
 use Rattle.act_inbox.specs.Inbox.{next_of}
-use Rattle.act_actor.specs.View.{ActorView, DeadView, RetiredView}
+use Rattle.act_actor.specs.View.{LiveView, DeadView, RetiredView}
+use Rattle.act_actor.specs.StateViews.{live_view}
 use Rattle.act_actor.specs.Actor.{item_of, reply_of_run, next_call, MayRetire, HasRunCall, HasRunFrom}
 use Rattle.act_mailbox.specs.declared.mail.Letter.{Letter}
 use Rattle.act_mailbox.specs.Controls.{ControlExecView, looked_after}
@@ -38,11 +39,11 @@ lives : (b : Bool) (next : Option Packet) (packet : Packet) → cond b None next
 lives true next packet e = cc
 lives false next packet e = (refl, e)
 
-replied_next : (caller : ℕ) (before after : ActorView) (next : Option Packet) (reply : Option Reply) → next_call before.log before.inbox caller ≡ next
-    → reply ≡ option_map (reply_of_run before) next → IfSome next (λ packet. HasRunCall caller packet before after)
-    → IfSome reply (λ r. HasReplied caller r before after)
-replied_next caller before after None reply e is ran = rw is tt
-replied_next caller before after (Some packet) reply e is ran = let on = lives (has_terminated before.log) (next_of before.inbox caller) packet e in rw is (record {
+replied_next : {S : Type 0} (read : S → KindState) (caller : ℕ) (before after : LiveView S) (next : Option Packet) (reply : Option Reply) → next_call before.log before.inbox caller ≡ next
+    → reply ≡ option_map (reply_of_run (live_view read before)) next → IfSome next (λ packet. HasRunCall caller packet (live_view read before) (live_view read after))
+    → IfSome reply (λ r. HasReplied read caller r before after)
+replied_next read caller before after None reply e is ran = rw is tt
+replied_next read caller before after (Some packet) reply e is ran = let on = lives (has_terminated before.log) (next_of before.inbox caller) packet e in rw is (record {
   lived = on.0;
   item = item_of packet;
   log = ran.log;
@@ -50,15 +51,15 @@ replied_next caller before after (Some packet) reply e is ran = let on = lives (
   of_caller = ran.taken.of_caller;
   reply_is = refl;
   state = ran.state;
-  fed = fed_run caller packet before after on.1 ran;
+  fed = fed_run read caller packet before after on.1 ran;
 })
 
-pub replied : {E : Type 0} (caller : ℕ) (before after : ActorView) (result : Result (Option Reply) E)
-    → IfOk result (λ reply. reply ≡ option_map (reply_of_run before) (next_call before.log before.inbox caller))
-    → OnOk result (IfSome (next_call before.log before.inbox caller) (λ packet. HasRunCall caller packet before after))
-    → IfOk result (λ reply. IfSome reply (λ r. HasReplied caller r before after))
-replied caller before after (Ok reply) is ran = replied_next caller before after (next_call before.log before.inbox caller) reply refl is ran
-replied caller before after (Err error) is ran = tt
+pub replied : {E S : Type 0} (read : S → KindState) (caller : ℕ) (before after : LiveView S) (result : Result (Option Reply) E)
+    → IfOk result (λ reply. reply ≡ option_map (reply_of_run (live_view read before)) (next_call before.log before.inbox caller))
+    → OnOk result (IfSome (next_call before.log before.inbox caller) (λ packet. HasRunCall caller packet (live_view read before) (live_view read after)))
+    → IfOk result (λ reply. IfSome reply (λ r. HasReplied read caller r before after))
+replied read caller before after (Ok reply) is ran = replied_next read caller before after (next_call before.log before.inbox caller) reply refl is ran
+replied read caller before after (Err error) is ran = tt
 
 pub on_err : {T E : Type 0} (A B : Type 0) (result : Result T E) → (A → B) → OnErr result A → OnErr result B
 on_err A B (Ok value) f h = tt
@@ -76,7 +77,7 @@ differ_at xs i j e apart ne below under = go (order i j)
     go (inl lt) = apart i j e lt under
     go (inr le) = let lt : j < i = omega (arith, le, ne) in λ f. apart j i e lt below (sym f)
 
-module _ (opening : KindState) (lines : List RepliesView) (caller : ℕ) (reply : Reply) (before after : ActorView) (ran : HasReplied caller reply before after) (from : HasRunFrom opening before) where
+module _ {S : Type 0} {read : S → KindState} (opening : KindState) (lines : List RepliesView) (caller : ℕ) (reply : Reply) (before after : LiveView S) (ran : HasReplied read caller reply before after) (from : HasRunFrom opening (live_view read before)) where
   -- what is due to a caller now
   due : (c : ℕ) → replies_to opening after.id after.log c ≡ replies_to opening before.id before.log c ++ cond (ran.item.caller == c) (Answered reply ∷ []) []
   due c =
@@ -85,7 +86,7 @@ module _ (opening : KindState) (lines : List RepliesView) (caller : ℕ) (reply 
       ∙ ap (λ (state : KindState). replies_to opening before.id before.log c ++ last_reply before.id c ran.item (length before.log) (after_item state ran.item).1) (sym from)
       ∙ ap (λ (r : Reply). replies_to opening before.id before.log c ++ cond (ran.item.caller == c) (Answered r ∷ []) []) (sym ran.reply_is)
 
-  follows_on : HasRunFrom opening after
+  follows_on : HasRunFrom opening (live_view read after)
   follows_on = ran.state ∙ ap (λ (state : KindState). (after_item state ran.item).0) from ∙ sym (state_after-push opening before.log ran.item) ∙ ap (state_after opening) (sym ran.log)
 
   due_here : (endpoint : Endpoint ReplyExecView) (pass : ReplyExecView) → caller ≡ caller_at lines endpoint.place → pass.given ≡ endpoint.pass.given ++ Answered reply ∷ []
@@ -128,10 +129,10 @@ module _ (opening : KindState) (lines : List RepliesView) (caller : ℕ) (reply 
           subst (HasReplies opening lines after.id after.log) (sym (get_or-set_other endpoints at k given d ne))
           (due_there (get_or endpoints k d) (λ e. apart (one ∙ e ∙ sym two)) (had k d lt))
 
-pub serving_run : (opening : KindState) (callers : List ℕ) (lines : List RepliesView) (letters : List Letter) (caller : ℕ) (reply : Reply) (before after : ActorView) (endpoints : List (Endpoint ReplyExecView)) (at : ℕ) (endpoint : Endpoint ReplyExecView) (pass : ReplyExecView)
-    → HasReplied caller reply before after → at < length endpoints → ((d : Endpoint ReplyExecView) → get_or endpoints at d ≡ endpoint)
+pub serving_run : {S : Type 0} {read : S → KindState} (opening : KindState) (callers : List ℕ) (lines : List RepliesView) (letters : List Letter) (caller : ℕ) (reply : Reply) (before after : LiveView S) (endpoints : List (Endpoint ReplyExecView)) (at : ℕ) (endpoint : Endpoint ReplyExecView) (pass : ReplyExecView)
+    → HasReplied read caller reply before after → at < length endpoints → ((d : Endpoint ReplyExecView) → get_or endpoints at d ≡ endpoint)
     → caller ≡ caller_at lines endpoint.place → pass.given ≡ endpoint.pass.given ++ Answered reply ∷ [] → EndpointsDiffer lines endpoints
-    → IsServing opening callers lines letters before endpoints → IsServing opening callers lines letters after (set endpoints at (record { place = endpoint.place; pass = pass }))
+    → IsServing read opening callers lines letters before endpoints → IsServing read opening callers lines letters after (set endpoints at (record { place = endpoint.place; pass = pass }))
 serving_run opening callers lines letters caller reply before after endpoints at endpoint pass ran below here mine is differ h = record {
   fed = ran.fed callers letters h.fed;
   follows = follows_on opening lines caller reply before after ran h.follows;
@@ -170,13 +171,13 @@ callers_stay lines old new e = sym (callers_bare lines new) ∙ ap (endpoint_cal
 
 -- ---- letters
 
-pub serving_in : (opening : KindState) (callers : List ℕ) (lines : List RepliesView) (letters more : List Letter) (before after : ActorView) (endpoints : List (Endpoint ReplyExecView))
+pub serving_in : {S : Type 0} {read : S → KindState} (opening : KindState) (callers : List ℕ) (lines : List RepliesView) (letters more : List Letter) (before after : LiveView S) (endpoints : List (Endpoint ReplyExecView))
     → after ≡ record before { inbox = after.inbox } → ((who : List ℕ) → IsFed who letters before → IsFed who more after)
-    → IsServing opening callers lines letters before endpoints → IsServing opening callers lines more after endpoints
-serving_in opening callers lines letters more before after endpoints is fed h = record {
+    → IsServing read opening callers lines letters before endpoints → IsServing read opening callers lines more after endpoints
+serving_in {S} {read} opening callers lines letters more before after endpoints is fed h = record {
   fed = fed callers h.fed;
-  follows = subst (HasRunFrom opening) (sym is) h.follows;
-  given = subst (λ (s : ActorView). All (HasReplies opening lines s.id s.log) endpoints) (sym is) h.given;
+  follows = subst (λ (s : LiveView S). HasRunFrom opening (live_view read s)) (sym is) h.follows;
+  given = subst (λ (s : LiveView S). All (HasReplies opening lines s.id s.log) endpoints) (sym is) h.given;
 }
 
 -- ---- ends
@@ -200,8 +201,8 @@ looked_past looked now long is below = go (tells looked long)
     go (other b ne) = let n : now ≡ looked = is ∙ ap (λ (x : Bool). cond x (looked + 1) looked) b in omega (arith, n, ne, below)
 
 -- what an executor leaves whose actor ended so
-module _ (opening : KindState) (lines : List RepliesView) (before : ExecPasses) (actor : ActorView) (endpoints : List (Endpoint ReplyExecView)) (passes : ExecPasses)
-    (h : IsServing opening (endpoint_callers lines before.notices.items) lines passes.letters.taken actor endpoints)
+module _ {S : Type 0} {read : S → KindState} (opening : KindState) (lines : List RepliesView) (before : ExecPasses) (actor : LiveView S) (endpoints : List (Endpoint ReplyExecView)) (passes : ExecPasses)
+    (h : IsServing read opening (endpoint_callers lines before.notices.items) lines passes.letters.taken actor endpoints)
     (letters : passes.letters ≡ record before.letters { taken = passes.letters.taken; stamps = passes.letters.stamps }) (kept : passes.kills ≡ record before.kills { taken = passes.kills.taken; stamps = passes.kills.stamps; lengths = passes.kills.lengths; looked = passes.kills.looked })
     (stay : map without_given endpoints ≡ map without_given before.notices.items) (looked : length actor.log ≤ passes.kills.looked) (last : NothingFollowsAnEnd actor.log) where
   abbrev pub dead_of : DeadView
@@ -250,7 +251,7 @@ module _ (opening : KindState) (lines : List RepliesView) (before : ExecPasses) 
       all_told : passes.notices.items ≡ map (with_death_given actor.id actor.log stamp) endpoints
       all_told = told_is ∙ (λ i. map (with_death_given (is i).id (is i).log stamp) endpoints)
 
-  pub retired_served : (a : ℕ) (retired : RetiredView) → actor.id ≡ a → retired ≡ record { id = actor.id; log = actor.log; state = actor.state } → MayRetire actor.log actor.inbox → passes.notices.items ≡ endpoints
+  pub retired_served : (a : ℕ) (retired : RetiredView) → actor.id ≡ a → retired ≡ record { id = actor.id; log = actor.log; state = read actor.state } → MayRetire actor.log actor.inbox → passes.notices.items ≡ endpoints
       → IsUntaken passes.kills → length actor.log < passes.kills.looked → IsTracedSoFar actor.id lines actor.log passes → HasServed opening a lines before (Retired retired) passes
   retired_served a retired named is may same_endpoints none past so_far =
       subst (λ (x : ℕ). HasServed opening x lines before (Retired retired) passes) named (subst (λ (r : RetiredView). HasServed opening actor.id lines before (Retired r) passes) (sym is) (record {
@@ -308,9 +309,9 @@ stay_on first old new s letters kills endpoints = record {
 }
 
 -- an actor that ran nothing
-pub fresh_serving : (lines : List RepliesView) (actor : ActorView) (passes : ExecPasses) → IsFreshExec lines actor passes
-    → IsServing actor.state (endpoint_callers lines passes.notices.items) lines passes.letters.taken actor passes.notices.items
-fresh_serving lines actor passes f = record {
+pub fresh_serving : {S : Type 0} (read : S → KindState) (lines : List RepliesView) (actor : LiveView S) (passes : ExecPasses) → IsFreshExec lines actor passes
+    → IsServing read (read actor.state) (endpoint_callers lines passes.notices.items) lines passes.letters.taken actor passes.notices.items
+fresh_serving read lines actor passes f = record {
   fed = record {
     listed = f.inbox.listed;
     handed = λ c. f.inbox.handed c ∙ ap (λ (l : List RunItem). length (items_of c l)) (sym f.log);
@@ -322,6 +323,6 @@ fresh_serving lines actor passes f = record {
       numbered = λ c. refl;
     });
   };
-  follows = ap (state_after actor.state) (sym f.log);
-  given = λ k d lt. f.passes_fresh.given k d lt ∙ ap (λ (l : List RunItem). replies_to actor.state actor.id l (caller_at lines (get_or passes.notices.items k d).place)) (sym f.log);
+  follows = ap (state_after (read actor.state)) (sym f.log);
+  given = λ k d lt. f.passes_fresh.given k d lt ∙ ap (λ (l : List RunItem). replies_to (read actor.state) actor.id l (caller_at lines (get_or passes.notices.items k d).place)) (sym f.log);
 }

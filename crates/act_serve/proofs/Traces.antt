@@ -18,7 +18,8 @@ use Rattle.act_rules.specs.History.{contains}
 use Rattle.act_rules.specs.RunList.{items_of, has_terminated}
 use Rattle.act_rules.proofs.Lists.{slice_get_more, slice_get_last}
 use Rattle.act_rules.proofs.RunLists.{items_of-push}
-use Rattle.act_actor.specs.View.{ActorView}
+use Rattle.act_types.specs.KindState.{KindState}
+use Rattle.act_actor.specs.View.{LiveView}
 use Rattle.act_actor.specs.Actor.{packet_of_item, note_after_calls}
 use Rattle.act_mailbox.specs.declared.control.Asked.{Asked}
 use Rattle.act_mailbox.specs.declared.thread.Endpoint.{Endpoint}
@@ -184,7 +185,7 @@ item_sent a callers letters log item h =
     let long : length (log ++ item ∷ []) ≡ length log + 1 = length-append log (item ∷ []) in
     subst (λ (x : RunItem). Contains letters (Call (packet_of_item a x))) (get_or-append_seam log item [] item) (h.taken (length log) item (omega (arith, long)))
 
-module _ (lines : List RepliesView) (callers : List ℕ) (letters : List Letter) (old new : ActorView) (caller : ℕ) (reply : Reply) (ran : HasReplied caller reply old new) (passes more : ExecPasses) (at : ℕ) (endpoint : Endpoint ReplyExecView)
+module _ {S : Type 0} {read : S → KindState} (lines : List RepliesView) (callers : List ℕ) (letters : List Letter) (old new : LiveView S) (caller : ℕ) (reply : Reply) (ran : HasReplied read caller reply old new) (passes more : ExecPasses) (at : ℕ) (endpoint : Endpoint ReplyExecView)
     (here : (d : Endpoint ReplyExecView) → get_or passes.notices.items at d ≡ endpoint) (below : at < length passes.notices.items)
     (logged : IsLogOf new.id callers letters new.log) (shown : letters ≡ passes.letters.taken)
     (same_letters : more.letters ≡ passes.letters) (same_kills : more.kills ≡ passes.kills) (gave : more.notices.items ≡ set passes.notices.items at (replied_to new.log reply (exec_clock passes) endpoint)) where
@@ -435,7 +436,7 @@ traced_retired a lines log passes t lives notes = (
 
 -- ---- it did nothing yet
 
-pub traced_fresh : (lines : List RepliesView) (actor : ActorView) (passes : ExecPasses) → IsFreshExec lines actor passes → IsTracedSoFar actor.id lines actor.log passes
+pub traced_fresh : {S : Type 0} (lines : List RepliesView) (actor : LiveView S) (passes : ExecPasses) → IsFreshExec lines actor passes → IsTracedSoFar actor.id lines actor.log passes
 traced_fresh lines actor passes f = record {
   trace = [];
   steps = record {

@@ -7,11 +7,11 @@ use Rattle.act_types.specs.declared.call.Packet.{Packet}
 use Rattle.act_types.specs.declared.call.Reply.{Reply}
 use Rattle.act_types.specs.declared.call.Notice.TheVariants.{Answered, Death}
 use Rattle.act_rules.specs.declared.history.RunItem.{RunItem}
-use Rattle.act_rules.specs.RunList.{after_item, items_of, has_terminated, NothingFollowsAnEnd}
+use Rattle.act_rules.specs.RunList.{after_item, state_after, items_of, has_terminated, NothingFollowsAnEnd}
 use Rattle.act_rules.specs.History.{contains}
 use Rattle.act_inbox.specs.Inbox.{is_listed, handed_of, waiting_packet, waiting_after, note_of, note_after, IsOpened}
-use Rattle.act_actor.specs.View.{ActorView}
-use Rattle.act_actor.specs.Actor.{HasRunFrom, RunsAtOnce, arrival_at, note_arrival_at, next_call}
+use Rattle.act_actor.specs.View.{LiveView}
+use Rattle.act_actor.specs.Actor.{RunsAtOnce, arrival_at, note_arrival_at, next_call}
 use Rattle.act_mailbox.specs.declared.mail.Letter.{Letter}
 use Rattle.act_mailbox.specs.declared.mail.Letter.TheVariants.{Call, Note}
 use Rattle.act_rules.specs.Consistent.{IsPrefix}
@@ -41,12 +41,13 @@ abbrev pub EndpointsDiffer : List RepliesView → List (Endpoint ReplyExecView) 
 EndpointsDiffer lines endpoints = AllPairs (λ one other. one ≢ other) (endpoint_callers lines endpoints)
 
 -- the passes are of the lines at their places, for this actor, and no caller has two
-pub record EndpointsFit (lines : List RepliesView) (actor : ActorView) (passes : ExecPasses) : Type 0 where
+pub record EndpointsFit {S : Type 0} (lines : List RepliesView) (actor : LiveView S) (passes : ExecPasses) : Type 0 where
   pub at_places : All (IsAtItsEndpoint lines actor.id actor.log) passes.notices.items
   pub differ : EndpointsDiffer lines passes.notices.items
 
 -- the passes of the same lines fit the actor as it is now
-pub record EndpointsStay (lines : List RepliesView) (actor : ActorView) (before after : ExecPasses) : Type 0 where
+pub record EndpointsStay {S : Type 0} (lines : List RepliesView) (actor : LiveView S) (before after : ExecPasses)
+    : Type 0 where
   pub at_places : All (IsAtItsEndpoint lines actor.id actor.log) after.notices.items
   pub stay : map without_given after.notices.items ≡ map without_given before.notices.items
 
@@ -79,13 +80,13 @@ pub record IsUnusedExec (lines : List RepliesView) (callers : List ℕ) (passes 
   pub given_stamps : All (λ endpoint. endpoint.pass.stamps ≡ []) passes.notices.items
 
 -- an actor that ran nothing, with such passes
-pub record IsFreshExec (lines : List RepliesView) (actor : ActorView) (passes : ExecPasses) : Type 0 where
+pub record IsFreshExec {S : Type 0} (lines : List RepliesView) (actor : LiveView S) (passes : ExecPasses) : Type 0 where
   pub log : actor.log ≡ []
   pub inbox : IsOpened (endpoint_callers lines passes.notices.items) actor.inbox
   pub passes_fresh : IsUnusedExec lines (endpoint_callers lines passes.notices.items) passes
 
 -- the actor holds what these letters brought, and ran nothing else
-pub record IsFed (callers : List ℕ) (letters : List Letter) (actor : ActorView) : Type 0 where
+pub record IsFed {S : Type 0} (callers : List ℕ) (letters : List Letter) (actor : LiveView S) : Type 0 where
   pub listed : (c : ℕ) → is_listed actor.inbox c ≡ contains c callers
   pub handed : (c : ℕ) → handed_of actor.inbox c ≡ length (items_of c actor.log)
   pub waits : (c n : ℕ) (packet : Packet) → waiting_packet actor.inbox c n ≡ Some packet →
@@ -94,15 +95,15 @@ pub record IsFed (callers : List ℕ) (letters : List Letter) (actor : ActorView
   pub log : IsLogOf actor.id callers letters actor.log
 
 -- the letter is in the actor's inbox
-abbrev pub IsIn : Letter → ActorView → ActorView → Type 0
+abbrev pub IsIn : {S : Type 0} → Letter → LiveView S → LiveView S → Type 0
 IsIn (Call packet) old new = (c n : ℕ) →
     waiting_packet new.inbox c n ≡ waiting_after (arrival_at old.id old.inbox packet) packet old.inbox c n
 IsIn (Note note) old new = (c : ℕ) →
     note_of new.inbox c ≡ note_after (note_arrival_at old.id old.inbox note) note old.inbox c
 
 -- no letter came and nothing changed, one more was taken into the actor's inbox, or it was a call that ran at once
-abbrev pub HasCome : Received → List Letter → List Letter → List (Endpoint ReplyExecView) →
-    List (Endpoint ReplyExecView) → ActorView → ActorView → Type 0
+abbrev pub HasCome : {S : Type 0} → Received → List Letter → List Letter → List (Endpoint ReplyExecView) →
+    List (Endpoint ReplyExecView) → LiveView S → LiveView S → Type 0
 HasCome Nothing before after endpoints given old new = (after ≡ before) × (given ≡ endpoints) × (new ≡ old)
 HasCome Held before after endpoints given old new =
     ((letter : Letter) × (after ≡ before ++ letter ∷ []) × IsIn letter old new) × (given ≡ endpoints)
@@ -127,7 +128,7 @@ replied_to log reply stamp endpoint = record endpoint {
 }
 
 -- whether the next call of the endpoint's caller came, at an actor that did not terminate
-abbrev pub has_next : List RepliesView → ActorView → Endpoint ReplyExecView → Bool
+abbrev pub has_next : {S : Type 0} → List RepliesView → LiveView S → Endpoint ReplyExecView → Bool
 has_next lines actor endpoint = is_some (next_call actor.log actor.inbox (caller_at lines endpoint.place))
 
 -- the endpoint's caller was given its replies
@@ -136,20 +137,23 @@ HasReplies opening lines a log endpoint = endpoint.pass.given
     ≡ replies_to opening a log (caller_at lines endpoint.place)
 
 -- an actor of this opening state that serves these callers
-pub record IsServing (opening : KindState) (callers : List ℕ) (lines : List RepliesView) (letters : List Letter)
-    (actor : ActorView) (endpoints : List (Endpoint ReplyExecView)) : Type 0 where
+pub record IsServing {S : Type 0} (read : S → KindState) (opening : KindState) (callers : List ℕ)
+    (lines : List RepliesView) (letters : List Letter) (actor : LiveView S)
+    (endpoints : List (Endpoint ReplyExecView)) : Type 0 where
   pub fed : IsFed callers letters actor
-  pub follows : HasRunFrom opening actor
+  pub follows : read actor.state ≡ state_after opening actor.log
   pub given : All (HasReplies opening lines actor.id actor.log) endpoints
 
 -- whatever actor served these callers serves them after a turn
-abbrev pub KeepsServing : List RepliesView → ActorView → ActorView → ExecPasses → ExecPasses → Type 0
-KeepsServing lines old new before after = (opening : KindState) (callers : List ℕ) →
-    IsServing opening callers lines before.letters.taken old before.notices.items →
-    IsServing opening callers lines after.letters.taken new after.notices.items
+abbrev pub KeepsServing : {S : Type 0} → (S → KindState) → List RepliesView → LiveView S → LiveView S → ExecPasses →
+    ExecPasses → Type 0
+KeepsServing read lines old new before after = (opening : KindState) (callers : List ℕ) →
+    IsServing read opening callers lines before.letters.taken old before.notices.items →
+    IsServing read opening callers lines after.letters.taken new after.notices.items
 
 -- the actor, which did not terminate, ran a call of the caller, and this is its reply
-pub record HasReplied (caller : ℕ) (reply : Reply) (old new : ActorView) : Type 0 where
+pub record HasReplied {S : Type 0} (read : S → KindState) (caller : ℕ) (reply : Reply) (old new : LiveView S)
+    : Type 0 where
   pub lived : has_terminated old.log ≡ false
   pub item : RunItem
   pub log : new.log ≡ old.log ++ item ∷ []
@@ -160,25 +164,27 @@ pub record HasReplied (caller : ℕ) (reply : Reply) (old new : ActorView) : Typ
     caller = item.caller;
     future = item.future;
     place = length old.log;
-    answer = (after_item old.state item).1;
+    answer = (after_item (read old.state) item).1;
   }
-  pub state : new.state ≡ (after_item old.state item).0
+  pub state : read new.state ≡ (after_item (read old.state) item).0
   pub fed : (callers : List ℕ) (letters : List Letter) → IsFed callers letters old → IsFed callers letters new
 
 -- the same actor went on from there, by one call at most, and keeps what was promised
-pub record ActorGoesOn (old new : ActorView) : Type 0 where
+pub record ActorGoesOn {S : Type 0} (old new : LiveView S) : Type 0 where
   pub id : new.id ≡ old.id
   pub front : IsPrefix old.log new.log
   pub long : length new.log ≤ length old.log + 1
   pub last : NothingFollowsAnEnd old.log → NothingFollowsAnEnd new.log
 
 -- one more call ran, or no endpoint's caller had one and nothing changed
-abbrev pub HasGone : Bool → List RepliesView → List (Endpoint ReplyExecView) → ActorView → ActorView → Type 0
+abbrev pub HasGone : {S : Type 0} → Bool → List RepliesView → List (Endpoint ReplyExecView) → LiveView S →
+    LiveView S → Type 0
 HasGone true lines endpoints old new = length new.log ≡ length old.log + 1
 HasGone false lines endpoints old new = (new ≡ old) × All (λ endpoint. has_next lines old endpoint ≡ false) endpoints
 
 -- the call that ran is of the first endpoint whose caller had one
-abbrev pub RanFirst : List RepliesView → List (Endpoint ReplyExecView) → ActorView → ActorView → Type 0
+abbrev pub RanFirst : {S : Type 0} → List RepliesView → List (Endpoint ReplyExecView) → LiveView S → LiveView S →
+    Type 0
 RanFirst lines endpoints old new = (at : ℕ) × (position (has_next lines old) endpoints ≡ Some at) × (item : RunItem)
     × (new.log ≡ old.log ++ item ∷ [])
     × ((endpoint : Endpoint ReplyExecView) → item.caller ≡ caller_at lines (slice_index_or endpoints at endpoint).place)
@@ -208,12 +214,14 @@ pub record IsTracedSoFar (a : ℕ) (lines : List RepliesView) (log : List RunIte
   pub no_retirement : list_any is_retirement (steps_in trace) ≡ false
 
 -- an actor that was traced so far is traced so far after it went on
-abbrev pub KeepsTrace : List RepliesView → ActorView → ActorView → ExecPasses → ExecPasses → Type 0
+abbrev pub KeepsTrace : {S : Type 0} → List RepliesView → LiveView S → LiveView S → ExecPasses → ExecPasses →
+    Type 0
 KeepsTrace lines old new before after = IsTracedSoFar old.id lines old.log before
     → IsTracedSoFar new.id lines new.log after
 
 -- the same of an actor that served some callers and did not terminate
-abbrev pub TracesTurn : List RepliesView → ActorView → ActorView → ExecPasses → ExecPasses → Type 0
-TracesTurn lines old new before after = (opening : KindState) (callers : List ℕ) →
-    IsServing opening callers lines before.letters.taken old before.notices.items →
+abbrev pub TracesTurn : {S : Type 0} → (S → KindState) → List RepliesView → LiveView S → LiveView S → ExecPasses →
+    ExecPasses → Type 0
+TracesTurn read lines old new before after = (opening : KindState) (callers : List ℕ) →
+    IsServing read opening callers lines before.letters.taken old before.notices.items →
     has_terminated old.log ≡ false → KeepsTrace lines old new before after

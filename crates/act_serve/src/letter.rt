@@ -6,7 +6,6 @@ ghost use Rattle.act_types.specs.KindState.{KindState};
 ghost use Rattle.act_mailbox.specs.declared.mail.Letter.{Letter};
 ghost use Rattle.act_mailbox.specs.declared.mail.Letter.TheVariants.{Call};
 ghost use Rattle.act_actor.specs.Actor.{RunsAtOnce, with_packet};
-ghost use Rattle.act_actor.specs.StateViews.{live_view};
 ghost use Rattle.act_serve.specs.Turns.{EndpointsFit, EndpointsStay, TakesLetters, HasReplied, ActorGoesOn, IsFed, IsIn, IsServing, KeepsServing, HasCome, KeepsTrace, TracesTurn, is_endpoint_of};
 ghost use Rattle.act_serve.specs.declared.letter.Received.TheVariants.{Nothing};
 
@@ -30,11 +29,10 @@ pub(crate) enum Received {
 
 /// Has a call arrive.
 fn hold<K: Actor>(live: &mut Live<K>, packet: Packet) -> Result<(), NoMemory>
-    ensures same { let after = live_view K.state live.new in
-        after ≡ record (live_view K.state live.old) { inbox = after.inbox } }
-    ensures came { OnOk result (IsIn (Call packet) (live_view K.state live.old) (live_view K.state live.new)) }
-    ensures fed { (callers : List ℕ) (letters : List Letter) → IsFed callers letters (live_view K.state live.old) →
-        IsFed callers (letters ++ Call packet ∷ []) (live_view K.state live.new) }
+    ensures same { live.new ≡ record live.old { inbox = live.new.inbox } }
+    ensures came { OnOk result (IsIn (Call packet) live.old live.new) }
+    ensures fed { (callers : List ℕ) (letters : List Letter) →
+        IsFed callers letters live.old → IsFed callers (letters ++ Call packet ∷ []) live.new }
 {
     match live.arrive(packet) {
         Ok(_) => Ok(()),
@@ -67,8 +65,7 @@ fn endpoint_at_once<K: Actor>(
     packet: &Packet,
 ) -> Option<usize>
     requires { All (λ endpoint. endpoint.place < length replies.now) notices.now }
-    ensures at_once { let now = live_view K.state live.now in
-        IfSome result (λ _. RunsAtOnce packet.now now.id now.log now.inbox) }
+    ensures at_once { IfSome result (λ _. RunsAtOnce packet.now live.now.id live.now.log live.now.inbox) }
     ensures endpoint { IfSome result (λ at.
         position (is_endpoint_of replies.now packet.now.caller) notices.now ≡ Some at) }
 {
@@ -81,11 +78,11 @@ fn endpoint_at_once<K: Actor>(
 
 /// Runs a call at once, for which the gate was passed.
 fn run_now<K: Actor>(live: &mut Live<K>, packet: Packet, passed: Passed) -> Result<Reply, NoMemory>
-    requires passed { passed.place ≡ length (live_view K.state live.old).log }
-    requires at_once { let before = live_view K.state live.old in RunsAtOnce packet before.id before.log before.inbox }
+    requires passed { passed.place ≡ length live.old.log }
+    requires at_once { RunsAtOnce packet live.old.id live.old.log live.old.inbox }
     ensures ran { IfOk result (λ reply.
-        HasReplied packet.caller reply (with_packet packet (live_view K.state live.old)) (live_view K.state live.new)) }
-    ensures err { OnErr result (live_view K.state live.new ≡ live_view K.state live.old) }
+        HasReplied K.state packet.caller reply (with_packet packet live.old) live.new) }
+    ensures err { OnErr result (live.new ≡ live.old) }
 {
     let _ = passed;
     live.run_now(packet)
@@ -102,23 +99,23 @@ fn take_call<R: Wait, K: Actor, F: Fn(ActorId, u32), N: Notes>(
     notes: &mut N,
 ) -> Result<Received, NoMemory>
     requires callable { F.IsAlwaysCallable pass.now }
-    requires fit { EndpointsFit replies.now (live_view K.state live.old) passes.old }
-    ensures endpoints { EndpointsStay replies.now (live_view K.state live.new) passes.old passes.new }
-    ensures on { ActorGoesOn (live_view K.state live.old) (live_view K.state live.new) }
+    requires fit { EndpointsFit replies.now live.old passes.old }
+    ensures endpoints { EndpointsStay replies.now live.new passes.old passes.new }
+    ensures on { ActorGoesOn live.old live.new }
     ensures taken { (passes.new.letters ≡ passes.old.letters) × (passes.new.kills ≡ passes.old.kills) }
     ensures came { (letters : List Letter) →
         IfOk result (λ came.
         HasCome came letters (letters ++ Call packet ∷ []) passes.old.notices.items passes.new.notices.items
-        (live_view K.state live.old) (live_view K.state live.new)) }
-    ensures err { OnErr result ((live_view K.state live.new).log ≡ (live_view K.state live.old).log) }
+        live.old live.new) }
+    ensures err { OnErr result (live.new.log ≡ live.old.log) }
     ensures serving { (opening : KindState) (callers : List ℕ) (letters : List Letter) →
-        IsServing opening callers replies.now letters (live_view K.state live.old) passes.old.notices.items →
-        IsServing opening callers replies.now (letters ++ Call packet ∷ [])
-        (live_view K.state live.new) passes.new.notices.items }
+        IsServing K.state opening callers replies.now letters live.old passes.old.notices.items →
+        IsServing K.state opening callers replies.now (letters ++ Call packet ∷ [])
+        live.new passes.new.notices.items }
     ensures traced { (opening : KindState) (callers : List ℕ) (letters : List Letter) →
-        IsServing opening callers replies.now letters (live_view K.state live.old) passes.old.notices.items →
+        IsServing K.state opening callers replies.now letters live.old passes.old.notices.items →
         letters ++ Call packet ∷ [] ≡ passes.old.letters.taken →
-        KeepsTrace replies.now (live_view K.state live.old) (live_view K.state live.new) passes.old passes.new }
+        KeepsTrace replies.now live.old live.new passes.old passes.new }
 {
     let Some(at) = endpoint_at_once(live, replies, passes.notices.as_slice(), &packet) else {
         hold(live, packet)?;
@@ -142,18 +139,18 @@ pub(crate) fn take_letter<R: Wait, K: Actor, F: Fn(ActorId, u32), N: Notes>(
 ) -> Result<Received, NoMemory>
     requires callable { F.IsAlwaysCallable pass.now }
     requires mail { passes.old.letters.line ≡ lines.now.mail.now.line }
-    requires fit { EndpointsFit lines.now.replies.now (live_view K.state live.old) passes.old }
+    requires fit { EndpointsFit lines.now.replies.now live.old passes.old }
     ensures passes { TakesLetters passes.old passes.new }
     ensures still { IfOk result (λ came. came ≡ Nothing → passes.new.letters ≡ passes.old.letters) }
-    ensures endpoints { EndpointsStay lines.now.replies.now (live_view K.state live.new) passes.old passes.new }
-    ensures on { ActorGoesOn (live_view K.state live.old) (live_view K.state live.new) }
+    ensures endpoints { EndpointsStay lines.now.replies.now live.new passes.old passes.new }
+    ensures on { ActorGoesOn live.old live.new }
     ensures came { IfOk result (λ came.
         HasCome came passes.old.letters.taken passes.new.letters.taken passes.old.notices.items passes.new.notices.items
-        (live_view K.state live.old) (live_view K.state live.new)) }
-    ensures err { OnErr result ((live_view K.state live.new).log ≡ (live_view K.state live.old).log) }
-    ensures serving { KeepsServing lines.now.replies.now (live_view K.state live.old) (live_view K.state live.new)
+        live.old live.new) }
+    ensures err { OnErr result (live.new.log ≡ live.old.log) }
+    ensures serving { KeepsServing K.state lines.now.replies.now live.old live.new
         passes.old passes.new }
-    ensures traced { TracesTurn lines.now.replies.now (live_view K.state live.old) (live_view K.state live.new)
+    ensures traced { TracesTurn K.state lines.now.replies.now live.old live.new
         passes.old passes.new }
 {
     match lines.mail.try_take(&mut passes.letters) {

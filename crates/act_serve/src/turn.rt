@@ -4,7 +4,6 @@ ghost use Rattle.std.specs.Prelude.{◌≡◌, ℕ, ◌+◌, ◌<◌, ◌≤◌,
 ghost use Rattle.act_types.specs.KindState.{KindState};
 ghost use Rattle.act_mailbox.specs.declared.mail.Letter.{Letter};
 ghost use Rattle.act_actor.specs.Actor.{next_call};
-ghost use Rattle.act_actor.specs.StateViews.{live_view};
 ghost use Rattle.act_rules.specs.Consistent.{IsPrefix};
 ghost use Rattle.act_rules.specs.RunList.{has_terminated};
 ghost use Rattle.act_types.specs.declared.call.Notice.TheVariants.{Answered};
@@ -65,14 +64,13 @@ pub(crate) fn give_reply<S: Stamped, R: Wait, K: Actor>(
     reply: Reply,
 )
     requires at { at < length passes.old.notices.items }
-    requires endpoints { let now = live_view K.state live.now in
-        All (IsAtItsEndpoint replies.now now.id now.log) passes.old.notices.items }
-    requires actor { reply.actor ≡ (live_view K.state live.now).id }
-    requires place { NamesPlace (live_view K.state live.now).log (Answered reply) }
+    requires endpoints { All (IsAtItsEndpoint replies.now live.now.id live.now.log) passes.old.notices.items }
+    requires actor { reply.actor ≡ live.now.id }
+    requires place { NamesPlace live.now.log (Answered reply) }
     ensures taken { (passes.new.letters ≡ passes.old.letters) × (passes.new.kills ≡ passes.old.kills) }
     ensures given { (endpoint : Endpoint ReplyExecView) → endpoint ≡ get_or passes.old.notices.items at endpoint →
         passes.new.notices.items ≡ slice_set passes.old.notices.items at
-        (replied_to (live_view K.state live.now).log reply S.stamp endpoint) }
+        (replied_to live.now.log reply S.stamp endpoint) }
 {
     let endpoint = &mut passes.notices[at];
     give::<S, R>(
@@ -91,7 +89,7 @@ fn next_endpoint<K: Actor>(
     notices: &[Endpoint<ReplyExec>],
 ) -> Option<usize>
     requires { All (λ endpoint. endpoint.place < length replies.now) notices.now }
-    ensures { result ≡ position (has_next replies.now (live_view K.state live.now)) notices.now }
+    ensures { result ≡ position (has_next replies.now live.now) notices.now }
 {
     if live.holds_none() {
         return None;
@@ -111,15 +109,13 @@ fn run_next<K: Actor>(
     caller: CallerId,
     passed: Passed,
 ) -> Result<Option<Reply>, NoMemory>
-    requires { passed.place ≡ length (live_view K.state live.old).log }
+    requires { passed.place ≡ length live.old.log }
     ensures ran { IfOk result (λ reply.
-        IfSome reply (λ reply. HasReplied caller reply (live_view K.state live.old) (live_view K.state live.new))) }
-    ensures none { IfOk result (λ reply. IfNone reply (live_view K.state live.new ≡ live_view K.state live.old)) }
-    ensures next { let before = live_view K.state live.old in
-        IfOk result (λ reply. is_some reply ≡ is_some (next_call before.log before.inbox caller)) }
-    ensures memory_last { let before = live_view K.state live.old in
-        OnErr result (IsSome (next_call before.log before.inbox caller)) }
-    ensures err { OnErr result (live_view K.state live.new ≡ live_view K.state live.old) }
+        IfSome reply (λ reply. HasReplied K.state caller reply live.old live.new)) }
+    ensures none { IfOk result (λ reply. IfNone reply (live.new ≡ live.old)) }
+    ensures next { IfOk result (λ reply. is_some reply ≡ is_some (next_call live.old.log live.old.inbox caller)) }
+    ensures memory_last { OnErr result (IsSome (next_call live.old.log live.old.inbox caller)) }
+    ensures err { OnErr result (live.new ≡ live.old) }
 {
     let _ = passed;
     live.run(caller)
@@ -135,21 +131,20 @@ fn run_one<R: Wait, K: Actor, F: Fn(ActorId, u32), N: Notes>(
     notes: &mut N,
 ) -> Result<bool, NoMemory>
     requires callable { F.IsAlwaysCallable pass.now }
-    requires fit { EndpointsFit replies.now (live_view K.state live.old) passes.old }
-    ensures endpoints { EndpointsStay replies.now (live_view K.state live.new) passes.old passes.new }
-    ensures on { ActorGoesOn (live_view K.state live.old) (live_view K.state live.new) }
+    requires fit { EndpointsFit replies.now live.old passes.old }
+    ensures endpoints { EndpointsStay replies.now live.new passes.old passes.new }
+    ensures on { ActorGoesOn live.old live.new }
     ensures taken { (passes.new.letters ≡ passes.old.letters) × (passes.new.kills ≡ passes.old.kills) }
-    ensures gone { IfOk result (λ ran. HasGone ran replies.now passes.old.notices.items (live_view K.state live.old)
-        (live_view K.state live.new)) }
-    ensures first { IfOk result (λ ran. ran ≡ true → RanFirst replies.now passes.old.notices.items
-        (live_view K.state live.old) (live_view K.state live.new)) }
-    ensures err { OnErr result (live_view K.state live.new ≡ live_view K.state live.old) }
+    ensures gone { IfOk result (λ ran. HasGone ran replies.now passes.old.notices.items live.old live.new) }
+    ensures first { IfOk result (λ ran.
+        ran ≡ true → RanFirst replies.now passes.old.notices.items live.old live.new) }
+    ensures err { OnErr result (live.new ≡ live.old) }
     ensures serving { (opening : KindState) (callers : List ℕ) (letters : List Letter) →
-        IsServing opening callers replies.now letters (live_view K.state live.old) passes.old.notices.items →
-        IsServing opening callers replies.now letters (live_view K.state live.new) passes.new.notices.items }
+        IsServing K.state opening callers replies.now letters live.old passes.old.notices.items →
+        IsServing K.state opening callers replies.now letters live.new passes.new.notices.items }
     ensures traced { (opening : KindState) (callers : List ℕ) →
-        IsServing opening callers replies.now passes.old.letters.taken (live_view K.state live.old)
-        passes.old.notices.items → KeepsTrace replies.now (live_view K.state live.old) (live_view K.state live.new)
+        IsServing K.state opening callers replies.now passes.old.letters.taken live.old
+        passes.old.notices.items → KeepsTrace replies.now live.old live.new
         passes.old passes.new }
 {
     let Some(at) = next_endpoint(live, replies, passes.notices.as_slice()) else {
@@ -187,19 +182,18 @@ fn take_turn<R: Wait, K: Actor, F: Fn(ActorId, u32), N: Notes>(
 ) -> Turn
     requires callable { F.IsAlwaysCallable pass.now }
     requires mail { passes.old.letters.line ≡ lines.now.mail.now.line }
-    requires fit { EndpointsFit lines.now.replies.now (live_view K.state live.old) passes.old }
+    requires fit { EndpointsFit lines.now.replies.now live.old passes.old }
     ensures passes { TakesLetters passes.old passes.new }
-    ensures endpoints { EndpointsStay lines.now.replies.now (live_view K.state live.new) passes.old passes.new }
-    ensures on { ActorGoesOn (live_view K.state live.old) (live_view K.state live.new) }
-    ensures moved { result ≡ Moved → length passes.old.letters.taken + length
-        (live_view K.state live.old).log < length passes.new.letters.taken + length (live_view K.state live.new).log }
-    ensures starved { result ≡ Starved → (live_view K.state live.new).log ≡ (live_view K.state live.old).log }
+    ensures endpoints { EndpointsStay lines.now.replies.now live.new passes.old passes.new }
+    ensures on { ActorGoesOn live.old live.new }
+    ensures moved { result ≡ Moved →
+        length passes.old.letters.taken + length live.old.log < length passes.new.letters.taken + length live.new.log }
+    ensures starved { result ≡ Starved → live.new.log ≡ live.old.log }
     ensures idle { result ≡ Idle → (passes.new.letters ≡ passes.old.letters) ×
-        HasGone false lines.now.replies.now passes.old.notices.items (live_view K.state live.old)
-        (live_view K.state live.new) }
-    ensures serving { KeepsServing lines.now.replies.now (live_view K.state live.old) (live_view K.state live.new)
+        HasGone false lines.now.replies.now passes.old.notices.items live.old live.new }
+    ensures serving { KeepsServing K.state lines.now.replies.now live.old live.new
         passes.old passes.new }
-    ensures traced { TracesTurn lines.now.replies.now (live_view K.state live.old) (live_view K.state live.new)
+    ensures traced { TracesTurn K.state lines.now.replies.now live.old live.new
         passes.old passes.new }
 {
     match take_letter(rt, live, lines, passes, pass, notes) {
@@ -224,19 +218,19 @@ fn is_over<R: Wait, K: Actor>(
     kills: &mut ControlExec,
 ) -> bool
     requires line { kills.old.line ≡ control.now.line }
-    requires actor { (live_view K.state live.now).id ≡ kills.old.actor }
+    requires actor { live.now.id ≡ kills.old.actor }
     requires untaken { IsUntaken kills.old }
-    requires looked { length (live_view K.state live.now).log ≤ kills.old.looked }
+    requires looked { length live.now.log ≤ kills.old.looked }
     ensures pass { kills.new ≡ record kills.old {
       taken = kills.new.taken;
       stamps = kills.new.stamps;
       lengths = kills.new.lengths;
       looked = kills.new.looked;
     } }
-    ensures looked { length (live_view K.state live.now).log ≤ kills.new.looked }
-    ensures told { HasLooked result (live_view K.state live.now).log kills.old kills.new }
-    ensures ended { has_terminated (live_view K.state live.now).log ≡ true → kills.new ≡ kills.old }
-    ensures stamped { has_terminated (live_view K.state live.now).log ≡ false → result ≡ true →
+    ensures looked { length live.now.log ≤ kills.new.looked }
+    ensures told { HasLooked result live.now.log kills.old kills.new }
+    ensures ended { has_terminated live.now.log ≡ true → kills.new ≡ kills.old }
+    ensures stamped { has_terminated live.now.log ≡ false → result ≡ true →
         (n : ℕ) × (kills.new.stamps ≡ kills.old.stamps ++ n ∷ []) }
 {
     live.terminated() || control.take(rt, kills, live).is_some()
@@ -285,10 +279,10 @@ pub fn serve_by<R: Wait, K: Actor, F: Fn(ActorId, u32), N: Notes>(
     notes: &mut N,
 ) -> Finished<K>
     requires callable { F.IsAlwaysCallable pass.now }
-    requires passes { let now = live_view K.state live in PassesOf lines.now now.id now.log passes }
-    requires fresh { IsFreshExec lines.now.replies.now (live_view K.state live) passes }
-    ensures { let now = live_view K.state live in
-        HasServed now.state now.id lines.now.replies.now passes (end_view K.state result.ended) result.passes }
+    requires passes { PassesOf lines.now live.id live.log passes }
+    requires fresh { IsFreshExec lines.now.replies.now live passes }
+    ensures { HasServed (K.state live.state) live.id lines.now.replies.now passes (end_view K.state result.ended)
+        result.passes }
 {
     let mut idle_backoff = IdleBackoff::new();
     for _ in rt.forever() {
@@ -337,10 +331,10 @@ pub fn serve<R: Wait, K: Actor, G: Gate>(
     passes: ExecPasses,
     gate: &G,
 ) -> Finished<K>
-    requires passes { let now = live_view K.state live in PassesOf lines.now now.id now.log passes }
-    requires fresh { IsFreshExec lines.now.replies.now (live_view K.state live) passes }
-    ensures { let now = live_view K.state live in
-        HasServed now.state now.id lines.now.replies.now passes (end_view K.state result.ended) result.passes }
+    requires passes { PassesOf lines.now live.id live.log passes }
+    requires fresh { IsFreshExec lines.now.replies.now live passes }
+    ensures { HasServed (K.state live.state) live.id lines.now.replies.now passes (end_view K.state result.ended)
+        result.passes }
 {
     serve_by(
         rt,
@@ -375,7 +369,7 @@ pub(crate) struct Passed {
 /// Passes the gate for the next run.
 pub(crate) fn pass_gate<K: Actor, F: Fn(ActorId, u32)>(live: &Live<K>, pass: &F) -> Passed
     requires { F.IsAlwaysCallable pass.now }
-    ensures { result.place ≡ length (live_view K.state live.now).log }
+    ensures { result.place ≡ length live.now.log }
 {
     let place = live.log().len();
     pass(live.id(), place as u32);

@@ -1,7 +1,7 @@
 //! One call without a world: whoever holds the caller and the actor carries what goes between them.
 
 ghost use Rattle.std.specs.Prelude.{◌≡◌, [], ◌∷◌, Some, IfOk, OnOk};
-ghost use Rattle.actors.specs.Actors.{after_item, item_of, live_view};
+ghost use Rattle.actors.specs.Actors.{after_item, item_of};
 ghost use Rattle.actors.specs.Callers.{kept_at, open_owner};
 ghost use Rattle.act_uses.specs.OneCall.{asking_owner, question, step_of_question};
 
@@ -59,7 +59,7 @@ fn run_call<K: Actor>(alloc: Global, kind: K, packet: Packet) -> Result<(Live<K>
     requires actor { packet.actor ≡ 1 }
     requires first { packet.number ≡ 0 }
     ensures state { IfOk result (λ ran.
-        (live_view K.state ran.0).state ≡ (after_item (K.state kind) (item_of packet)).0) }
+        K.state ran.0.state ≡ (after_item (K.state kind) (item_of packet)).0) }
     ensures reply { IfOk result (λ ran. ran.1 ≡
         record {
           actor = 1;
@@ -91,7 +91,7 @@ pub fn ask_once<K: Actor>(
     ensures answer { IfOk result (λ heard.
         kept_at heard.owner.kept 0 ≡ Some (step_of_question (K.state kind) method value).1) }
     ensures state { IfOk result (λ heard.
-        (live_view K.state heard.live).state ≡ (step_of_question (K.state kind) method value).0) }
+        K.state heard.live.state ≡ (step_of_question (K.state kind) method value).0) }
 {
     let (mut owner, packet) = send_call(alloc, method, value)?;
     let (live, reply) = run_call(alloc, kind, packet)?;

@@ -1,7 +1,8 @@
 -- How a world goes on where one of its actors changes, or nothing does.
-use Rattle.std.proofs.Common.{◌≡◌, ◌≢◌, ℕ, ◌<◌, ◌++◌, ◌∷◌, [], true, false, List, length, map, arith, length-append, get_or, Some, None, inl, inr, refl, ap, sym, ◌∙◌, subst}
+use Rattle.std.proofs.Common.{◌≡◌, ◌≢◌, ℕ, ◌+◌, ◌<◌, ◌≤◌, ◌++◌, ◌∷◌, [], true, false, List, length, map, arith, length-append, get_or, Some, None, inl, inr, refl, ap, sym, ◌∙◌, subst}
 use Rattle.std.specs.Prelude.{Option, Result, Ok, Err, OnErr, IfOk, IsErrAnd, IfNone, slice_get, slice_set, option_map}
 use Rattle.std.proofs.lemmas.Bool.Decides.{eqb_tells}
+use Rattle.std.proofs.lemmas.List.{set-get_or}
 use Rattle.std.proofs.lemmas.Option.{slice_get-map, slice_get-get_or, get_or_from_slice_get}
 use Rattle.act_rules.specs.declared.event.Event.{Event}
 use Rattle.act_rules.specs.declared.outcome.Did.{Did}
@@ -12,7 +13,7 @@ use Rattle.act_world.specs.declared.network.MailEntry.{MailEntry}
 use Rattle.act_world.specs.declared.network.Posted.{Posted}
 use Rattle.act_world.specs.Network.{NetworkView}
 use Rattle.act_world.specs.IsReachedBy.{IsGrown}
-use Rattle.act_world.specs.View.{SlotView, Runs, Died, Ended, Vacant, WorldView}
+use Rattle.act_world.specs.View.{SlotView, Runs, Died, Ended, Vacant, WorldOf, WorldView}
 use Rattle.act_world.specs.Slots.{is_live_slot}
 use Rattle.act_world.specs.Refines.{IsStage, Refines}
 use Rattle.act_world.proofs.Lists.{get_set-same, get_set-other}
@@ -49,11 +50,11 @@ no_ok (Err error) P Q is = tt
 pub grown_none : (network : NetworkView) → IsGrown network network
 grown_none network = omega arith
 
-pub grown_reply : (network : NetworkView) (replies : List Posted) (notice : Posted) → replies ≡ network.replies ++ notice ∷ [] → IsGrown network (record network { replies = replies })
-grown_reply network replies notice is = omega (arith, ap (λ (all : List Posted). length all) is, length-append network.replies (notice ∷ []))
+pub grown_reply : (mail : List MailEntry) (old new : List Posted) (notice : Posted) → new ≡ old ++ notice ∷ [] → length mail + length new ≤ length mail + length old + 1
+grown_reply mail old new notice is = omega (arith, ap (λ (all : List Posted). length all) is, length-append old (notice ∷ []))
 
-pub grown_letter : (network : NetworkView) (mail : List MailEntry) (letter : MailEntry) → mail ≡ network.mail ++ letter ∷ [] → IsGrown network (record network { mail = mail })
-grown_letter network mail letter is = omega (arith, ap (λ (all : List MailEntry). length all) is, length-append network.mail (letter ∷ []))
+pub grown_letter : (old new : List MailEntry) (replies : List Posted) (letter : MailEntry) → new ≡ old ++ letter ∷ [] → length new + length replies ≤ length old + length replies + 1
+grown_letter old new replies letter is = omega (arith, ap (λ (all : List MailEntry). length all) is, length-append old (letter ∷ []))
 
 -- ---- slots
 
@@ -97,3 +98,7 @@ slot_there {S = S} f slots h a x all cast is = slice_get-map f slots a ∙ ap (o
 -- the slot of an actor, in a list that is long enough
 pub slot_within : {S : Type 0} (f : S → SlotView) (slots : List S) (a : ℕ) (x : S) → a < length slots → x ≡ get_or slots a x → slice_get (map f slots) a ≡ Some (f x)
 slot_within {S = S} f slots a x within is = slice_get-map f slots a ∙ ap (option_map f) (slice_get-get_or slots a x within) ∙ ap (λ (y : S). Some (f y)) (sym is)
+
+-- where the slot of an actor is as it was, the world is
+pub slot_kept : {S : Type 0} (network : NetworkView) (slots : List S) (a : ℕ) (d new : S) → new ≡ get_or slots a d → ◌≡◌ {A = WorldOf S} (record { network = network; slots = slice_set slots a new }) (record { network = network; slots = slots })
+slot_kept {S = S} network slots a d new same = ap (λ (l : List S). record { network = network; slots = l }) (ap (slice_set slots a) same ∙ set-get_or slots a d)

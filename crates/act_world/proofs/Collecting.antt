@@ -1,8 +1,9 @@
 -- A notice that its caller collects.
-use Rattle.std.proofs.Common.{◌≡◌, ◌≢◌, ℕ, ◌<◌, Bool, true, false, cond, List, length, Some, None, refl, ap, sym, ◌∙◌, subst, Ok}
-use Rattle.std.specs.Prelude.{Option, zip, count_by, slice_get, slice_set, position, option_map, option_and_then, is_some, is_none}
+use Rattle.std.proofs.Common.{◌≡◌, ◌≢◌, ℕ, ◌<◌, Bool, true, false, cond, List, length, Some, None, refl, ap, sym, ◌∙◌, subst, Ok, Err}
+use Rattle.std.specs.Prelude.{Option, OnErr, zip, count_by, slice_get, slice_set, position, option_map, option_and_then, is_some, is_none}
 use Rattle.std.proofs.lemmas.List.Quantifiers.{position-Some}
 use Rattle.std.proofs.lemmas.Option.{slice_get-get_or}
+use Rattle.std.proofs.lemmas.Result.{on_err_weaker}
 use Rattle.act_types.specs.declared.call.Notice.{Notice}
 use Rattle.act_types.specs.declared.call.Reply.{Reply}
 use Rattle.act_types.specs.declared.call.Notice.TheVariants.{Answered, Death}
@@ -13,6 +14,7 @@ use Rattle.act_rules.specs.declared.history.Post.TheVariants.{Reply as ReplyPost
 use Rattle.act_rules.specs.declared.outcome.Did.TheVariants.{Kept as DidKeep, Late as DidLate}
 use Rattle.act_rules.specs.RunList.{Answer}
 use Rattle.act_rules.specs.declared.outcome.WorldRefusal.TheVariants.{NoReply}
+use Rattle.act_rules.specs.Laws.{history}
 use Rattle.act_rules.specs.Submissions.{needs, kept_at}
 use Rattle.act_rules.specs.History.{History, is_caller, runs_of, kept_of, answer_of}
 use Rattle.act_rules.specs.Rules.{Outcome, did_reply, did_collect, outcome_by, outcome_of, after}
@@ -21,19 +23,24 @@ use Rattle.act_rules.proofs.Posts.{IsSoundPost}
 use Rattle.act_handles.specs.Handles.{copies_in}
 use Rattle.act_owner.specs.declared.owner.Collected.{Collected}
 use Rattle.act_owner.specs.declared.owner.Collected.TheVariants.{First, Late, Stray, Died}
-use Rattle.act_owner.specs.Owner.{OwnerView, collect_result, after_collect, after_reply_that, call_waits_for, KnowsDeath}
+use Rattle.act_owner.specs.Owner.{OwnerView, collected_reply, collect_result, after_collect, after_reply_that, with_death, call_waits_for, pending, KnowsDeath}
 use Rattle.act_world.specs.declared.network.Posted.{Posted}
 use Rattle.act_world.specs.Network.{NetworkView, is_owner, IsReplyNotice, told_collected}
+use Rattle.act_world.specs.IsReachedBy.{is_memory, IsUnrefusedThere}
 use Rattle.act_world.specs.Memory.{takes_memory}
+use Rattle.act_world.specs.Steps.{StepsThere}
 use Rattle.act_world.specs.View.{SlotView}
 use Rattle.act_world.specs.Refines.{reply_as, reply_at, posted_notice, Refines}
-use Rattle.act_world.proofs.Lawful.{IsLawful, IsNamedPost, named_caller}
+use Rattle.act_world.proofs.Changes.{refused_follows, grown_none}
+use Rattle.act_world.proofs.Lawful.{IsLawful, IsNamedPost, named_caller, world_lawful}
 use Rattle.act_world.proofs.Frames.{owner_absent}
 use Rattle.act_world.proofs.Sending.{SeesOwner}
-use Rattle.act_world.proofs.Heard.{caller_of, Collects}
+use Rattle.act_world.proofs.Stepping.{FollowsThere}
+use Rattle.act_world.proofs.Heard.{caller_of, Collects, collect_unrefused}
+use Rattle.act_world.proofs.OneCaller.{put_back}
 use Rattle.act_world.proofs.Bereaved.{death_collects}
 use Rattle.act_world.proofs.Answering.{reply_collects}
-use Rattle.act_world.proofs.Lists.{set-same}
+use Rattle.act_world.proofs.Lists.{set-same, none_alike}
 
 -- ---- each notice
 
@@ -167,3 +174,50 @@ reply_takes h network slots j place notice owner lawful refines e sees reply oth
     by_kind (DeathPost c a) at is =
         let same : ◌≡◌ {A = Posted} (record { caller = c; notice = Death a }) notice = cc in
         absurd (subst (λ (p : Posted). IsReplyNotice p.notice) (sym same) reply)
+
+-- ---- the event as the network sees it
+
+-- there is no notice at this place
+pub no_notice_follows : (network : NetworkView) (j : ℕ) → None ≡ slice_get network.replies j → FollowsThere (Collect j) network network (Err NoReply)
+no_notice_follows network j none slots casts before refines =
+    let h = history casts before in
+    let none_there : slice_get h.posts j ≡ None = none_alike network.replies h.posts j none refines.reply_count in
+    refused_follows h (Collect j) NoReply _ (ap (λ (o : Option Post). needs (is_some o) NoReply None) none_there) refines
+
+-- nothing refuses to hand a notice over
+pub notice_unrefused : (network : NetworkView) (j : ℕ) (notice : Posted) → Some notice ≡ slice_get network.replies j → IsUnrefusedThere (Collect j) network
+notice_unrefused network j notice here slots casts before refines =
+    let found = has_post (history casts before) network slots j notice refines (sym here) in
+    collect_unrefused (history casts before) j found.post found.at
+
+-- a stray notice leaves its caller as it was
+stray_same : (to : ℕ) (owner : OwnerView) (notice : Notice) → OnErr (told_collected to (collect_result owner notice)) (after_collect owner notice ≡ owner)
+stray_same to owner (Answered reply) = go (collected_reply owner reply)
+  where
+    go : (what : Collected) → OnErr (told_collected to what) (after_reply_that what owner reply ≡ owner)
+    go (First k) = tt
+    go (Late k) = tt
+    go (Died count) = tt
+    go Stray = refl
+stray_same to owner (Death a) = go (is_some (copies_in a owner.handles))
+  where
+    go : (listed : Bool) → OnErr (told_collected to (cond listed (Died (pending owner a)) Stray)) (cond listed (with_death owner a) owner ≡ owner)
+    go true = tt
+    go false = refl
+
+-- a copy of the notice was handed over, and its caller is put back as the notice left it
+pub collected : (network : NetworkView) (j place : ℕ) (notice : Posted) (copy : Notice) (owner new : OwnerView) (what : Collected) (told : Outcome) → Some notice ≡ slice_get network.replies j
+    → SeesOwner network notice.caller place owner → copy ≡ notice.notice → what ≡ collect_result owner copy → new ≡ after_collect owner copy → KnowsDeath copy owner new
+    → told ≡ told_collected notice.caller what → is_memory told ≡ false → StepsThere (Collect j) network (record network { owners = slice_set network.owners place new }) (Ok told)
+collected network j place notice copy owner new what told here sees copied what_is new_is knows told_is rules slots = record {
+  ok = λ casts before refines. collect_follows (history casts before) network slots j notice (world_lawful casts before) refines (sym here) place owner new told sees
+      (told_is ∙ ap (told_collected notice.caller) (what_is ∙ ap (collect_result owner) copied)) (new_is ∙ ap (after_collect owner) copied)
+      (subst (λ (one : Notice). KnowsDeath one owner new) copied knows);
+  told = rules;
+  refused = on_err_weaker told (λ same. put_back network place owner new sees.owner_is (new_is ∙ same))
+      (subst (λ (outcome : Outcome). OnErr outcome (after_collect owner copy ≡ owner)) (sym (told_is ∙ ap (told_collected notice.caller) what_is)) (stray_same notice.caller owner copy));
+  grown = grown_none network;
+  memory_last = tt;
+  memory = tt;
+  err = tt;
+}

@@ -23,7 +23,7 @@ use Rattle.act_world.specs.Refines.{Refines, IsOwnerOf}
 use Rattle.act_world.proofs.Changes.{refused_follows, accepted_follows}
 use Rattle.act_world.proofs.Lawful.{IsLawful}
 use Rattle.act_world.proofs.Frames.{SameCaller, owners_change, mail_stays}
-use Rattle.act_world.proofs.OneCaller.{needs_holds, or_else-Ok, or_else-Err, IsHere, caller_here, written_back, callers_tie, sent_stays, times-same, times-other_caller, times-other_actor}
+use Rattle.act_world.proofs.OneCaller.{needs_holds, or_else-Ok, or_else-Err, IsHere, caller_here, callers_tie, sent_stays, times-same, times-other_caller, times-other_actor}
 
 -- a copy is refused as the handles say
 copy_refused : (h : History) (c a : ℕ) (owner : OwnerView) (refusal : Option HandleRefusal) → IsHere h c owner → copy_refusal (copies_in a owner.handles) ≡ refusal → refusal_of h (Copy c a) ≡ option_map Handle refusal
@@ -89,10 +89,9 @@ copy_follows h old slots c a place copies owner new lawful refines at owner_is t
     (owners_change h (add_event h (Copy c a)) old.owners c place new refl refines.owners at now (λ d apart. others_stay h c a d lawful apart))
     (mail_stays h (add_event h (Copy c a)) old.mail lawful (added_grows h (Copy c a)) refines.mail) refines.mail_count refl refines.asked)
 
-pub copy_refused_follows : (h : History) (old : NetworkView) (slots : List SlotView) (c a place : ℕ) (refusal : HandleRefusal) (owner new : OwnerView) → Refines h (record { network = old; slots = slots })
-    → position (is_owner c) old.owners ≡ Some place → owner ≡ get_or old.owners place owner → Err refusal ≡ copy_answer a owner.handles → new ≡ owner
-    → (Err (Handle refusal) ≡ outcome_of h (Copy c a)) × Refines (after h (Copy c a)) (record { network = record old { owners = slice_set old.owners place new }; slots = slots })
-copy_refused_follows h old slots c a place refusal owner new refines at owner_is told new_is =
+pub copy_refused_follows : (h : History) (old : NetworkView) (slots : List SlotView) (c a place : ℕ) (refusal : HandleRefusal) (owner : OwnerView) → Refines h (record { network = old; slots = slots })
+    → position (is_owner c) old.owners ≡ Some place → owner ≡ get_or old.owners place owner → Err refusal ≡ copy_answer a owner.handles
+    → (Err (Handle refusal) ≡ outcome_of h (Copy c a)) × Refines (after h (Copy c a)) (record { network = old; slots = slots })
+copy_refused_follows h old slots c a place refusal owner refines at owner_is told =
     let here = caller_here h old slots c place owner refines at owner_is in
-    refused_follows h (Copy c a) (Handle refusal) _ (copy_refused h c a owner (Some refusal) here (or_else-Err (copy_refusal (copies_in a owner.handles)) (copies_held (copies_in a owner.handles) + 1) refusal told))
-    (written_back h old slots place owner new owner_is new_is refines)
+    refused_follows h (Copy c a) (Handle refusal) _ (copy_refused h c a owner (Some refusal) here (or_else-Err (copy_refusal (copies_in a owner.handles)) (copies_held (copies_in a owner.handles) + 1) refusal told)) refines

@@ -1,8 +1,9 @@
 -- A letter that is brought to its actor.
-use Rattle.std.proofs.Common.{◌≡◌, ℕ, zero, suc, [], ◌∷◌, length, arith, Bool, true, false, cond, List, map, get_or, Some, None, refl, ap, sym, ◌∙◌, subst}
-use Rattle.std.specs.Prelude.{Option, Ok, Err, find, slice_get, slice_set, not}
+use Rattle.std.proofs.Common.{◌≡◌, ℕ, Bool, true, false, cond, List, map, get_or, Some, None, refl, ap, sym, ◌∙◌, subst}
+use Rattle.std.specs.Prelude.{Option, Result, Ok, Err, IfOk, OnErr, find, slice_get, slice_set, not}
 use Rattle.std.proofs.lemmas.List.{map-set}
-use Rattle.std.proofs.lemmas.Option.{slice_get_past}
+use Rattle.act_types.specs.KindState.{KindState}
+use Rattle.act_types.specs.declared.memory.NoMemory.{NoMemory}
 use Rattle.act_rules.specs.declared.history.Submission.{Submission}
 use Rattle.act_rules.specs.declared.history.Letter.{Letter}
 use Rattle.act_rules.specs.declared.history.Letter.TheVariants.{Call as CallLetter, Note as NoteLetter}
@@ -22,19 +23,22 @@ use Rattle.act_actor.specs.View.{ActorView}
 use Rattle.act_world.specs.declared.network.MailEntry.{MailEntry}
 use Rattle.act_world.specs.declared.network.MailEntry.TheVariants.{Call as CallEntry, Note as NoteEntry}
 use Rattle.act_world.specs.Network.{NetworkView, is_owner, entry_actor}
-use Rattle.act_world.specs.View.{SlotView, Runs, WorldView}
+use Rattle.act_world.specs.declared.slot.Slot.{Slot}
+use Rattle.act_world.specs.Steps.{Steps}
+use Rattle.act_world.specs.View.{SlotView, Runs, WorldView, slot_view, world_view, with_slots}
 use Rattle.act_world.specs.Slots.{is_live_slot, HasTakenPacket, HasTakenCall, HasNoted, HasArrived, IsNewCall, IsBrought}
 use Rattle.act_world.specs.Refines.{IsOwnerAt, packet_as, call_key, mail_entry, IsLive, IsStage, Refines}
-use Rattle.act_world.specs.IsReachedBy.{FollowsRules, IsUnrefused}
+use Rattle.act_world.specs.IsReachedBy.{is_memory, FollowsRules, IsUnrefused}
 use Rattle.act_world.specs.Memory.{is_new_call, takes_memory, TakesMemory}
 use Rattle.act_world.proofs.Lawful.{IsLawful, world_lawful, IsNamedLetter}
 use Rattle.act_world.proofs.Frames.{owners_stay}
 use Rattle.act_world.proofs.Making.{made_there}
-use Rattle.act_world.proofs.Changes.{refused_follows, accepted_follows, stages_change, has_ended, not_ended, slot_there}
+use Rattle.act_world.proofs.Changes.{refused_follows, accepted_follows, stages_change, has_ended, not_ended, slot_there, slot_kept}
+use Rattle.act_world.proofs.Stepping.{refused, wanting, in_slot}
 use Rattle.act_world.proofs.Mail.{IsLetterAt, letter_at, carried_to, letter_cast, brought, stage_past}
 use Rattle.act_world.proofs.CallsBrought.{call_arrival, live_taken}
 use Rattle.act_world.proofs.NotesBrought.{note_arrives, live_noted}
-use Rattle.act_world.proofs.Lists.{set-same}
+use Rattle.act_world.proofs.Lists.{set-same, none_alike}
 
 -- ---- either letter
 
@@ -206,15 +210,28 @@ module _ {S : Type 0} (f : S → SlotView) (network : NetworkView) (slots : List
 
 -- ---- no letter
 
-none_alike : {A B : Type 0} (xs : List A) (ys : List B) (i : ℕ) → None ≡ slice_get xs i → length xs ≡ length ys → slice_get ys i ≡ None
-none_alike [] ys i none same = slice_get_past ys i (omega arith)
-none_alike (x ∷ xs) ys zero none same = cc
-none_alike (x ∷ xs) [] (suc i) none same = refl
-none_alike (x ∷ xs) (y ∷ ys) (suc i) none same = none_alike xs ys i none (omega arith)
-
 -- there is no letter at this place
 pub no_letter_follows : (world : WorldView) (i : ℕ) → None ≡ slice_get world.network.mail i → FollowsRules (Deliver i) world world (Err NoMail)
 no_letter_follows world i none casts before refines =
     let h = history casts before in
     let none_there : slice_get h.mail i ≡ None = none_alike world.network.mail h.mail i none refines.mail_count in
     refused_follows h (Deliver i) NoMail world (ap (λ (o : Option Letter). deliver_refusal o h) none_there) refines
+
+-- ---- the event as the world sees it
+
+pub no_letter_step : {K : Type 0} (state : K → KindState) (network : NetworkView) (slots : List (Slot K)) (i : ℕ) → None ≡ slice_get network.mail i
+    → Steps (world_view state) (Deliver i) (with_slots slots network) (with_slots slots network) (Ok (Err NoMail))
+no_letter_step state network slots i none = refused (world_view state) (Deliver i) (with_slots slots network) (with_slots slots network) NoMail refl refl
+    (no_letter_follows (world_view state (with_slots slots network)) i none)
+
+-- the letter was brought to its actor's slot
+pub brought_step : {K : Type 0} (state : K → KindState) (network : NetworkView) (slots : List (Slot K)) (i a : ℕ) (letter : MailEntry) (x y : Slot K) (result : Result Outcome NoMemory)
+    → Some letter ≡ slice_get network.mail i → a ≡ entry_actor letter → x ≡ get_or slots a x → IfOk result (IsBrought network.owners letter (slot_view state (get_or slots a x)) (slot_view state y)) → IfOk result (λ told. is_memory told ≡ false)
+    → IfOk result (λ told. OnErr told (y ≡ get_or slots a x)) → OnErr result (IsNewCall letter (slot_view state (get_or slots a x))) → OnErr result (y ≡ get_or slots a x)
+    → Steps (world_view state) (Deliver i) (with_slots slots network) (with_slots (slice_set slots a y) network) result
+brought_step state network slots i a letter x y (Ok told) at to is went rules kept takes err = in_slot state (Deliver i) network slots a x y told rules kept
+    (brought_follows (slot_view state) network slots i a letter x at to is y told (subst (λ (s : _). IsBrought network.owners letter (slot_view state s) (slot_view state y) told) (sym is) went))
+brought_step state network slots i a letter x y (Err error) at to is went rules kept takes err =
+    let new = subst (λ (s : _). IsNewCall letter (slot_view state s)) (sym is) takes in
+    wanting (world_view state) (Deliver i) (with_slots slots network) _ (Err error) (λ e. Unit {0}) tt (slot_kept network slots a x y err)
+    (new_unrefused (slot_view state) network slots i a letter x at to is new) (new_takes (slot_view state) network slots i a letter x at to is new)

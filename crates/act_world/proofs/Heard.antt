@@ -77,7 +77,7 @@ heard_ties h network slots post place owner new lawful grows refines sees is =
       asked = refines.asked;
     }
 
-collect_unrefused : (h : History) (j : ℕ) (post : Post) → slice_get h.posts j ≡ Some post → refusal_of h (Collect j) ≡ None
+pub collect_unrefused : (h : History) (j : ℕ) (post : Post) → slice_get h.posts j ≡ Some post → refusal_of h (Collect j) ≡ None
 collect_unrefused h j post at = rw at refl
 
 collect_adds : (h : History) (j : ℕ) (post : Post) → slice_get h.posts j ≡ Some post → add_event h (Collect j) ≡ heard h post

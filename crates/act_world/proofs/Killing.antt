@@ -1,26 +1,29 @@
 -- An actor that takes a kill.
-use Rattle.std.proofs.Common.{◌≡◌, ℕ, Bool, true, false, List, [], ◌∷◌, ◌++◌, Some, None, inl, inr, refl, sym, ◌∙◌, subst, Err}
+use Rattle.std.proofs.Common.{◌≡◌, ℕ, ◌<◌, Bool, true, false, List, [], ◌∷◌, ◌++◌, length, map, get_or, Some, None, inl, inr, refl, ap, sym, ◌∙◌, subst, Err}
 use Rattle.std.specs.Prelude.{◌==◌, slice_get, slice_set, unwrap_or}
 use Rattle.std.proofs.Math.Bool.{or-true, or-false}
 use Rattle.std.proofs.lemmas.Bool.{eq-eqb, or_right, or_left}
 use Rattle.std.proofs.lemmas.Bool.Decides.{eqb_tells}
+use Rattle.std.proofs.lemmas.List.{map-set}
 use Rattle.std.proofs.lemmas.List.Folds.{list_any-append}
 use Rattle.act_rules.specs.declared.event.Event.TheVariants.{TakeKill}
 use Rattle.act_rules.specs.declared.outcome.HandleRefusal.TheVariants.{NoActor}
 use Rattle.act_rules.specs.declared.outcome.WorldRefusal.{WorldRefusal}
 use Rattle.act_rules.specs.declared.outcome.WorldRefusal.TheVariants.{Handle, ActorEnded, NoKill}
 use Rattle.act_rules.specs.RunList.{has_terminated}
+use Rattle.act_rules.specs.Laws.{history}
 use Rattle.act_rules.specs.History.{History, contains, cast_of, runs_of, is_dead, is_retired, is_ended}
 use Rattle.act_rules.specs.Rules.{Outcome, refusal_of, outcome_of, did, add_event, after}
 use Rattle.act_rules.proofs.Growth.{added_grows}
 use Rattle.act_actor.specs.View.{ActorView}
 use Rattle.act_world.specs.Network.{NetworkView}
-use Rattle.act_world.specs.View.{SlotView, Runs, Died, Ended, Vacant}
+use Rattle.act_world.specs.View.{SlotView, Runs, Died, Ended, Vacant, with_slots}
 use Rattle.act_world.specs.Slots.{take_kill}
+use Rattle.act_world.specs.IsReachedBy.{FollowsRules}
 use Rattle.act_world.specs.Refines.{IsLive, IsDead, IsStage, Refines}
-use Rattle.act_world.proofs.Changes.{refused_follows, accepted_follows}
+use Rattle.act_world.proofs.Changes.{refused_follows, accepted_follows, slot_within}
 use Rattle.act_world.proofs.Lists.{get_set-same, get_set-other, set-same}
-use Rattle.act_world.proofs.Lawful.{IsLawful}
+use Rattle.act_world.proofs.Lawful.{IsLawful, world_lawful}
 use Rattle.act_world.proofs.Frames.{same_caller, owners_stay, mail_stays, replies_stay, stage_stays, dead_same}
 
 -- ---- one number more in a list
@@ -103,3 +106,11 @@ pub kill_follows : (h : History) (network : NetworkView) (slots : List SlotView)
 kill_follows h network slots a asked old new told lawful refines asked_is at e =
     subst (λ (p : SlotView × Outcome). (p.1 ≡ outcome_of h (TakeKill a)) × Refines (after h (TakeKill a)) (record { network = network; slots = slice_set slots a p.0 })) (sym e)
     (by_slot h network slots a asked old lawful refines (asked_is ∙ refines.asked a) at (subst (IsStage h a) at (refines.actors a)))
+
+-- the same of what is seen of slots
+pub kill_view : {S : Type 0} (f : S → SlotView) (network : NetworkView) (slots : List S) (a p : ℕ) (asked : Bool) (x y : S) (told : Outcome) → p ≡ a → p < length slots → x ≡ get_or slots p x → asked ≡ unwrap_or (slice_get network.asked a) false
+    → (f y, told) ≡ take_kill asked (f (get_or slots p x)) → FollowsRules (TakeKill a) (with_slots (map f slots) network) (with_slots (map f (slice_set slots p y)) network) told
+kill_view {S = S} f network slots a p asked x y told place within is asked_is killed = subst (λ (b : ℕ). asked ≡ unwrap_or (slice_get network.asked b) false → FollowsRules (TakeKill b) (with_slots (map f slots) network) (with_slots (map f (slice_set slots p y)) network) told) place (λ asked_here casts before refines.
+    let h = history casts before in
+    let follows = kill_follows h network (map f slots) p asked (f x) (f y) told (world_lawful casts before) refines asked_here (slot_within f slots p x within is) (killed ∙ ap (λ (s : S). take_kill asked (f s)) (sym is)) in
+    (follows.0, subst (λ (seen : List SlotView). Refines (after h (TakeKill p)) (record { network = network; slots = seen })) (sym (map-set f slots p y)) follows.1)) asked_is

@@ -3,6 +3,7 @@ pub mod Lawful
 pub mod Frames
 pub mod Playing
 pub mod Staging
+pub mod Stepping
 pub mod OneCaller
 pub mod Pending
 pub mod Copying
@@ -31,5 +32,7 @@ pub mod Numbered
 pub mod Answering
 pub mod Collecting
 pub mod Headline
+pub mod Shown
+pub mod Applying
 pub mod OpenedOwners
 pub mod OpenedSlots

@@ -1,6 +1,7 @@
 -- Laws of lists: what stands at a place, what is written there, and what a filter leaves.
-use Rattle.std.proofs.Common.{◌≡◌, ◌≢◌, ℕ, zero, suc, true, false, List, [], ◌∷◌, length, Some, refl, ap, sym, Bool, cond}
+use Rattle.std.proofs.Common.{◌≡◌, ◌≢◌, ℕ, zero, suc, true, false, List, [], ◌∷◌, length, Some, None, refl, ap, sym, Bool, cond, arith}
 use Rattle.std.specs.Prelude.{slice_get, slice_set, filter, take, zip}
+use Rattle.std.proofs.lemmas.Option.{slice_get_past}
 
 pub zip_at : {X Y : Type 0} (xs : List X) (ys : List Y) (j : ℕ) (x : X) (y : Y) → slice_get xs j ≡ Some x → slice_get ys j ≡ Some y → slice_get (zip xs ys) j ≡ Some (x, y)
 zip_at [] ys j x y e f = cc
@@ -39,3 +40,10 @@ pub set-same : {X : Type 0} (xs : List X) (i : ℕ) (x : X) → slice_get xs i �
 set-same [] i x e = cc
 set-same {X = X} (z ∷ xs) zero x e = let same : z ≡ x = cc in ap (λ (w : X). w ∷ xs) (sym same)
 set-same {X = X} (z ∷ xs) (suc i) x e = ap (λ (ys : List X). z ∷ ys) (set-same xs i x e)
+
+-- what stands at no place of a list stands at none of one as long
+pub none_alike : {A B : Type 0} (xs : List A) (ys : List B) (i : ℕ) → None ≡ slice_get xs i → length xs ≡ length ys → slice_get ys i ≡ None
+none_alike [] ys i none same = slice_get_past ys i (omega arith)
+none_alike (x ∷ xs) ys zero none same = cc
+none_alike (x ∷ xs) [] (suc i) none same = refl
+none_alike (x ∷ xs) (y ∷ ys) (suc i) none same = none_alike xs ys i none (omega arith)

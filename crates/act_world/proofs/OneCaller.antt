@@ -9,6 +9,7 @@ use Rattle.act_rules.specs.declared.event.Event.{Event}
 use Rattle.act_rules.specs.declared.outcome.HandleRefusal.{HandleRefusal}
 use Rattle.act_rules.specs.declared.outcome.WorldRefusal.{WorldRefusal}
 use Rattle.act_rules.specs.declared.outcome.WorldRefusal.TheVariants.{NoCaller, Handle}
+use Rattle.act_rules.specs.Laws.{history}
 use Rattle.act_rules.specs.Submissions.{needs, number_of, handle_refusal}
 use Rattle.act_rules.specs.History.{History, contains, under, count_pairs, is_caller, calls_of, copies_of, has_letter}
 use Rattle.act_rules.specs.Rules.{refusal_of, outcome_of, after, was_sent}
@@ -20,9 +21,11 @@ use Rattle.act_owner.specs.Owner.{OwnerView}
 use Rattle.act_world.specs.Network.{NetworkView, is_owner}
 use Rattle.act_world.specs.View.{SlotView}
 use Rattle.act_world.specs.Refines.{Refines, IsOwnerOf, IsOwnerAt, mail_entry}
+use Rattle.act_world.specs.Steps.{StepsThere}
 use Rattle.act_world.proofs.Changes.{refused_follows}
 use Rattle.act_world.proofs.Lawful.{IsLawful}
 use Rattle.act_world.proofs.Frames.{owner_here, owner_absent, replies_stay, stages_stay}
+use Rattle.act_world.proofs.Stepping.{refused_there}
 
 -- ---- what refuses an event
 
@@ -63,12 +66,10 @@ handle_refused h c a owner refusal here e =
     ∙ ap (λ (copies : Option ℕ). option_map Handle (handle_refusal copies)) (sym (here.is.copies a))
     ∙ ap (option_map Handle) e
 
--- where the caller is written back as it was, the world is as it was
-pub written_back : (h : History) (network : NetworkView) (slots : List SlotView) (place : ℕ) (owner new : OwnerView) → owner ≡ get_or network.owners place owner → new ≡ owner
-    → Refines h (record { network = network; slots = slots }) → Refines h (record { network = record network { owners = slice_set network.owners place new }; slots = slots })
-written_back h network slots place owner new owner_is same refines =
-    let owners : slice_set network.owners place new ≡ network.owners = ap (slice_set network.owners place) (same ∙ owner_is) ∙ set-get_or network.owners place owner in
-    subst (λ (list : List OwnerView). Refines h (record { network = record network { owners = list }; slots = slots })) (sym owners) refines
+-- where the caller is put back as it was, the network is as it was
+pub put_back : (network : NetworkView) (place : ℕ) (owner new : OwnerView) → owner ≡ get_or network.owners place owner → new ≡ owner → record network { owners = slice_set network.owners place new } ≡ network
+put_back network place owner new owner_is same =
+    ap (λ (owners : List OwnerView). record network { owners = owners }) (ap (slice_set network.owners place) (same ∙ owner_is) ∙ set-get_or network.owners place owner)
 
 -- nothing that an unknown caller does is done
 pub no_caller_follows : (h : History) (event : Event) (network : NetworkView) (slots : List SlotView) (c : ℕ) (rest : Option WorldRefusal) → refusal_of h event ≡ needs (is_caller c h) NoCaller rest
@@ -76,6 +77,13 @@ pub no_caller_follows : (h : History) (event : Event) (network : NetworkView) (s
     → (Err NoCaller ≡ outcome_of h event) × Refines (after h event) (record { network = network; slots = slots })
 no_caller_follows h event network slots c rest first refines at =
     refused_follows h event NoCaller (record { network = network; slots = slots }) (first ∙ needs_fails (is_caller c h) NoCaller rest (owner_absent h network.owners c refines.owners at)) refines
+
+-- the fields of the network are known, and none of its callers is this one
+pub no_caller : (event : Event) (inside network : NetworkView) (owners : List OwnerView) (c : ℕ) (rest : History → Option WorldRefusal) → ((h : History) → refusal_of h event ≡ needs (is_caller c h) NoCaller (rest h))
+    → inside ≡ network → owners ≡ inside.owners → None ≡ position (is_owner c) owners → StepsThere event network network (Ok (Err NoCaller))
+no_caller event inside network owners c rest first same is none = refused_there event network network NoCaller refl refl
+    (λ slots casts before refines. no_caller_follows (history casts before) event network slots c (rest (history casts before)) (first (history casts before)) refines
+    (ap (λ (n : NetworkView). position (is_owner c) n.owners) (sym same) ∙ ap (position (is_owner c)) (sym is) ∙ sym none))
 
 -- ---- the other callers, and the rest of the world
 

@@ -1,5 +1,5 @@
 -- One event of the whole world, and one event after another.
-use Rattle.std.proofs.Common.{◌≡◌, ℕ, ◌+◌, ◌<◌, ◌≤◌, arith, List, [], ◌∷◌, ◌++◌, length, take, Result, Ok, Err, IfOk, OnErr, ap, sym, ◌∙◌, subst, get_or, append_assoc, append-nil, Option, Some}
+use Rattle.std.proofs.Common.{◌≡◌, ℕ, ◌+◌, ◌<◌, ◌≤◌, arith, List, [], ◌∷◌, ◌++◌, length, take, ap, sym, ◌∙◌, subst, get_or, append_assoc, append-nil, Option, Some}
 use Rattle.std.specs.Prelude.{IfSome}
 use Rattle.std.proofs.lemmas.Option.{slice_get-get_or}
 use Rattle.std.proofs.lemmas.List.{take_more}
@@ -9,38 +9,10 @@ use Rattle.act_rules.specs.Laws.{history}
 use Rattle.act_rules.specs.Rules.{Outcome, after, after_all, outcome_of, outcomes}
 use Rattle.act_rules.proofs.Steps.{after_all-append, outcomes-append}
 use Rattle.act_world.specs.Network.{NetworkView}
-use Rattle.act_world.specs.View.{SlotView, WorldView}
+use Rattle.act_world.specs.View.{WorldView}
 use Rattle.act_world.specs.Refines.{Refines}
-use Rattle.act_world.specs.IsReachedBy.{IsReachedBy, FollowsRules, FollowsThere, IsUnrefused, IsUnrefusedThere, IsUnrefusedAt, HasPlayed, IsGrownBy}
-use Rattle.act_world.specs.Memory.{TakesMemory, TakesMemoryThere, TakesMemoryAt}
-
-abbrev pub with_slots : NetworkView → List SlotView → WorldView
-with_slots network slots = record { network = network; slots = slots }
-
--- what holds of the network, with any slots, holds of the world
-pub there : (slots : List SlotView) (event shown : Event) (old new : NetworkView) (told : Outcome) → shown ≡ event → FollowsThere event old new told → FollowsRules shown (with_slots old slots) (with_slots new slots) told
-there slots event shown old new told is follows = subst (λ (e : Event). FollowsRules e (with_slots old slots) (with_slots new slots) told) (sym is) (follows slots)
-
-pub ok_there : {E : Type 0} (slots : List SlotView) (event shown : Event) (old new : NetworkView) (result : Result Outcome E) → shown ≡ event → IfOk result (FollowsThere event old new) → IfOk result (FollowsRules shown (with_slots old slots) (with_slots new slots))
-ok_there slots event shown old new (Ok told) is follows = there slots event shown old new told is follows
-ok_there slots event shown old new (Err e) is follows = tt
-
-pub last_there : {E : Type 0} (slots : List SlotView) (event shown : Event) (old : NetworkView) (result : Result Outcome E) → shown ≡ event → OnErr result (IsUnrefusedThere event old) → OnErr result (IsUnrefused shown (with_slots old slots))
-last_there slots event shown old (Ok told) is unrefused = tt
-last_there slots event shown old (Err e) is unrefused = subst (λ (x : Event). IsUnrefused x (with_slots old slots)) (sym is) (unrefused slots)
-
-pub memory_there : {E : Type 0} (slots : List SlotView) (event shown : Event) (old : NetworkView) (result : Result Outcome E) → shown ≡ event → OnErr result (TakesMemoryThere event old) → OnErr result (TakesMemory shown (with_slots old slots))
-memory_there slots event shown old (Ok told) is takes = tt
-memory_there slots event shown old (Err e) is takes = subst (λ (x : Event). TakesMemory x (with_slots old slots)) (sym is) (takes slots)
-
--- where nothing of the network changed, nothing of the world did
-pub err_there : {A E : Type 0} (slots : List SlotView) (old new : NetworkView) (result : Result A E) → OnErr result (new ≡ old) → OnErr result (with_slots new slots ≡ with_slots old slots)
-err_there slots old new (Ok told) same = tt
-err_there slots old new (Err e) same = ap (λ (network : NetworkView). with_slots network slots) same
-
-pub refused_there : {E : Type 0} (slots : List SlotView) (old new : NetworkView) (result : Result Outcome E) → IfOk result (λ told. OnErr told (new ≡ old)) → IfOk result (λ told. OnErr told (with_slots new slots ≡ with_slots old slots))
-refused_there slots old new (Ok told) same = err_there slots old new told same
-refused_there slots old new (Err e) same = tt
+use Rattle.act_world.specs.IsReachedBy.{IsReachedBy, FollowsRules, IsUnrefused, IsUnrefusedAt, HasPlayed, IsGrownBy}
+use Rattle.act_world.specs.Memory.{TakesMemory, TakesMemoryAt}
 
 -- the world stands after one event more
 pub stands_next : (casts : List ActorSpec) (before : List Event) (event : Event) (world : WorldView) → Refines (after (history casts before) event) world → IsReachedBy casts (before ++ event ∷ []) world

@@ -30,7 +30,7 @@ use Rattle.act_world.specs.Memory.{takes_memory}
 use Rattle.act_world.proofs.Changes.{refused_follows, accepted_follows}
 use Rattle.act_world.proofs.Lawful.{IsLawful, has_letter-last}
 use Rattle.act_world.proofs.Frames.{SameCaller, owners_change, mail_stays, go_together}
-use Rattle.act_world.proofs.OneCaller.{or_else-Ok, or_else-Err, caller_here, handle_refused, written_back, callers_tie, sent_stays, times-same, times-other_caller, times-other_actor}
+use Rattle.act_world.proofs.OneCaller.{or_else-Ok, or_else-Err, caller_here, handle_refused, callers_tie, sent_stays, times-same, times-other_caller, times-other_actor}
 
 -- ---- what the caller tells
 
@@ -170,13 +170,13 @@ last_follows h old mail slots c a place i note owner new lawful refines at owner
     (mail_stays h (add_event h (Release c a)) old.mail lawful (added_grows h (Release c a)) refines.mail)))
     (ap (λ (letters : List MailEntry). length letters) mail_is ∙ length-append old.mail (NoteEntry note ∷ []) ∙ ap (λ (n : ℕ). n + 1) refines.mail_count ∙ sym (length-append h.mail (note_letter h c a ∷ []))))
 
-pub release_refused_follows : (h : History) (old : NetworkView) (slots : List SlotView) (c a place : ℕ) (refusal : HandleRefusal) (owner new : OwnerView) → Refines h (record { network = old; slots = slots })
-    → position (is_owner c) old.owners ≡ Some place → owner ≡ get_or old.owners place owner → Err refusal ≡ release_told owner a → new ≡ owner
-    → (Err (Handle refusal) ≡ outcome_of h (Release c a)) × Refines (after h (Release c a)) (record { network = record old { owners = slice_set old.owners place new }; slots = slots })
-release_refused_follows h old slots c a place refusal owner new refines at owner_is told new_is =
+pub release_refused_follows : (h : History) (old : NetworkView) (slots : List SlotView) (c a place : ℕ) (refusal : HandleRefusal) (owner : OwnerView) → Refines h (record { network = old; slots = slots })
+    → position (is_owner c) old.owners ≡ Some place → owner ≡ get_or old.owners place owner → Err refusal ≡ release_told owner a
+    → (Err (Handle refusal) ≡ outcome_of h (Release c a)) × Refines (after h (Release c a)) (record { network = old; slots = slots })
+release_refused_follows h old slots c a place refusal owner refines at owner_is told =
     let here = caller_here h old slots c place owner refines at owner_is in
     let refused = or_else-Err (handle_refusal (copies_in a owner.handles)) (cond (copies_held (copies_in a owner.handles) == 1) (Some (release_note owner a)) None) refusal told in
-    refused_follows h (Release c a) (Handle refusal) _ (handle_refused h c a owner (Some refusal) here refused) (written_back h old slots place owner new owner_is new_is refines)
+    refused_follows h (Release c a) (Handle refusal) _ (handle_refused h c a owner (Some refusal) here refused) refines
 
 -- where memory for the note is wanted, nothing else refuses the release
 pub release_unrefused : (h : History) (old : NetworkView) (slots : List SlotView) (c a place : ℕ) (owner : OwnerView) → Refines h (record { network = old; slots = slots })

@@ -20,7 +20,7 @@ use Rattle.act_inbox.specs.Inbox.{handed_of, note_of, IsDrained}
 use Rattle.act_actor.specs.View.{ActorView, RetiredView}
 use Rattle.act_actor.specs.Actor.{MayRetire}
 use Rattle.act_world.specs.Network.{NetworkView}
-use Rattle.act_world.specs.View.{SlotView, Runs, Died, Ended, Vacant, WorldView}
+use Rattle.act_world.specs.View.{SlotView, Runs, Died, Ended, Vacant, WorldView, with_slots}
 use Rattle.act_world.specs.Slots.{IsRetiredIn}
 use Rattle.act_world.specs.Refines.{is_note_of, IsLive, IsRetired, IsStage, Refines}
 use Rattle.act_world.specs.IsReachedBy.{FollowsRules}
@@ -155,9 +155,9 @@ retire_follows h old a slot new told lawful refines at went = go slot new told a
         (retire_refusal h a true true (is_drained a h) (ap is_some is.cast_is) (rw (is.lived, is.ended) refl) refl)
 
 -- the same of what is seen of slots
-pub retire_view : {S : Type 0} (f : S → SlotView) (network : NetworkView) (slots : List S) (a : ℕ) (x y : S) (told : Outcome) → a < length slots → x ≡ get_or slots a x → IsRetiredIn (f x) (f y) told
-    → FollowsRules (Retire a) (record { network = network; slots = map f slots }) (record { network = network; slots = map f (slice_set slots a y) }) told
-retire_view f network slots a x y told within is went casts before refines =
+pub retire_view : {S : Type 0} (f : S → SlotView) (network : NetworkView) (slots : List S) (a p : ℕ) (x y : S) (told : Outcome) → p ≡ a → p < length slots → x ≡ get_or slots p x → IsRetiredIn (f (get_or slots p x)) (f y) told
+    → FollowsRules (Retire a) (with_slots (map f slots) network) (with_slots (map f (slice_set slots p y)) network) told
+retire_view {S = S} f network slots a p x y told place within is went = subst (λ (b : ℕ). FollowsRules (Retire b) (with_slots (map f slots) network) (with_slots (map f (slice_set slots p y)) network) told) place (λ casts before refines.
     let h = history casts before in
-    let follows = retire_follows h (record { network = network; slots = map f slots }) a (f x) (f y) told (world_lawful casts before) refines (slot_within f slots a x within is) went in
-    (follows.0, subst (λ (seen : List SlotView). Refines (after h (Retire a)) (record { network = network; slots = seen })) (sym (map-set f slots a y)) follows.1)
+    let follows = retire_follows h (with_slots (map f slots) network) p (f x) (f y) told (world_lawful casts before) refines (slot_within f slots p x within is) (subst (λ (s : S). IsRetiredIn (f s) (f y) told) (sym is) went) in
+    (follows.0, subst (λ (seen : List SlotView). Refines (after h (Retire p)) (record { network = network; slots = seen })) (sym (map-set f slots p y)) follows.1))

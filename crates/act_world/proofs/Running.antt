@@ -1,8 +1,9 @@
 -- A call that is run.
 use Rattle.std.proofs.Common.{◌≡◌, ℕ, ◌+◌, ◌<◌, Bool, true, false, List, [], ◌∷◌, ◌++◌, length, map, get_or, Some, None, refl, ap, sym, ◌∙◌, subst, length-append}
-use Rattle.std.specs.Prelude.{Option, Result, Ok, Err, IfSome, IsSome, find, not, slice_get, slice_set, option_map, is_some}
+use Rattle.std.specs.Prelude.{Option, Result, Ok, Err, IfNone, IfSome, IsSome, find, not, slice_get, slice_set, option_map, is_some}
 use Rattle.std.proofs.lemmas.Option.{get_or_from_slice_get}
 use Rattle.std.proofs.lemmas.List.{map-set}
+use Rattle.act_types.specs.KindState.{KindState}
 use Rattle.act_types.specs.declared.call.Packet.{Packet}
 use Rattle.act_types.specs.declared.call.Reply.{Reply}
 use Rattle.act_types.specs.declared.call.Notice.TheVariants.{Answered}
@@ -18,12 +19,14 @@ use Rattle.act_rules.specs.Submissions.{needs}
 use Rattle.act_rules.specs.History.{History, cast_of, names, is_caller, runs_of, is_ended, next_item}
 use Rattle.act_rules.specs.Rules.{refusal_of, did, did_run, add_event, after_run, outcome_of, after}
 use Rattle.act_rules.proofs.Growth.{Grows, after_run_grows}
-use Rattle.act_actor.specs.View.{ActorView}
+use Rattle.act_actor.specs.View.{ActorView, LiveView}
+use Rattle.act_actor.specs.StateViews.{live_view}
 use Rattle.act_actor.specs.Actor.{item_of, reply_of_run, next_call, HasRunCall}
 use Rattle.act_world.specs.declared.network.Posted.{Posted}
 use Rattle.act_world.specs.Network.{NetworkView, is_owner, naming_refusal}
-use Rattle.act_world.specs.View.{SlotView, Runs, Vacant, WorldView}
-use Rattle.act_world.specs.Slots.{is_live_slot, has_next_in_slot, bury_ended, HasRunNext, IsRun, IsRunAt}
+use Rattle.act_world.specs.declared.slot.Slot.{Slot}
+use Rattle.act_world.specs.View.{SlotView, Runs, Vacant, WorldView, slot_view}
+use Rattle.act_world.specs.Slots.{is_live_slot, has_next_in_slot, bury_ended, HasRunNext, HasRunIn, IsRun, IsRunAt}
 use Rattle.act_world.specs.Refines.{posted_notice, IsLive, IsStage, Refines}
 use Rattle.act_world.specs.IsReachedBy.{FollowsRules, IsUnrefused}
 use Rattle.act_world.specs.Memory.{TakesMemory}
@@ -112,6 +115,15 @@ no_next h old a c live refines caller named is none =
     (subst (λ (o : Option RunItem). Refines (after_run a c h o) old) (sym item) refines)
 
 -- ---- the same of what is seen of slots
+
+-- the actor in its slot
+pub ran_here : {K : Type 0} (state : K → KindState) (c : ℕ) (old new : LiveView K) (slot : Slot K) (reply : Option Reply) → reply ≡ option_map (reply_of_run (live_view state old)) (next_call old.log old.inbox c) → IfNone reply (new ≡ old)
+    → IfSome (next_call old.log old.inbox c) (λ packet. HasRunCall c packet (live_view state old) (live_view state new)) → slot_view state slot ≡ bury_ended (Runs (live_view state new)) → HasRunIn c reply (live_view state old) (slot_view state slot)
+ran_here state c old new slot reply reply_is gap ran slot_is = record { new = live_view state new; next = record { reply_is = reply_is; gap = go reply gap; ran = ran }; slot_is = slot_is }
+  where
+    go : (o : Option Reply) → IfNone o (new ≡ old) → IfNone o (live_view state new ≡ live_view state old)
+    go None same = ap (live_view state) same
+    go (Some told) same = tt
 
 pub ran_there : {S : Type 0} (f : S → SlotView) (slots : List S) (c a : ℕ) (x y : S) (told : Result (Option Reply) WorldRefusal) → a < length slots → x ≡ get_or slots a x → IsRun c (f x) (f y) told
     → IsRunAt c a (map f slots) (map f (slice_set slots a y)) told

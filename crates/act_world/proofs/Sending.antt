@@ -11,7 +11,7 @@ use Rattle.act_rules.specs.declared.history.Letter.{Letter}
 use Rattle.act_rules.specs.declared.history.Letter.TheVariants.{Call as CallLetter}
 use Rattle.act_rules.specs.declared.outcome.Did.TheVariants.{Mail}
 use Rattle.act_rules.specs.declared.outcome.SendRefusal.{SendRefusal}
-use Rattle.act_rules.specs.declared.outcome.WorldRefusal.TheVariants.{NoCaller, Sending}
+use Rattle.act_rules.specs.declared.outcome.WorldRefusal.TheVariants.{Sending}
 use Rattle.act_rules.specs.RunList.{Answer}
 use Rattle.act_rules.specs.Submissions.{calls_to, number_of, send_refusal}
 use Rattle.act_rules.specs.History.{History, is_caller, calls_of, kept_of, has_letter, is_letter}
@@ -27,14 +27,14 @@ use Rattle.act_world.specs.declared.network.MailEntry.{MailEntry}
 use Rattle.act_world.specs.declared.network.MailEntry.TheVariants.{Call as CallEntry}
 use Rattle.act_world.specs.Network.{NetworkView, is_owner}
 use Rattle.act_world.specs.View.{SlotView, WorldView}
-use Rattle.act_world.specs.IsReachedBy.{FollowsThere, IsUnrefusedThere}
+use Rattle.act_world.specs.Steps.{StepsThere}
 use Rattle.act_world.specs.Refines.{IsOwnerOf, mail_entry, Refines}
 use Rattle.act_types.specs.declared.memory.NoMemory.{NoMemory}
 use Rattle.act_world.proofs.Changes.{refused_follows, accepted_follows}
-use Rattle.act_world.proofs.OneCaller.{written_back}
+use Rattle.act_world.proofs.Stepping.{refused_there, wanting_there}
 use Rattle.act_world.proofs.Lists.{get_set-same, get_set-other}
 use Rattle.act_world.proofs.Lawful.{IsLawful, has_letter-last, is_letter-same}
-use Rattle.act_world.proofs.Frames.{SameCaller, owners_change, owner_here, owner_absent, mail_stays, replies_stay, go_together, stages_stay}
+use Rattle.act_world.proofs.Frames.{SameCaller, owners_change, owner_here, mail_stays, replies_stay, go_together, stages_stay}
 
 -- ---- the refusals
 
@@ -56,13 +56,6 @@ send_refuses h c k owner caller is = rw caller (ap (λ (refusal : Option SendRef
         ∙ ap (λ (sent : Bool). send_refusal (kept_of c h) k sent (slice_get owner.calls k)) (is.sent k)
         ∙ ap (λ (calls : List Submission). send_refusal (kept_of c h) k (was_sent c k (slice_get (calls_of c h) k) h) (slice_get calls k)) is.calls
 
-no_caller : (h : History) (c k : ℕ) → is_caller c h ≡ false → refusal_of h (Send c k) ≡ Some NoCaller
-no_caller h c k e = rw e refl
-
-pub send_no_caller : (h : History) (network : NetworkView) (slots : List SlotView) (c k : ℕ) → Refines h (record { network = network; slots = slots }) → position (is_owner c) network.owners ≡ None
-    → (Err NoCaller ≡ outcome_of h (Send c k)) × Refines (after h (Send c k)) (record { network = network; slots = slots })
-send_no_caller h network slots c k refines none = refused_follows h (Send c k) NoCaller (record { network = network; slots = slots }) (no_caller h c k (owner_absent h network.owners c refines.owners none)) refines
-
 pub send_refused : (h : History) (network : NetworkView) (slots : List SlotView) (c k place : ℕ) (owner : OwnerView) (refusal : SendRefusal) → Refines h (record { network = network; slots = slots }) → SeesOwner network c place owner → sending_refusal owner k ≡ Some refusal
     → (Err (Sending refusal) ≡ outcome_of h (Send c k)) × Refines (after h (Send c k)) (record { network = network; slots = slots })
 send_refused h network slots c k place owner refusal refines sees e =
@@ -74,25 +67,14 @@ send_unrefused h network slots c k place owner refines sees e =
     let here = seen_owner h network slots c place owner refines sees in
     send_refuses h c k owner here.0 here.1 ∙ ap (λ (o : Option SendRefusal). option_map Sending o) e
 
--- the caller refuses, and is written back at its place
-pub send_refused_follows : (h : History) (network : NetworkView) (slots : List SlotView) (c k place : ℕ) (owner new : OwnerView) (refusal : SendRefusal) → Refines h (record { network = network; slots = slots }) → SeesOwner network c place owner
-    → sending_refusal owner k ≡ Some refusal → new ≡ owner
-    → (Err (Sending refusal) ≡ outcome_of h (Send c k)) × Refines (after h (Send c k)) (record { network = record network { owners = slice_set network.owners place new }; slots = slots })
-send_refused_follows h network slots c k place owner new refusal refines sees e new_is =
-    let here = seen_owner h network slots c place owner refines sees in
-    refused_follows h (Send c k) (Sending refusal) _ (send_refuses h c k owner here.0 here.1 ∙ ap (λ (o : Option SendRefusal). option_map Sending o) e) (written_back h network slots place owner new sees.owner_is new_is refines)
-
 -- there is no room for the letter, and the caller says why it isn't sent
-pub unsent_follows : (network : NetworkView) (c k place : ℕ) (owner : OwnerView) (asked : Result Outcome NoMemory) → SeesOwner network c place owner
-    → IfOk asked (λ told. (refusal : SendRefusal) × (told ≡ Err (Sending refusal)) × (sending_refusal owner k ≡ Some refusal)) → IfOk asked (FollowsThere (Send c k) network network)
-unsent_follows network c k place owner (Ok told) sees refused = λ slots casts before reached.
-    rw refused.1 (send_refused (history casts before) network slots c k place owner refused.0 reached sees refused.2)
-unsent_follows network c k place owner (Err error) sees refused = tt
-
-pub unsent_unrefused : (network : NetworkView) (c k place : ℕ) (owner : OwnerView) (asked : Result Outcome NoMemory) → SeesOwner network c place owner
-    → OnErr asked (sending_refusal owner k ≡ None) → OnErr asked (IsUnrefusedThere (Send c k) network)
-unsent_unrefused network c k place owner (Ok told) sees unrefused = tt
-unsent_unrefused network c k place owner (Err error) sees unrefused = λ slots casts before reached. send_unrefused (history casts before) network slots c k place owner reached sees unrefused
+pub unsent : (network : NetworkView) (c k place : ℕ) (owner : OwnerView) (asked : Result Outcome NoMemory) → SeesOwner network c place owner
+    → IfOk asked (λ told. (refusal : SendRefusal) × (told ≡ Err (Sending refusal)) × (sending_refusal owner k ≡ Some refusal)) → OnErr asked (sending_refusal owner k ≡ None)
+    → StepsThere (Send c k) network network asked
+unsent network c k place owner (Ok told) sees refused memory = rw refused.1 (refused_there (Send c k) network network (Sending refused.0) refl refl
+    (λ slots casts before reached. send_refused (history casts before) network slots c k place owner refused.0 reached sees refused.2))
+unsent network c k place owner (Err error) sees refused memory = wanting_there (Send c k) network network (Err error) (λ e. Unit {0}) tt refl
+    (λ slots casts before reached. send_unrefused (history casts before) network slots c k place owner reached sees memory) (λ slots casts before reached. refl)
 
 -- ---- one letter more
 

@@ -10,6 +10,7 @@ use Rattle.std.proofs.lemmas.Option.{slice_get_within, slice_get_cases}
 use Rattle.std.proofs.Math.Seq.{take-append_seam}
 use Rattle.act_types.specs.declared.call.Arg.{Arg}
 use Rattle.act_types.specs.declared.call.Method.{Method}
+use Rattle.act_types.specs.declared.memory.NoMemory.{NoMemory}
 use Rattle.act_rules.specs.declared.history.Submission.{Submission}
 use Rattle.act_rules.specs.declared.history.Letter.TheVariants.{Call as CallLetter}
 use Rattle.act_rules.specs.declared.history.Post.{Post}
@@ -36,12 +37,13 @@ use Rattle.act_owner.proofs.Told.{calls_to-length}
 use Rattle.act_world.specs.Network.{NetworkView, is_owner}
 use Rattle.act_world.specs.View.{SlotView}
 use Rattle.act_world.specs.Refines.{Refines, IsOwnerOf, is_death_to}
-use Rattle.act_world.specs.IsReachedBy.{FollowsThere, IsUnrefusedThere}
+use Rattle.act_world.specs.Steps.{StepsThere}
 use Rattle.act_world.proofs.Changes.{refused_follows, accepted_follows}
 use Rattle.act_world.proofs.Lawful.{IsLawful}
 use Rattle.act_world.proofs.Frames.{SameCaller, owners_change, mail_stays}
 use Rattle.act_world.proofs.Pending.{unanswered_is}
-use Rattle.act_world.proofs.OneCaller.{needs_holds, IsHere, caller_here, callers_tie, sent_stays, under-other, written_back}
+use Rattle.act_world.proofs.OneCaller.{needs_holds, IsHere, caller_here, callers_tie, sent_stays, under-other, put_back}
+use Rattle.act_world.proofs.Stepping.{refused_there, wanting_there}
 
 -- a submission is refused as the caller says
 pub submission_refused : (h : History) (c a : ℕ) (method : Method) (args : List Arg) (owner : OwnerView) (refusal : Option SubmitRefusal) → IsHere h c owner → refusal_to_submit owner a args ≡ refusal
@@ -240,17 +242,15 @@ by_memory : (found : Option SubmitRefusal) (refusal : SubmitRefusal) → (found 
 by_memory None refusal apart says memory = refl
 by_memory (Some found) refusal apart says memory = absurd (apart (ap Some (sym says ∙ memory)))
 
-module _ (old : NetworkView) (c a place : ℕ) (method : Method) (args : List Arg) (refusal : SubmitRefusal) (owner : OwnerView)
-    (at : position (is_owner c) old.owners ≡ Some place) (owner_is : owner ≡ get_or old.owners place owner) (says : refusal ≡ unwrap_or (refusal_to_submit owner a args) NoRoom) where
-  pub not_taken_follows : {E : Type 0} (new : OwnerView) (result : Result Outcome E) → new ≡ owner → IfOk result (λ told. told ≡ Err (SubmitRefused refusal)) → OnOk result (refusal ≢ NoRoom)
-      → IfOk result (FollowsThere (Submit c a method args) old (record old { owners = slice_set old.owners place new }))
-  not_taken_follows new (Err error) new_is told_is other = tt
-  not_taken_follows new (Ok told) new_is told_is other = λ slots casts before refines.
-      let h = history casts before in
-      let follows = submit_refused_follows h old slots c a place method args refusal owner refines at owner_is (by_rules (refusal_to_submit owner a args) refusal says other) in
-      (told_is ∙ follows.0, written_back (after h (Submit c a method args)) old slots place owner new owner_is new_is follows.1)
-
-  pub not_taken_unrefused : {A E : Type 0} (result : Result A E) → OnErr result (refusal ≡ NoRoom) → OnErr result (IsUnrefusedThere (Submit c a method args) old)
-  not_taken_unrefused (Ok told) memory = tt
-  not_taken_unrefused (Err error) memory = λ slots casts before refines.
-      submit_unrefused (history casts before) old slots c a place method args owner refines at owner_is (by_memory (refusal_to_submit owner a args) refusal (memory_apart owner a args) says memory)
+-- the caller is put back as it was: by the rules, or for want of memory
+pub not_taken : (old : NetworkView) (c a place : ℕ) (method : Method) (args : List Arg) (refusal : SubmitRefusal) (owner new : OwnerView) (result : Result Outcome NoMemory)
+    → position (is_owner c) old.owners ≡ Some place → owner ≡ get_or old.owners place owner → refusal ≡ unwrap_or (refusal_to_submit owner a args) NoRoom → new ≡ owner
+    → IfOk result (λ told. told ≡ Err (SubmitRefused refusal)) → OnOk result (refusal ≢ NoRoom) → OnErr result (refusal ≡ NoRoom)
+    → StepsThere (Submit c a method args) old (record old { owners = slice_set old.owners place new }) result
+not_taken old c a place method args refusal owner new (Ok told) at owner_is says same told_is other memory =
+    rw told_is (refused_there (Submit c a method args) old _ (SubmitRefused refusal) (put_back old place owner new owner_is same) refl
+    (λ slots casts before refines. submit_refused_follows (history casts before) old slots c a place method args refusal owner refines at owner_is (by_rules (refusal_to_submit owner a args) refusal says other)))
+not_taken old c a place method args refusal owner new (Err error) at owner_is says same told_is other memory =
+    wanting_there (Submit c a method args) old _ (Err error) (λ e. Unit {0}) tt (put_back old place owner new owner_is same)
+    (λ slots casts before refines. submit_unrefused (history casts before) old slots c a place method args owner refines at owner_is (by_memory (refusal_to_submit owner a args) refusal (memory_apart owner a args) says memory))
+    (λ slots casts before refines. refl)

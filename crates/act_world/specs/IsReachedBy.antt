@@ -6,7 +6,7 @@ use Rattle.act_rules.specs.Laws.{history}
 use Rattle.act_rules.specs.History.{ActorSpec}
 use Rattle.act_rules.specs.Rules.{Outcome, refusal_of, outcome_of, outcomes, after}
 use Rattle.act_world.specs.Network.{NetworkView}
-use Rattle.act_world.specs.View.{SlotView, WorldView}
+use Rattle.act_world.specs.View.{SlotView, WorldView, with_slots}
 use Rattle.act_world.specs.Refines.{Refines}
 
 -- the world stands after these events of a world with these casts
@@ -39,12 +39,9 @@ FollowsRules event old new told = (casts : List ActorSpec) (before : List Event)
 abbrev pub IsUnrefused : Event → WorldView → Type 0
 IsUnrefused event world = (casts : List ActorSpec) (before : List Event) → IsReachedBy casts before world → refusal_of (history casts before) event ≡ None
 
--- the same of an event that changes no actor
-abbrev pub FollowsThere : Event → NetworkView → NetworkView → Outcome → Type 0
-FollowsThere event old new told = (slots : List SlotView) → FollowsRules event (record { network = old; slots = slots }) (record { network = new; slots = slots }) told
-
+-- the same of an event that changes no actor, whatever the actors are
 abbrev pub IsUnrefusedThere : Event → NetworkView → Type 0
-IsUnrefusedThere event network = (slots : List SlotView) → IsUnrefused event (record { network = network; slots = slots })
+IsUnrefusedThere event network = (slots : List SlotView) → IsUnrefused event (with_slots slots network)
 
 -- nothing refuses the event at this place
 abbrev pub IsUnrefusedAt : ℕ → List Event → WorldView → Type 0

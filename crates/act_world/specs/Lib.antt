@@ -4,5 +4,7 @@ pub mod Slots
 pub mod Refines
 pub mod IsReachedBy
 pub mod Memory
+pub mod Steps
 pub mod Headline
+pub mod Shown
 pub mod Openings

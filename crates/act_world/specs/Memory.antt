@@ -11,8 +11,7 @@ use Rattle.act_rules.specs.Laws.{history}
 use Rattle.act_rules.specs.Submissions.{kept_at}
 use Rattle.act_rules.specs.History.{ActorSpec, History, runs_of, kept_of, has_letter, next_item}
 use Rattle.act_rules.specs.Rules.{is_last}
-use Rattle.act_world.specs.Network.{NetworkView}
-use Rattle.act_world.specs.View.{SlotView, WorldView}
+use Rattle.act_world.specs.View.{WorldView}
 use Rattle.act_world.specs.IsReachedBy.{IsReachedBy}
 
 -- whether a letter is a call that hasn't arrived
@@ -45,11 +44,6 @@ takes_memory (Retire a) h = false
 abbrev pub TakesMemory : Event → WorldView → Type 0
 TakesMemory event world = (casts : List ActorSpec) (before : List Event) → IsReachedBy casts before world →
     takes_memory event (history casts before) ≡ true
-
--- the same of an event that changes no actor
-abbrev pub TakesMemoryThere : Event → NetworkView → Type 0
-TakesMemoryThere event network = (slots : List SlotView) →
-    TakesMemory event (record { network = network; slots = slots })
 
 -- the event at this place takes memory
 abbrev pub TakesMemoryAt : ℕ → List Event → WorldView → Type 0

@@ -7,7 +7,6 @@ use Rattle.act_world.specs.declared.slot.Slot.{Slot}
 use Rattle.act_world.specs.declared.slot.Slot.TheVariants as slot
 use Rattle.act_world.specs.declared.slot.Stage.{Stage}
 use Rattle.act_world.specs.declared.slot.Stage.TheVariants as stage
-use Rattle.act_world.specs.declared.world.World.{World}
 pub use Rattle.act_world.specs.Network.{NetworkView, is_owner}
 
 -- an actor in one of its states
@@ -28,12 +27,19 @@ stage_view state (stage.Live live) = Runs (live_view state live.now)
 stage_view state (stage.Dead dead) = Died dead.now
 stage_view state (stage.Retired retired) = Ended (retired_view state retired.now)
 
--- a world: its callers with what is on its way, and its actors by their numbers
-pub record WorldView : Type 0 where
+-- a world: its callers with what is on its way, and its actors by their numbers, each in a slot
+pub record WorldOf (S : Type 0) : Type 0 where
   pub network : NetworkView
-  pub slots : List SlotView
+  pub slots : List S
 
-abbrev pub world_view : {K : Type 0} → (K → KindState) → World K → WorldView
+abbrev pub WorldView : Type 0
+WorldView = WorldOf SlotView
+
+-- a network beside these slots
+abbrev pub with_slots : {S : Type 0} → List S → NetworkView → WorldOf S
+with_slots slots network = record { network = network; slots = slots }
+
+abbrev pub world_view : {K : Type 0} → (K → KindState) → WorldOf (Slot K) → WorldView
 world_view state world = record { network = world.network; slots = map (slot_view state) world.slots }
 
 -- the state that an actor is in, where there is such an actor

@@ -1,15 +1,15 @@
 //! The callers, and what is on its way between them and the actors.
 
-ghost use Rattle.std.specs.Prelude.{◌≡◌, IfOk, OnErr, IfSome, Some, Err, find, position, option_copied, slice_get, unwrap_or, false, ◌≢◌, OnOk, IfNone};
+ghost use Rattle.std.specs.Prelude.{◌≡◌, IfOk, OnErr, IfSome, Some, Ok, Err, find, position, option_copied, slice_get, unwrap_or, false, ◌≢◌, OnOk, IfNone};
 ghost use Rattle.std.specs.Option.{option_map};
 ghost use Rattle.act_world.specs.Network.{is_owner, naming_refusal, entry_actor, IsReplyNotice, packet_in, named_as, told_collected};
-ghost use Rattle.act_world.specs.IsReachedBy.{is_memory, HasRoom, FollowsThere, IsGrown, IsUnrefusedThere};
+ghost use Rattle.act_world.specs.IsReachedBy.{is_memory, HasRoom, IsUnrefusedThere};
 ghost use Rattle.act_types.specs.declared.call.Method.{Method};
 ghost use Rattle.act_rules.specs.declared.outcome.SubmitRefusal.TheVariants.{NoMemory as NoRoom};
 ghost use Rattle.act_rules.specs.declared.outcome.SendRefusal.{SendRefusal};
 ghost use Rattle.act_rules.specs.declared.outcome.WorldRefusal.TheVariants.{Submit, Sending};
 ghost use Rattle.act_owner.specs.Owner.{sending_refusal};
-ghost use Rattle.act_world.specs.Memory.{TakesMemoryThere};
+ghost use Rattle.act_world.specs.Steps.{StepsThere};
 ghost use Rattle.act_rules.specs.declared.event.Event.TheVariants as event;
 
 use act_owner::{Collected, Owner};
@@ -191,7 +191,10 @@ impl Network {
     pub(crate) fn is_asked(&self, a: ActorId) -> bool
         ensures { result ≡ unwrap_or (slice_get self.now.asked a) false }
     {
-        self.asked[a.number() as usize]
+        self.asked
+            .get(a.number() as usize)
+            .copied()
+            .unwrap_or(false)
     }
 
     /// The notice at a place of the replies.
@@ -248,8 +251,7 @@ impl Network {
         args: &ListOf<Arg>,
     ) -> Option<WorldRefusal>
         ensures refused { IfSome result (λ refusal. (method : Method) →
-            FollowsThere (event.Submit c a method args.now) self.now self.now (Err refusal)) }
-        ensures told { IfSome result (λ refusal. is_memory (Err refusal) ≡ false) }
+            StepsThere (event.Submit c a method args.now) self.now self.now (Ok (Err refusal))) }
         ensures accepted { IfNone result ((method : Method) →
             IsUnrefusedThere (event.Submit c a method args.now) self.now) }
     {
@@ -268,12 +270,7 @@ impl Network {
         method: Method,
         args: ListOf<Arg>,
     ) -> Result<Outcome, NoMemory>
-        ensures ok { IfOk result (FollowsThere (event.Submit c a method args) self.old self.new) }
-        ensures told { IfOk result (λ told. is_memory told ≡ false) }
-        ensures refused { IfOk result (λ told. OnErr told (self.new ≡ self.old)) }
-        ensures grown { IsGrown self.old self.new }
-        ensures memory_last { OnErr result (IsUnrefusedThere (event.Submit c a method args) self.old) }
-        ensures err { OnErr result (self.new ≡ self.old) }
+        ensures { StepsThere (event.Submit c a method args) self.old self.new result }
     {
         let Some(place) = place_of(&self.owners, c) else {
             return Ok(Err(WorldRefusal::NoCaller));
@@ -293,12 +290,7 @@ impl Network {
         method: Method,
         args: &ListOf<Arg>,
     ) -> Result<Outcome, NoMemory>
-        ensures ok { IfOk result (FollowsThere (event.Submit c a method args.now) self.old self.new) }
-        ensures told { IfOk result (λ told. is_memory told ≡ false) }
-        ensures refused { IfOk result (λ told. OnErr told (self.new ≡ self.old)) }
-        ensures grown { IsGrown self.old self.new }
-        ensures memory_last { OnErr result (IsUnrefusedThere (event.Submit c a method args.now) self.old) }
-        ensures err { OnErr result (self.new ≡ self.old) }
+        ensures { StepsThere (event.Submit c a method args.now) self.old self.new result }
     {
         if let Some(refusal) = self.submission_refusal(c, a, args) {
             return Ok(Err(refusal));
@@ -309,10 +301,7 @@ impl Network {
 
     /// The caller copies its handle.
     pub(crate) fn copy(&mut self, c: CallerId, a: ActorId) -> Outcome
-        ensures follows { FollowsThere (event.Copy c a) self.old self.new result }
-        ensures told { is_memory result ≡ false }
-        ensures refused { OnErr result (self.new ≡ self.old) }
-        ensures grown { IsGrown self.old self.new }
+        ensures { StepsThere (event.Copy c a) self.old self.new (Ok result) }
     {
         let Some(place) = place_of(&self.owners, c) else {
             return Err(WorldRefusal::NoCaller);
@@ -327,13 +316,7 @@ impl Network {
     /// The caller releases a copy of its handle. The last one sends a note.
     pub(crate) fn release(&mut self, c: CallerId, a: ActorId) -> Result<Outcome, NoMemory>
         requires room { HasRoom 1 self.old }
-        ensures ok { IfOk result (FollowsThere (event.Release c a) self.old self.new) }
-        ensures told { IfOk result (λ told. is_memory told ≡ false) }
-        ensures refused { IfOk result (λ told. OnErr told (self.new ≡ self.old)) }
-        ensures grown { IsGrown self.old self.new }
-        ensures memory_last { OnErr result (IsUnrefusedThere (event.Release c a) self.old) }
-        ensures memory { OnErr result (TakesMemoryThere (event.Release c a) self.old) }
-        ensures err { OnErr result (self.new ≡ self.old) }
+        ensures { StepsThere (event.Release c a) self.old self.new result }
     {
         let Some(place) = place_of(&self.owners, c) else {
             return Ok(Err(WorldRefusal::NoCaller));
@@ -356,12 +339,7 @@ impl Network {
     /// The caller sends a call.
     pub(crate) fn send(&mut self, c: CallerId, k: FutureId) -> Result<Outcome, NoMemory>
         requires room { HasRoom 1 self.old }
-        ensures ok { IfOk result (FollowsThere (event.Send c k) self.old self.new) }
-        ensures told { IfOk result (λ told. is_memory told ≡ false) }
-        ensures refused { IfOk result (λ told. OnErr told (self.new ≡ self.old)) }
-        ensures grown { IsGrown self.old self.new }
-        ensures memory_last { OnErr result (IsUnrefusedThere (event.Send c k) self.old) }
-        ensures err { OnErr result (self.new ≡ self.old) }
+        ensures { StepsThere (event.Send c k) self.old self.new result }
     {
         let Some(place) = place_of(&self.owners, c) else {
             return Ok(Err(WorldRefusal::NoCaller));
@@ -386,10 +364,7 @@ impl Network {
 
     /// The caller asks for the actor's kill.
     pub(crate) fn ask_kill(&mut self, c: CallerId, a: ActorId) -> Outcome
-        ensures follows { FollowsThere (event.AskKill c a) self.old self.new result }
-        ensures told { is_memory result ≡ false }
-        ensures refused { OnErr result (self.new ≡ self.old) }
-        ensures grown { IsGrown self.old self.new }
+        ensures { StepsThere (event.AskKill c a) self.old self.new (Ok result) }
     {
         let Some(place) = place_of(&self.owners, c) else {
             return Err(WorldRefusal::NoCaller);
@@ -403,13 +378,7 @@ impl Network {
 
     /// A notice is handed to its caller once more.
     pub(crate) fn collect(&mut self, j: u32) -> Result<Outcome, NoMemory>
-        ensures ok { IfOk result (FollowsThere (event.Collect j) self.old self.new) }
-        ensures told { IfOk result (λ told. is_memory told ≡ false) }
-        ensures refused { IfOk result (λ told. OnErr told (self.new ≡ self.old)) }
-        ensures grown { IsGrown self.old self.new }
-        ensures memory_last { OnErr result (IsUnrefusedThere (event.Collect j) self.old) }
-        ensures memory { OnErr result (TakesMemoryThere (event.Collect j) self.old) }
-        ensures err { OnErr result (self.new ≡ self.old) }
+        ensures { StepsThere (event.Collect j) self.old self.new result }
     {
         let Some(posted) = self.notice(j) else {
             return Ok(Err(WorldRefusal::NoReply));

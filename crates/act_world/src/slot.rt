@@ -3,10 +3,11 @@
 ghost use Rattle.std.specs.Prelude.{◌≡◌, ◌<◌, ℕ, map, Some, slice_get, IfOk, OnErr, false};
 ghost use Rattle.std.specs.Option.{option_map};
 ghost use Rattle.act_rules.specs.declared.outcome.Arrival.TheVariants.{New};
+ghost use Rattle.act_actor.specs.Actor.{call_arrival_at};
 ghost use Rattle.act_actor.specs.StateViews.{live_view};
 ghost use Rattle.act_world.specs.View.{Runs, slot_view, stage_view, stage_of_slot};
 ghost use Rattle.act_world.specs.IsReachedBy.{is_memory};
-ghost use Rattle.act_world.specs.Slots.{IsLiveSlot, is_live_slot, is_dead_slot, has_next_in_slot, HasTakenCall, HasArrived, arrival_of_call, IsNewCall, IsBrought, IsRun, IsRunAt, IsRetiredIn, bury_ended, take_kill};
+ghost use Rattle.act_world.specs.Slots.{IsLiveSlot, is_live_slot, is_dead_slot, has_next_in_slot, HasTakenCall, HasArrived, IsNewCall, IsBrought, IsRun, IsRunAt, IsRetiredIn, bury_ended, take_kill};
 
 use crate::network::{CallKey, MailEntry, Network};
 use act_actor::{Dead, Live, Retired};
@@ -71,10 +72,10 @@ pub(crate) fn bring<K: Actor>(
     ensures ok { IfOk result
         (IsBrought network.now.owners letter.now (slot_view K.state slot.old) (slot_view K.state slot.new)) }
     ensures told { IfOk result (λ told. is_memory told ≡ false) }
-    ensures refused { IfOk result (λ told. OnErr told (slot_view K.state slot.new ≡ slot_view K.state slot.old)) }
+    ensures refused { IfOk result (λ told. OnErr told (slot.new ≡ slot.old)) }
     // Memory is asked for where the letter is a call that the actor takes in, and there alone.
     ensures memory_last { OnErr result (IsNewCall letter.now (slot_view K.state slot.old)) }
-    ensures err { OnErr result (slot_view K.state slot.new ≡ slot_view K.state slot.old) }
+    ensures err { OnErr result (slot.new ≡ slot.old) }
 {
     let Slot::Live(live) = slot else {
         return Ok(Err(WorldRefusal::ActorEnded));
@@ -92,7 +93,7 @@ fn arrive<K: Actor>(
     ensures ok { IfOk result (λ arrival.
         HasArrived network.now.owners letter.now arrival (live_view K.state live.old) (live_view K.state live.new)) }
     ensures memory_last { OnErr result (IsNewCall letter.now (Runs (live_view K.state live.old))) }
-    ensures err { OnErr result (live_view K.state live.new ≡ live_view K.state live.old) }
+    ensures err { OnErr result (live.new ≡ live.old) }
 {
     match letter {
         MailEntry::Call(call) => take_in(network, live, call),
@@ -108,8 +109,9 @@ fn take_in<K: Actor>(
 ) -> Result<Arrival, NoMemory>
     ensures ok { IfOk result (λ arrival.
         HasTakenCall network.now.owners call.now arrival (live_view K.state live.old) (live_view K.state live.new)) }
-    ensures memory_last { OnErr result (arrival_of_call (live_view K.state live.old) call.now ≡ New) }
-    ensures err { OnErr result (live_view K.state live.new ≡ live_view K.state live.old) }
+    ensures memory_last { OnErr result
+        (call_arrival_at live.old.id live.old.inbox call.now.actor call.now.caller call.now.number ≡ New) }
+    ensures err { OnErr result (live.new ≡ live.old) }
 {
     let arrival = live.arrival(call.actor, call.caller, call.number);
     let Arrival::New = arrival else {
@@ -152,9 +154,9 @@ fn run_in<K: Actor>(
     c: CallerId,
 ) -> Result<Result<Option<Reply>, WorldRefusal>, NoMemory>
     ensures ok { IfOk result (IsRun c (slot_view K.state slot.old) (slot_view K.state slot.new)) }
-    ensures refused { IfOk result (λ ran. OnErr ran (slot_view K.state slot.new ≡ slot_view K.state slot.old)) }
+    ensures refused { IfOk result (λ ran. OnErr ran (slot.new ≡ slot.old)) }
     ensures memory_last { OnErr result (IsLiveSlot (slot_view K.state slot.old)) }
-    ensures err { OnErr result (slot_view K.state slot.new ≡ slot_view K.state slot.old) }
+    ensures err { OnErr result (slot.new ≡ slot.old) }
 {
     let Slot::Live(live) = slot else {
         return Ok(Err(WorldRefusal::ActorEnded));
@@ -174,9 +176,8 @@ pub(crate) fn run_at<K: Actor>(
     c: CallerId,
 ) -> Result<Result<Option<Reply>, WorldRefusal>, NoMemory>
     ensures ok { IfOk result (IsRunAt c a (map (slot_view K.state) slots.old) (map (slot_view K.state) slots.new)) }
-    ensures refused { IfOk result (λ ran.
-        OnErr ran (map (slot_view K.state) slots.new ≡ map (slot_view K.state) slots.old)) }
-    ensures err { OnErr result (map (slot_view K.state) slots.new ≡ map (slot_view K.state) slots.old) }
+    ensures refused { IfOk result (λ ran. OnErr ran (slots.new ≡ slots.old)) }
+    ensures err { OnErr result (slots.new ≡ slots.old) }
 {
     run_in(&mut slots[slot_of(a)], c)
 }
@@ -185,7 +186,7 @@ pub(crate) fn run_at<K: Actor>(
 pub(crate) fn kill_in<K: Actor>(slot: &mut Slot<K>, asked: bool) -> Outcome
     ensures killed { (slot_view K.state slot.new, result) ≡ take_kill asked (slot_view K.state slot.old) }
     ensures told { is_memory result ≡ false }
-    ensures refused { OnErr result (slot_view K.state slot.new ≡ slot_view K.state slot.old) }
+    ensures refused { OnErr result (slot.new ≡ slot.old) }
 {
     match mem::replace(slot, Slot::Vacant) {
         Slot::Live(live) => {
@@ -232,7 +233,7 @@ pub(crate) fn has_next_in<K: Actor>(slot: &Slot<K>, c: CallerId) -> bool
 pub(crate) fn retire_in<K: Actor>(slot: &mut Slot<K>) -> Outcome
     ensures retired { IsRetiredIn (slot_view K.state slot.old) (slot_view K.state slot.new) result }
     ensures told { is_memory result ≡ false }
-    ensures refused { OnErr result (slot_view K.state slot.new ≡ slot_view K.state slot.old) }
+    ensures refused { OnErr result (slot.new ≡ slot.old) }
 {
     match mem::replace(slot, Slot::Vacant) {
         Slot::Live(live) => match live.retire() {

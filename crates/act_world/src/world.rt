@@ -1,19 +1,21 @@
 //! Callers, actors, and the events between them.
 //!
-//! `K` is the kind, mostly a box. A clause names what is seen of a world by `world_view` at the
-//! kind's state.
+//! `K` is the kind, mostly a box. Where a clause speaks of the rules, it names what is seen of a world
+//! by `world_view` at the kind's state.
 
-ghost use Rattle.std.specs.Prelude.{◌≡◌, ◌↔◌, ◌<◌, ◌++◌, ◌∷◌, [], ℕ, List, Option, Some, None, Err, ◌≤◌, ◌+◌, IfOk, IfErr, OnOk, OnErr, true, false, length, take, find, option_copied, vec_len, vec_capacity, IsTrue, ◌≢◌, AllPairs, map, replicate, slice_get, ◌==◌, if◌then◌else◌};
+ghost use Rattle.std.specs.Prelude.{◌≡◌, ◌↔◌, ◌<◌, ◌++◌, ◌∷◌, [], ℕ, List, Option, Some, Ok, Err, ◌≤◌, ◌+◌, IfOk, IfErr, OnOk, OnErr, true, false, length, take, find, option_copied, vec_len, vec_capacity, IsTrue, map, replicate, slice_get, ◌==◌, if◌then◌else◌, drop};
 ghost use Rattle.std.specs.Option.{option_map};
 ghost use Rattle.act_rules.specs.declared.event.Event.{Event as Happening};
 ghost use Rattle.act_rules.specs.History.{ActorSpec, opening};
 ghost use Rattle.act_rules.specs.Laws.{history};
-ghost use Rattle.act_rules.specs.Rules.{outcome_of, refusal_of};
+ghost use Rattle.act_rules.specs.Rules.{outcome_of};
 ghost use Rattle.act_world.specs.View.{world_view, stage_view, is_owner, stage_in, Runs, Vacant, slot_view};
 ghost use Rattle.act_world.specs.Refines.{IsOwnerAt, IsStage};
 ghost use Rattle.act_world.specs.Headline.{IsConsistent};
-ghost use Rattle.act_world.specs.Memory.{takes_memory, TakesMemory, TakesMemoryAt};
-ghost use Rattle.act_world.specs.IsReachedBy.{IsReachedBy, is_memory, HasRoom, IsGrown, IsGrownBy, FollowsRules, IsUnrefused, IsUnrefusedAt, HasPlayed};
+ghost use Rattle.act_world.specs.Steps.{Steps};
+ghost use Rattle.act_world.specs.Memory.{TakesMemory, TakesMemoryAt};
+ghost use Rattle.act_world.specs.IsReachedBy.{IsReachedBy, is_memory, HasRoom, IsGrown, IsGrownBy, IsUnrefused, IsUnrefusedAt, HasPlayed};
+ghost use Rattle.act_world.specs.Shown.{ShowsWhatIsTold, ShowsNothing};
 ghost use Rattle.act_actor.specs.Cast.{IsFitting};
 ghost use Rattle.act_actor.specs.Casts.{actor_spec, callers_named, limits_that_name};
 ghost use Rattle.act_actor.specs.StateViews.{live_view};
@@ -32,6 +34,7 @@ use act_owner::Owner;
 use act_rules::{Did, Event, Outcome, WorldRefusal};
 use act_types::{ACTOR_NUMBERS, ActorId, CallerId, CopyOf, NoMemory, Notice};
 use std::alloc::Global;
+use std::marker::Model;
 
 /// A world of callers and actors.
 #[derive(Drop)]
@@ -39,6 +42,15 @@ pub struct World<K = Boxed> {
     pub(crate) network: Network,
     /// The actors, by their numbers.
     pub(crate) slots: [Slot<K>; ACTOR_NUMBERS],
+}
+
+impl<K> Model for World<K> {
+    ghost use Rattle.act_world.specs.View.{WorldOf};
+    ghost use Rattle.act_world.specs.declared.slot.Slot.{Slot};
+
+    ghost Value = { WorldOf (Slot K) };
+
+    ghost view = { λ world. record { network = world.network; slots = world.slots } };
 }
 
 /// A world has fewer letters and notices than this: each has a place that a `u32` holds.
@@ -54,14 +66,7 @@ pub fn is_memory(told: &Outcome) -> bool
 impl<K: Actor> World<K> {
     /// A letter is brought to its actor once more.
     fn deliver(&mut self, i: u32) -> Result<Outcome, NoMemory>
-        ensures ok { IfOk result
-            (FollowsRules (event.Deliver i) (world_view K.state self.old) (world_view K.state self.new)) }
-        ensures told { IfOk result (λ told. is_memory told ≡ false) }
-        ensures refused { IfOk result (λ told. OnErr told (world_view K.state self.new ≡ world_view K.state self.old)) }
-        ensures grown { IsGrown (world_view K.state self.old).network (world_view K.state self.new).network }
-        ensures memory_last { OnErr result (IsUnrefused (event.Deliver i) (world_view K.state self.old)) }
-        ensures memory { OnErr result (TakesMemory (event.Deliver i) (world_view K.state self.old)) }
-        ensures err { OnErr result (world_view K.state self.new ≡ world_view K.state self.old) }
+        ensures { Steps (world_view K.state) (event.Deliver i) self.old self.new result }
     {
         let World { network, slots } = self;
         let Some(letter) = network.letter(i) else {
@@ -73,26 +78,17 @@ impl<K: Actor> World<K> {
     /// The actor runs the caller's next call, if it has arrived, and tells the caller. Where that
     /// call ended the actor, it is dead from here on.
     fn run(&mut self, a: ActorId, c: CallerId) -> Result<Outcome, NoMemory>
-        requires room { HasRoom 1 (world_view K.state self.old).network }
-        ensures ok { IfOk result
-            (FollowsRules (event.Run a c) (world_view K.state self.old) (world_view K.state self.new)) }
-        ensures told { IfOk result (λ told. is_memory told ≡ false) }
-        ensures refused { IfOk result (λ told. OnErr told (world_view K.state self.new ≡ world_view K.state self.old)) }
-        ensures grown { IsGrown (world_view K.state self.old).network (world_view K.state self.new).network }
-        ensures memory_last { OnErr result (IsUnrefused (event.Run a c) (world_view K.state self.old)) }
-        ensures memory { OnErr result (TakesMemory (event.Run a c) (world_view K.state self.old)) }
-        ensures err { OnErr result (world_view K.state self.new ≡ world_view K.state self.old) }
+        requires room { HasRoom 1 self.old.network }
+        ensures { Steps (world_view K.state) (event.Run a c) self.old self.new result }
     {
-        let slot = slot_at(&self.slots, a);
-        let is_live = is_live_in(slot);
-        let has_next = has_next_in(slot, c);
         if let Some(refusal) = self.network.naming_refusal(c, a) {
             return Ok(Err(refusal));
         }
-        if !is_live {
+        let slot = slot_at(&self.slots, a);
+        if !is_live_in(slot) {
             return Ok(Err(WorldRefusal::ActorEnded));
         }
-        if !has_next {
+        if !has_next_in(slot, c) {
             return Ok(Ok(Did::Gap));
         }
         self.network.replies.reserve(1)?;
@@ -111,11 +107,7 @@ impl<K: Actor> World<K> {
 
     /// The actor takes a kill, if one was asked.
     fn take_kill(&mut self, a: ActorId) -> Outcome
-        ensures follows { FollowsRules (event.TakeKill a) (world_view K.state self.old)
-            (world_view K.state self.new) result }
-        ensures told { is_memory result ≡ false }
-        ensures refused { OnErr result (world_view K.state self.new ≡ world_view K.state self.old) }
-        ensures grown { IsGrown (world_view K.state self.old).network (world_view K.state self.new).network }
+        ensures { Steps (world_view K.state) (event.TakeKill a) self.old self.new (Ok result) }
     {
         let asked = self.network.is_asked(a);
         kill_in(&mut self.slots[slot_of(a)], asked)
@@ -123,20 +115,13 @@ impl<K: Actor> World<K> {
 
     /// The dead actor tells the caller its death.
     fn tell(&mut self, a: ActorId, c: CallerId) -> Result<Outcome, NoMemory>
-        requires room { HasRoom 1 (world_view K.state self.old).network }
-        ensures ok { IfOk result
-            (FollowsRules (event.Tell a c) (world_view K.state self.old) (world_view K.state self.new)) }
-        ensures told { IfOk result (λ told. is_memory told ≡ false) }
-        ensures refused { IfOk result (λ told. OnErr told (world_view K.state self.new ≡ world_view K.state self.old)) }
-        ensures grown { IsGrown (world_view K.state self.old).network (world_view K.state self.new).network }
-        ensures memory_last { OnErr result (IsUnrefused (event.Tell a c) (world_view K.state self.old)) }
-        ensures err { OnErr result (world_view K.state self.new ≡ world_view K.state self.old) }
+        requires room { HasRoom 1 self.old.network }
+        ensures { Steps (world_view K.state) (event.Tell a c) self.old self.new result }
     {
-        let is_dead = is_dead_in(slot_at(&self.slots, a));
         if let Some(refusal) = self.network.naming_refusal(c, a) {
             return Ok(Err(refusal));
         }
-        if !is_dead {
+        if !is_dead_in(slot_at(&self.slots, a)) {
             return Ok(Err(WorldRefusal::NotDead));
         }
         self.network.replies.reserve(1)?;
@@ -150,25 +135,15 @@ impl<K: Actor> World<K> {
 
     /// The actor ends by itself, where it is drained.
     fn retire(&mut self, a: ActorId) -> Outcome
-        ensures follows { FollowsRules (event.Retire a) (world_view K.state self.old)
-            (world_view K.state self.new) result }
-        ensures told { is_memory result ≡ false }
-        ensures refused { OnErr result (world_view K.state self.new ≡ world_view K.state self.old) }
-        ensures grown { IsGrown (world_view K.state self.old).network (world_view K.state self.new).network }
+        ensures { Steps (world_view K.state) (event.Retire a) self.old self.new (Ok result) }
     {
         retire_in(&mut self.slots[slot_of(a)])
     }
 
     /// One event. An `Err` leaves the world as it was.
     fn step(&mut self, event: &Event) -> Result<Outcome, NoMemory>
-        requires room { HasRoom 1 (world_view K.state self.old).network }
-        ensures ok { IfOk result (FollowsRules event.now (world_view K.state self.old) (world_view K.state self.new)) }
-        ensures told { IfOk result (λ told. is_memory told ≡ false) }
-        ensures refused { IfOk result (λ told. OnErr told (world_view K.state self.new ≡ world_view K.state self.old)) }
-        ensures grown { IsGrown (world_view K.state self.old).network (world_view K.state self.new).network }
-        ensures memory_last { OnErr result (IsUnrefused event.now (world_view K.state self.old)) }
-        ensures memory { OnErr result (TakesMemory event.now (world_view K.state self.old)) }
-        ensures err { OnErr result (world_view K.state self.new ≡ world_view K.state self.old) }
+        requires room { HasRoom 1 self.old.network }
+        ensures { Steps (world_view K.state) event.now self.old self.new result }
     {
         match event {
             Event::Submit(c, a, method, args) => self.network.submit_copy(*c, *a, *method, args),
@@ -187,14 +162,8 @@ impl<K: Actor> World<K> {
 
     /// The same of an event that is handed over: the arguments of a submission are moved.
     fn step_owned(&mut self, event: Event) -> Result<Outcome, NoMemory>
-        requires room { HasRoom 1 (world_view K.state self.old).network }
-        ensures ok { IfOk result (FollowsRules event (world_view K.state self.old) (world_view K.state self.new)) }
-        ensures told { IfOk result (λ told. is_memory told ≡ false) }
-        ensures refused { IfOk result (λ told. OnErr told (world_view K.state self.new ≡ world_view K.state self.old)) }
-        ensures grown { IsGrown (world_view K.state self.old).network (world_view K.state self.new).network }
-        ensures memory_last { OnErr result (IsUnrefused event (world_view K.state self.old)) }
-        ensures memory { OnErr result (TakesMemory event (world_view K.state self.old)) }
-        ensures err { OnErr result (world_view K.state self.new ≡ world_view K.state self.old) }
+        requires room { HasRoom 1 self.old.network }
+        ensures { Steps (world_view K.state) event self.old self.new result }
     {
         match event {
             Event::Submit(c, a, method, args) => self.network.submit(c, a, method, args),
@@ -204,7 +173,7 @@ impl<K: Actor> World<K> {
 
     /// Whether there is room for so many events more: each adds one letter or notice at most.
     pub fn has_room(&self, count: usize) -> bool
-        ensures { IsTrue result ↔ HasRoom count (world_view K.state self.now).network }
+        ensures { IsTrue result ↔ HasRoom count self.now.network }
     {
         let letters = self.network.mail.len();
         let notices = self.network.replies.len();
@@ -217,78 +186,73 @@ impl<K: Actor> World<K> {
     /// Makes room for the calls that events submit, so that memory is asked for once and not call by
     /// call. It refuses nothing: where memory doesn't serve for so many, room is made call by call.
     pub fn make_room(&mut self, events: &[Event])
-        ensures { world_view K.state self.new ≡ world_view K.state self.old }
+        ensures { self.new ≡ self.old }
     {
         self.network.make_room(events);
     }
 
     /// Does an event, and tells what it did or the first refusal that met it.
     pub fn apply(&mut self, event: &Event) -> Result<Did, WorldRefusal>
-        requires room { HasRoom 1 (world_view K.state self.old).network }
+        requires room { HasRoom 1 self.old.network }
         ensures outcome { is_memory result ≡ false → (casts : List ActorSpec) (before : List Happening) →
             IsReachedBy casts before (world_view K.state self.old) →
             result ≡ outcome_of (history casts before) event.now }
         ensures reached { is_memory result ≡ false → (casts : List ActorSpec) (before : List Happening) →
             IsReachedBy casts before (world_view K.state self.old) →
             IsReachedBy casts (before ++ event.now ∷ []) (world_view K.state self.new) }
-        ensures grown { IsGrown (world_view K.state self.old).network (world_view K.state self.new).network }
+        ensures shown { (casts : List ActorSpec) (before : List Happening) →
+            IsReachedBy casts before (world_view K.state self.old) →
+            ShowsWhatIsTold (event.now ∷ []) (result ∷ []) (world_view K.state self.old) (world_view K.state self.new) }
+        ensures grown { IsGrown self.old.network self.new.network }
         // Want of memory comes last.
-        ensures memory_last { is_memory result ≡ true → (casts : List ActorSpec) (before : List Happening) →
-            IsReachedBy casts before (world_view K.state self.old) →
-            refusal_of (history casts before) event.now ≡ None }
+        ensures memory_last { is_memory result ≡ true → IsUnrefused event.now (world_view K.state self.old) }
         // It comes for no event that takes none.
-        ensures memory { is_memory result ≡ true → (casts : List ActorSpec) (before : List Happening) →
-            IsReachedBy casts before (world_view K.state self.old) →
-            takes_memory event.now (history casts before) ≡ true }
-        ensures err { OnErr result (world_view K.state self.new ≡ world_view K.state self.old) }
+        ensures memory { is_memory result ≡ true → TakesMemory event.now (world_view K.state self.old) }
+        ensures err { OnErr result (self.new ≡ self.old) }
     {
-        match self.step(event) {
-            Err(NoMemory) => Err(WorldRefusal::NoMemory),
-            Ok(outcome) => outcome,
-        }
+        self.step(event).unwrap_or(Err(WorldRefusal::NoMemory))
     }
 
     /// Does an event that is handed over, as `apply` does: the arguments of a submission are moved to
     /// its caller, and none is copied.
     pub fn apply_owned(&mut self, event: Event) -> Result<Did, WorldRefusal>
-        requires room { HasRoom 1 (world_view K.state self.old).network }
+        requires room { HasRoom 1 self.old.network }
         ensures outcome { is_memory result ≡ false → (casts : List ActorSpec) (before : List Happening) →
             IsReachedBy casts before (world_view K.state self.old) →
             result ≡ outcome_of (history casts before) event }
         ensures reached { is_memory result ≡ false → (casts : List ActorSpec) (before : List Happening) →
             IsReachedBy casts before (world_view K.state self.old) →
             IsReachedBy casts (before ++ event ∷ []) (world_view K.state self.new) }
-        ensures grown { IsGrown (world_view K.state self.old).network (world_view K.state self.new).network }
+        ensures shown { (casts : List ActorSpec) (before : List Happening) →
+            IsReachedBy casts before (world_view K.state self.old) →
+            ShowsWhatIsTold (event ∷ []) (result ∷ []) (world_view K.state self.old) (world_view K.state self.new) }
+        ensures grown { IsGrown self.old.network self.new.network }
         // Want of memory comes last.
-        ensures memory_last { is_memory result ≡ true → (casts : List ActorSpec) (before : List Happening) →
-            IsReachedBy casts before (world_view K.state self.old) →
-            refusal_of (history casts before) event ≡ None }
+        ensures memory_last { is_memory result ≡ true → IsUnrefused event (world_view K.state self.old) }
         // It comes for no event that takes none.
-        ensures memory { is_memory result ≡ true → (casts : List ActorSpec) (before : List Happening) →
-            IsReachedBy casts before (world_view K.state self.old) →
-            takes_memory event (history casts before) ≡ true }
-        ensures err { OnErr result (world_view K.state self.new ≡ world_view K.state self.old) }
+        ensures memory { is_memory result ≡ true → TakesMemory event (world_view K.state self.old) }
+        ensures err { OnErr result (self.new ≡ self.old) }
     {
-        let Ok(outcome) = self.step_owned(event) else {
-            return Err(WorldRefusal::NoMemory);
-        };
-        outcome
+        self.step_owned(event)
+            .unwrap_or(Err(WorldRefusal::NoMemory))
     }
 
     /// Does events in order, and adds what is told of each. It stops only where memory is refused,
     /// and tells at which place. Room for all outcomes is asked for first, and where it is refused,
     /// the place is 0.
     pub fn play(&mut self, events: &[Event], told: &mut Vec<Outcome>) -> Result<(), u32>
-        requires room { HasRoom (length events.now) (world_view K.state self.old).network }
+        requires room { HasRoom (length events.now) self.old.network }
         ensures ok { OnOk result (HasPlayed events.now (world_view K.state self.old)
             (world_view K.state self.new) told.old.items told.new.items) }
-        ensures grown { IsGrownBy (length events.now) (world_view K.state self.old).network
-            (world_view K.state self.new).network }
+        ensures grown { IsGrownBy (length events.now) self.old.network self.new.network }
         ensures place { IfErr result (λ i. i < length events.now) }
         ensures err { IfErr result (λ i. HasPlayed (take i events.now) (world_view K.state self.old)
             (world_view K.state self.new) told.old.items told.new.items) }
-        ensures first { result ≡ Err 0 →
-            (world_view K.state self.new ≡ world_view K.state self.old) × (told.new.items ≡ told.old.items) }
+        ensures shown { (casts : List ActorSpec) (before : List Happening) →
+            IsReachedBy casts before (world_view K.state self.old) →
+            ShowsWhatIsTold events.now (drop (length told.old.items) told.new.items)
+            (world_view K.state self.old) (world_view K.state self.new) }
+        ensures first { result ≡ Err 0 → (self.new ≡ self.old) × (told.new.items ≡ told.old.items) }
 
         // Nothing refuses the event of a later stop, nor that of any stop where there is room for
         // all outcomes.
@@ -312,17 +276,19 @@ impl<K: Actor> World<K> {
     /// stops only at an event that wants memory.
     #[tactic(auto, using(crate::proofs::Playing::unrefused_at, crate::proofs::Playing::memory_at, crate::proofs::Playing::grown_within))]
     pub fn play_reserved(&mut self, events: &[Event], told: &mut Vec<Outcome>) -> Result<(), u32>
-        requires room { HasRoom (length events.now) (world_view K.state self.old).network }
+        requires room { HasRoom (length events.now) self.old.network }
         requires reserved { vec_len told.old + length events.now ≤ vec_capacity told.old }
         ensures ok { OnOk result (HasPlayed events.now (world_view K.state self.old)
             (world_view K.state self.new) told.old.items told.new.items) }
-        ensures grown { IsGrownBy (length events.now) (world_view K.state self.old).network
-            (world_view K.state self.new).network }
+        ensures grown { IsGrownBy (length events.now) self.old.network self.new.network }
         ensures place { IfErr result (λ i. i < length events.now) }
         ensures err { IfErr result (λ i. HasPlayed (take i events.now) (world_view K.state self.old)
             (world_view K.state self.new) told.old.items told.new.items) }
-        ensures first { result ≡ Err 0 →
-            (world_view K.state self.new ≡ world_view K.state self.old) × (told.new.items ≡ told.old.items) }
+        ensures shown { (casts : List ActorSpec) (before : List Happening) →
+            IsReachedBy casts before (world_view K.state self.old) →
+            ShowsWhatIsTold events.now (drop (length told.old.items) told.new.items)
+            (world_view K.state self.old) (world_view K.state self.new) }
+        ensures first { result ≡ Err 0 → (self.new ≡ self.old) × (told.new.items ≡ told.old.items) }
 
         // Nothing refuses the event that it stops at, and that event takes memory.
         ensures memory_last { IfErr result (λ i. IsUnrefusedAt i events.now (world_view K.state self.new)) }
@@ -349,7 +315,7 @@ impl<K: Actor> World<K> {
 
     /// A caller, where some cast names it.
     pub fn owner(&self, c: CallerId) -> Option<&Owner>
-        ensures shown { option_copied result ≡ find (is_owner c) (world_view K.state self.now).network.owners }
+        ensures shown { option_copied result ≡ find (is_owner c) self.now.network.owners }
         ensures reached { (casts : List ActorSpec) (events : List Happening) →
             IsReachedBy casts events (world_view K.state self.now) →
             IsOwnerAt (history casts events) c (option_copied result) }
@@ -481,9 +447,9 @@ impl<K: Actor> World<K> {
         requires fit { IsFitting casts.items }
         ensures reached { IfOk result (λ world.
             IsReachedBy (map (actor_spec K.state) casts.items) [] (world_view K.state world)) }
+        ensures shown { IfOk result (λ world. ShowsNothing (world_view K.state world)) }
         // The room that events ask for is there.
-        ensures empty { IfOk result (λ world.
-            length (world_view K.state world).network.mail + length (world_view K.state world).network.replies ≡ 0) }
+        ensures empty { IfOk result (λ world. length world.network.mail + length world.network.replies ≡ 0) }
     {
         let owners = owners_of(alloc, casts.as_slice())?;
         let slots = slots_of(alloc, casts)?;

@@ -16,11 +16,10 @@ use std::alloc::Global;
 
 /// Submits a call.
 fn submit<K: Actor>(world: &mut World<K>, call: &Call, args: ListOf<Arg>) -> Result<(), Stop>
-    requires room { HasRoom 1 (world_view K.state world.old).network }
+    requires room { HasRoom 1 world.old.network }
     ensures after { OnOk result (StandsAfter (submission_of call.now args ∷ [])
         (world_view K.state world.old) (world_view K.state world.new)) }
-    ensures grown { OnOk result (IsGrownBy 1
-        (world_view K.state world.old).network (world_view K.state world.new).network) }
+    ensures grown { OnOk result (IsGrownBy 1 world.old.network world.new.network) }
 {
     let did = world.apply_owned(call.submission(args))?;
     if did == call.submitted() {
@@ -32,11 +31,10 @@ fn submit<K: Actor>(world: &mut World<K>, call: &Call, args: ListOf<Arg>) -> Res
 
 /// Takes a call one leg further.
 fn step<K: Actor>(world: &mut World<K>, call: &Call, leg: Leg) -> Result<(), Stop>
-    requires room { HasRoom 1 (world_view K.state world.old).network }
+    requires room { HasRoom 1 world.old.network }
     ensures after { OnOk result (StandsAfter (event_of leg call.now ∷ [])
         (world_view K.state world.old) (world_view K.state world.new)) }
-    ensures grown { OnOk result (IsGrownBy 1
-        (world_view K.state world.old).network (world_view K.state world.new).network) }
+    ensures grown { OnOk result (IsGrownBy 1 world.old.network world.new.network) }
 {
     let did = world.apply(&call.event(leg))?;
     if call.is_done(leg, &did) {
@@ -48,12 +46,11 @@ fn step<K: Actor>(world: &mut World<K>, call: &Call, leg: Leg) -> Result<(), Sto
 
 /// Takes a call all the way.
 fn follow<K: Actor>(world: &mut World<K>, call: &Call, args: ListOf<Arg>) -> Result<(), Stop>
-    requires room { HasRoom 5 (world_view K.state world.old).network }
+    requires room { HasRoom 5 world.old.network }
     requires args { args ≡ one_more }
     ensures after { OnOk result (StandsAfter (way_of call.now)
         (world_view K.state world.old) (world_view K.state world.new)) }
-    ensures grown { OnOk result (IsGrownBy 5
-        (world_view K.state world.old).network (world_view K.state world.new).network) }
+    ensures grown { OnOk result (IsGrownBy 5 world.old.network world.new.network) }
 {
     submit(world, call, args)?;
     step(world, call, Leg::Send)?;
@@ -71,7 +68,7 @@ fn follow_all<K: Actor>(
     calls: u32,
     prepared: &mut Prepared,
 ) -> Result<(), Stop>
-    requires room { HasRoom (5 * calls) (world_view K.state world.old).network }
+    requires room { HasRoom (5 * calls) world.old.network }
     ensures after { OnOk result (StandsAfter (ways work.now calls)
         (world_view K.state world.old) (world_view K.state world.new)) }
 {
@@ -89,11 +86,10 @@ fn submit_all<K: Actor>(
     calls: u32,
     prepared: &mut Prepared,
 ) -> Result<(), Stop>
-    requires room { HasRoom calls (world_view K.state world.old).network }
+    requires room { HasRoom calls world.old.network }
     ensures after { OnOk result (StandsAfter (submissions work.now calls)
         (world_view K.state world.old) (world_view K.state world.new)) }
-    ensures grown { OnOk result (IsGrownBy calls
-        (world_view K.state world.old).network (world_view K.state world.new).network) }
+    ensures grown { OnOk result (IsGrownBy calls world.old.network world.new.network) }
 {
     for number in 0..calls {
         submit(world, &call_at(work, number), prepared.take(alloc)?)?;
@@ -103,11 +99,10 @@ fn submit_all<K: Actor>(
 
 /// Takes so many calls one leg further.
 fn step_all<K: Actor>(world: &mut World<K>, work: &Work, calls: u32, leg: Leg) -> Result<(), Stop>
-    requires room { HasRoom calls (world_view K.state world.old).network }
+    requires room { HasRoom calls world.old.network }
     ensures after { OnOk result (StandsAfter (legs leg work.now calls)
         (world_view K.state world.old) (world_view K.state world.new)) }
-    ensures grown { OnOk result (IsGrownBy calls
-        (world_view K.state world.old).network (world_view K.state world.new).network) }
+    ensures grown { OnOk result (IsGrownBy calls world.old.network world.new.network) }
 {
     for number in 0..calls {
         step(world, &call_at(work, number), leg)?;
@@ -123,7 +118,7 @@ fn share_legs<K: Actor>(
     calls: u32,
     prepared: &mut Prepared,
 ) -> Result<(), Stop>
-    requires room { HasRoom (5 * calls) (world_view K.state world.old).network }
+    requires room { HasRoom (5 * calls) world.old.network }
     ensures after { OnOk result (StandsAfter (all_legs work.now calls)
         (world_view K.state world.old) (world_view K.state world.new)) }
 {
@@ -143,7 +138,7 @@ pub(crate) fn play_all<K: Actor>(
     calls: u32,
     prepared: &mut Prepared,
 ) -> Result<(), Stop>
-    requires room { HasRoom (5 * calls) (world_view K.state world.old).network }
+    requires room { HasRoom (5 * calls) world.old.network }
     ensures after { OnOk result (StandsAfter (events_in work.now.style work.now calls)
         (world_view K.state world.old) (world_view K.state world.new)) }
 {

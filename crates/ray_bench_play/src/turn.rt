@@ -54,7 +54,7 @@ fn play_measured<R: Clock, K: Actor>(
 
 /// Whether a caller made so many calls, and each was answered.
 fn is_caller_served<K: Actor>(world: &World<K>, caller: CallerId, calls: u32) -> bool
-    ensures { result ≡ is_served_in (world_view K.state world.now).network calls caller }
+    ensures { result ≡ is_served_in world.now.network calls caller }
 {
     match world.owner(caller) {
         Some(owner) => is_served(owner, calls),
@@ -64,7 +64,7 @@ fn is_caller_served<K: Actor>(world: &World<K>, caller: CallerId, calls: u32) ->
 
 /// Whether each caller of the work made all its calls, and each was answered.
 fn all_served<K: Actor>(world: &World<K>, work: &Work) -> bool
-    ensures { result ≡ list_all (is_served_in (world_view K.state world.now).network work.now.calls)
+    ensures { result ≡ list_all (is_served_in world.now.network work.now.calls)
         (one_to work.now.callers) }
 {
     let mut served = true;

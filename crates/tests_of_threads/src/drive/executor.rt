@@ -3,7 +3,6 @@
 ghost use Rattle.std.specs.Prelude.{◌≡◌, [], All, IfOk, IfSome};
 ghost use Rattle.act_types.specs.declared.call.Notice.TheVariants.{Answered};
 ghost use Rattle.act_rules.specs.Consistent.{IsPrefix};
-ghost use Rattle.act_actor.specs.StateViews.{live_view};
 ghost use Rattle.act_mailbox.specs.Notices.{new_exec, IsNoDeath, NamesPlace};
 
 use super::station::ExecPasses;
@@ -45,8 +44,7 @@ pub(super) struct ExecLines<'a> {
 
 /// Has a letter arrive, if there is memory for it.
 pub(super) fn arrive<K: Actor>(live: &mut Live<K>, letter: Letter) -> Result<(), NoMemory>
-    ensures same { let after = live_view K.state live.new in
-        after ≡ record (live_view K.state live.old) { inbox = after.inbox } }
+    ensures same { live.new ≡ record live.old { inbox = live.new.inbox } }
 {
     match letter {
         Letter::Call(packet) => match live.arrive(packet) {
@@ -67,8 +65,7 @@ pub(super) fn arrive<K: Actor>(live: &mut Live<K>, letter: Letter) -> Result<(),
 fn take_one<R: Wait, K: Actor>(rt: &R, mail: &Mail, letters: &mut MailExec, live: &mut Live<K>)
     requires line { letters.old.line ≡ mail.now.line }
     ensures line { letters.new.line ≡ letters.old.line }
-    ensures same { let after = live_view K.state live.new in
-        after ≡ record (live_view K.state live.old) { inbox = after.inbox } }
+    ensures same { live.new ≡ record live.old { inbox = live.new.inbox } }
 {
     for _ in rt.forever() {
         if let Some(letter) = mail.take(rt, letters) {
@@ -88,7 +85,7 @@ fn sees_none<R: Wait, K: Actor>(
     live: &Live<K>,
 ) -> bool
     requires line { kills.old.line ≡ control.now.line }
-    requires actor { (live_view K.state live.now).id ≡ kills.old.actor }
+    requires actor { live.now.id ≡ kills.old.actor }
     ensures line { kills.new.line ≡ kills.old.line }
     ensures actor { kills.new.actor ≡ kills.old.actor }
 {
@@ -104,7 +101,7 @@ fn sees_none<R: Wait, K: Actor>(
 /// Waits for a kill.
 fn take_kill<R: Wait, K: Actor>(rt: &R, control: &Control, kills: &mut ControlExec, live: &Live<K>)
     requires line { kills.old.line ≡ control.now.line }
-    requires actor { (live_view K.state live.now).id ≡ kills.old.actor }
+    requires actor { live.now.id ≡ kills.old.actor }
 {
     for _ in rt.forever() {
         if control.take(rt, kills, live).is_some() {
@@ -117,11 +114,11 @@ fn take_kill<R: Wait, K: Actor>(rt: &R, control: &Control, kills: &mut ControlEx
 
 /// Runs the caller's next call.
 fn run_next<K: Actor>(live: &mut Live<K>) -> Result<Option<Reply>, NoMemory>
-    ensures id { (live_view K.state live.new).id ≡ (live_view K.state live.old).id }
-    ensures front { IsPrefix (live_view K.state live.old).log (live_view K.state live.new).log }
+    ensures id { live.new.id ≡ live.old.id }
+    ensures front { IsPrefix live.old.log live.new.log }
     ensures names { IfOk result (λ ran. IfSome ran (λ reply.
-        (reply.actor ≡ (live_view K.state live.old).id) ×
-        NamesPlace (live_view K.state live.new).log (Answered reply))) }
+        (reply.actor ≡ live.old.id) ×
+        NamesPlace live.new.log (Answered reply))) }
 {
     live.run(caller())
 }
@@ -138,11 +135,11 @@ fn give_times<R: Wait, K: Actor>(
 ) -> Result<(), NoMemory>
     requires line { gives.old.line ≡ line.now.line }
     requires names { (reply.now.actor ≡ gives.old.actor)
-        × NamesPlace (live_view K.state live.now).log (Answered reply.now) }
-    requires grown { IsPrefix gives.old.seen (live_view K.state live.now).log }
+        × NamesPlace live.now.log (Answered reply.now) }
+    requires grown { IsPrefix gives.old.seen live.now.log }
     requires alive { All IsNoDeath gives.old.given }
     ensures line { (gives.new.line ≡ gives.old.line) × (gives.new.actor ≡ gives.old.actor) }
-    ensures grown { IsPrefix gives.new.seen (live_view K.state live.now).log }
+    ensures grown { IsPrefix gives.new.seen live.now.log }
     ensures alive { All IsNoDeath gives.new.given }
 {
     for _ in 0..times {
@@ -162,13 +159,13 @@ pub(super) fn run_one<R: Wait, K: Actor>(
     times: u32,
 ) -> Result<(), NoMemory>
     requires line { gives.old.line ≡ line.now.line }
-    requires actor { gives.old.actor ≡ (live_view K.state live.old).id }
-    requires grown { IsPrefix gives.old.seen (live_view K.state live.old).log }
+    requires actor { gives.old.actor ≡ live.old.id }
+    requires grown { IsPrefix gives.old.seen live.old.log }
     requires alive { All IsNoDeath gives.old.given }
     ensures line { gives.new.line ≡ gives.old.line }
     ensures actor { (gives.new.actor ≡ gives.old.actor)
-        × ((live_view K.state live.new).id ≡ (live_view K.state live.old).id) }
-    ensures grown { IsPrefix gives.new.seen (live_view K.state live.new).log }
+        × (live.new.id ≡ live.old.id) }
+    ensures grown { IsPrefix gives.new.seen live.new.log }
     ensures alive { All IsNoDeath gives.new.given }
 {
     let Some(reply) = run_next(live)? else {
@@ -187,8 +184,8 @@ pub(super) fn tell_death<R: Wait, K: Actor>(
     live: &Live<K>,
 )
     requires line { gives.old.line ≡ line.now.line }
-    requires actor { gives.old.actor ≡ (live_view K.state live.now).id }
-    requires grown { IsPrefix gives.old.seen (live_view K.state live.now).log }
+    requires actor { gives.old.actor ≡ live.now.id }
+    requires grown { IsPrefix gives.old.seen live.now.log }
     requires alive { All IsNoDeath gives.old.given }
 {
     drop(line.give(rt, gives, live.log(), Notice::Death(live.id())));
@@ -202,7 +199,7 @@ fn hold<R: Wait, K: Actor>(
     lines: &ExecLines,
     passes: &mut ExecPasses,
 ) -> Result<bool, NoMemory>
-    requires live { ((live_view K.state live.old).id ≡ 1) × ((live_view K.state live.old).log ≡ []) }
+    requires live { (live.old.id ≡ 1) × (live.old.log ≡ []) }
     requires letters { passes.old.letters.line ≡ lines.now.mail.now.line }
     requires kills { (passes.old.kills.line ≡ lines.now.control.now.line) × (passes.old.kills.actor ≡ 1) }
     requires gives { passes.old.gives ≡ new_exec lines.now.replies.now.line 1 }
@@ -223,7 +220,7 @@ fn repeat<R: Wait, K: Actor>(
     lines: &ExecLines,
     passes: &mut ExecPasses,
 ) -> Result<bool, NoMemory>
-    requires live { ((live_view K.state live.old).id ≡ 1) × ((live_view K.state live.old).log ≡ []) }
+    requires live { (live.old.id ≡ 1) × (live.old.log ≡ []) }
     requires letters { passes.old.letters.line ≡ lines.now.mail.now.line }
     requires gives { passes.old.gives ≡ new_exec lines.now.replies.now.line 1 }
 {
@@ -243,7 +240,7 @@ fn drain<R: Wait, K: Actor>(
     lines: &ExecLines,
     passes: &mut ExecPasses,
 ) -> Result<bool, NoMemory>
-    requires live { ((live_view K.state live.old).id ≡ 1) × ((live_view K.state live.old).log ≡ []) }
+    requires live { (live.old.id ≡ 1) × (live.old.log ≡ []) }
     requires letters { passes.old.letters.line ≡ lines.now.mail.now.line }
     requires gives { passes.old.gives ≡ new_exec lines.now.replies.now.line 1 }
 {
@@ -263,7 +260,7 @@ fn pace<R: Wait, K: Actor>(
     lines: &ExecLines,
     passes: &mut ExecPasses,
 ) -> Result<bool, NoMemory>
-    requires live { ((live_view K.state live.old).id ≡ 1) × ((live_view K.state live.old).log ≡ []) }
+    requires live { (live.old.id ≡ 1) × (live.old.log ≡ []) }
     requires letters { passes.old.letters.line ≡ lines.now.mail.now.line }
     requires gives { passes.old.gives ≡ new_exec lines.now.replies.now.line 1 }
 {
@@ -282,7 +279,7 @@ fn leave<R: Wait, K: Actor>(
     lines: &ExecLines,
     passes: &mut ExecPasses,
 ) -> bool
-    requires live { ((live_view K.state live.old).id ≡ 1) × ((live_view K.state live.old).log ≡ []) }
+    requires live { (live.old.id ≡ 1) × (live.old.log ≡ []) }
     requires letters { passes.old.letters.line ≡ lines.now.mail.now.line }
     requires gives { passes.old.gives ≡ new_exec lines.now.replies.now.line 1 }
 {
@@ -300,7 +297,7 @@ fn act<R: Wait, K: Actor>(
     passes: &mut ExecPasses,
     way: Way,
 ) -> Result<bool, NoMemory>
-    requires live { ((live_view K.state live.old).id ≡ 1) × ((live_view K.state live.old).log ≡ []) }
+    requires live { (live.old.id ≡ 1) × (live.old.log ≡ []) }
     requires letters { passes.old.letters.line ≡ lines.now.mail.now.line }
     requires kills { (passes.old.kills.line ≡ lines.now.control.now.line) × (passes.old.kills.actor ≡ 1) }
     requires gives { passes.old.gives ≡ new_exec lines.now.replies.now.line 1 }

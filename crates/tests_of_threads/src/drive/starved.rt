@@ -4,7 +4,6 @@ ghost use Rattle.std.specs.Prelude.{◌≡◌, [], ◌∷◌, All, None, IfOk, s
 ghost use Rattle.std.specs.Thread.{IsSync};
 ghost use Rattle.act_rules.specs.Consistent.{IsPrefix};
 ghost use Rattle.act_rules.specs.Plans.{first_bad};
-ghost use Rattle.act_actor.specs.StateViews.{live_view};
 ghost use Rattle.act_owner.specs.Owner.{open_owner as opened_owner};
 ghost use Rattle.act_mailbox.specs.Controls.{ControlView};
 ghost use Rattle.act_mailbox.specs.Mails.{MailView};
@@ -42,8 +41,7 @@ fn take_in<R: Wait, K: Actor>(
 ) -> Result<bool, NoMemory>
     requires line { letters.old.line ≡ mail.now.line }
     ensures line { letters.new.line ≡ letters.old.line }
-    ensures same { let after = live_view K.state live.new in
-        after ≡ record (live_view K.state live.old) { inbox = after.inbox } }
+    ensures same { live.new ≡ record live.old { inbox = live.new.inbox } }
 {
     match mail.take(rt, letters) {
         None => Ok(false),
@@ -63,11 +61,11 @@ fn attend<R: Wait, K: Actor>(
     lines: &ExecLines,
     passes: &mut ExecPasses,
 ) -> bool
-    requires log { (live_view K.state live.old).log ≡ [] }
+    requires log { live.old.log ≡ [] }
     requires letters { passes.old.letters.line ≡ lines.now.mail.now.line }
     requires kills { (passes.old.kills.line ≡ lines.now.control.now.line)
-        × (passes.old.kills.actor ≡ (live_view K.state live.old).id) }
-    requires gives { passes.old.gives ≡ new_exec lines.now.replies.now.line (live_view K.state live.old).id }
+        × (passes.old.kills.actor ≡ live.old.id) }
+    requires gives { passes.old.gives ≡ new_exec lines.now.replies.now.line live.old.id }
 {
     for _ in 0..LOOKS {
         if lines.control.take(rt, &mut passes.kills, live).is_some() {

@@ -2,7 +2,6 @@
 
 ghost use Rattle.std.specs.Prelude.{◌≡◌, IfOk};
 ghost use Rattle.std.specs.Thread.{IsSync};
-ghost use Rattle.act_actor.specs.StateViews.{live_view};
 ghost use Rattle.act_mailbox.specs.Notices.{new_exec};
 
 use act_actor::Live;
@@ -39,7 +38,7 @@ fn take_kill<R: Wait, K: Actor>(
     live: &Live<K>,
 ) -> KillNote
     requires pass { pass.old.line ≡ control.now.line }
-    requires actor { (live_view K.state live.now).id ≡ pass.old.actor }
+    requires actor { live.now.id ≡ pass.old.actor }
     ensures { pass.new.line ≡ pass.old.line }
 {
     for _ in rt.forever() {
@@ -80,7 +79,7 @@ fn serve<R: Wait, K: Actor>(
     live: Live<K>,
 ) -> (ExecPasses, KillNote)
     requires kills { passes.kills.line ≡ control.now.line }
-    requires actor { (live_view K.state live).id ≡ passes.kills.actor }
+    requires actor { live.id ≡ passes.kills.actor }
     requires notices { passes.notices ≡ new_exec replies.now.line passes.kills.actor }
     ensures kills { result.0.kills.line ≡ control.now.line }
     ensures notices { result.0.notices.line ≡ replies.now.line }
@@ -148,7 +147,7 @@ fn serve_and_drive<R: Threads + Wait + Sync, K: Actor + Send>(
 ) -> ((ExecPasses, KillNote), (CallerPasses, Notice))
     requires sync { IsSync R.row }
     requires kills { executor.0.kills.line ≡ control.now.line }
-    requires actor { (live_view K.state executor.1).id ≡ executor.0.kills.actor }
+    requires actor { executor.1.id ≡ executor.0.kills.actor }
     requires notices { executor.0.notices ≡ new_exec replies.now.line executor.0.kills.actor }
     requires asker { caller.0.kills.line ≡ control.now.line }
     requires collector { caller.0.notices.line ≡ replies.now.line }
@@ -163,7 +162,7 @@ fn serve_and_drive<R: Threads + Wait + Sync, K: Actor + Send>(
         rt,
         move || -> (ExecPasses, KillNote)
             requires kills { exec_passes.kills.line ≡ control.now.line }
-            requires actor { (live_view K.state live).id ≡ exec_passes.kills.actor }
+            requires actor { live.id ≡ exec_passes.kills.actor }
             requires notices { exec_passes.notices ≡ new_exec replies.now.line exec_passes.kills.actor }
             ensures kills { result.0.kills.line ≡ control.entry.now.line }
             ensures notices { result.0.notices.line ≡ replies.entry.now.line }
@@ -265,7 +264,7 @@ fn run_both<R: Threads + Wait + Sync + Abort>(
 ) -> (KillNote, Notice)
     requires sync { IsSync R.row }
     requires kills { executor.0.kills.line ≡ lines.now.control.line }
-    requires actor { (live_view ⟦<Counter as Actor>⟧.state executor.1).id ≡ executor.0.kills.actor }
+    requires actor { executor.1.id ≡ executor.0.kills.actor }
     requires notices { executor.0.notices ≡ new_exec lines.now.replies.line executor.0.kills.actor }
     requires asker { caller.0.kills.line ≡ lines.now.control.line }
     requires collector { caller.0.notices.line ≡ lines.now.replies.line }

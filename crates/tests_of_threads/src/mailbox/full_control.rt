@@ -1,7 +1,6 @@
 //! A control line that is filled and emptied.
 
 ghost use Rattle.std.specs.Prelude.{◌≡◌, ◌<◌, ◌≤◌, IfOk};
-ghost use Rattle.act_actor.specs.StateViews.{live_view};
 
 use act_actor::Live;
 use act_kinds::{Actor, Counter};
@@ -45,7 +44,7 @@ fn are_next<R: Wait>(
     end: u8,
 ) -> bool
     requires pass { pass.old.line ≡ control.now.line }
-    requires actor { (live_view ⟦<Counter as Actor>⟧.state live.now).id ≡ pass.old.actor }
+    requires actor { live.now.id ≡ pass.old.actor }
     requires few { end ≤ 128 }
     ensures pass { pass.new.line ≡ control.now.line }
     ensures actor { pass.new.actor ≡ pass.old.actor }
@@ -123,7 +122,7 @@ fn opened(alloc: Global) -> Result<(Control, ControlCaller, ControlCaller, Contr
 
 /// The actor is actor 1, which ran so many calls.
 fn assert_ran<R: Abort>(rt: &R, live: &Live<Counter>, count: u32)
-    ensures { (live_view ⟦<Counter as Actor>⟧.state live.now).id ≡ 1 }
+    ensures { live.now.id ≡ 1 }
 {
     assert_eq!(rt; live.id(), ActorId::new(1).unwrap());
     assert_eq!(rt; live.log().len(), count as usize);
@@ -137,7 +136,7 @@ fn assert_none<R: Wait + Abort>(
     live: &Live<Counter>,
 )
     requires pass { pass.old.line ≡ control.now.line }
-    requires actor { (live_view ⟦<Counter as Actor>⟧.state live.now).id ≡ pass.old.actor }
+    requires actor { live.now.id ≡ pass.old.actor }
     ensures { (pass.new.line ≡ pass.old.line) × (pass.new.actor ≡ pass.old.actor) }
 {
     assert_eq!(rt; control.take(rt, pass, live), None);
@@ -164,7 +163,7 @@ fn assert_next<R: Wait + Abort>(
 )
     requires asker { asker.old.line ≡ control.now.line }
     requires pass { executor.old.line ≡ control.now.line }
-    requires actor { (live_view ⟦<Counter as Actor>⟧.state live.now).id ≡ executor.old.actor }
+    requires actor { live.now.id ≡ executor.old.actor }
     requires few { numbers.1 ≤ 128 }
     ensures asker { asker.new ≡ asker.old }
     ensures pass { (executor.new.line ≡ executor.old.line) × (executor.new.actor ≡ executor.old.actor) }
@@ -263,7 +262,7 @@ fn assert_fills_and_empties<R: Wait + Abort>(
     requires pass { pass.old.line ≡ control.now.line }
     requires starter { starter.old.line ≡ control.now.line }
     requires executor { executor.old.line ≡ control.now.line }
-    requires actor { (live_view ⟦<Counter as Actor>⟧.state live.now).id ≡ executor.old.actor }
+    requires actor { live.now.id ≡ executor.old.actor }
 {
     assert_none(rt, control, executor, live);
     assert_filled(rt, control, pass, executor);

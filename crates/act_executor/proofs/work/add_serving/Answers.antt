@@ -11,6 +11,6 @@ returns g c =
     let one = c.in_ok-one_serving.field-0 in
     let pushed = c.in_ok-push.ensures.items in
     record {
-      ready = subst (λ l. All (CanServe state) l) (sym pushed) (All-push (CanServe state) before one c.requires.ready c.in_ok-one_serving.ensures.ready);
+      ready = subst (λ l. All CanServe l) (sym pushed) (All-push CanServe before one c.requires.ready c.in_ok-one_serving.ensures.ready);
       starts = next_pushed (serving_start state) before _ one pushed ∙ ap (λ x. map (serving_start state) before ++ x ∷ []) c.in_ok-one_serving.ensures.start;
     }

@@ -13,6 +13,6 @@ invariant-loop-cast g l = record {
   callers : All (λ cast. CallersDiffer cast.callers) (into_iter_items l.cast-iterator.a);
   places : All (λ exec. (exec.place < length l.lines.mails.items) × (exec.place < length l.lines.controls.items)) (into_iter_items l.cast-iterator.b);
   execs : Each (IsExec l.lines) (into_iter_items l.cast-iterator.a) (into_iter_items l.cast-iterator.b);
-  ready : All (CanServe g.K.Actor.state) l.servings.items;
+  ready : All CanServe l.servings.items;
   starts : map (serving_start g.K.Actor.state) l.servings.items ++ map (cast_start g.K.Actor.state l.lines.replies.items) (zip (into_iter_items l.cast-iterator.a) (into_iter_items l.cast-iterator.b)) ≡ map (cast_start g.K.Actor.state l.lines.replies.items) (zip l.fn.casts.items l.fn.execs.items);
 }

@@ -1,6 +1,5 @@
 use Rattle.std.proofs.Common.{◌≡◌, [], ◌∷◌, ◌++◌, ap, sym, subst}
-use Rattle.act_actor.specs.StateViews.{live_view}
-use Rattle.act_actor.specs.View.{ActorView}
+use Rattle.act_actor.specs.View.{LiveView}
 use Rattle.act_mailbox.specs.declared.mail.Letter.TheVariants.{Call}
 use Rattle.act_serve.specs.Turns.{IsFed}
 use Rattle.act_serve.proofs.Logs.{fed_arrive}
@@ -9,10 +8,10 @@ use Rattle.act_serve.proofs.letter.hold.Goals as goal
 
 pub returns-clause-fed : goal.returns-clause-fed
 returns-clause-fed g c =
-    let before = live_view g.K.Actor.state c.args.live.now in
-    let after = live_view g.K.Actor.state c.arrive.new.self in
+    let before = c.args.live.now in
+    let after = c.arrive.new.self in
     let packet = c.args.packet in
     λ callers letters h.
-    subst (λ (s : ActorView). IsFed callers (letters ++ Call packet ∷ []) s) (sym c.arrive.ensures.same)
+    subst (λ (s : LiveView _). IsFed callers (letters ++ Call packet ∷ []) s) (sym c.arrive.ensures.same)
     (fed_arrive callers letters packet before after.inbox c.arrive.result c.arrive.ensures.lanes c.arrive.ensures.notes c.arrive.ensures.arrival c.arrive.ensures.waiting
-    (on_err (after ≡ before) (after.inbox ≡ before.inbox) c.arrive.result (ap (λ (s : ActorView). s.inbox)) c.arrive.ensures.err) h)
+    (on_err (after ≡ before) (after.inbox ≡ before.inbox) c.arrive.result (ap (λ (s : LiveView _). s.inbox)) c.arrive.ensures.err) h)

@@ -1,6 +1,5 @@
 use Rattle.std.proofs.Common.{List, [], ◌∷◌, ◌++◌, map, ap, sym, ◌∙◌, subst, refl, All}
 use Rattle.act_actor.specs.Actor.{with_packet}
-use Rattle.act_actor.specs.StateViews.{live_view}
 use Rattle.act_mailbox.specs.declared.mail.Letter.TheVariants.{Call}
 use Rattle.act_mailbox.specs.Notices.{ReplyExecView}
 use Rattle.act_mailbox.specs.declared.thread.Endpoint.{Endpoint}
@@ -15,34 +14,34 @@ use Rattle.act_serve.proofs.letter.take_call.Goals as goal
 
 pub returns-in_err-hold-clause-serving : goal.returns-in_err-hold-clause-serving
 returns-in_err-hold-clause-serving g c = λ opening callers letters h.
-    serving_in opening callers c.args.replies.now letters (letters ++ Call c.args.packet ∷ []) (live_view g.K.Actor.state c.args.live.now) (live_view g.K.Actor.state c.hold.new.live) c.args.passes.now.notices.items
+    serving_in opening callers c.args.replies.now letters (letters ++ Call c.args.packet ∷ []) c.args.live.now c.hold.new.live c.args.passes.now.notices.items
     c.hold.ensures.same (λ who. c.hold.ensures.fed who letters) h
 
 pub returns-in_default-clause-serving : goal.returns-in_default-clause-serving
 returns-in_default-clause-serving g c = λ opening callers letters h.
-    serving_in opening callers c.args.replies.now letters (letters ++ Call c.args.packet ∷ []) (live_view g.K.Actor.state c.args.live.now) (live_view g.K.Actor.state c.hold.new.live) c.args.passes.now.notices.items
+    serving_in opening callers c.args.replies.now letters (letters ++ Call c.args.packet ∷ []) c.args.live.now c.hold.new.live c.args.passes.now.notices.items
     c.hold.ensures.same (λ who. c.hold.ensures.fed who letters) h
 
 pub returns-in_err-reply-clause-serving : goal.returns-in_err-reply-clause-serving
 returns-in_err-reply-clause-serving g c = λ opening callers letters h.
-    serving_refused opening callers c.args.replies.now letters c.args.packet (live_view g.K.Actor.state c.args.live.now) (live_view g.K.Actor.state c.run_now.new.live) c.args.passes.now.notices.items c.in_err-reply.ensures.err h
+    serving_refused opening callers c.args.replies.now letters c.args.packet c.args.live.now c.run_now.new.live c.args.passes.now.notices.items c.in_err-reply.ensures.err h
 
 pub give_reply-requires-clause-endpoints : goal.give_reply-requires-clause-endpoints
 give_reply-requires-clause-endpoints g c =
-    let before = with_packet c.args.packet (live_view g.K.Actor.state c.args.live.now) in
-    let after = live_view g.K.Actor.state c.run_now.new.live in
+    let before = with_packet c.args.packet c.args.live.now in
+    let after = c.run_now.new.live in
     endpoints_on c.args.replies.now c.args.packet.caller c.in_ok-reply.reply before after c.args.passes.now.notices.items c.in_ok-reply.ensures.ran c.requires.fit.at_places
 
 pub give_reply-requires-clause-place : goal.give_reply-requires-clause-place
 give_reply-requires-clause-place g c =
-    let before = with_packet c.args.packet (live_view g.K.Actor.state c.args.live.now) in
-    let after = live_view g.K.Actor.state c.run_now.new.live in
+    let before = with_packet c.args.packet c.args.live.now in
+    let after = c.run_now.new.live in
     replied_place c.args.packet.caller c.in_ok-reply.reply before after after.log c.in_ok-reply.ensures.ran refl
 
 pub returns-clause-endpoints : goal.returns-clause-endpoints
 returns-clause-endpoints g c =
-    let before = with_packet c.args.packet (live_view g.K.Actor.state c.args.live.now) in
-    let after = live_view g.K.Actor.state c.run_now.new.live in
+    let before = with_packet c.args.packet c.args.live.now in
+    let after = c.run_now.new.live in
     let replies = c.args.replies.now in
     let endpoints = c.args.passes.now.notices.items in
     let at = found replies c.args.packet.caller c.in-Some.at endpoints c.as_slice.result.now c.as_slice.ensures.value c.in-Some.ensures.endpoint in
@@ -55,33 +54,33 @@ returns-clause-endpoints g c =
 
 pub returns-clause-on : goal.returns-clause-on
 returns-clause-on g c =
-    let before = with_packet c.args.packet (live_view g.K.Actor.state c.args.live.now) in
-    let on = goes_on c.args.packet.caller c.in_ok-reply.reply before (live_view g.K.Actor.state c.run_now.new.live) c.in_ok-reply.ensures.ran in
+    let before = with_packet c.args.packet c.args.live.now in
+    let on = goes_on c.args.packet.caller c.in_ok-reply.reply before c.run_now.new.live c.in_ok-reply.ensures.ran in
     record { id = on.id; front = on.front; long = on.long; last = on.last }
 
 pub returns-clause-serving : goal.returns-clause-serving
 returns-clause-serving g c =
-    let before = live_view g.K.Actor.state c.args.live.now in
-    let after = live_view g.K.Actor.state c.run_now.new.live in
+    let before = c.args.live.now in
+    let after = c.run_now.new.live in
     let packet = c.args.packet in
     let replies = c.args.replies.now in
     let endpoints = c.args.passes.now.notices.items in
     let at = found replies packet.caller c.in-Some.at endpoints c.as_slice.result.now c.as_slice.ensures.value c.in-Some.ensures.endpoint in
     λ opening callers letters h.
-    subst (λ (l : List (Endpoint ReplyExecView)). IsServing opening callers replies (letters ++ Call packet ∷ []) after l) (sym (c.give_reply.ensures.given at.endpoint (sym (at.here at.endpoint))))
+    subst (λ (l : List (Endpoint ReplyExecView)). IsServing g.K.Actor.state opening callers replies (letters ++ Call packet ∷ []) after l) (sym (c.give_reply.ensures.given at.endpoint (sym (at.here at.endpoint))))
     (serving_given replies endpoints c.in-Some.at at.endpoint at.here c.in_ok-reply.reply (exec_clock c.args.passes.now) opening callers (letters ++ Call packet ∷ []) packet.caller (with_packet packet before) after
     c.in_ok-reply.ensures.ran at.below at.mine c.requires.fit.differ (serving_held packet before c.in-Some.ensures.at_once opening callers replies letters endpoints h))
 
 pub returns-clause-traced : goal.returns-clause-traced
 returns-clause-traced g c =
-    let before = live_view g.K.Actor.state c.args.live.now in
-    let after = live_view g.K.Actor.state c.run_now.new.live in
+    let before = c.args.live.now in
+    let after = c.run_now.new.live in
     let packet = c.args.packet in
     let replies = c.args.replies.now in
     let endpoints = c.args.passes.now.notices.items in
     let at = found replies packet.caller c.in-Some.at endpoints c.as_slice.result.now c.as_slice.ensures.value c.in-Some.ensures.endpoint in
     let taken = c.give_reply.ensures.taken in
     λ opening callers letters h shown.
-    let serving : IsServing opening callers replies (letters ++ Call packet ∷ []) after c.give_reply.new.passes.notices.items = returns-clause-serving g c opening callers letters h in
+    let serving : IsServing g.K.Actor.state opening callers replies (letters ++ Call packet ∷ []) after c.give_reply.new.passes.notices.items = returns-clause-serving g c opening callers letters h in
     traced_run replies callers (letters ++ Call packet ∷ []) (with_packet packet before) after packet.caller c.in_ok-reply.reply c.in_ok-reply.ensures.ran c.args.passes.now c.give_reply.new.passes
     c.in-Some.at at.endpoint at.here at.below serving.fed.log shown taken.0 taken.1 (c.give_reply.ensures.given at.endpoint (sym (at.here at.endpoint)))

@@ -1,8 +1,7 @@
-use Rattle.act_actor.specs.StateViews.{live_view}
 use Rattle.act_serve.specs.Turns.{has_next}
 use Rattle.act_serve.proofs.Nexts.{NoneOf}
 use Rattle.act_serve.proofs.turn.next_endpoint.Given as goal
 
 -- no endpoint so far has a next call
 abbrev pub invariant-loop-at : goal.invariant-loop-at
-invariant-loop-at g l = NoneOf (has_next l.replies (live_view g.K.Actor.state l.live)) l.notices l.at
+invariant-loop-at g l = NoneOf (has_next l.replies l.live) l.notices l.at

@@ -2,7 +2,6 @@ use Rattle.std.proofs.Common.{rules, ◌≡◌, ◌<◌, ◌∙◌, List, map, a
 use Rattle.std.specs.Prelude.{position}
 use Rattle.std.proofs.lemmas.List.{get_or_default}
 use Rattle.act_actor.specs.Actor.{next_call}
-use Rattle.act_actor.specs.StateViews.{live_view}
 use Rattle.act_mailbox.specs.Notices.{ReplyExecView}
 use Rattle.act_mailbox.specs.declared.thread.Endpoint.{Endpoint}
 use Rattle.act_serve.specs.ActorTraces.{exec_clock}
@@ -16,23 +15,23 @@ use Rattle.act_serve.proofs.turn.run_one.Goals as goal
 
 pub give_reply-requires-clause-endpoints : goal.give_reply-requires-clause-endpoints
 give_reply-requires-clause-endpoints g c =
-    let before = live_view g.K.Actor.state c.args.live.now in
-    let after = live_view g.K.Actor.state c.run_next.new.live in
-    let ran : HasReplied c.caller.result c.in-Ok-Some.reply before after = rw c.in-Ok-Some.field-0-is at c.in-Ok-Some.ensures.ran in
+    let before = c.args.live.now in
+    let after = c.run_next.new.live in
+    let ran : HasReplied g.K.Actor.state c.caller.result c.in-Ok-Some.reply before after = rw c.in-Ok-Some.field-0-is at c.in-Ok-Some.ensures.ran in
     endpoints_on c.args.replies.now c.caller.result c.in-Ok-Some.reply before after c.args.passes.now.notices.items ran c.requires.fit.at_places
 
 pub give_reply-requires-clause-place : goal.give_reply-requires-clause-place
 give_reply-requires-clause-place g c =
-    let before = live_view g.K.Actor.state c.args.live.now in
-    let after = live_view g.K.Actor.state c.run_next.new.live in
-    let ran : HasReplied c.caller.result c.in-Ok-Some.reply before after = rw c.in-Ok-Some.field-0-is at c.in-Ok-Some.ensures.ran in
+    let before = c.args.live.now in
+    let after = c.run_next.new.live in
+    let ran : HasReplied g.K.Actor.state c.caller.result c.in-Ok-Some.reply before after = rw c.in-Ok-Some.field-0-is at c.in-Ok-Some.ensures.ran in
     replied_place c.caller.result c.in-Ok-Some.reply before after after.log ran refl
 
 pub returns-in-Ok-Some-clause-endpoints : goal.returns-in-Ok-Some-clause-endpoints
 returns-in-Ok-Some-clause-endpoints g c =
-    let before = live_view g.K.Actor.state c.args.live.now in
-    let after = live_view g.K.Actor.state c.run_next.new.live in
-    let ran : HasReplied c.caller.result c.in-Ok-Some.reply before after = rw c.in-Ok-Some.field-0-is at c.in-Ok-Some.ensures.ran in
+    let before = c.args.live.now in
+    let after = c.run_next.new.live in
+    let ran : HasReplied g.K.Actor.state c.caller.result c.in-Ok-Some.reply before after = rw c.in-Ok-Some.field-0-is at c.in-Ok-Some.ensures.ran in
     let replies = c.args.replies.now in
     let endpoints = c.args.passes.now.notices.items in
     let endpoint = c.index.result.now in
@@ -46,16 +45,16 @@ returns-in-Ok-Some-clause-endpoints g c =
 
 pub returns-in-Ok-Some-clause-on : goal.returns-in-Ok-Some-clause-on
 returns-in-Ok-Some-clause-on g c =
-    let before = live_view g.K.Actor.state c.args.live.now in
-    let after = live_view g.K.Actor.state c.run_next.new.live in
-    let ran : HasReplied c.caller.result c.in-Ok-Some.reply before after = rw c.in-Ok-Some.field-0-is at c.in-Ok-Some.ensures.ran in
+    let before = c.args.live.now in
+    let after = c.run_next.new.live in
+    let ran : HasReplied g.K.Actor.state c.caller.result c.in-Ok-Some.reply before after = rw c.in-Ok-Some.field-0-is at c.in-Ok-Some.ensures.ran in
     goes_on c.caller.result c.in-Ok-Some.reply before after ran
 
 pub returns-in-Ok-Some-clause-serving : goal.returns-in-Ok-Some-clause-serving
 returns-in-Ok-Some-clause-serving g c =
-    let before = live_view g.K.Actor.state c.args.live.now in
-    let after = live_view g.K.Actor.state c.run_next.new.live in
-    let ran : HasReplied c.caller.result c.in-Ok-Some.reply before after = rw c.in-Ok-Some.field-0-is at c.in-Ok-Some.ensures.ran in
+    let before = c.args.live.now in
+    let after = c.run_next.new.live in
+    let ran : HasReplied g.K.Actor.state c.caller.result c.in-Ok-Some.reply before after = rw c.in-Ok-Some.field-0-is at c.in-Ok-Some.ensures.ran in
     let replies = c.args.replies.now in
     let endpoints = c.args.passes.now.notices.items in
     let endpoint = c.index.result.now in
@@ -64,14 +63,14 @@ returns-in-Ok-Some-clause-serving g c =
     let was : IsAtItsEndpoint replies before.id before.log endpoint = search rules in
     let mine : c.caller.result ≡ caller_at replies endpoint.place = c.caller.ensures ∙ caller_here replies endpoint.place c.index-replies-place.result was.below c.index-replies-place.is in
     λ opening callers letters h.
-    subst (λ (l : List (Endpoint ReplyExecView)). IsServing opening callers replies letters after l) (sym (c.give_reply.ensures.given endpoint (sym (here endpoint))))
+    subst (λ (l : List (Endpoint ReplyExecView)). IsServing g.K.Actor.state opening callers replies letters after l) (sym (c.give_reply.ensures.given endpoint (sym (here endpoint))))
     (serving_given replies endpoints c.in-Some.at endpoint here c.in-Ok-Some.reply (exec_clock c.args.passes.now) opening callers letters c.caller.result before after ran below mine c.requires.fit.differ h)
 
 pub returns-in-Ok-Some-clause-first : goal.returns-in-Ok-Some-clause-first
 returns-in-Ok-Some-clause-first g c =
-    let before = live_view g.K.Actor.state c.args.live.now in
-    let after = live_view g.K.Actor.state c.run_next.new.live in
-    let ran : HasReplied c.caller.result c.in-Ok-Some.reply before after = rw c.in-Ok-Some.field-0-is at c.in-Ok-Some.ensures.ran in
+    let before = c.args.live.now in
+    let after = c.run_next.new.live in
+    let ran : HasReplied g.K.Actor.state c.caller.result c.in-Ok-Some.reply before after = rw c.in-Ok-Some.field-0-is at c.in-Ok-Some.ensures.ran in
     let replies = c.args.replies.now in
     let endpoints = c.args.passes.now.notices.items in
     let endpoint = c.index.result.now in
@@ -87,11 +86,11 @@ returns-in-Ok-Some-clause-first g c =
     )
 
 pub returns-in_default-clause-gone : goal.returns-in_default-clause-gone
-returns-in_default-clause-gone g c = (refl, nowhere (has_next c.args.replies.now (live_view g.K.Actor.state c.args.live.now)) c.as_slice.result.now c.args.passes.now.notices.items c.next_endpoint.result c.next_endpoint.ensures c.as_slice.ensures.value c.in_default.is)
+returns-in_default-clause-gone g c = (refl, nowhere (has_next c.args.replies.now c.args.live.now) c.as_slice.result.now c.args.passes.now.notices.items c.next_endpoint.result c.next_endpoint.ensures c.as_slice.ensures.value c.in_default.is)
 
 pub returns-in-Ok-None-clause-gone : goal.returns-in-Ok-None-clause-gone
 returns-in-Ok-None-clause-gone g c =
-    let before = live_view g.K.Actor.state c.args.live.now in
+    let before = c.args.live.now in
     let endpoint = c.index.result.now in
     let came : false ≡ is_some (next_call before.log before.inbox c.caller.result) = rw c.in-Ok-None.field-0-is at c.in-Ok-None.ensures.next in
     let was : IsAtItsEndpoint c.args.replies.now before.id before.log endpoint = search rules in
@@ -102,9 +101,9 @@ returns-in-Ok-None-clause-gone g c =
 
 pub returns-in-Ok-Some-clause-traced : goal.returns-in-Ok-Some-clause-traced
 returns-in-Ok-Some-clause-traced g c =
-    let before = live_view g.K.Actor.state c.args.live.now in
-    let after = live_view g.K.Actor.state c.run_next.new.live in
-    let ran : HasReplied c.caller.result c.in-Ok-Some.reply before after = rw c.in-Ok-Some.field-0-is at c.in-Ok-Some.ensures.ran in
+    let before = c.args.live.now in
+    let after = c.run_next.new.live in
+    let ran : HasReplied g.K.Actor.state c.caller.result c.in-Ok-Some.reply before after = rw c.in-Ok-Some.field-0-is at c.in-Ok-Some.ensures.ran in
     let replies = c.args.replies.now in
     let endpoints = c.args.passes.now.notices.items in
     let endpoint = c.index.result.now in
@@ -113,6 +112,6 @@ returns-in-Ok-Some-clause-traced g c =
     let letters = c.args.passes.now.letters.taken in
     let taken = c.give_reply.ensures.taken in
     λ opening callers h.
-    let serving : IsServing opening callers replies letters after c.give_reply.new.passes.notices.items = returns-in-Ok-Some-clause-serving g c opening callers letters h in
+    let serving : IsServing g.K.Actor.state opening callers replies letters after c.give_reply.new.passes.notices.items = returns-in-Ok-Some-clause-serving g c opening callers letters h in
     traced_run replies callers letters before after c.caller.result c.in-Ok-Some.reply ran c.args.passes.now c.give_reply.new.passes c.in-Some.at endpoint here below serving.fed.log refl taken.0 taken.1
     (c.give_reply.ensures.given endpoint (sym (here endpoint)))

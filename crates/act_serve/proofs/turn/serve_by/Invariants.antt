@@ -1,6 +1,5 @@
 use Rattle.std.proofs.Common.{◌≡◌}
 use Rattle.act_rules.specs.RunList.{NothingFollowsAnEnd}
-use Rattle.act_actor.specs.StateViews.{live_view}
 use Rattle.act_serve.specs.ActorTraces.{exec_clock}
 use Rattle.act_serve.specs.Turns.{PassesOf, IsServing, IsTracedSoFar}
 use Rattle.act_serve.specs.Served.{endpoint_callers, IsUntaken, ExecPassesStay}
@@ -8,13 +7,13 @@ use Rattle.act_serve.proofs.turn.serve_by.Given as goal
 
 abbrev pub invariant-loop : goal.invariant-loop
 invariant-loop g l =
-    let now = live_view g.K.Actor.state l.live in
-    let before = live_view g.K.Actor.state l.initial.live in
+    let now = l.live in
+    let before = l.initial.live in
     let replies = l.lines.replies.now in record {
       passes : PassesOf l.lines now.id now.log l.passes;
       id : now.id ≡ before.id;
       stay : ExecPassesStay l.initial.passes l.passes;
-      serving : IsServing before.state (endpoint_callers replies l.initial.passes.notices.items) replies l.passes.letters.taken now l.passes.notices.items;
+      serving : IsServing g.K.Actor.state (g.K.Actor.state before.state) (endpoint_callers replies l.initial.passes.notices.items) replies l.passes.letters.taken now l.passes.notices.items;
       untaken : IsUntaken l.passes.kills;
       last : NothingFollowsAnEnd now.log;
       traced : IsTracedSoFar now.id replies now.log l.passes;

@@ -1,6 +1,6 @@
-use Rattle.std.proofs.Common.{◌<◌, sym, subst, length, map, slice_set, arith}
+use Rattle.std.proofs.Common.{◌<◌, ap, sym, ◌∙◌, subst, length, map, slice_set, arith}
 use Rattle.std.specs.Prelude.{IfOk}
-use Rattle.std.proofs.Math.Seq.{map-set_same}
+use Rattle.std.proofs.lemmas.List.{set-get_or}
 use Rattle.std.proofs.lemmas.Result.{IfOk-weaker, on_err_weaker}
 use Rattle.act_world.specs.Slots.{IsRun, IsRunAt}
 use Rattle.act_world.specs.View.{slot_view}
@@ -18,13 +18,10 @@ returns-clause-ok g c =
 
 pub returns-clause-err : goal.returns-clause-err
 returns-clause-err g c = on_err_weaker c.run_in.result
-    (λ same. map-set_same (slot_view g.K.Actor.state) c.args.slots.now c.slot_of.result c.run_in.new.slot c.index-slots-slot_of.result same)
+    (λ same. ap (slice_set c.args.slots.now c.slot_of.result) same ∙ set-get_or c.args.slots.now c.slot_of.result c.index-slots-slot_of.result)
     c.run_in.ensures.err
 
 pub returns-clause-refused : goal.returns-clause-refused
 returns-clause-refused g c = IfOk-weaker c.run_in.result _ _
-    (λ ran refused. on_err_weaker ran (λ same. map-set_same (slot_view g.K.Actor.state) c.args.slots.now c.slot_of.result c.run_in.new.slot c.index-slots-slot_of.result same) refused)
+    (λ ran refused. on_err_weaker ran (λ same. ap (slice_set c.args.slots.now c.slot_of.result) same ∙ set-get_or c.args.slots.now c.slot_of.result c.index-slots-slot_of.result) refused)
     c.run_in.ensures.refused
-
-pub bounds-slots-slot_of : goal.bounds-slots-slot_of
-bounds-slots-slot_of g c = c.slot_of.ensures.below

@@ -11,6 +11,3 @@ returns g c =
     let here = slot_within seen c.args.slots.now c.slot_of.result c.index-slots-slot_of.result within c.index-slots-slot_of.is in
     subst (λ (slot : _). slice_get (map seen c.args.slots.now) c.args.a ≡ Some (seen slot)) c.index-slots-slot_of.is
     (subst (λ a. slice_get (map seen c.args.slots.now) a ≡ Some (seen c.index-slots-slot_of.result)) c.slot_of.ensures.value here)
-
-pub bounds-slots-slot_of : goal.bounds-slots-slot_of
-bounds-slots-slot_of g c = c.slot_of.ensures.below

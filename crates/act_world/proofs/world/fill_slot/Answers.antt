@@ -13,6 +13,3 @@ returns g c = λ b.
     (subst (λ a. slice_get (map (slot_view g.K.Actor.state) slots) b ≡ (if a == b then Some (slot_view g.K.Actor.state c.put.new.slot) else slice_get (map (slot_view g.K.Actor.state) c.args.slots.now) b))
     c.slot_of.ensures.value
     (set_map (slot_view g.K.Actor.state) c.args.slots.now c.slot_of.result b c.put.new.slot within))
-
-pub bounds-slots-slot_of : goal.bounds-slots-slot_of
-bounds-slots-slot_of g c = c.slot_of.ensures.below

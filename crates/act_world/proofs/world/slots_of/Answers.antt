@@ -1,4 +1,4 @@
-use Rattle.std.proofs.Common.{rules, ◌≡◌, [], map, sym, subst, ◌∙◌, refl}
+use Rattle.std.proofs.Common.{rules, ◌≡◌, [], map, ap, sym, subst, ◌∙◌, refl}
 use Rattle.std.specs.List.{AllByRecursion}
 use Rattle.std.specs.Vec.Iter.{into_iter_items}
 use Rattle.std.proofs.lemmas.List.{nil_from_length}
@@ -38,7 +38,7 @@ loop-cast-preserved g c =
       rest.1,
       one_more state (map (actor_spec state) casts) c.in-Some.cast (into_iter_items c.next.new.self) (live_view state c.in_ok-live.live) (map (slot_view state) c.loop-cast.slots) (map (slot_view state) c.fill_slot.new.slots)
           (subst (λ rest. AreOpened state (opening (map (actor_spec state) casts)) rest (map (slot_view state) c.loop-cast.slots)) step.0 c.loop-cast.invariant.2)
-          rest.0.0 live.id (subst (λ callers. IsOpened callers (live_view state c.in_ok-live.live).inbox) c.as_slice.ensures live.inbox) live.log live.state c.fill_slot.ensures,
+          rest.0.0 live.id (subst (λ callers. IsOpened callers (live_view state c.in_ok-live.live).inbox) c.as_slice.ensures live.inbox) live.log (ap state live.kind) c.fill_slot.ensures,
     )
 
 pub returns : goal.returns

@@ -8,5 +8,5 @@ use Rattle.ray_bench_play.proofs.play.follow_all.Given as goal
 abbrev pub invariant-loop-number : goal.invariant-loop-number
 invariant-loop-number g l = record {
   after : StandsAfter (ways l.work l.number) (world_view g.K.Actor.state l.fn.world) (world_view g.K.Actor.state l.world);
-  grown : IsGrownBy (5 * l.number) (world_view g.K.Actor.state l.fn.world).network (world_view g.K.Actor.state l.world).network;
+  grown : IsGrownBy (5 * l.number) l.fn.world.network l.world.network;
 }

@@ -7,5 +7,5 @@ use Rattle.ray_bench_play.proofs.play.step_all.Given as goal
 abbrev pub invariant-loop-number : goal.invariant-loop-number
 invariant-loop-number g l = record {
   after : StandsAfter (legs l.leg l.work l.number) (world_view g.K.Actor.state l.fn.world) (world_view g.K.Actor.state l.world);
-  grown : IsGrownBy (l.number) (world_view g.K.Actor.state l.fn.world).network (world_view g.K.Actor.state l.world).network;
+  grown : IsGrownBy (l.number) l.fn.world.network l.world.network;
 }

@@ -1,10 +1,9 @@
 use Rattle.std.proofs.Common.{◌≡◌}
 use Rattle.std.specs.List.{list_all}
 use Rattle.act_rules.specs.Report.{one_to}
-use Rattle.act_world.specs.View.{world_view}
 use Rattle.ray_bench_play.specs.Plays.{is_served_in}
 use Rattle.ray_bench_play.proofs.turn.all_served.Given as goal
 
 -- each caller so far
 abbrev pub invariant-loop-before : goal.invariant-loop-before
-invariant-loop-before g l = l.served ≡ list_all (is_served_in (world_view g.K.Actor.state l.world).network l.work.calls) (one_to l.before)
+invariant-loop-before g l = l.served ≡ list_all (is_served_in l.world.network l.work.calls) (one_to l.before)

@@ -1,11 +1,12 @@
-use Rattle.act_world.proofs.Changes.{on_err}
+use Rattle.std.proofs.Common.{refl}
+use Rattle.act_world.proofs.Stepping.{wanting_there}
 use Rattle.act_world.proofs.network.Network.submit_copy.Goals as goal
 
-pub returns-in-Some-clause-ok : goal.returns-in-Some-clause-ok
-returns-in-Some-clause-ok c = c.in-Some.ensures.refused c.args.method
+pub returns-in-Some : goal.returns-in-Some
+returns-in-Some c = c.in-Some.ensures.refused c.args.method
 
-pub returns-in_err-args-clause-memory_last : goal.returns-in_err-args-clause-memory_last
-returns-in_err-args-clause-memory_last c = on_err c.from_residual.result (c.in_default.ensures.accepted c.args.method)
+pub returns-in_err-args : goal.returns-in_err-args
+returns-in_err-args c = wanting_there _ _ _ _ _ c.from_residual.ensures.1 refl (c.in_default.ensures.accepted c.args.method) (λ slots casts before reached. refl)
 
-pub returns-clause-memory_last : goal.returns-clause-memory_last
-returns-clause-memory_last c = on_err c.submit.result (c.in_default.ensures.accepted c.args.method)
+pub returns : goal.returns
+returns c = rw (← c.in_ok-args.ensures) c.submit.ensures

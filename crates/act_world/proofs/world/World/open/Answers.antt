@@ -5,6 +5,7 @@ use Rattle.act_world.specs.declared.network.Posted.{Posted}
 use Rattle.act_actor.specs.Casts.{callers_named}
 use Rattle.act_world.specs.Openings.{HasOwners}
 use Rattle.act_world.proofs.OpenedOwners.{owners_opened, nothing_asked}
+use Rattle.act_world.proofs.Shown.{opened_shows}
 use Rattle.act_world.proofs.world.World.open.Goals as goal
 
 pub returns-clause-reached : goal.returns-clause-reached
@@ -18,3 +19,6 @@ returns-clause-reached g c = record {
   reply_count = ap (λ (replies : List Posted). length replies) c.new-2.ensures.items;
   asked = nothing_asked;
 }
+
+pub returns-clause-shown : goal.returns-clause-shown
+returns-clause-shown g c = opened_shows _ _ (returns-clause-reached g c)

@@ -1,9 +1,10 @@
-use Rattle.std.proofs.Common.{rules, ◌+◌, ◌-◌, List, length, subst, arith}
+use Rattle.std.proofs.Common.{rules, ◌+◌, ◌-◌, List, length, ap, subst, arith}
 use Rattle.std.proofs.lemmas.List.{take_all}
 use Rattle.act_rules.specs.declared.event.Event.{Event}
 use Rattle.act_world.specs.View.{world_view}
 use Rattle.act_world.specs.IsReachedBy.{FollowsRules, HasRoom, IsGrownBy, HasPlayed}
 use Rattle.act_world.proofs.Playing.{Played_next}
+use Rattle.act_world.proofs.Shown.{played_shows, stopped_shows}
 use Rattle.act_world.proofs.world.World.play_reserved.Goals as goal
 
 pub loop-i-preserved : goal.loop-i-preserved
@@ -35,3 +36,9 @@ loop-i-preserved g c = record {
 pub returns-clause-ok : goal.returns-clause-ok
 returns-clause-ok g c =
     subst (λ (events : List Event). HasPlayed events (world_view g.K.Actor.state c.args.self.now) (world_view g.K.Actor.state c.loop-i.self) c.args.told.now.items c.loop-i.told.items) (take_all c.loop-i.i c.args.events.now c.loop-i-test.false) c.loop-i.invariant.played
+
+pub returns-clause-shown : goal.returns-clause-shown
+returns-clause-shown g c = λ casts before reached. played_shows c.args.events.now c.loop-i.i (world_view g.K.Actor.state c.args.self.now) (world_view g.K.Actor.state c.loop-i.self) c.args.told.now.items c.loop-i.told.items c.loop-i.invariant.played casts before reached
+
+pub returns-in_default-clause-shown : goal.returns-in_default-clause-shown
+returns-in_default-clause-shown g c = λ casts before reached. stopped_shows c.args.events.now c.loop-i.i (world_view g.K.Actor.state c.args.self.now) (world_view g.K.Actor.state c.loop-i.self) (world_view g.K.Actor.state c.step.new.self) c.args.told.now.items c.loop-i.told.items c.loop-i.invariant.played (ap (world_view g.K.Actor.state) c.in_default.ensures.err) casts before reached

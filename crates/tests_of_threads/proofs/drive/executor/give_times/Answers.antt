@@ -6,7 +6,6 @@ use Rattle.act_types.specs.declared.call.Notice.{Notice}
 use Rattle.act_types.specs.declared.call.Notice.TheVariants.{Answered}
 use Rattle.act_rules.specs.declared.history.RunItem.{RunItem}
 use Rattle.act_rules.specs.Consistent.{IsPrefix}
-use Rattle.act_actor.specs.StateViews.{live_view}
 use Rattle.act_mailbox.specs.Notices.{ReplyExecView, IsNoDeath}
 use Rattle.tests_of_threads.proofs.drive.executor.give_times.Goals as goal
 
@@ -21,7 +20,7 @@ given_on (Err e) old new log reply ok err front alive =
 pub loop-preserved : goal.loop-preserved
 loop-preserved g c =
     let was = c.loop.invariant in
-    let log : c.log.result.now ≡ (live_view g.K.Actor.state c.args.live.now).log = c.log.ensures.value in
+    let log : c.log.result.now ≡ c.args.live.now.log = c.log.ensures.value in
     let front : IsPrefix c.loop.gives.seen c.log.result.now = subst (λ (l : List RunItem). IsPrefix c.loop.gives.seen l) (sym log) was.grown in
     let now = given_on c.give.result c.loop.gives c.give.new.pass c.log.result.now _ c.give.ensures.ok c.give.ensures.err front was.alive in
     record { line = now.0 ∙ was.line; actor = now.1 ∙ was.actor; grown = subst (λ (l : List RunItem). IsPrefix c.give.new.pass.seen l) log now.2; alive = now.3 }

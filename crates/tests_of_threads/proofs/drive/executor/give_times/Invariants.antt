@@ -1,6 +1,5 @@
 use Rattle.std.proofs.Common.{◌≡◌, All}
 use Rattle.act_rules.specs.Consistent.{IsPrefix}
-use Rattle.act_actor.specs.StateViews.{live_view}
 use Rattle.act_mailbox.specs.Notices.{IsNoDeath}
 use Rattle.tests_of_threads.proofs.drive.executor.give_times.Given as goal
 
@@ -8,6 +7,6 @@ abbrev pub invariant-loop : goal.invariant-loop
 invariant-loop g l = record {
   line : l.gives.line ≡ l.initial.gives.line;
   actor : l.gives.actor ≡ l.initial.gives.actor;
-  grown : IsPrefix l.gives.seen (live_view g.K.Actor.state l.live).log;
+  grown : IsPrefix l.gives.seen l.live.log;
   alive : All IsNoDeath l.gives.given;
 }

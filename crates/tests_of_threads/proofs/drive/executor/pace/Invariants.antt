@@ -1,6 +1,5 @@
 use Rattle.std.proofs.Common.{◌≡◌, All}
 use Rattle.act_rules.specs.Consistent.{IsPrefix}
-use Rattle.act_actor.specs.StateViews.{live_view}
 use Rattle.act_mailbox.specs.Notices.{IsNoDeath}
 use Rattle.tests_of_threads.proofs.drive.executor.pace.Given as goal
 
@@ -9,7 +8,7 @@ invariant-loop g l = record {
   letters : l.passes.letters.line ≡ l.initial.passes.letters.line;
   gives : l.passes.gives.line ≡ l.initial.passes.gives.line;
   given : l.passes.gives.actor ≡ l.initial.passes.gives.actor;
-  id : (live_view g.K.Actor.state l.live).id ≡ (live_view g.K.Actor.state l.initial.live).id;
-  grown : IsPrefix l.passes.gives.seen (live_view g.K.Actor.state l.live).log;
+  id : l.live.id ≡ l.initial.live.id;
+  grown : IsPrefix l.passes.gives.seen l.live.log;
   alive : All IsNoDeath l.passes.gives.given;
 }
