@@ -6,7 +6,7 @@ ghost use Rattle.act_console.specs.Stock.{IsReady};
 ghost use Rattle.act_histories.specs.Checked.{IsPlayOfHistory};
 
 use crate::fault::EndFault;
-use act_histories::{CheckFault, Stock, check_history};
+use act_histories::{CheckFault, Reasons, Stock, check_history};
 use act_kinds::{Actor, Boxed};
 use act_types::MAX_SCRIPT_BYTES;
 use std::alloc::{AllocError, Global};
@@ -59,7 +59,7 @@ fn play_of(alloc: Global, stock: Stock, script: &[u8], lines: &str) -> Result<Ve
     }
     let mut play = Vec::new(alloc);
     let mut reader = history.as_slice();
-    let checked = check_history(alloc, stock, &mut reader, &mut play);
+    let checked = check_history(alloc, stock, Reasons::First, &mut reader, &mut play);
     drop(history);
     match checked {
         Ok(()) => Ok(play),

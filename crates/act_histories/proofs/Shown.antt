@@ -1,5 +1,5 @@
 -- What a world shows, beside the lines of a history.
-use Rattle.std.proofs.Common.{◌≡◌, ℕ, List, [], ◌++◌, sym, ap, ◌∙◌}
+use Rattle.std.proofs.Common.{◌≡◌, ℕ, List, [], ◌++◌, sym, ap, subst, ◌∙◌}
 use Rattle.act_rules.specs.declared.event.Event.{Event}
 use Rattle.act_rules.specs.History.{ActorSpec}
 use Rattle.act_rules.specs.Laws.{history}
@@ -8,8 +8,9 @@ use Rattle.act_world.specs.View.{WorldView}
 use Rattle.act_world.specs.IsReachedBy.{IsReachedBy}
 use Rattle.act_console.specs.Parts.{world_report}
 use Rattle.act_console.proofs.Shown.{summary_is}
+use Rattle.act_histories.specs.Lines.{AreTold}
 
 -- the report of no events is the summary
-pub shown : (casts : List ActorSpec) (events : List Event) (world : WorldView) (empty text lines : List ℕ) → IsReachedBy casts events world → empty ≡ [] → text ≡ empty ++ world_report [] world → text ≡ lines → summary (history casts events) ≡ lines
-shown casts events world empty text lines reached none is same =
-    sym (summary_is casts events world reached) ∙ sym (ap (λ (front : List ℕ). front ++ world_report [] world) none) ∙ sym is ∙ same
+pub shown : (casts : List ActorSpec) (events : List Event) (world : WorldView) (empty text rest told : List ℕ) → IsReachedBy casts events world → empty ≡ [] → text ≡ empty ++ world_report [] world → AreTold rest told → text ≡ told → AreTold rest (summary (history casts events))
+shown casts events world empty text rest told reached none is make same =
+    subst (AreTold rest) (sym same ∙ is ∙ ap (λ (front : List ℕ). front ++ world_report [] world) none ∙ summary_is casts events world reached) make

@@ -16,17 +16,16 @@ use Rattle.act_histories.specs.declared.fault.CheckFault.{CheckFault}
 use Rattle.act_histories.specs.declared.fault.CheckFault.TheVariants as faults
 use Rattle.act_histories.specs.declared.check.Verdict.{Verdict}
 use Rattle.act_histories.specs.declared.check.Verdict.TheVariants as verdicts
-use Rattle.act_histories.specs.Lines.{told_lines}
 use Rattle.act_histories.specs.Play.{EndsSo, IsPlayScript, IsPlayText}
 use Rattle.act_histories.specs.Checked.{IsVerdict, IsVerdictOf, IsBeforeVerdict, WroteVerdict, Checked}
 
 -- ---- a play
 
 -- events with the same roles
-pub is_script : (roles casts : List Role) (steps : List (ℕ × Step × ℕ)) (events : List Event) (rest : List ℕ) → roles ≡ casts → EndsSo (map actor_spec_of casts) steps events (told_lines rest)
+pub is_script : (roles casts : List Role) (steps : List (ℕ × Step × ℕ)) (events : List Event) (rest : List ℕ) → roles ≡ casts → EndsSo (map actor_spec_of casts) steps events rest
     → IsPlayScript (script_of roles steps) rest (record { roles = casts; events = events; steps = [] })
 is_script roles casts steps events rest same ends = record {
-  ends = subst (λ (roles : List Role). EndsSo (map actor_spec_of roles) steps events (told_lines rest)) (sym same) ends;
+  ends = subst (λ (roles : List Role). EndsSo (map actor_spec_of roles) steps events rest) (sym same) ends;
   same = λ i. record { roles = sym same i; events = events; steps = [] };
 }
 
@@ -35,7 +34,7 @@ pub is_text : (script play : Script) (rest text : List ℕ) → spelled Play tex
 is_text script play rest text read is = record { events = play.events; ends = is.ends; written = λ _. read ∙ ap Ok is.same }
 
 -- a text that is too long to be read
-pub is_long : (script : Script) (events : List Event) (rest text : List ℕ) → MAX_SCRIPT_BYTES < length text → EndsSo (map actor_spec_of script.roles) script.steps events (told_lines rest) → IsPlayText script rest text
+pub is_long : (script : Script) (events : List Event) (rest text : List ℕ) → MAX_SCRIPT_BYTES < length text → EndsSo (map actor_spec_of script.roles) script.steps events rest → IsPlayText script rest text
 is_long script events rest text long ends = record { events = events; ends = ends; written = λ short. absurd (omega arith) }
 
 -- ---- a verdict
@@ -83,7 +82,6 @@ unwritten had left old faults.Writing is = absurd is
 
 -- ---- what ends so
 
--- what is said of casts and lines is said of others that are the same
-pub ends_same : (casts same_casts : List ActorSpec) (steps : List (ℕ × Step × ℕ)) (events : List Event) (lines shown same_lines : List ℕ) → casts ≡ same_casts → lines ≡ shown → shown ≡ same_lines → EndsSo casts steps events lines → EndsSo same_casts steps events same_lines
-ends_same casts same_casts steps events lines shown same_lines one two three ends =
-    subst (λ (casts : List ActorSpec). EndsSo casts steps events same_lines) one (subst (λ (lines : List ℕ). EndsSo casts steps events lines) (two ∙ three) ends)
+-- what is said of casts is said of others that are the same
+pub ends_same : (casts same_casts : List ActorSpec) (steps : List (ℕ × Step × ℕ)) (events : List Event) (rest : List ℕ) → casts ≡ same_casts → EndsSo casts steps events rest → EndsSo same_casts steps events rest
+ends_same casts same_casts steps events rest same ends = subst (λ (casts : List ActorSpec). EndsSo casts steps events rest) same ends

@@ -17,7 +17,7 @@ use Rattle.act_rules.specs.Grammar.{Script, spelled}
 use Rattle.act_rules.specs.Scripts.{actor_spec_of}
 use Rattle.act_console.specs.Plans.{steps_of_caller}
 use Rattle.act_executor.specs.PlanPlays.{DoesPlanIn}
-use Rattle.act_histories.specs.Lines.{told_lines}
+use Rattle.act_histories.specs.Lines.{AreTold}
 
 -- the call that a step submits, where it is one of the caller
 abbrev pub call_of : ℕ → ℕ × Step × ℕ → List Submission
@@ -62,24 +62,24 @@ abbrev pub DoesSteps : List ActorSpec → ℕ → List (ℕ × Step × ℕ) → 
 DoesSteps casts c steps events = (closing : List ℕ)
     × DoesPlanIn casts c (steps_of_caller c steps ++ map (λ a. step.Release a) closing) [] events
 
--- all events are accepted in a world of these casts, which then shows these lines; each caller has the calls that steps
--- tell, and one that awaits an answer does its steps in their order
+-- all events are accepted in a world of these casts, which then shows the lines that these bytes tell; each caller has
+-- the calls that steps tell, and one that awaits an answer does its steps in their order
 pub record EndsSo (casts : List ActorSpec) (steps : List (ℕ × Step × ℕ)) (events : List Event)
-    (told : List ℕ) : Type 0 where
+    (bytes : List ℕ) : Type 0 where
   pub accepted : All IsOk (outcomes (opening casts) events)
-  pub shown : summary (history casts events) ≡ told
+  pub shown : AreTold bytes (summary (history casts events))
   pub calls : (c : ℕ) → 1 ≤ c → c ≤ MAX_CALLERS → HasCalls c steps (history casts events)
   pub does : (c : ℕ) → 1 ≤ c → c ≤ MAX_CALLERS → awaits c steps ≡ true → DoesSteps casts c steps events
 
 -- the script is a play with the roles of the first one, and ends as its steps and the lines tell
 pub record IsPlayScript (script : Script) (rest : List ℕ) (play : Script) : Type 0 where
-  pub ends : EndsSo (map actor_spec_of script.roles) script.steps play.events (told_lines rest)
+  pub ends : EndsSo (map actor_spec_of script.roles) script.steps play.events rest
   pub same : play ≡ record { roles = script.roles; events = play.events; steps = [] }
 
 -- the text is a play with the roles of the script, and ends as its steps and the lines tell; one that is longer than a
 -- script may be can't be read, so only its events are spoken of
 pub record IsPlayText (script : Script) (rest text : List ℕ) : Type 0 where
   pub events : List Event
-  pub ends : EndsSo (map actor_spec_of script.roles) script.steps events (told_lines rest)
+  pub ends : EndsSo (map actor_spec_of script.roles) script.steps events rest
   pub written : length text ≤ MAX_SCRIPT_BYTES →
       spelled Play text ≡ Ok (record { roles = script.roles; events = events; steps = [] })

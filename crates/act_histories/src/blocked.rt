@@ -8,7 +8,6 @@
 use crate::history::{Between, Call, Ending, History, Placed, Ran, future_at, slot_of};
 use crate::progress::{Asked, Progress};
 use crate::reason::{Blame, CallName, Reason};
-use crate::rules::has_died;
 use act_types::{ACTOR_NUMBERS, ActorId, Arg, CallerId, MAX_ACTORS, MAX_CALLERS, NoMemory};
 use std::alloc::Global;
 
@@ -151,7 +150,7 @@ impl Way {
             return Ok(Next::End);
         };
         let line = call.line;
-        if call.answer.is_none() {
+        if call.is_open() {
             self.add(line, Reason::Open(name.again()))?;
             return Ok(Next::End);
         }
@@ -162,7 +161,7 @@ impl Way {
             caller: front.item.caller,
             future: front.item.future,
         };
-        if has_died(call) {
+        if call.has_died() {
             self.add(line, Reason::WaitsForDeath(name.again(), first, call.actor))?;
         } else if first != *name {
             self.add(line, Reason::WaitsForTurn(name.again(), first, call.actor))?;
@@ -177,7 +176,7 @@ impl Way {
         name: &CallName,
         call: &Call,
     ) -> Result<Next, NoMemory> {
-        if !has_died(call) || !stuck.lives_on(call.actor) {
+        if !call.has_died() || !stuck.lives_on(call.actor) {
             return Ok(Next::End);
         }
         self.add(call.line, Reason::WaitsForEnd(name.again(), call.actor))?;

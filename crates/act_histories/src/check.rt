@@ -14,21 +14,21 @@ ghost use Rattle.act_console.specs.Input.{IsWholeInput};
 ghost use Rattle.act_console.specs.Output.{AppendsPrefix};
 ghost use Rattle.act_console.specs.Plans.{script_of};
 ghost use Rattle.act_console.specs.Stock.{IsReady};
-ghost use Rattle.act_histories.specs.Lines.{told_lines};
 ghost use Rattle.act_histories.specs.Play.{EndsSo, IsPlayScript, IsPlayText};
 ghost use Rattle.act_histories.specs.Checked.{IsVerdict, IsVerdictOf, IsBeforeVerdict, WroteVerdict, Checked};
 
 use crate::blocked::why_blocked;
 use crate::compared::ends_so;
 use crate::fault::CheckFault;
+use crate::faults::all_faults;
 use crate::history::{History, Lines};
 use crate::mistake::{Mistake, Wrongly};
-use crate::parts::{Cut, cut_of, second_part};
+use crate::parts::{Cut, cut_of};
 use crate::printed::play_text;
 use crate::reading::read_history;
-use crate::reason::Blame;
+use crate::reason::{Blame, Reasons, push_blames};
 use crate::rebuilt::{Rebuilt, rebuild};
-use crate::rules::check_rules;
+use crate::rules::first_blame;
 use crate::same::same_roles;
 use crate::values::difference;
 use act_console::{ConsoleFault, Stock, casts_of, read_whole, write_whole};
@@ -65,11 +65,19 @@ fn mistake_of(alloc: Global, line: u32, wrong: Wrongly) -> Result<Verdict, Alloc
 /// The lines of what is blamed.
 fn blames_text(alloc: Global, blames: &[Blame]) -> Result<String, AllocError> {
     let mut text = String::new(alloc);
-    for blame in blames {
-        let Blame { line, reason } = *blame;
-        writeln!(text, "line {line}: {reason}")?;
-    }
+    push_blames(&mut text, blames)?;
     Ok(text)
+}
+
+/// The lines of what no play leaves, whatever the order of its events: none where there is nothing.
+fn faults_text(alloc: Global, history: &History, reasons: Reasons) -> Result<String, NoMemory> {
+    match reasons {
+        Reasons::All => all_faults(alloc, history),
+        Reasons::First => match first_blame(alloc, history)? {
+            None => Ok(String::new(alloc)),
+            Some(blame) => Ok(blames_text(alloc, &[blame])?),
+        },
+    }
 }
 
 /// Why events are no play of the history, once they were played in a world that was just opened.
@@ -80,16 +88,15 @@ fn why_not_in<K: Actor>(
     told: &mut Vec<Outcome>,
     events: &[Event],
     history: &History,
-    shown: &[u8],
     lines: Lines<'_>,
 ) -> Result<Option<String>, NoMemory>
-    requires room { HasRoom (length events.now) (world_view K.state world.old).network }
+    requires room { HasRoom (length events.now) world.old.network }
     requires none { told.old.items ≡ [] }
     ensures { IfOk result (λ why. why ≡ None → (casts : List ActorSpec) →
         IsReachedBy casts [] (world_view K.state world.old) →
-        EndsSo casts lines.entry.steps.now events.now shown.now) }
+        EndsSo casts lines.entry.steps.now events.now lines.entry.rest.now) }
 {
-    if ends_so(alloc, world, events, lines.steps, shown, told)? {
+    if ends_so(alloc, world, events, lines.steps, lines.rest, told)? {
         return Ok(None);
     }
     let why = difference(alloc, world, history, events, told, lines)?;
@@ -109,13 +116,12 @@ fn why_not_events(
     requires roles { AreFitting (map actor_spec_of roles) }
     requires few { length events.now < 2 ^ 32 }
     ensures { IfOk result (λ why. why ≡ None →
-        EndsSo (map actor_spec_of roles) lines.entry.steps.now events.now (told_lines lines.entry.rest.now)) }
+        EndsSo (map actor_spec_of roles) lines.entry.steps.now events.now lines.entry.rest.now) }
 {
-    let shown = second_part(alloc, lines.rest)?;
     let casts = casts_of(alloc, stock, roles)?;
     let mut world = World::open(alloc, casts)?;
     let mut told = Vec::new(alloc);
-    let why = why_not_in(alloc, &mut world, &mut told, events, history, &shown, lines);
+    let why = why_not_in(alloc, &mut world, &mut told, events, history, lines);
     drop(told);
     drop(world);
     why
@@ -246,6 +252,7 @@ fn verdict_of_rebuilt(
 fn verdict_of_history(
     alloc: Global,
     stock: Stock,
+    reasons: Reasons,
     roles: ListOf<Role>,
     history: &History,
     lines: Lines<'_>,
@@ -254,8 +261,9 @@ fn verdict_of_history(
     requires roles { AreFitting (map actor_spec_of roles) }
     ensures { IfOk result (IsVerdictOf (script_of roles lines.entry.steps.now) lines.entry.rest.now) }
 {
-    if let Some(blame) = check_rules(alloc, history)? {
-        return Ok(Verdict::Refused(blames_text(alloc, &[blame])?));
+    let faults = faults_text(alloc, history, reasons)?;
+    if !faults.is_empty() {
+        return Ok(Verdict::Refused(faults));
     }
     let rebuilt = rebuild(alloc, history)?;
     let verdict = verdict_of_rebuilt(alloc, stock, roles, &rebuilt, history, lines);
@@ -267,6 +275,7 @@ fn verdict_of_history(
 fn verdict_of_script(
     alloc: Global,
     stock: Stock,
+    reasons: Reasons,
     script: Script,
     rest: &[u8],
     before: u32,
@@ -290,7 +299,7 @@ fn verdict_of_script(
     };
     match read_history(alloc, roles.as_slice(), lines) {
         Ok(history) => {
-            let verdict = verdict_of_history(alloc, stock, roles, &history, lines);
+            let verdict = verdict_of_history(alloc, stock, reasons, roles, &history, lines);
             drop(history);
             verdict
         }
@@ -300,7 +309,12 @@ fn verdict_of_script(
 }
 
 /// The verdict of the bytes of a history.
-fn verdict_of(alloc: Global, stock: Stock, bytes: &[u8]) -> Result<Verdict, NoMemory>
+fn verdict_of(
+    alloc: Global,
+    stock: Stock,
+    reasons: Reasons,
+    bytes: &[u8],
+) -> Result<Verdict, NoMemory>
     requires ready { IsReady ⟦<Boxed as Actor>⟧.state stock }
     ensures { IfOk result (IsVerdict bytes.now) }
 {
@@ -310,7 +324,7 @@ fn verdict_of(alloc: Global, stock: Stock, bytes: &[u8]) -> Result<Verdict, NoMe
     let Cut { at, lines } = cut_of(bytes);
     let (front, rest) = bytes.split_at(at);
     match read_script(alloc, front, Mode::Threads) {
-        Ok(script) => verdict_of_script(alloc, stock, script, rest, lines),
+        Ok(script) => verdict_of_script(alloc, stock, reasons, script, rest, lines),
         Err(ScriptFault::NoMemory) => Err(NoMemory),
         Err(ScriptFault::Line(line, wrong)) => {
             Ok(mistake_of(alloc, line, Wrongly::Script(wrong))?)
@@ -367,10 +381,11 @@ fn read_bytes<R: Read>(alloc: Global, reader: &mut R) -> Result<Vec<u8>, CheckFa
 /// stands what was left, as a report tells it: futures, and actors with their run lists. A caller that
 /// awaits an answer does its steps in their order; of the others, steps that submit nothing are passed
 /// over. Where no step submits calls of a caller, these had the arguments with which they ran. The
-/// kinds are taken from the stock.
+/// kinds are taken from the stock. Where no play ends so, the reasons are told as asked.
 pub fn check_history<R: Read, W: Write>(
     alloc: Global,
     stock: Stock,
+    reasons: Reasons,
     reader: &mut R,
     writer: &mut W,
 ) -> Result<(), CheckFault>
@@ -379,7 +394,7 @@ pub fn check_history<R: Read, W: Write>(
         (W.contents writer.new) result }
 {
     let bytes = read_bytes(alloc, reader)?;
-    match verdict_of(alloc, stock, &bytes) {
+    match verdict_of(alloc, stock, reasons, &bytes) {
         Ok(verdict) => write_verdict(writer, verdict),
         Err(_) => Err(CheckFault::Memory),
     }

@@ -8,9 +8,11 @@ ghost use Rattle.act_rules.specs.Report.{summary};
 ghost use Rattle.act_rules.specs.Rules.{outcomes};
 ghost use Rattle.act_world.specs.IsReachedBy.{IsReachedBy, HasRoom};
 ghost use Rattle.act_world.specs.View.{world_view};
+ghost use Rattle.act_histories.specs.Lines.{AreTold};
 ghost use Rattle.act_histories.specs.Play.{EndsSo, HasCalls, awaits, DoesSteps, BeginsWith, IsNext, call_of, calls_of_steps};
 
 use crate::in_order::play_in_order;
+use crate::parts::second_part;
 use crate::same::{same_args, same_method};
 use act_console::play_report;
 use act_kinds::Actor;
@@ -153,7 +155,7 @@ fn play_in<K: Actor>(
     steps: &[(CallerId, Step, u32)],
     told: &mut Vec<Outcome>,
 ) -> Result<bool, NoMemory>
-    requires room { HasRoom (length events.now) (world_view K.state world.old).network }
+    requires room { HasRoom (length events.now) world.old.network }
     requires none { told.old.items ≡ [] }
     ensures accepted { IfOk result (λ is. IsTrue is → (casts : List ActorSpec) →
         IsReachedBy casts [] (world_view K.state world.old) → All IsOk (outcomes (opening casts) events.now)) }
@@ -175,14 +177,16 @@ fn same_bytes(one: &[u8], other: &[u8]) -> bool
     one == other
 }
 
-/// Whether the world shows these lines.
-fn shows<K: Actor>(alloc: Global, world: &World<K>, told: &[u8]) -> Result<bool, NoMemory>
+/// Whether the world shows the lines of the history.
+fn shows<K: Actor>(alloc: Global, world: &World<K>, rest: &[u8]) -> Result<bool, NoMemory>
     ensures { IfOk result (λ is. IsTrue is → (casts : List ActorSpec) (events : List Happening) →
-        IsReachedBy casts events (world_view K.state world.now) → summary (history casts events) ≡ told.now) }
+        IsReachedBy casts events (world_view K.state world.now) → AreTold rest.now (summary (history casts events))) }
 {
     let mut text = String::new(alloc);
     play_report(alloc, world, &[], &mut text)?;
-    Ok(same_bytes(text.as_bytes(), told))
+    let shown = text.as_bytes();
+    let told = second_part(alloc, rest, shown)?;
+    Ok(same_bytes(shown, &told))
 }
 
 /// Whether all events are accepted in a world that was just opened, and it ends as steps and lines
@@ -192,13 +196,13 @@ pub(crate) fn ends_so<K: Actor>(
     world: &mut World<K>,
     events: &[Event],
     steps: &[(CallerId, Step, u32)],
-    lines: &[u8],
+    rest: &[u8],
     told: &mut Vec<Outcome>,
 ) -> Result<bool, NoMemory>
-    requires room { HasRoom (length events.now) (world_view K.state world.old).network }
+    requires room { HasRoom (length events.now) world.old.network }
     requires none { told.old.items ≡ [] }
     ensures { IfOk result (λ is. IsTrue is → (casts : List ActorSpec) →
-        IsReachedBy casts [] (world_view K.state world.old) → EndsSo casts steps.now events.now lines.now) }
+        IsReachedBy casts [] (world_view K.state world.old) → EndsSo casts steps.now events.now rest.now) }
 {
     let accepted = play_in(world, events, steps, told)?;
     if !accepted {
@@ -207,6 +211,6 @@ pub(crate) fn ends_so<K: Actor>(
     if !has_all_calls(world, steps) {
         return Ok(false);
     }
-    let is = shows(alloc, world, lines)?;
+    let is = shows(alloc, world, rest)?;
     Ok(is)
 }

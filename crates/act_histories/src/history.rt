@@ -2,9 +2,19 @@
 
 ghost use Rattle.std.specs.Prelude.{◌<◌};
 
+use crate::reason::{PlaceName, ToldPlace};
 use act_rules::{KindName, RunItem, Step};
-use act_types::{ACTOR_NUMBERS, ActorId, Answer, Arg, CallerId, FutureId, ListOf, Method};
+use act_types::{ACTOR_NUMBERS, ActorId, Answer, Arg, CallerId, Fault, FutureId, ListOf, Method};
 use std::alloc::Global;
+
+/// What a caller keeps of a call, as it is told.
+#[derive(Debug, Drop)]
+pub(crate) enum Kept {
+    Nothing,
+    /// An answer that isn't judged: that of its run, or where it didn't run, of its actor's death.
+    Something,
+    Answer(Answer),
+}
 
 /// A call of a caller.
 #[derive(Debug, Drop)]
@@ -12,13 +22,12 @@ pub(crate) struct Call {
     pub(crate) actor: ActorId,
     pub(crate) method: Method,
     pub(crate) args: ListOf<Arg>,
-    /// How many of the caller's calls to the actor came before it.
-    pub(crate) number: u32,
-    /// What the caller keeps of it, if anything.
-    pub(crate) answer: Option<Answer>,
+    pub(crate) kept: Kept,
+    /// The line that submits it, or 0.
+    pub(crate) submitted: u32,
     /// The line that tells its answer, or else the one that submits it.
     pub(crate) line: u32,
-    /// Its place in the actor's run list, where it ran.
+    /// The first place in its actor's run list that has it.
     pub(crate) place: Option<u32>,
 }
 
@@ -54,8 +63,6 @@ pub(crate) struct Caller {
     pub(crate) between: Vec<Placed>,
     /// How many of its calls have a line that tells their answer.
     pub(crate) told: usize,
-    /// How many calls of each actor it has.
-    pub(crate) counts: [u32; ACTOR_NUMBERS],
 }
 
 /// How an actor is left.
@@ -122,6 +129,31 @@ pub(crate) fn future_at(place: usize) -> FutureId {
     FutureId::new(told_place(place))
 }
 
+impl Call {
+    /// Whether it has no answer.
+    pub(crate) fn is_open(&self) -> bool {
+        matches!(&self.kept, Kept::Nothing)
+    }
+
+    /// The answer that is told of it, if that is judged.
+    pub(crate) fn answer(&self) -> Option<&Answer> {
+        match &self.kept {
+            Kept::Answer(answer) => Some(answer),
+            Kept::Nothing | Kept::Something => None,
+        }
+    }
+
+    /// Whether a death answered it.
+    pub(crate) fn has_died(&self) -> bool {
+        match &self.kept {
+            Kept::Nothing => false,
+            Kept::Something => self.place.is_none(),
+            Kept::Answer(Err(Fault::ActorDied)) => true,
+            Kept::Answer(_) => false,
+        }
+    }
+}
+
 impl Caller {
     pub(crate) fn new(alloc: Global) -> Caller {
         Caller {
@@ -131,20 +163,11 @@ impl Caller {
             awaits: false,
             between: Vec::new(alloc),
             told: 0,
-            counts: [0; ACTOR_NUMBERS],
         }
     }
 
     pub(crate) fn call(&self, k: FutureId) -> Option<&Call> {
         self.calls.get(k.number() as usize)
-    }
-
-    /// The number that the caller's next call to the actor has.
-    pub(crate) fn next_number(&mut self, a: ActorId) -> u32 {
-        let slot = slot_of(a);
-        let number = self.counts[slot];
-        self.counts[slot] = number.wrapping_add(1);
-        number
     }
 }
 
@@ -176,6 +199,15 @@ impl History {
 
     pub(crate) fn call(&self, c: CallerId, k: FutureId) -> Option<&Call> {
         self.caller(c)?.call(k)
+    }
+
+    /// A place of an actor's run list, with its line.
+    pub(crate) fn told_at(&self, a: ActorId, place: u32) -> Option<ToldPlace> {
+        let ran = self.actor(a)?.log.get(place as usize)?;
+        Some(ToldPlace {
+            at: PlaceName { actor: a, place },
+            line: ran.line,
+        })
     }
 
     pub(crate) fn call_mut(&mut self, c: CallerId, k: FutureId) -> Option<&mut Call> {

@@ -287,11 +287,11 @@ fn play_next<K: Actor>(
     event: &Event,
     told: &mut Vec<Outcome>,
 ) -> Result<(), NoMemory>
-    requires room { HasRoom 1 (world_view K.state world.old).network }
+    requires room { HasRoom 1 world.old.network }
     ensures tells { OnOk result ((casts : List ActorSpec) (before : List Happening) →
         Tells casts before (world_view K.state world.old) told.old.items →
         Tells casts (before ++ event.now ∷ []) (world_view K.state world.new) told.new.items) }
-    ensures grown { IsGrownBy 1 (world_view K.state world.old).network (world_view K.state world.new).network }
+    ensures grown { IsGrownBy 1 world.old.network world.new.network }
 {
     let outcome = world.apply(event);
     if is_memory(&outcome) {
@@ -309,7 +309,7 @@ pub(crate) fn play_in_order<K: Actor>(
     steps: &[(CallerId, Step, u32)],
     told: &mut Vec<Outcome>,
 ) -> Result<bool, NoMemory>
-    requires room { HasRoom (length events.now) (world_view K.state world.old).network }
+    requires room { HasRoom (length events.now) world.old.network }
     requires none { told.old.items ≡ [] }
     ensures tells { IfOk result (λ _. (casts : List ActorSpec) →
         IsReachedBy casts [] (world_view K.state world.old) →

@@ -1,6 +1,6 @@
 //! What a line tells of a future, of an actor or of a run.
 
-use crate::history::Ending;
+use crate::history::{Ending, Kept};
 use act_rules::{KindName, RunItem};
 use act_scripts::{
     BAD_LINE, LineFault, actor_of, caller_of, kind_of, method_of, number_of, value_of,
@@ -11,9 +11,9 @@ use std::alloc::Global;
 /// What a line tells.
 #[derive(Debug, Drop)]
 pub(crate) enum Told {
-    /// The answer that the caller keeps of its call to the actor, if one is kept.
-    Future(CallerId, FutureId, ActorId, Option<Answer>),
-    /// How the actor is left, and of which kind it is, unless it is dead.
+    /// What the caller keeps of its call to the actor.
+    Future(CallerId, FutureId, ActorId, Kept),
+    /// How the actor is left, and of which kind it is, where that is told.
     End(ActorId, Ending, Option<KindName>),
     /// The call that stands at this place of the actor's run list.
     Run(ActorId, u32, RunItem),
@@ -81,18 +81,19 @@ fn read_future(alloc: Global, words: &[&str]) -> Result<Told, LineFault> {
         [name, actor, rest @ ..] => {
             let (caller, future) = future_of(name)?;
             let actor = actor_of(actor)?;
-            let answer = kept_of(alloc, rest)?;
-            Ok(Told::Future(caller, future, actor, answer))
+            let kept = kept_of(alloc, rest)?;
+            Ok(Told::Future(caller, future, actor, kept))
         }
         _ => Err(BAD_LINE),
     }
 }
 
 /// What is kept, from the words after a future and its actor.
-fn kept_of(alloc: Global, words: &[&str]) -> Result<Option<Answer>, LineFault> {
+fn kept_of(alloc: Global, words: &[&str]) -> Result<Kept, LineFault> {
     match words {
-        [mark] if *mark == "?" => Ok(None),
-        [mark, answer] if *mark == "=" => Ok(Some(answer_of(alloc, answer)?)),
+        [mark] if *mark == "?" => Ok(Kept::Nothing),
+        [mark, answer] if *mark == "=" && *answer == "*" => Ok(Kept::Something),
+        [mark, answer] if *mark == "=" => Ok(Kept::Answer(answer_of(alloc, answer)?)),
         _ => Err(BAD_LINE),
     }
 }
@@ -109,6 +110,7 @@ fn check_values(alloc: Global, words: &[&str]) -> Result<(), LineFault> {
 fn read_end(alloc: Global, actor: ActorId, words: &[&str]) -> Result<Told, LineFault> {
     match words {
         [word] if *word == "dead" => Ok(Told::End(actor, Ending::Dead, None)),
+        [word, mark] if *mark == "?" => Ok(Told::End(actor, ending_of(word)?, None)),
         [word, kind, state @ ..] => {
             let ending = ending_of(word)?;
             let kind = kind_of(kind)?;

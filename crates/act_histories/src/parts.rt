@@ -1,7 +1,7 @@
 //! The two parts of a history: the lines of its script, and those of what was left.
 
-ghost use Rattle.std.specs.Prelude.{◌≡◌, ◌≤◌, ◌++◌, length, IfOk, OnOk};
-ghost use Rattle.act_histories.specs.Lines.{told_line, told_lines};
+ghost use Rattle.std.specs.Prelude.{◌≡◌, ◌≢◌, ◌≤◌, ◌++◌, ℕ, List, All, length, IsTrue, IfOk, OnOk};
+ghost use Rattle.act_histories.specs.Lines.{told_line, is_open, IsFilledIn, IsToldAs, AreTold};
 
 use act_types::NoMemory;
 use std::alloc::{AllocError, Global};
@@ -56,13 +56,66 @@ fn push_told(text: &mut Vec<u8>, line: &[u8]) -> Result<(), AllocError>
     Ok(())
 }
 
-/// The lines of the second part, without those that are skipped.
-pub(crate) fn second_part(alloc: Global, rest: &[u8]) -> Result<Vec<u8>, NoMemory>
-    ensures { IfOk result (λ text. text.items ≡ told_lines rest.now) }
+/// Whether a line leaves an answer or a state open.
+fn is_open(line: &[u8]) -> bool
+    ensures { result ≡ is_open line.now }
+{
+    line.ends_with(b" = *") || line.ends_with(b" live ?") || line.ends_with(b" retired ?")
+}
+
+/// Whether the bytes are of one line.
+fn is_of_one_line(bytes: &[u8]) -> bool
+    ensures { IsTrue result → All (λ b. b ≢ 10) bytes.now }
+{
+    for byte in bytes {
+        if *byte == b'\n' {
+            return false;
+        }
+    }
+    true
+}
+
+/// Whether a line that leaves its end open is this one, with its mark filled in.
+pub(crate) fn is_filled_in(line: &[u8], shown: &[u8]) -> bool
+    ensures { IsTrue result → IsFilledIn line.now shown.now }
+{
+    if !is_open(line) {
+        return false;
+    }
+    let (front, _) = line.split_at(line.len() - 1);
+    if !shown.starts_with(front) {
+        return false;
+    }
+    let (_, what) = shown.split_at(front.len());
+    is_of_one_line(what)
+}
+
+/// Adds a line that isn't skipped, filled in as the one that is shown, if it can be.
+fn push_filled_in(text: &mut Vec<u8>, line: &[u8], shown: &[u8]) -> Result<(), AllocError>
+    ensures { OnOk result ((told : List ℕ) × IsToldAs line.now told × (text.new.items ≡ text.old.items ++ told_line told)) }
+{
+    if is_filled_in(line, shown) {
+        push_told(text, shown)
+    } else {
+        push_told(text, line)
+    }
+}
+
+/// Whether a line of the second part is skipped.
+fn is_skipped(line: &[u8]) -> bool {
+    matches!(line, [] | [b'#', ..])
+}
+
+/// The lines of the second part, without those that are skipped, and with what they leave open filled
+/// in from these.
+pub(crate) fn second_part(alloc: Global, rest: &[u8], shown: &[u8]) -> Result<Vec<u8>, NoMemory>
+    ensures { IfOk result (λ text. AreTold rest.now text.items) }
 {
     let mut text = Vec::new(alloc);
+    let mut lines = shown.split(|byte| *byte == b'\n');
     for line in rest.split(|byte| *byte == b'\n') {
-        push_told(&mut text, line)?;
+        let beside = if is_skipped(line) { None } else { lines.next() };
+        push_filled_in(&mut text, line, beside.unwrap_or(b""))?;
     }
     Ok(text)
 }

@@ -1,7 +1,6 @@
 //! How far callers and actors are in a play that is being made.
 
 use crate::history::{Call, Caller, History, Placed, future_at, slot_of};
-use crate::rules::has_died;
 use act_types::{ACTOR_NUMBERS, ActorId, Arg, CallerId, FutureId, NoMemory};
 use std::alloc::Global;
 
@@ -209,5 +208,5 @@ pub(crate) fn is_bereaved(caller: &Caller, a: ActorId) -> bool {
     caller
         .calls
         .iter()
-        .any(|call| call.actor == a && has_died(call))
+        .any(|call| call.actor == a && call.has_died())
 }

@@ -1,13 +1,13 @@
 //! A history, from the script and the lines of what was left.
 
-use crate::history::{Between, Call, Caller, Ending, History, Lines, Placed, Ran, Served};
+use crate::history::{Between, Call, Caller, Ending, History, Kept, Lines, Placed, Ran, Served};
 use crate::line::{Told, read_words};
 use crate::mistake::{Mistake, Wrongly};
 use act_rules::{KindName, Role, RunItem, Step, Wrong};
 use act_scripts::LineFault;
 use act_types::{
-    ACTOR_NUMBERS, ActorId, Answer, Arg, CALLER_NUMBERS, CallerId, CopyOf, FutureId, ListOf,
-    Method, NoMemory, Settled,
+    ACTOR_NUMBERS, ActorId, Arg, CALLER_NUMBERS, CallerId, CopyOf, FutureId, ListOf, Method,
+    NoMemory, Settled,
 };
 use std::alloc::Global;
 use std::str;
@@ -55,13 +55,13 @@ fn mistake<T>(line: u32, wrong: Wrongly) -> Result<T, Mistake> {
 
 /// A call of a caller that has no line of a script: until it runs, it is taken as one that could
 /// be sent at once.
-fn unknown_call(alloc: Global, caller: &mut Caller, actor: ActorId, line: u32) -> Call {
+fn unknown_call(alloc: Global, actor: ActorId, line: u32) -> Call {
     Call {
         actor,
         method: Method::Get,
         args: ListOf::new(alloc),
-        number: caller.next_number(actor),
-        answer: None,
+        kept: Kept::Nothing,
+        submitted: 0,
         line,
         place: None,
     }
@@ -138,13 +138,12 @@ impl Reading {
             return mistake(line, Wrongly::NoRole);
         }
         caller.has_plan = true;
-        let number = caller.next_number(actor);
         caller.calls.push(Call {
             actor,
             method,
             args,
-            number,
-            answer: None,
+            kept: Kept::Nothing,
+            submitted: line,
             line,
             place: None,
         })?;
@@ -213,8 +212,7 @@ impl Reading {
         if let Some(caller) = self.caller_mut(c)
             && !caller.has_plan
         {
-            let call = unknown_call(alloc, caller, a, line);
-            caller.calls.push(call)?;
+            caller.calls.push(unknown_call(alloc, a, line))?;
         }
         Ok(())
     }
@@ -237,9 +235,9 @@ impl Reading {
     }
 
     /// Notes the answer that a caller keeps of a call, and the line that tells it.
-    fn keep(&mut self, c: CallerId, k: FutureId, answer: Option<Answer>, line: u32) {
+    fn keep(&mut self, c: CallerId, k: FutureId, kept: Kept, line: u32) {
         if let Some(call) = self.history.call_mut(c, k) {
-            call.answer = answer;
+            call.kept = kept;
             call.line = line;
         }
         if let Some(caller) = self.caller_mut(c) {
@@ -253,16 +251,16 @@ impl Reading {
         c: CallerId,
         k: FutureId,
         a: ActorId,
-        answer: Option<Answer>,
+        kept: Kept,
         line: u32,
     ) -> Result<(), Mistake> {
         match self.check_told(c, k, a, line) {
             Ok(()) => {
-                self.keep(c, k, answer, line);
+                self.keep(c, k, kept, line);
                 Ok(())
             }
             Err(mistake) => {
-                drop(answer);
+                drop(kept);
                 Err(mistake)
             }
         }
@@ -312,12 +310,17 @@ impl Reading {
         Ok(())
     }
 
-    /// Notes where a call ran: at its own actor, the first time.
-    fn note_run(&mut self, a: ActorId, place: u32, item: &RunItem) {
-        if let Some(call) = self.history.call_mut(item.caller, item.future)
-            && call.actor == a
-            && call.place.is_none()
-        {
+    /// Whether the call at a place of the actor's run list is one to it, and runs for the first time.
+    fn is_first(&self, a: ActorId, item: &RunItem) -> bool {
+        match self.history.call(item.caller, item.future) {
+            Some(call) => call.actor == a && call.place.is_none(),
+            None => false,
+        }
+    }
+
+    /// Notes where a call ran.
+    fn note_run(&mut self, place: u32, item: &RunItem) {
+        if let Some(call) = self.history.call_mut(item.caller, item.future) {
             call.place = Some(place);
         }
     }
@@ -338,8 +341,10 @@ impl Reading {
 
     /// What the run of a call tells of it, in its turn.
     fn note(&mut self, a: ActorId, place: u32, item: &RunItem, line: u32) -> Result<(), Mistake> {
-        self.learn(item)?;
-        self.note_run(a, place, item);
+        if self.is_first(a, item) {
+            self.learn(item)?;
+            self.note_run(place, item);
+        }
         self.check_run(a, place, line)
     }
 
@@ -357,8 +362,8 @@ impl Reading {
 
     fn add(&mut self, told: Told, line: u32) -> Result<(), Mistake> {
         match told {
-            Told::Future(caller, future, actor, answer) => {
-                self.add_future(caller, future, actor, answer, line)
+            Told::Future(caller, future, actor, kept) => {
+                self.add_future(caller, future, actor, kept, line)
             }
             Told::End(actor, ending, kind) => self.add_end(actor, ending, kind, line),
             Told::Run(actor, place, item) => self.add_run(actor, place, item, line),

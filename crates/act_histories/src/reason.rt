@@ -1,7 +1,17 @@
 //! Why no play ends as a history does.
 
-use act_types::{ActorId, CallerId, FutureId};
+use act_types::{ActorId, CallerId, FutureId, NoMemory};
+use std::alloc::AllocError;
 use std::fmt;
+
+/// How much is told of a history that no play ends as.
+#[derive(Clone, Copy, Debug, PartialEq, Eq)]
+pub enum Reasons {
+    /// The first fault that is found.
+    First,
+    /// Every fault of what actors ran and of what callers were answered, by rising lines.
+    All,
+}
 
 /// A caller's call, told as its future.
 #[derive(Clone, Copy, Debug, PartialEq, Eq)]
@@ -41,6 +51,20 @@ impl fmt::Display for PlaceName {
     }
 }
 
+/// A place of an actor's run list, and the line that tells it.
+#[derive(Clone, Copy, Debug, PartialEq, Eq)]
+pub(crate) struct ToldPlace {
+    pub(crate) at: PlaceName,
+    pub(crate) line: u32,
+}
+
+impl fmt::Display for ToldPlace {
+    fn fmt<W: fmt::Write>(&self, f: &mut fmt::Formatter<W>) -> fmt::Result {
+        let ToldPlace { at, line } = *self;
+        write!(f, "{at} (line {line})")
+    }
+}
+
 /// Why no play ends so.
 #[derive(Clone, Copy)]
 pub(crate) enum Reason {
@@ -50,11 +74,14 @@ pub(crate) enum Reason {
     Unsubmitted(PlaceName, CallName),
     /// The call at this place goes to another actor.
     Elsewhere(PlaceName, CallName, ActorId),
-    /// What runs at this place comes after another call of the same caller that didn't run.
-    Skips(PlaceName, CallName),
-    Again(PlaceName, CallName),
-    /// Another method or other arguments were submitted.
-    OtherCall(PlaceName, CallName),
+    /// What runs at this place comes after another call of the same caller, which runs later.
+    Skips(PlaceName, CallName, ToldPlace),
+    /// The same of another call that didn't run.
+    SkipsForGood(PlaceName, CallName),
+    /// The call at this place ran before, at the other one.
+    Again(PlaceName, CallName, ToldPlace),
+    /// Another method or other arguments were submitted, at this line.
+    OtherCall(PlaceName, CallName, u32),
     /// A call ran after the one that ended the actor.
     AfterTheEnd(PlaceName),
     /// The actor's last call ended it, and it is told as live or retired.
@@ -131,15 +158,21 @@ impl fmt::Display for Reason {
                 say_two(f, &at, " is ", &call, ", which goes to ")?;
                 say(f, &a, "")
             }
-            Reason::Skips(at, call) => say_two(f, &at, " skips ", &call, ""),
-            Reason::Again(at, call) => say_two(f, &at, " runs ", &call, " again"),
-            Reason::OtherCall(at, call) => say_two(
-                f,
-                &at,
-                " isn't ",
-                &call,
-                " as it was submitted",
-            ),
+            Reason::Skips(at, call, later) => {
+                say_two(f, &at, " skips ", &call, ", which runs at ")?;
+                say(f, &later, "")
+            }
+            Reason::SkipsForGood(at, call) => {
+                say_two(f, &at, " skips ", &call, ", which didn't run")
+            }
+            Reason::Again(at, call, before) => {
+                say_two(f, &at, " runs ", &call, " again, after ")?;
+                say(f, &before, "")
+            }
+            Reason::OtherCall(at, call, line) => {
+                say_two(f, &at, " isn't ", &call, " as it was submitted (line ")?;
+                say(f, &line, ")")
+            }
             Reason::AfterTheEnd(at) => say(f, &at, " runs after a terminate"),
             Reason::Terminated(at) => say(f, &at, " is a terminate, so its actor is dead"),
             Reason::NotRun(call, a) => say_two(
@@ -226,4 +259,28 @@ impl fmt::Display for Reason {
 pub(crate) struct Blame {
     pub(crate) line: u32,
     pub(crate) reason: Reason,
+}
+
+/// Adds that a reason shows at this line.
+pub(crate) fn add_blame(
+    blames: &mut Vec<Blame>,
+    line: u32,
+    reason: Reason,
+) -> Result<(), NoMemory> {
+    blames.push(Blame { line, reason })?;
+    Ok(())
+}
+
+/// Adds the line of what is blamed.
+pub(crate) fn push_blame(text: &mut String, blame: Blame) -> Result<(), AllocError> {
+    let Blame { line, reason } = blame;
+    writeln!(text, "line {line}: {reason}")
+}
+
+/// Adds the lines of what is blamed.
+pub(crate) fn push_blames(text: &mut String, blames: &[Blame]) -> Result<(), AllocError> {
+    for blame in blames {
+        push_blame(text, *blame)?;
+    }
+    Ok(())
 }

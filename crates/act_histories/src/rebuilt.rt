@@ -11,7 +11,7 @@
 
 use crate::history::{Between, Call, Caller, Ending, History, Ran, Served};
 use crate::progress::{Progress, is_bereaved};
-use crate::rules::{has_died, has_terminated};
+use crate::rules::has_terminated;
 use act_rules::Event;
 use act_types::{ActorId, CallerId, CopyOf, FutureId, MAX_ACTORS, MAX_CALLERS, NoMemory};
 use std::alloc::Global;
@@ -182,7 +182,7 @@ impl Rebuilt {
         call: &Call,
         notice: u32,
     ) -> Result<(), NoMemory> {
-        if call.answer.is_none() || has_died(call) {
+        if call.is_open() || call.has_died() {
             return Ok(());
         }
         if let Some(asked) = self.progress.callers.get_mut(c.number() as usize) {

@@ -1,39 +1,44 @@
 //! What each history keeps that some play ends in, and that shows line by line.
 
 use crate::history::{Call, Caller, Ending, History, Ran, Served, future_at, slot_of, told_place};
-use crate::reason::{Blame, CallName, PlaceName, Reason};
+use crate::reason::{Blame, CallName, PlaceName, Reason, add_blame};
 use act_rules::RunItem;
 use act_types::{
-    ACTOR_NUMBERS, ActorId, Arg, CALLER_NUMBERS, CallerId, Fault, FutureId, MAX_ACTORS,
-    MAX_CALLERS, Method, NoMemory, Settled,
+    ACTOR_NUMBERS, ActorId, Arg, CALLER_NUMBERS, CallerId, FutureId, MAX_ACTORS, MAX_CALLERS,
+    Method, NoMemory, Settled,
 };
 use std::alloc::Global;
 
-/// How many calls of each caller an actor ran so far.
+/// How far an actor came in the calls of each caller.
 #[derive(Drop)]
-struct Counts {
-    ran: Vec<u32>,
+struct Passed {
+    /// How many of a caller's calls come no later than one that ran.
+    counts: Vec<usize>,
 }
 
-impl Counts {
-    fn new(alloc: Global) -> Result<Counts, NoMemory> {
-        let mut ran = Vec::new(alloc);
+impl Passed {
+    fn new(alloc: Global) -> Result<Passed, NoMemory> {
+        let mut counts = Vec::new(alloc);
         for _ in 0..CALLER_NUMBERS {
-            ran.push(0)?;
+            counts.push(0)?;
         }
-        Ok(Counts { ran })
+        Ok(Passed { counts })
     }
 
-    fn of(&self, c: CallerId) -> u32 {
-        match self.ran.get(c.number() as usize) {
+    fn of(&self, c: CallerId) -> usize {
+        match self.counts.get(c.number() as usize) {
             Some(count) => *count,
             None => 0,
         }
     }
 
-    fn add(&mut self, c: CallerId) {
-        if let Some(count) = self.ran.get_mut(c.number() as usize) {
-            *count = count.wrapping_add(1);
+    /// Notes that a call ran.
+    fn note(&mut self, c: CallerId, k: FutureId) {
+        let count = (k.number() as usize).saturating_add(1);
+        if let Some(passed) = self.counts.get_mut(c.number() as usize)
+            && *passed < count
+        {
+            *passed = count;
         }
     }
 }
@@ -83,84 +88,131 @@ fn same_method(one: &Method, other: &Method) -> bool {
 }
 
 /// Whether the call that was submitted can have run as this one.
-fn may_run_as(call: &Call, item: &RunItem) -> bool {
+pub(crate) fn may_run_as(call: &Call, item: &RunItem) -> bool {
     same_method(&call.method, &item.method)
         && may_all_settle(call.args.as_slice(), item.args.as_slice())
 }
 
-/// The caller's call to the actor that has this number.
-fn call_numbered(caller: &Caller, a: ActorId, number: u32) -> Option<FutureId> {
-    let place = caller
-        .calls
-        .iter()
-        .position(|call| call.actor == a && call.number == number)?;
-    Some(future_at(place))
+/// That the call at a place runs before one of the same caller that was submitted before it.
+fn skip_of(history: &History, at: &PlaceName, skipped: CallName) -> Option<Reason> {
+    let call = history.call(skipped.caller, skipped.future)?;
+    if call.actor != at.actor {
+        return None;
+    }
+    match call.place {
+        None => Some(Reason::SkipsForGood(*at, skipped)),
+        Some(place) => {
+            let later = history.told_at(at.actor, place)?;
+            Some(Reason::Skips(*at, skipped, later))
+        }
+    }
 }
 
-/// Why the call at a place can't have run there.
-fn reason_at(history: &History, at: PlaceName, item: &RunItem, ran: u32) -> Option<Reason> {
-    let name = CallName {
-        caller: item.caller,
-        future: item.future,
-    };
-    let caller = history.caller(item.caller)?;
-    if !history.actor(at.actor)?.may_be_called_by(item.caller) {
-        return Some(Reason::NoHandle(at, item.caller));
+/// Why the call at a place can't have run there, whatever ran before.
+fn reason_at(history: &History, at: &PlaceName, name: CallName) -> Option<Reason> {
+    if !history.actor(at.actor)?.may_be_called_by(name.caller) {
+        return Some(Reason::NoHandle(*at, name.caller));
     }
-    let Some(call) = caller.call(item.future) else {
-        return Some(Reason::Unsubmitted(at, name));
+    let Some(call) = history.call(name.caller, name.future) else {
+        return Some(Reason::Unsubmitted(*at, name));
     };
     if call.actor != at.actor {
-        return Some(Reason::Elsewhere(at, name, call.actor));
+        return Some(Reason::Elsewhere(*at, name, call.actor));
     }
-    if call.number < ran {
-        return Some(Reason::Again(at, name));
-    }
-    if call.number > ran {
-        let future = call_numbered(caller, at.actor, ran)?;
-        let skipped = CallName {
-            caller: item.caller,
-            future,
-        };
-        return Some(Reason::Skips(at, skipped));
-    }
-    if !may_run_as(call, item) {
-        return Some(Reason::OtherCall(at, name));
+    let first = call.place?;
+    if first != at.place {
+        let before = history.told_at(at.actor, first)?;
+        return Some(Reason::Again(*at, name, before));
     }
     None
 }
 
-/// The first call of a run list that can't have run there.
-fn check_log(
+/// That the call at a place was submitted with another method or other arguments.
+fn other_call(history: &History, at: &PlaceName, item: &RunItem) -> Option<Reason> {
+    let call = history.call(item.caller, item.future)?;
+    if may_run_as(call, item) {
+        return None;
+    }
+    Some(Reason::OtherCall(*at, name_of(item), call.submitted))
+}
+
+/// The name of a call that ran.
+fn name_of(item: &RunItem) -> CallName {
+    CallName {
+        caller: item.caller,
+        future: item.future,
+    }
+}
+
+/// Adds the calls that are skipped at a place, and that no earlier place skips: those of the caller
+/// that come after so many and before this one.
+fn add_skips(
+    blames: &mut Vec<Blame>,
+    history: &History,
+    at: &PlaceName,
+    ran: &Ran,
+    passed: usize,
+) -> Result<(), NoMemory> {
+    let CallName { caller, future } = name_of(&ran.item);
+    for place in passed..future.number() as usize {
+        let skipped = CallName {
+            caller,
+            future: future_at(place),
+        };
+        if let Some(reason) = skip_of(history, at, skipped) {
+            add_blame(blames, ran.line, reason)?;
+        }
+    }
+    Ok(())
+}
+
+/// Adds why the call at a place can't have run there.
+fn add_reasons_at(
+    blames: &mut Vec<Blame>,
+    history: &History,
+    at: &PlaceName,
+    ran: &Ran,
+    passed: &mut Passed,
+) -> Result<(), NoMemory> {
+    let CallName { caller, future } = name_of(&ran.item);
+    if let Some(reason) = reason_at(history, at, name_of(&ran.item)) {
+        return add_blame(blames, ran.line, reason);
+    }
+    add_skips(blames, history, at, ran, passed.of(caller))?;
+    passed.note(caller, future);
+    if let Some(reason) = other_call(history, at, &ran.item) {
+        add_blame(blames, ran.line, reason)?;
+    }
+    Ok(())
+}
+
+/// The calls of a run list that can't have run there, in their order.
+pub(crate) fn blames_of_log(
     alloc: Global,
     history: &History,
     a: ActorId,
     log: &[Ran],
-) -> Result<Option<Blame>, NoMemory> {
-    let mut counts = Counts::new(alloc)?;
+) -> Result<Vec<Blame>, NoMemory> {
+    let mut blames = Vec::new(alloc);
+    let mut passed = Passed::new(alloc)?;
     let mut has_ended = false;
     for (place, ran) in log.iter().enumerate() {
         let at = PlaceName {
             actor: a,
             place: told_place(place),
         };
-        let reason = if has_ended {
-            Some(Reason::AfterTheEnd(at))
+        if has_ended {
+            add_blame(&mut blames, ran.line, Reason::AfterTheEnd(at))?;
         } else {
-            reason_at(history, at, &ran.item, counts.of(ran.item.caller))
-        };
-        if let Some(reason) = reason {
-            let line = ran.line;
-            return Ok(Some(Blame { line, reason }));
+            add_reasons_at(&mut blames, history, &at, ran, &mut passed)?;
         }
-        counts.add(ran.item.caller);
-        has_ended = is_end(&ran.item);
+        has_ended = has_ended || is_end(&ran.item);
     }
-    Ok(None)
+    Ok(blames)
 }
 
 /// Whether an actor that ran a terminate is told as dead.
-fn check_end(a: ActorId, actor: &Served) -> Option<Blame> {
+pub(crate) fn blame_of_end(a: ActorId, actor: &Served) -> Option<Blame> {
     if actor.ending == Ending::Dead || !has_terminated(&actor.log) {
         return None;
     }
@@ -172,33 +224,6 @@ fn check_end(a: ActorId, actor: &Served) -> Option<Blame> {
         line: actor.line,
         reason: Reason::Terminated(at),
     })
-}
-
-/// The first call of an actor that can't have run there, or that it can't have ended so.
-fn check_actor(alloc: Global, history: &History, a: ActorId) -> Result<Option<Blame>, NoMemory> {
-    let Some(actor) = history.actor(a) else {
-        return Ok(None);
-    };
-    match check_log(alloc, history, a, &actor.log)? {
-        Some(blame) => Ok(Some(blame)),
-        None => Ok(check_end(a, actor)),
-    }
-}
-
-fn check_actors(alloc: Global, history: &History) -> Result<Option<Blame>, NoMemory> {
-    for before in 0..MAX_ACTORS {
-        if let Some(a) = ActorId::new(before + 1)
-            && let Some(blame) = check_actor(alloc, history, a)?
-        {
-            return Ok(Some(blame));
-        }
-    }
-    Ok(None)
-}
-
-/// Whether a death answered the call.
-pub(crate) fn has_died(call: &Call) -> bool {
-    matches!(&call.answer, Some(Err(Fault::ActorDied)))
 }
 
 /// The first future among arguments that isn't that of an earlier call.
@@ -213,21 +238,29 @@ fn later_in(args: &[Arg], k: FutureId) -> Option<FutureId> {
     None
 }
 
+/// Why a death can't have answered the call, beside an actor that is left so.
+fn reason_of_death(call: &Call, name: CallName, ending: Ending) -> Option<Reason> {
+    if ending == Ending::Dead {
+        return None;
+    }
+    match call.answer() {
+        Some(_) => Some(Reason::NoDeath(name, call.actor)),
+        None => Some(Reason::NotRun(name, call.actor)),
+    }
+}
+
 /// Why the call can't be left so, beside an actor that is left so.
 fn reason_of(call: &Call, name: CallName, ending: Ending) -> Option<Reason> {
     if let Some(later) = later_in(call.args.as_slice(), name.future) {
         return Some(Reason::Later(name, later));
     }
-    if has_died(call) {
-        if ending != Ending::Dead {
-            return Some(Reason::NoDeath(name, call.actor));
-        }
-        return None;
+    if call.has_died() {
+        return reason_of_death(call, name, ending);
     }
     if call.place.is_some() {
         return None;
     }
-    if call.answer.is_some() {
+    if !call.is_open() {
         return Some(Reason::NotRun(name, call.actor));
     }
     if ending == Ending::Retired {
@@ -244,13 +277,23 @@ struct Halves {
 }
 
 impl Halves {
-    /// Notes a call, and gives both where there are both.
+    fn new() -> Halves {
+        Halves {
+            open: [None; ACTOR_NUMBERS],
+            dead: [None; ACTOR_NUMBERS],
+        }
+    }
+
+    /// Notes a call, and gives both once there are both.
     fn note(&mut self, call: &Call, k: FutureId) -> Option<(FutureId, FutureId)> {
         let slot = slot_of(call.actor);
-        if call.answer.is_none() {
+        if self.open[slot].is_some() && self.dead[slot].is_some() {
+            return None;
+        }
+        if call.is_open() {
             self.open[slot] = Some(k);
         }
-        if has_died(call) {
+        if call.has_died() {
             self.dead[slot] = Some(k);
         }
         Some((self.open[slot]?, self.dead[slot]?))
@@ -272,46 +315,75 @@ fn reason_beside(halves: &mut Halves, call: &Call, name: CallName) -> Option<Rea
     Some(Reason::HalfDead(open, dead))
 }
 
-/// The first call of a caller that can't be left so.
-fn check_caller(history: &History, c: CallerId, caller: &Caller) -> Option<Blame> {
-    let mut halves = Halves {
-        open: [None; ACTOR_NUMBERS],
-        dead: [None; ACTOR_NUMBERS],
-    };
+/// The calls of a caller that can't be left so, in their order.
+pub(crate) fn blames_of_caller(
+    alloc: Global,
+    history: &History,
+    c: CallerId,
+    caller: &Caller,
+) -> Result<Vec<Blame>, NoMemory> {
+    let mut blames = Vec::new(alloc);
+    let mut halves = Halves::new();
     for (place, call) in caller.calls.iter().enumerate() {
         let name = CallName {
             caller: c,
             future: future_at(place),
         };
-        let ending = history.actor(call.actor)?.ending;
-        let reason = match reason_of(call, name, ending) {
-            Some(reason) => Some(reason),
-            None => reason_beside(&mut halves, call, name),
-        };
-        if let Some(reason) = reason {
-            let line = call.line;
-            return Some(Blame { line, reason });
+        let beside = reason_beside(&mut halves, call, name.again());
+        if let Some(actor) = history.actor(call.actor)
+            && let Some(reason) = reason_of(call, name, actor.ending)
+        {
+            add_blame(&mut blames, call.line, reason)?;
+        }
+        if let Some(reason) = beside {
+            add_blame(&mut blames, call.line, reason)?;
         }
     }
-    None
+    Ok(blames)
 }
 
-fn check_callers(history: &History) -> Option<Blame> {
+/// The first call of an actor that can't have run there, or that it can't have ended so.
+fn first_of_actor(
+    alloc: Global,
+    history: &History,
+    a: ActorId,
+    actor: &Served,
+) -> Result<Option<Blame>, NoMemory> {
+    let blames = blames_of_log(alloc, history, a, &actor.log)?;
+    match blames.first() {
+        Some(blame) => Ok(Some(*blame)),
+        None => Ok(blame_of_end(a, actor)),
+    }
+}
+
+fn first_of_actors(alloc: Global, history: &History) -> Result<Option<Blame>, NoMemory> {
+    for before in 0..MAX_ACTORS {
+        if let Some(a) = ActorId::new(before + 1)
+            && let Some(actor) = history.actor(a)
+            && let Some(blame) = first_of_actor(alloc, history, a, actor)?
+        {
+            return Ok(Some(blame));
+        }
+    }
+    Ok(None)
+}
+
+fn first_of_callers(alloc: Global, history: &History) -> Result<Option<Blame>, NoMemory> {
     for before in 0..MAX_CALLERS {
         if let Some(c) = CallerId::new(before + 1)
             && let Some(caller) = history.caller(c)
-            && let Some(blame) = check_caller(history, c, caller)
+            && let Some(blame) = blames_of_caller(alloc, history, c, caller)?.first()
         {
-            return Some(blame);
+            return Ok(Some(*blame));
         }
     }
-    None
+    Ok(None)
 }
 
 /// The first thing in a history that no play leaves, whatever the order of its events.
-pub(crate) fn check_rules(alloc: Global, history: &History) -> Result<Option<Blame>, NoMemory> {
-    match check_actors(alloc, history)? {
+pub(crate) fn first_blame(alloc: Global, history: &History) -> Result<Option<Blame>, NoMemory> {
+    match first_of_actors(alloc, history)? {
         Some(blame) => Ok(Some(blame)),
-        None => Ok(check_callers(history)),
+        None => first_of_callers(alloc, history),
     }
 }

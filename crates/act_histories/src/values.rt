@@ -1,12 +1,14 @@
 //! What a world shows after a play that was found, beside what a history tells.
 
+use crate::differs::{push_other_answer, push_other_args, same_answer, same_args};
 use crate::history::{Call, History, Lines};
+use crate::parts::is_filled_in;
 use crate::printed::push_event;
-use crate::reason::{CallName, PlaceName};
+use crate::reason::ToldPlace;
 use act_console::play_report;
 use act_kinds::Actor;
 use act_rules::{Did, Event, Outcome, RunItem};
-use act_types::{ActorId, Answer, CallerId, FutureId, NoMemory, Settled};
+use act_types::{ActorId, CallerId, FutureId, NoMemory};
 use act_world::{Stage, World};
 use std::alloc::{AllocError, Global};
 use std::str;
@@ -18,60 +20,6 @@ fn log_of<'a, K: Actor>(stage: &Stage<'a, K>) -> &'a [RunItem] {
         Stage::Dead(dead) => dead.log(),
         Stage::Retired(retired) => retired.log(),
     }
-}
-
-/// Whether two answers are the same, as they are written.
-fn same_answer(one: &Answer, other: &Answer) -> bool {
-    match (one, other) {
-        (Ok(value), Ok(other)) => value == other,
-        (Err(fault), Err(other)) => fault == other,
-        _ => false,
-    }
-}
-
-/// Whether the arguments of two calls that ran are the same.
-fn same_args(one: &[Settled], other: &[Settled]) -> bool {
-    if one.len() != other.len() {
-        return false;
-    }
-    for (place, arg) in one.iter().enumerate() {
-        if *arg != other[place] {
-            return false;
-        }
-    }
-    true
-}
-
-fn push_args(text: &mut String, args: &[Settled]) -> Result<(), AllocError> {
-    if args.is_empty() {
-        return text.push_str(" none");
-    }
-    for arg in args {
-        write!(text, " {arg}")?;
-    }
-    Ok(())
-}
-
-fn push_answer(text: &mut String, answer: &Answer) -> Result<(), AllocError> {
-    match answer {
-        Ok(value) => write!(text, "{value}"),
-        Err(fault) => write!(text, "{fault}"),
-    }
-}
-
-/// Tells that the call at a place had other arguments.
-fn push_other_args(
-    text: &mut String,
-    line: u32,
-    at: PlaceName,
-    ran: &RunItem,
-    told: &RunItem,
-) -> Result<(), AllocError> {
-    write!(text, "line {line}: the arguments at {at} are")?;
-    push_args(text, ran.args.as_slice())?;
-    text.push_str(", not")?;
-    push_args(text, told.args.as_slice())?;
-    text.push('\n')
 }
 
 /// Compares the call at a place with what is told of it.
@@ -88,42 +36,28 @@ fn compare_run<K: Actor>(
     let Some(actor) = history.actor(a) else {
         return Ok(());
     };
-    let at = PlaceName { actor: a, place };
+    let Some(told) = history.told_at(a, place) else {
+        return Ok(());
+    };
     match (
         log_of(&stage).get(place as usize),
         actor.log.get(place as usize),
     ) {
-        (Some(ran), Some(told)) => {
-            if same_args(ran.args.as_slice(), told.item.args.as_slice()) {
+        (Some(by_rules), Some(ran)) => {
+            let by_rules = by_rules.args.as_slice();
+            let args = ran.item.args.as_slice();
+            if same_args(by_rules, args) {
                 return Ok(());
             }
-            push_other_args(text, told.line, at, ran, &told.item)
+            push_other_args(text, &told, by_rules, args)
         }
         _ => Ok(()),
     }
 }
 
-/// Begins the line that tells of the answer of a call.
-fn push_call(text: &mut String, name: CallName, call: &Call) -> Result<(), AllocError> {
-    let line = call.line;
-    match call.place {
-        Some(place) => {
-            let at = PlaceName {
-                actor: call.actor,
-                place,
-            };
-            write!(text, "line {line}: the answer at {at} is ")
-        }
-        None => write!(text, "line {line}: the answer of {name} is "),
-    }
-}
-
-/// Tells that the caller kept another answer.
-fn push_other_answer(text: &mut String, kept: &Answer, told: &Answer) -> Result<(), AllocError> {
-    push_answer(text, kept)?;
-    text.push_str(", not ")?;
-    push_answer(text, told)?;
-    text.push('\n')
+/// Where the call ran.
+fn place_of(history: &History, call: &Call) -> Option<ToldPlace> {
+    history.told_at(call.actor, call.place?)
 }
 
 /// Compares a kept answer with what is told of it.
@@ -143,18 +77,16 @@ fn compare_answer<K: Actor>(
     let Some(call) = history.call(c, k) else {
         return Ok(());
     };
-    let Some(told) = &call.answer else {
+    let Some(told) = call.answer() else {
         return Ok(());
     };
     if same_answer(kept, told) {
         return Ok(());
     }
-    let name = CallName {
-        caller: c,
-        future: k,
+    let Some(at) = place_of(history, call) else {
+        return Ok(());
     };
-    push_call(text, name, call)?;
-    push_other_answer(text, kept, told)
+    push_other_answer(text, &at, kept, told, call.line)
 }
 
 /// Adds what differs after an event, if anything does.
@@ -221,7 +153,7 @@ fn compare_lines(
             continue;
         }
         let shown = lines.next().unwrap_or(b"");
-        if line != shown {
+        if line != shown && !is_filled_in(line, shown) {
             return push_lines(text, number, line, shown);
         }
     }

@@ -24,9 +24,9 @@ Obeyed (command.Run Threads) had left old new (ended.Check result) = ⊥
 Obeyed command.Record had left old new (ended.Run result) = ⊥
 Obeyed command.Record had left old new (ended.Recording result) = IsRecorded had left old new result
 Obeyed command.Record had left old new (ended.Check result) = ⊥
-Obeyed command.Check had left old new (ended.Run result) = ⊥
-Obeyed command.Check had left old new (ended.Recording result) = ⊥
-Obeyed command.Check had left old new (ended.Check result) = Checked had left old new result
+Obeyed (command.Check reasons) had left old new (ended.Run result) = ⊥
+Obeyed (command.Check reasons) had left old new (ended.Recording result) = ⊥
+Obeyed (command.Check reasons) had left old new (ended.Check result) = Checked had left old new result
 
 -- what was written by a recording that ended well, nothing by what else did, or why the program stops
 abbrev pub told_of : Ended → Result (Option Written) Stop

@@ -3,14 +3,16 @@
 ghost use Rattle.act_histories.specs.Checked.{Checked};
 
 use act_console::Stock;
-use act_histories::{CheckFault, check_history};
+use act_histories::{CheckFault, Reasons, check_history};
 use act_kinds::{Account, Boxed, Counter, ListKind, Table};
 use act_types::MAX_ACTORS;
 use std::io::{Read, Write};
 
 /// Makes the kinds, as many of each as a script may have actors, and checks the history with them.
+/// Where no play ends so, the reasons are told as asked.
 pub(crate) fn run_check<Rt: AllocGlobal, R: Read, W: Write>(
     rt: &Rt,
+    reasons: Reasons,
     reader: &mut R,
     writer: &mut W,
 ) -> Result<(), CheckFault>
@@ -31,5 +33,5 @@ pub(crate) fn run_check<Rt: AllocGlobal, R: Read, W: Write>(
         let list: Boxed = Box::new(alloc, ListKind::open(alloc))?;
         stock.add(counter, table, account, list)?;
     }
-    check_history(alloc, stock, reader, writer)
+    check_history(alloc, stock, reasons, reader, writer)
 }

@@ -4,6 +4,7 @@ ghost use Rattle.ray_commands.specs.Command.{command_named};
 
 use crate::status::Stop;
 use act_console::ConsoleFault;
+use act_histories::Reasons;
 use act_rules::Mode;
 use std::rt::Env;
 use std::{env, io};
@@ -15,8 +16,8 @@ pub(crate) enum Command {
     Run(Mode),
     /// Runs a script for threads, and writes the run as a script of events.
     Record,
-    /// Checks a history.
-    Check,
+    /// Checks a history, and tells these reasons where no play ends so.
+    Check(Reasons),
 }
 
 const NO_MEMORY: Stop = Stop::Console(ConsoleFault::Memory);
@@ -36,7 +37,8 @@ fn command_of(word: &str) -> Option<Command>
         "play" => Some(Command::Run(Mode::Play)),
         "threads" => Some(Command::Run(Mode::Threads)),
         "record" => Some(Command::Record),
-        "check" => Some(Command::Check),
+        "check" => Some(Command::Check(Reasons::First)),
+        "check-all" => Some(Command::Check(Reasons::All)),
         _ => None,
     }
 }

@@ -35,7 +35,7 @@ pub(crate) fn obey<Rt: AllocGlobal + Threads + Wait + Sync, R: Read, W: Write>(
     match command {
         Command::Run(mode) => Ended::Run(run_script(rt, mode, reader, writer)),
         Command::Record => Ended::Recording(run_recording(rt, reader, writer)),
-        Command::Check => Ended::Check(run_check(rt, reader, writer)),
+        Command::Check(reasons) => Ended::Check(run_check(rt, reasons, reader, writer)),
     }
 }
 

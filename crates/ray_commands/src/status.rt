@@ -12,7 +12,7 @@ use thiserror::Error;
 /// Why the program ends without what it was asked for.
 #[derive(Clone, Copy, Debug, PartialEq, Eq, Error)]
 pub(crate) enum Stop {
-    #[error("usage: ray_commands play|threads|record|check")]
+    #[error("usage: ray_commands play|threads|record|check|check-all")]
     Usage,
     #[error("{0}")]
     Console(ConsoleFault),

@@ -1,6 +1,6 @@
 //! Histories that some play ends in, and others, worked by hand.
 
-use act_histories::{CheckFault, Stock, check_history};
+use act_histories::{CheckFault, Reasons, Stock, check_history};
 use act_kinds::{Account, Boxed, Counter, ListKind, Table};
 use act_types::MAX_ACTORS;
 use std::process::Abort;
@@ -93,13 +93,80 @@ const AN_AWAIT_OF_A_LATER_CALL: Row = Row {
 
 const A_CALL_SKIPPED: Row = Row {
     history: "actor a1 counter c1\nc1.0 a1 = 3\nc1.1 a1 = 2\na1 live counter 3\na1.0 c1.1 add 2\na1.1 c1.0 add 1\n",
-    output: "line 5: a1.0 skips c1.0\n",
+    output: "line 5: a1.0 skips c1.0, which runs at a1.1 (line 6)\n",
+    answer: Err(CheckFault::Refused),
+};
+
+const A_CALL_LEFT_OUT: Row = Row {
+    history: "actor a1 counter c1\nc1.0 a1 ?\nc1.1 a1 = 2\na1 live counter 2\na1.0 c1.1 add 2\n",
+    output: "line 5: a1.0 skips c1.0, which didn't run\n",
+    answer: Err(CheckFault::Refused),
+};
+
+const A_CALL_TWICE: Row = Row {
+    history: "actor a1 counter c1\nc1.0 a1 = 2\na1 live counter 4\na1.0 c1.0 add 2\na1.1 c1.0 add 2\n",
+    output: "line 5: a1.1 runs c1.0 again, after a1.0 (line 4)\n",
+    answer: Err(CheckFault::Refused),
+};
+
+const ANOTHER_CALL: Row = Row {
+    history: "actor a1 counter c1\nsubmit c1 a1 get\nsubmit c1 a1 add 1\nc1.0 a1 = 0\nc1.1 a1 = 2\n\
+        a1 live counter 2\na1.0 c1.0 get\na1.1 c1.1 add 2\n",
+    output: "line 8: a1.1 isn't c1.1 as it was submitted (line 3)\n",
+    answer: Err(CheckFault::Refused),
+};
+
+/// Of c1 a call comes too early and one twice, and c2 hears another answer and of a death.
+const MANY_FAULTS: &str =
+    "actor a1 counter c1 c2\nactor a2 list c1\nsubmit c1 a1 add 1\nsubmit c1 a1 add 2\n\
+    submit c1 a1 add 3\nsubmit c1 a2 push @0\nsubmit c2 a1 get\nsubmit c2 a1 get\nc1.0 a1 = 1\nc1.1 a1 = 7\n\
+    c1.2 a1 = 4\nc1.3 a2 = 1\nc2.0 a1 = 5\nc2.1 a1 = ActorDied\na1 live counter 9\na1.0 c1.0 add 1\n\
+    a1.1 c1.2 add 3\na1.2 c2.0 get\na1.3 c1.0 add 1\na1.4 c1.1 add 2\na1.5 c2.2 get\na2 live list 2\n\
+    a2.0 c1.3 push 2\n";
+
+const THE_FIRST_FAULT: Row = Row {
+    history: MANY_FAULTS,
+    output: "line 17: a1.1 skips c1.1, which runs at a1.4 (line 20)\n",
+    answer: Err(CheckFault::Refused),
+};
+
+const EACH_FAULT: Row = Row {
+    history: MANY_FAULTS,
+    output: "line 14: c2.1 has ActorDied, and a1 isn't dead\nline 17: a1.1 skips c1.1, which runs at a1.4 (line 20)\n\
+        line 18: the answer at a1.2 is 4 by the rules, and the history tells 5 (line 13)\n\
+        line 19: a1.3 runs c1.0 again, after a1.0 (line 16)\nline 21: a1.5 is c2.2, which has no line\n\
+        line 23: the arguments at a2.0 are 1 by the rules, and the history tells 2\n",
+    answer: Err(CheckFault::Refused),
+};
+
+/// What calls of a dead actor answered isn't told, of one that ran and of one that didn't, nor the
+/// state of the other actor.
+const LEFT_OPEN: Row = Row {
+    history: "actor a1 counter c1\nactor a2 list c1\nc1.0 a1 = *\nc1.1 a1 = *\nc1.2 a2 = 1\na1 dead\n\
+        a1.0 c1.0 add 5\na2 live ?\na2.0 c1.2 push 5\n",
+    output: "actor a1 counter c1\nactor a2 list c1\nsubmit c1 a1 add 5\nsubmit c1 a1 get\nsubmit c1 a2 push 5\n\
+        send c1 0\ndeliver 0\nrun a1 c1\ncollect 0\nkill c1 a1\ntake a1\ntell a1 c1\ncollect 1\nsend c1 2\n\
+        deliver 1\nrun a2 c1\ncollect 2\n",
+    answer: Ok(()),
+};
+
+const LEFT_OPEN_AND_NOT_RUN: Row = Row {
+    history: "actor a1 counter c1\nc1.0 a1 = *\na1 live ?\n",
+    output: "line 2: c1.0 has an answer, and a1 didn't run it\n",
+    answer: Err(CheckFault::Refused),
+};
+
+/// The answer that isn't told is 5 by the rules, and the argument that it is ran as 6.
+const LEFT_OPEN_AND_ANOTHER_ARGUMENT: Row = Row {
+    history: "actor a1 counter c1\nsubmit c1 a1 add 5\nsubmit c1 a1 add @0\nc1.0 a1 = *\nc1.1 a1 = 11\n\
+        a1 retired ?\na1.0 c1.0 add 5\na1.1 c1.1 add 6\n",
+    output: "line 8: the arguments at a1.1 are 5 by the rules, and the history tells 6\n",
     answer: Err(CheckFault::Refused),
 };
 
 const ANOTHER_ANSWER: Row = Row {
     history: "actor a1 counter c1\nc1.0 a1 = 1\nc1.1 a1 = 9\na1 live counter 3\na1.0 c1.0 add 1\na1.1 c1.1 add 2\n",
-    output: "line 3: the answer at a1.1 is 3, not 9\n",
+    output: "line 6: the answer at a1.1 is 3 by the rules, and the history tells 9 (line 3)\n",
     answer: Err(CheckFault::Refused),
 };
 
@@ -112,6 +179,7 @@ const A_SECOND_SPELLING: Row = Row {
 /// Checks a history, with kinds that are made here.
 fn checked<Rt: AllocGlobal>(
     rt: &Rt,
+    reasons: Reasons,
     history: &[u8],
     written: &mut Vec<u8>,
 ) -> Result<(), CheckFault> {
@@ -130,12 +198,17 @@ fn checked<Rt: AllocGlobal>(
         stock.add(counter, table, account, list)?;
     }
     let mut reader = history;
-    check_history(alloc, stock, &mut reader, written)
+    check_history(alloc, stock, reasons, &mut reader, written)
 }
 
 fn assert_told<Rt: AllocGlobal + Abort>(rt: &Rt, row: &Row) {
+    assert_all_told(rt, row, Reasons::First);
+}
+
+/// The same, where so many reasons are asked for.
+fn assert_all_told<Rt: AllocGlobal + Abort>(rt: &Rt, row: &Row, reasons: Reasons) {
     let mut written = Vec::new(rt.alloc());
-    let answer = checked(rt, row.history.as_bytes(), &mut written);
+    let answer = checked(rt, reasons, row.history.as_bytes(), &mut written);
     assert_eq!(rt; answer, row.answer, "{}", row.history);
     assert_eq!(rt;
         written.as_slice(),
@@ -150,6 +223,7 @@ fn plays_are_found(rt: HostRuntime) -> Result<(), Fail> {
     assert_told(&rt, &TWO_CALLS);
     assert_told(&rt, &A_DEATH);
     assert_told(&rt, &AN_AWAIT);
+    assert_told(&rt, &LEFT_OPEN);
     Ok(())
 }
 
@@ -157,7 +231,27 @@ fn plays_are_found(rt: HostRuntime) -> Result<(), Fail> {
 fn what_no_play_leaves_is_refused(rt: HostRuntime) -> Result<(), Fail> {
     assert_told(&rt, &A_CIRCLE);
     assert_told(&rt, &A_CALL_SKIPPED);
+    assert_told(&rt, &A_CALL_LEFT_OUT);
+    assert_told(&rt, &A_CALL_TWICE);
+    assert_told(&rt, &ANOTHER_CALL);
     assert_told(&rt, &ANOTHER_ANSWER);
+    Ok(())
+}
+
+#[test]
+fn all_faults_are_told_where_they_are_asked_for(rt: HostRuntime) -> Result<(), Fail> {
+    assert_told(&rt, &THE_FIRST_FAULT);
+    assert_all_told(&rt, &EACH_FAULT, Reasons::All);
+    assert_all_told(&rt, &A_CIRCLE, Reasons::All);
+    assert_all_told(&rt, &TWO_CALLS, Reasons::All);
+    Ok(())
+}
+
+#[test]
+fn what_is_left_open_is_judged_no_further(rt: HostRuntime) -> Result<(), Fail> {
+    assert_told(&rt, &LEFT_OPEN_AND_NOT_RUN);
+    assert_told(&rt, &LEFT_OPEN_AND_ANOTHER_ARGUMENT);
+    assert_all_told(&rt, &LEFT_OPEN_AND_ANOTHER_ARGUMENT, Reasons::All);
     Ok(())
 }
 

@@ -3,7 +3,6 @@ use Rattle.std.proofs.lemmas.Result.{IfOk-weaker}
 use Rattle.act_rules.specs.Scripts.{actor_spec_of}
 use Rattle.act_actor.specs.Casts.{actor_spec}
 use Rattle.act_console.proofs.Roles.{casts_fit}
-use Rattle.act_histories.specs.Lines.{told_lines}
 use Rattle.act_histories.proofs.Verdicts.{ends_same}
 use Rattle.act_histories.proofs.check.why_not_events.Goals as goal
 
@@ -17,7 +16,6 @@ pub returns : goal.returns
 returns g c =
     let casts = map (actor_spec (λ b. (goal.Actor-dyn g (b.vtable, b.value)).state b.value)) c.in_ok-casts.casts.items in
     IfOk-weaker c.why_not_in-why.result _ _
-    (λ why ends none. ends_same casts (map actor_spec_of c.args.roles) c.args.lines.steps.now c.args.events.now c.deref.result.now c.in_ok-shown.shown.items (told_lines c.args.lines.rest.now)
-    c.in_ok-casts.ensures c.deref.ensures.value c.in_ok-shown.ensures
+    (λ why ends none. ends_same casts (map actor_spec_of c.args.roles) c.args.lines.steps.now c.args.events.now c.args.lines.rest.now c.in_ok-casts.ensures
     (ends none casts c.in_ok-world.ensures.reached))
     c.why_not_in-why.ensures

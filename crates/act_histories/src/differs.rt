@@ -1,0 +1,75 @@
+//! What is said where the rules give other arguments or another answer than a history tells.
+
+use crate::reason::ToldPlace;
+use act_types::{Answer, Settled};
+use std::alloc::AllocError;
+
+/// Whether two answers are the same, as they are written.
+pub(crate) fn same_answer(one: &Answer, other: &Answer) -> bool {
+    match (one, other) {
+        (Ok(value), Ok(other)) => value == other,
+        (Err(fault), Err(other)) => fault == other,
+        _ => false,
+    }
+}
+
+/// Whether the arguments of two calls that ran are the same.
+pub(crate) fn same_args(one: &[Settled], other: &[Settled]) -> bool {
+    if one.len() != other.len() {
+        return false;
+    }
+    for (place, arg) in one.iter().enumerate() {
+        if *arg != other[place] {
+            return false;
+        }
+    }
+    true
+}
+
+fn push_args(text: &mut String, args: &[Settled]) -> Result<(), AllocError> {
+    if args.is_empty() {
+        return text.push_str(" none");
+    }
+    for arg in args {
+        write!(text, " {arg}")?;
+    }
+    Ok(())
+}
+
+fn push_answer(text: &mut String, answer: &Answer) -> Result<(), AllocError> {
+    match answer {
+        Ok(value) => write!(text, "{value}"),
+        Err(fault) => write!(text, "{fault}"),
+    }
+}
+
+/// Tells that the call at a place had other arguments.
+pub(crate) fn push_other_args(
+    text: &mut String,
+    told: &ToldPlace,
+    by_rules: &[Settled],
+    args: &[Settled],
+) -> Result<(), AllocError> {
+    let ToldPlace { at, line } = *told;
+    write!(text, "line {line}: the arguments at {at} are")?;
+    push_args(text, by_rules)?;
+    text.push_str(" by the rules, and the history tells")?;
+    push_args(text, args)?;
+    text.push('\n')
+}
+
+/// Tells that the call at a place had another answer, which this line tells.
+pub(crate) fn push_other_answer(
+    text: &mut String,
+    told: &ToldPlace,
+    by_rules: &Answer,
+    answer: &Answer,
+    of_answer: u32,
+) -> Result<(), AllocError> {
+    let ToldPlace { at, line } = *told;
+    write!(text, "line {line}: the answer at {at} is ")?;
+    push_answer(text, by_rules)?;
+    text.push_str(" by the rules, and the history tells ")?;
+    push_answer(text, answer)?;
+    writeln!(text, " (line {of_answer})")
+}

@@ -1,0 +1,205 @@
+//! What an actor answers at each place of its run list, and what a call has there as arguments, by what
+//! the history tells alone.
+
+use crate::differs::{push_other_answer, push_other_args, same_answer, same_args};
+use crate::history::{Call, History, Kept, Served};
+use crate::reason::ToldPlace;
+use crate::rules::{is_end, may_run_as};
+use act_kinds::{Account, Actor, Counter, ListKind, Table};
+use act_rules::{KindName, RunItem};
+use act_types::{
+    ActorId, Answer, Arg, CopyOf, Fault, FutureId, Method, NoMemory, Settled, SmallList, Value,
+};
+use std::alloc::{AllocError, Global};
+
+/// What an actor answers to a call whose arguments are these values.
+fn answer_to<K: Actor>(
+    kind: &mut K,
+    method: &Method,
+    values: &[Value],
+) -> Result<Answer, NoMemory> {
+    match (method, values) {
+        (Method::Terminate, []) => Ok(Ok(Value::Unit)),
+        (Method::Terminate, _) => Ok(Err(Fault::BadArgs)),
+        _ => kind.ask(method, values),
+    }
+}
+
+/// What an actor answers to a call, with the arguments that it ran with.
+fn answer_of<K: Actor>(alloc: Global, kind: &mut K, item: &RunItem) -> Result<Answer, NoMemory> {
+    let mut values = SmallList::with_capacity(alloc, item.args.len())?;
+    for arg in item.args.as_slice() {
+        match arg {
+            Settled::Good(value) => values.push(value.copy_of(alloc)?)?,
+            Settled::Bad(future) => return Ok(Err(Fault::Dependency(*future))),
+        }
+    }
+    answer_to(kind, &item.method, values.as_slice())
+}
+
+/// What a kind answers at each place of its actor's run list, up to the call that ends the actor.
+fn answers_by<K: Actor>(
+    alloc: Global,
+    mut kind: K,
+    actor: &Served,
+) -> Result<Vec<Answer>, NoMemory> {
+    let mut answers = Vec::new(alloc);
+    for ran in &actor.log {
+        answers.push(answer_of(alloc, &mut kind, &ran.item)?)?;
+        if is_end(&ran.item) {
+            break;
+        }
+    }
+    Ok(answers)
+}
+
+/// The same of an actor, whose kind is opened for that.
+fn answers_of(alloc: Global, actor: &Served) -> Result<Vec<Answer>, NoMemory> {
+    match actor.kind {
+        None => Ok(Vec::new(alloc)),
+        Some(KindName::Counter) => answers_by(alloc, Counter::open(), actor),
+        Some(KindName::Table) => answers_by(alloc, Table::open(alloc), actor),
+        Some(KindName::Account) => answers_by(alloc, Account::open(), actor),
+        Some(KindName::ListKind) => answers_by(alloc, ListKind::open(alloc), actor),
+    }
+}
+
+/// What each actor answers, by its number.
+#[derive(Drop)]
+pub(crate) struct Replies {
+    of_actors: Vec<Vec<Answer>>,
+}
+
+impl Replies {
+    pub(crate) fn new(alloc: Global, history: &History) -> Result<Replies, NoMemory> {
+        let mut of_actors = Vec::new(alloc);
+        for actor in &history.actors {
+            of_actors.push(answers_of(alloc, actor)?)?;
+        }
+        Ok(Replies { of_actors })
+    }
+
+    /// What the actor answers at a place, unless that is behind its end.
+    fn at(&self, a: ActorId, place: u32) -> Option<&Answer> {
+        self.of_actors.get(a.number() as usize)?.get(place as usize)
+    }
+
+    /// The answer of a call: the one that is told, and where that isn't judged the one of its run.
+    fn answer_of<'a>(&'a self, call: &'a Call) -> Option<&'a Answer> {
+        match &call.kept {
+            Kept::Nothing => None,
+            Kept::Something => self.at(call.actor, call.place?),
+            Kept::Answer(answer) => Some(answer),
+        }
+    }
+
+    /// What a future is settled to as an argument, or what it ran as where it has no answer.
+    fn settled_future(
+        &self,
+        alloc: Global,
+        call: Option<&Call>,
+        future: FutureId,
+        ran: &Settled,
+    ) -> Result<Settled, NoMemory> {
+        let Some(call) = call else {
+            return ran.copy_of(alloc);
+        };
+        if call.has_died() {
+            return Ok(Settled::Bad(future));
+        }
+        match self.answer_of(call) {
+            None => ran.copy_of(alloc),
+            Some(Ok(value)) => Ok(Settled::Good(value.copy_of(alloc)?)),
+            Some(Err(_)) => Ok(Settled::Bad(future)),
+        }
+    }
+
+    /// What the arguments of a call are settled to that ran so.
+    fn settled_args(
+        &self,
+        alloc: Global,
+        history: &History,
+        call: &Call,
+        item: &RunItem,
+    ) -> Result<SmallList<Settled>, NoMemory> {
+        let mut args = SmallList::with_capacity(alloc, item.args.len())?;
+        for (place, ran) in item.args.as_slice().iter().enumerate() {
+            match call.args.as_slice().get(place) {
+                None => {}
+                Some(Arg::Plain(value)) => args.push(Settled::Good(value.copy_of(alloc)?))?,
+                Some(Arg::Fut(future)) => {
+                    let of = history.call(item.caller, *future);
+                    args.push(self.settled_future(alloc, of, *future, ran)?)?;
+                }
+            }
+        }
+        Ok(args)
+    }
+
+    /// Adds that a call ran with other arguments than its own are settled to.
+    fn push_args_fault(
+        &self,
+        alloc: Global,
+        text: &mut String,
+        history: &History,
+        told: &ToldPlace,
+        call: &Call,
+        item: &RunItem,
+    ) -> Result<(), NoMemory> {
+        if !may_run_as(call, item) {
+            return Ok(());
+        }
+        let args = self.settled_args(alloc, history, call, item)?;
+        if !same_args(args.as_slice(), item.args.as_slice()) {
+            push_other_args(text, told, args.as_slice(), item.args.as_slice())?;
+        }
+        Ok(())
+    }
+
+    /// Adds what is told of the arguments and the answer of a call that ran here, and isn't so. Behind
+    /// its actor's end nothing is added.
+    pub(crate) fn push_faults(
+        &self,
+        alloc: Global,
+        text: &mut String,
+        history: &History,
+        told: &ToldPlace,
+        item: &RunItem,
+    ) -> Result<(), NoMemory> {
+        let Some(by_rules) = self.at(told.at.actor, told.at.place) else {
+            return Ok(());
+        };
+        if let Some(call) = call_at(history, told, item) {
+            self.push_args_fault(alloc, text, history, told, call, item)?;
+            push_answer_fault(text, told, call, by_rules)?;
+        }
+        Ok(())
+    }
+}
+
+/// Adds that another answer is told of a call than its actor gives.
+fn push_answer_fault(
+    text: &mut String,
+    told: &ToldPlace,
+    call: &Call,
+    by_rules: &Answer,
+) -> Result<(), AllocError> {
+    if call.has_died() {
+        return Ok(());
+    }
+    if let Some(answer) = call.answer()
+        && !same_answer(by_rules, answer)
+    {
+        push_other_answer(text, told, by_rules, answer, call.line)?;
+    }
+    Ok(())
+}
+
+/// The call that runs first at this place.
+fn call_at<'a>(history: &'a History, told: &ToldPlace, item: &RunItem) -> Option<&'a Call> {
+    let call = history.call(item.caller, item.future)?;
+    if call.actor == told.at.actor && call.place == Some(told.at.place) {
+        return Some(call);
+    }
+    None
+}
