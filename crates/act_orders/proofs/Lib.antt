@@ -1,0 +1,11 @@
+pub mod Lists
+pub mod Standing
+pub mod Breaking
+pub mod Running
+pub mod Finding
+pub mod Lasting
+pub mod Causing
+pub mod Steps
+pub mod Nexting
+pub mod Judging
+pub mod Wholes

@@ -1,0 +1,6 @@
+use Rattle.std.proofs.Common.{ℕ, ◌<◌}
+use Rattle.act_orders.specs.Faults.{Finds, CallHolds}
+use Rattle.act_orders.proofs.ends.note_calls.Given as goal
+
+abbrev pub invariant-loop-call : goal.invariant-loop-call
+invariant-loop-call l = Finds l.told ((n : ℕ) → n < l.call → CallHolds l.told n) l.initial.faults l.faults

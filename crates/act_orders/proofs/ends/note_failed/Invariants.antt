@@ -1,0 +1,7 @@
+use Rattle.std.proofs.Common.{take}
+use Rattle.act_orders.specs.Order.{call_of}
+use Rattle.act_orders.specs.Faults.{Finds, TakesGood}
+use Rattle.act_orders.proofs.ends.note_failed.Given as goal
+
+abbrev pub invariant-loop-taken : goal.invariant-loop-taken
+invariant-loop-taken l = Finds l.told (TakesGood l.told l.call (take l.taken-index (call_of l.told l.call).takes)) l.initial.faults l.faults

@@ -1,0 +1,6 @@
+use Rattle.std.proofs.Common.{take}
+use Rattle.act_orders.specs.Faults.{Finds, Come}
+use Rattle.act_orders.proofs.ends.note_open.Given as goal
+
+abbrev pub invariant-loop-call : goal.invariant-loop-call
+invariant-loop-call l = Finds l.told (Come l.told (take l.call-index l.waits)) l.initial.faults l.faults

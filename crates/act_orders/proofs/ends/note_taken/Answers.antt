@@ -1,0 +1,21 @@
+use Rattle.std.proofs.Common.{◌≡◌, arith, ap, subst, ◌∙◌}
+use Rattle.std.specs.List.{Contains}
+use Rattle.act_orders.specs.declared.told.Call.{Call}
+use Rattle.act_orders.specs.declared.told.Happening.TheVariants.{Ran}
+use Rattle.act_orders.specs.Order.{call_of, Happened}
+use Rattle.act_orders.specs.Faults.{Come}
+use Rattle.act_orders.proofs.Finding.{finds_then}
+use Rattle.act_orders.proofs.ends.note_taken.Goals as goal
+
+pub note_open-requires-clause-within : goal.note_open-requires-clause-within
+note_open-requires-clause-within c k has =
+    let told = c.args.told.now in let n = c.args.call in
+    let same : c.as_slice-takes.result.now ≡ (call_of told n).takes = c.as_slice-takes.ensures ∙ ap (λ (x : Call). x.takes) c.call.ensures in
+    omega (arith, c.requires.within, ((c.requires.whole.takes n c.requires.within).each k (subst (λ ks. Contains ks k) same has)).before)
+
+pub returns-in_ok-note_open-in-Some : goal.returns-in_ok-note_open-in-Some
+returns-in_ok-note_open-in-Some c =
+    let told = c.args.told.now in let n = c.args.call in
+    let same : c.as_slice-takes.result.now ≡ (call_of told n).takes = c.as_slice-takes.ensures ∙ ap (λ (x : Call). x.takes) c.call.ensures in
+    finds_then told (Come told c.as_slice-takes.result.now) (Happened told (Ran n) → Come told (call_of told n).takes)
+    c.args.faults.now c.note_open.new.faults (λ come _. subst (Come told) same come) c.in_ok-note_open-in-Some.ensures

@@ -1,0 +1,16 @@
+use Rattle.std.proofs.Common.{ℕ, ◌<◌}
+use Rattle.std.specs.List.{Contains}
+use Rattle.act_orders.specs.declared.told.Happening.TheVariants.{Submitted, Ran, Answered}
+use Rattle.act_orders.specs.Order.{Happened}
+use Rattle.act_orders.specs.Search.{AtRest}
+use Rattle.act_orders.specs.Causes.{graph_of}
+use Rattle.act_orders.specs.declared.search.TheConstants.{DONE}
+use Rattle.act_orders.proofs.search.order_of.Given as goal
+
+abbrev pub invariant-loop-call : goal.invariant-loop-call
+invariant-loop-call l = record {
+  rests : AtRest (graph_of l.told l.places) DONE l.search.marks.items l.search.path.items l.search.order.items;
+  submitted : (n : ℕ) → n < l.call → Happened l.told (Submitted n) → Contains l.search.order.items (Submitted n);
+  ran : (n : ℕ) → n < l.call → Happened l.told (Ran n) → Contains l.search.order.items (Ran n);
+  answered : (n : ℕ) → n < l.call → Happened l.told (Answered n) → Contains l.search.order.items (Answered n);
+}

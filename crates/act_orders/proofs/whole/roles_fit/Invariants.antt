@@ -1,0 +1,6 @@
+use Rattle.std.proofs.Common.{ℕ, ◌<◌}
+use Rattle.act_orders.specs.Whole.{RoleFits}
+use Rattle.act_orders.proofs.whole.roles_fit.Given as goal
+
+abbrev pub invariant-loop-place : goal.invariant-loop-place
+invariant-loop-place l = (a : ℕ) → a < l.place → RoleFits l.told a

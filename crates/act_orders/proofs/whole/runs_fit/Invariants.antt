@@ -1,0 +1,6 @@
+use Rattle.std.proofs.Common.{ℕ, ◌<◌}
+use Rattle.act_orders.specs.Whole.{RunFits}
+use Rattle.act_orders.proofs.whole.runs_fit.Given as goal
+
+abbrev pub invariant-loop-place : goal.invariant-loop-place
+invariant-loop-place l = (i : ℕ) → i < l.place → RunFits l.told i
