@@ -1,0 +1,104 @@
+-- The actors of the play: who may call whom.
+use Rattle.std.proofs.Common.{◌≡◌, ℕ, zero, suc, ◌+◌, ◌<◌, ◌==◌, ◌||◌, inl, inr, Bool, true, false, List, [], ◌∷◌, length, find, Some, None, slice_get, refl, ap, subst, ◌∙◌, arith}
+use Rattle.std.specs.Prelude.{option_map}
+use Rattle.std.specs.List.{Contains, enumerate_from, list_any}
+use Rattle.std.proofs.lemmas.Bool.{eqb-true, eq-eqb, ne_eqb}
+use Rattle.std.proofs.lemmas.List.{get_or_past}
+use Rattle.std.proofs.lemmas.Option.{slice_get-map, slice_get-get_or}
+use Rattle.act_types.specs.KindState.{OwnAt}
+use Rattle.act_rules.specs.History.{ActorSpec, History, contains, cast_of, names, is_caller}
+use Rattle.act_rules.proofs.Lists.{find-map, slice_get-enumerate_from}
+use Rattle.act_orders.specs.declared.told.Actor.{Actor}
+use Rattle.act_orders.specs.declared.told.Told.{Told}
+use Rattle.act_orders.specs.Order.{actor_of}
+use Rattle.act_order_plays.specs.Plays.{answers, cast_of_actor, casts_of}
+use Rattle.act_order_plays.proofs.Lists.{Has, cases_le}
+
+-- what holds of one item holds of some
+pub list_any_has : {A : Type 0} (p : A → Bool) (xs : List A) (x : A) → Has xs x → p x ≡ true → list_any p xs ≡ true
+list_any_has {A = A} p xs x has is = go xs has.0 has.1
+  where
+    go : (xs : List A) (i : ℕ) → slice_get xs i ≡ Some x → list_any p xs ≡ true
+    go [] i e = absurd (cc)
+    go (y ∷ ys) zero e = let same : y ≡ x = cc in let there : p y ≡ true = ap p same ∙ is in rw there refl
+    go (y ∷ ys) (suc i) e = later (p y) (go ys i e)
+      where
+        later : (b : Bool) → list_any p ys ≡ true → (b || list_any p ys) ≡ true
+        later true h = refl
+        later false h = h
+
+pub any_has : {A : Type 0} (p : A → Bool) (xs : List A) → list_any p xs ≡ true → (x : A) × Has xs x × (p x ≡ true)
+any_has p [] e = absurd (cc)
+any_has {A = A} p (y ∷ ys) e = go (p y) refl (any_has p ys) e
+  where
+    go : (b : Bool) → p y ≡ b → (list_any p ys ≡ true → (x : A) × Has ys x × (p x ≡ true)) → (b || list_any p ys) ≡ true →
+        (x : A) × Has (y ∷ ys) x × (p x ≡ true)
+    go true is rest e = (y, (zero, refl), is)
+    go false is rest e = let r = rest e in (r.0, (suc r.1.0, r.1.1), r.2)
+
+pub contains_has : (xs : List ℕ) (n : ℕ) → Has xs n → contains n xs ≡ true
+contains_has xs n has = list_any_has (λ (m : ℕ). m == n) xs n has (eq-eqb n n refl)
+
+pub has_contains : (xs : List ℕ) (n : ℕ) → contains n xs ≡ true → Has xs n
+has_contains xs n e = let r = any_has (λ (m : ℕ). m == n) xs e in subst (λ (k : ℕ). Has xs k) (eqb-true r.0 n r.2) r.1
+
+-- ---- the cast of an actor
+
+abbrev pub cast_at : Told → ℕ → ActorSpec
+cast_at told a = record { actor = a; callers = (actor_of told a).callers; opening = OwnAt answers; pending = None }
+
+find_at : {A : Type 0} (n k : ℕ) (xs : List A) (x : A) → slice_get xs k ≡ Some x → find (λ (p : ℕ × A). p.0 == (n + k)) (enumerate_from n xs) ≡ Some (n + k, x)
+find_at n k [] x e = absurd (cc)
+find_at {A = A} n zero (y ∷ ys) x e =
+    let z : n ≡ n + 0 = omega arith in
+    let same : y ≡ x = cc in
+    rw (eq-eqb n (n + 0) z) (ap (λ (p : ℕ × A). Some p) (rw (← z, same) refl))
+find_at {A = A} n (suc k) (y ∷ ys) x e =
+    let more : (n + 1) + k ≡ n + suc k = omega arith in
+    rw (ne_eqb n (n + suc k) (λ same. omega arith))
+    (subst (λ (m : ℕ). find (λ (p : ℕ × A). p.0 == m) (enumerate_from (n + 1) ys) ≡ Some (m, x)) more (find_at (n + 1) k ys x e))
+
+actor_at : (told : Told) (a : ℕ) → a < length told.actors → slice_get told.actors a ≡ Some (actor_of told a)
+actor_at told a lt = slice_get-get_or told.actors a _ lt
+
+pub find_cast : (told : Told) (a : ℕ) → a < length told.actors → find (λ (cast : ActorSpec). cast.actor == a) (casts_of told) ≡ Some (cast_at told a)
+find_cast told a lt =
+    let z : 0 + a ≡ a = omega arith in
+    find-map (λ (cast : ActorSpec). cast.actor == a)
+    cast_of_actor (enumerate_from 0 told.actors)
+    ∙ ap (option_map cast_of_actor)
+    (subst (λ (m : ℕ). find (λ (p : ℕ × Actor). p.0 == m) (enumerate_from 0 told.actors) ≡ Some (m, actor_of told a)) z
+    (find_at 0 a told.actors (actor_of told a) (actor_at told a lt)))
+
+pub cast_of_is : (told : Told) (h : History) (a : ℕ) → h.casts ≡ casts_of told → a < length told.actors → cast_of a h ≡ Some (cast_at told a)
+cast_of_is told h a casts lt = ap (λ (all : List ActorSpec). find (λ (cast : ActorSpec). cast.actor == a) all) casts ∙ find_cast told a lt
+
+pub names_is : (told : Told) (h : History) (c a : ℕ) → h.casts ≡ casts_of told → a < length told.actors → Has (actor_of told a).callers c →
+    names c (cast_of a h) ≡ true
+names_is told h c a casts lt has = rw (cast_of_is told h a casts lt) (contains_has (actor_of told a).callers c has)
+
+casts_has : (told : Told) (a : ℕ) → a < length told.actors → Has (casts_of told) (cast_at told a)
+casts_has told a lt =
+    let z : 0 + a ≡ a = omega arith in
+    let f : ℕ × Actor → ActorSpec = cast_of_actor in
+    let there : slice_get (enumerate_from 0 told.actors) a ≡ Some (a, actor_of told a) =
+    slice_get-enumerate_from 0 told.actors a ∙ ap (option_map (λ (x : Actor). (0 + a, x))) (actor_at told a lt)
+    ∙ ap (λ (m : ℕ). Some (m, actor_of told a)) z in
+    (a, slice_get-map f (enumerate_from 0 told.actors) a ∙ ap (option_map f) there)
+
+pub is_caller_is : (told : Told) (h : History) (c a : ℕ) → h.casts ≡ casts_of told → a < length told.actors → Has (actor_of told a).callers c →
+    is_caller c h ≡ true
+is_caller_is told h c a casts lt has = rw casts
+    (list_any_has (λ (cast : ActorSpec). contains c cast.callers) (casts_of told) (cast_at told a) (casts_has told a lt)
+    (contains_has (actor_of told a).callers c has))
+
+-- no caller may call what is no actor
+pub role_actor : (told : Told) (c a : ℕ) → Contains (actor_of told a).callers c → a < length told.actors
+role_actor told c a has = elim (cases_le (length told.actors) a) [
+  | inr b ↦ b
+  | inl past ↦ absurd (let none : actor_of told a ≡ record { callers = []; end = _ } = get_or_past told.actors a _ past in
+      no_item (subst (λ (actor : Actor). Contains actor.callers c) none has))
+]
+  where
+    no_item : Contains [] c → ⊥
+    no_item h = let lt = h.1 in omega arith

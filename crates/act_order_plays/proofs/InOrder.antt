@@ -1,0 +1,166 @@
+-- What a play leaves is in order.
+use Rattle.std.proofs.Common.{◌≡◌, ℕ, ◌<◌, ◌≤◌, inl, inr, Bool, true, false, List, [], ◌∷◌, ◌++◌, length, take, nat_lt, Some, slice_get, refl, sym, subst, ◌∙◌, arith, append_assoc}
+use Rattle.std.specs.List.{Contains}
+use Rattle.std.proofs.lemmas.Bool.{ltb-true}
+use Rattle.act_rules.specs.declared.event.Event.{Event}
+use Rattle.act_rules.specs.History.{ActorSpec, History, opening, calls_of}
+use Rattle.act_rules.specs.Rules.{after}
+use Rattle.act_rules.specs.Laws.{history}
+use Rattle.act_rules.proofs.Sound.{IsSound, world_sound}
+use Rattle.act_rules.proofs.RanAll.{world_retires}
+use Rattle.act_orders.specs.declared.told.Happening.{Happening}
+use Rattle.act_orders.specs.declared.told.Happening.TheVariants.{Submitted, Ran, Answered}
+use Rattle.act_orders.specs.declared.told.Told.{Told}
+use Rattle.act_orders.specs.Order.{call_of, Happened, IsCause, IsOrder, IsInOrder}
+use Rattle.act_orders.specs.Causes.{IsWhole}
+use Rattle.act_order_plays.specs.Plays.{casts_of, future_of, IsPlayOf}
+use Rattle.act_order_plays.proofs.Lists.{has_of, contains_of}
+use Rattle.act_order_plays.proofs.Fronts.{run_at}
+use Rattle.act_order_plays.proofs.Left.{run_happened, run_call}
+use Rattle.act_order_plays.proofs.Turns.{runs_in_turn, ends_right}
+use Rattle.act_order_plays.proofs.Along.{Within, within_at, within_all, history_more, parted, calls_along}
+use Rattle.act_order_plays.proofs.Orders.{Lasts, order_from, order_has, order_only, order_fresh, order_after, last_of}
+use Rattle.act_order_plays.proofs.Happenings.{Seen, has_call, has_answer, has_in, states, every, every_once, every_has, every_happened, answer_lasts, all_lasts, last_is, IsCausedAt, all_before}
+use Rattle.act_order_plays.proofs.Moments.{not_both}
+use Rattle.act_order_plays.proofs.Leading.{at_the_end, ran_before, submitted_caused, ran_caused, answered_caused}
+
+module _ (told : Told) (events : List Event) (whole : IsWhole told) (play : IsPlayOf told events) where
+  abbrev casts : List ActorSpec
+  casts = casts_of told
+
+  abbrev last : History
+  last = history (casts_of told) events
+
+  sound : IsSound last
+  sound = world_sound casts events
+
+  -- ---- causes happen
+
+  cause_happened : (y x : Happening) → IsCause told y x → Happened told x → Happened told y
+  cause_happened (Submitted m) (Submitted n) cause lt = let next = cause.0 in omega arith
+  cause_happened (Ran m) (Submitted n) cause lt = absurd cause
+  cause_happened (Answered m) (Submitted n) cause lt =
+      let less = ((whole.waits n lt).each m cause).before in
+      (omega arith, (play.waits n m lt cause).is_told)
+  cause_happened (Submitted m) (Ran n) cause ran =
+      let run = run_at told n ran in
+      subst (λ (k : ℕ). k < length told.calls) (sym cause) (run_call told n run.0 run.1 whole run.2)
+  cause_happened (Ran m) (Ran n) cause ran = run_happened told m cause.0 _ (record { at = cause.2; call = refl })
+  cause_happened (Answered m) (Ran n) cause ran =
+      let run = run_at told n ran in
+      let lt = run_call told n run.0 run.1 whole run.2 in
+      let less = ((whole.takes n lt).each m cause).before in
+      (omega arith, play.taken n m ran cause)
+  cause_happened (Submitted m) (Answered n) cause answered = subst (λ (k : ℕ). k < length told.calls) (sym cause) answered.0
+  cause_happened (Ran m) (Answered n) cause answered =
+      ran_before told last whole sound play.leaves n m (within_all last [] sound) answered.0 answered.1 cause
+  cause_happened (Answered m) (Answered n) cause answered = absurd cause
+
+  -- ---- and they come before
+
+  -- the answers for which a caller waited are kept before it submits the call
+  waited_caused : (m n : ℕ) → n < length told.calls → Contains (call_of told n).waits m → IsCausedAt told (Answered m) (Submitted n) casts events
+  waited_caused m n lt waits first event later joined = record { acts = acts; answers = λ f t. not_both (has_call told g n) f t }
+    where
+      h : History
+      h = history casts first
+
+      g : History
+      g = after (history casts first) event
+
+      acts : has_call told h n ≡ false → has_call told g n ≡ true → has_answer told h m ≡ true
+      acts f t =
+          let w = play.waits n m lt waits in
+          elim (parted first event later w.first w.later (joined ∙ sym w.joined)) [
+            | inl p ↦ answer_lasts told (history casts w.first) h m (within_at casts w.first p.0 first p.1) w.kept
+            | inr p ↦
+                let c = (call_of told n).caller in
+                let way : Within (history casts (first ++ event ∷ [])) (history casts w.first) = within_at casts (first ++ event ∷ []) p.0 w.first p.1 in
+                let long : length (calls_of c g) ≤ length (calls_of c (history casts w.first)) =
+                subst (λ (k : History). length (calls_of c k) ≤ length (calls_of c (history casts w.first))) (history_more casts first event)
+                (calls_along (history casts (first ++ event ∷ [])) (history casts w.first) c way.grows) in
+                let short = w.not_yet in
+                let there = ltb-true (future_of told n) (length (calls_of c g)) t in
+                absurd (omega arith)
+          ]
+
+  caused : (y x : Happening) → IsCause told y x → Happened told x → IsCausedAt told y x casts events
+  caused (Submitted m) (Submitted n) cause lt first event later joined =
+      submitted_caused told last whole sound play.leaves (history casts first) event m n cause
+  caused (Ran m) (Submitted n) cause lt first event later joined = absurd cause
+  caused (Answered m) (Submitted n) cause lt first event later joined = waited_caused m n lt cause first event later joined
+  caused y (Ran n) cause ran first event later joined =
+      let run = run_at told n ran in
+      let lt = run_call told n run.0 run.1 whole run.2 in
+      let then : Within (after (history casts first) event) last =
+      subst (λ (g : History). Within g last) (history_more casts first event)
+      (within_at casts (first ++ event ∷ []) later events (append_assoc first (event ∷ []) later ∙ joined)) in
+      ran_caused told last whole sound play.leaves (history casts first) event y n (within_at casts first (event ∷ later) events joined) then lt
+      (λ m takes. ((whole.takes n lt).each m takes).caller) cause
+  caused y (Answered n) cause answered first event later joined =
+      let then : Within (after (history casts first) event) last =
+      subst (λ (g : History). Within g last) (history_more casts first event)
+      (within_at casts (first ++ event ∷ []) later events (append_assoc first (event ∷ []) later ∙ joined)) in
+      answered_caused told last whole sound play.leaves (history casts first) (after (history casts first) event) y n then answered.0 answered.1 cause
+
+  -- ---- the order
+
+  abbrev start : Seen
+  start = (opening casts, opening casts)
+
+  abbrev all : List Seen
+  all = states (opening casts) events
+
+  abbrev order : List Happening
+  order = order_from (has_in told) (every told) start all
+
+  none_less : (k : ℕ) → nat_lt k 0 ≡ false
+  none_less k = go (nat_lt k 0) refl
+    where
+      go : (b : Bool) → nat_lt k 0 ≡ b → b ≡ false
+      go true e = let less = ltb-true k 0 e in absurd (omega arith)
+      go false e = refl
+
+  nothing_yet : (x : Happening) → has_in told start x ≡ false
+  nothing_yet (Submitted n) = none_less (future_of told n)
+  nothing_yet (Ran n) = refl
+  nothing_yet (Answered n) = refl
+
+  lasts : Lasts (has_in told) (every told) start all
+  lasts = all_lasts told (opening casts) events (world_sound casts [])
+
+  in_the_end : (x : Happening) → Happened told x → has_in told (last_of (has_in told) (every told) start all) x ≡ true
+  in_the_end x happened =
+      subst (λ (s : Seen). has_in told s x ≡ true) (sym (last_is told (opening casts) events)) (at_the_end told last whole sound play.leaves x happened)
+
+  has_happened : (x : Happening) → Contains order x → Happened told x
+  has_happened x has = every_happened told x (order_only (has_in told) (every told) start all x lasts (has_of order x has)).0
+
+  causes_first : (i : ℕ) (x : Happening) → slice_get order i ≡ Some x → (y : Happening) → IsCause told y x → Contains (take i order) y
+  causes_first i x at y cause =
+      let happened = has_happened x (contains_of order x (i, at)) in
+      contains_of (take i order) y
+      (order_after (has_in told) (every told) start all i x y lasts at (all_before told y x casts [] events (caused y x cause happened))
+      (every_has told y whole (cause_happened y x cause happened)) (nothing_yet y))
+
+  is_order : IsOrder told order
+  is_order = record {
+    all = λ x happened. contains_of order x
+        (order_has (has_in told) (every told) start all x (every_has told x whole happened) (nothing_yet x) (in_the_end x happened));
+    only = has_happened;
+    after = λ i x at. record {
+      once = λ has. order_fresh (has_in told) (every told) start all i x (every_once told) lasts at (has_of (take i order) x has);
+      causes = causes_first i x at;
+    };
+  }
+
+  pub in_order : IsInOrder told
+  in_order = (
+    order,
+    record {
+      runs = runs_in_turn told last whole sound play.leaves;
+      ends = ends_right told last whole sound play.leaves (within_at casts [] events events refl).grows.casts (world_retires casts events);
+      waits = λ k waits. (whole.last_waits k waits, play.last_waits k waits);
+      causes = is_order;
+    },
+  )

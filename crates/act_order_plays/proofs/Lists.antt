@@ -1,0 +1,188 @@
+-- Laws of lists: what they have, fronts of lists whose items differ, and numbers that pass a test.
+use Rattle.std.proofs.Common.{◌≡◌, ℕ, zero, suc, ◌+◌, ◌<◌, ◌≤◌, ◌⊎◌, inl, inr, Bool, true, false, cond, List, [], ◌∷◌, ◌++◌, length, filter, take, Option, Some, None, slice_get, refl, sym, ap, subst, ◌∙◌, arith, length-append}
+use Rattle.std.specs.Prelude.{filter_map}
+use Rattle.std.specs.List.{Contains, cons_option, range_with_len}
+use Rattle.std.proofs.lemmas.Bool.{cases_lt}
+use Rattle.std.proofs.lemmas.List.{append-nil}
+use Rattle.std.proofs.lemmas.List.Elements.{filter-append}
+use Rattle.std.proofs.lemmas.Option.{slice_get_within, slice_get-get_or, get_or_from_slice_get}
+use Rattle.act_rules.specs.Consistent.{IsPrefix}
+use Rattle.act_rules.proofs.Lists.{slice_get_more, slice_get_front, slice_get_last, slice_get-filter, front_next, range_push, element}
+use Rattle.act_rules.proofs.AsSubmitted.{filter-slice_get}
+
+-- ---- what a list has
+
+abbrev pub Has : {A : Type 0} → List A → A → Type 0
+Has {A} xs x = (k : ℕ) × (slice_get xs k ≡ Some x)
+
+pub has_of : {A : Type 0} (xs : List A) (x : A) → Contains xs x → Has xs x
+has_of xs x has = (has.0, slice_get-get_or xs has.0 x has.1 ∙ ap Some has.2)
+
+pub contains_of : {A : Type 0} (xs : List A) (x : A) → Has xs x → Contains xs x
+contains_of xs x has = (has.0, slice_get_within xs has.0 x has.1, get_or_from_slice_get xs has.0 x x has.1)
+
+pub has_more : {A : Type 0} (xs ys : List A) (x : A) → Has xs x → Has (xs ++ ys) x
+has_more xs ys x has = (has.0, slice_get_more xs ys has.0 x has.1)
+
+pub has_last : {A : Type 0} (xs : List A) (x : A) → Has (xs ++ x ∷ []) x
+has_last xs x = (length xs, slice_get_last xs x)
+
+pub has_pushed : {A : Type 0} (xs : List A) (y x : A) → Has (xs ++ y ∷ []) x → (Has xs x) ⊎ (y ≡ x)
+has_pushed {A = A} xs y x has = go xs has.0 has.1
+  where
+    go : (xs : List A) (i : ℕ) → slice_get (xs ++ y ∷ []) i ≡ Some x → (Has xs x) ⊎ (y ≡ x)
+    go [] zero e = inr (cc)
+    go [] (suc i) e = absurd (cc)
+    go (z ∷ zs) zero e = inl (zero, e)
+    go (z ∷ zs) (suc i) e = elim (go zs i e) [ inl h ↦ inl (suc h.0, h.1) | inr same ↦ inr same ]
+
+pub get_pushed : {A : Type 0} (xs : List A) (y : A) (i : ℕ) (x : A) → slice_get (xs ++ y ∷ []) i ≡ Some x →
+    (slice_get xs i ≡ Some x) ⊎ ((i ≡ length xs) × (y ≡ x))
+get_pushed [] y zero x e = inr (refl, (cc))
+get_pushed [] y (suc i) x e = absurd (cc)
+get_pushed (z ∷ zs) y zero x e = inl e
+get_pushed (z ∷ zs) y (suc i) x e = elim (get_pushed zs y i x e) [ inl h ↦ inl h | inr h ↦ inr (ap (λ (k : ℕ). suc k) h.0, h.1) ]
+
+pub has_filter : {A : Type 0} (p : A → Bool) (xs : List A) (x : A) → Has xs x → p x ≡ true → Has (filter p xs) x
+has_filter p xs x has passes = (length (filter p (take has.0 xs)), slice_get-filter p xs has.0 x has.1 passes)
+
+pub filter_has : {A : Type 0} (p : A → Bool) (xs : List A) (x : A) → Has (filter p xs) x → Has xs x × (p x ≡ true)
+filter_has p xs x has = let place = filter-slice_get p xs has.0 x has.1 in ((place.place, place.at), place.passes)
+
+pub has_filter_map : {A B : Type 0} (f : A → Option B) (xs : List A) (x : A) (y : B) → Has xs x → f x ≡ Some y → Has (filter_map f xs) y
+has_filter_map {A = A} {B = B} f xs x y has is = go xs has.0 has.1
+  where
+    later : (o : Option B) (ys : List B) → Has ys y → Has (cons_option o ys) y
+    later None ys h = h
+    later (Some z) ys h = (suc h.0, h.1)
+
+    go : (xs : List A) (i : ℕ) → slice_get xs i ≡ Some x → Has (filter_map f xs) y
+    go [] i e = absurd (cc)
+    go (z ∷ zs) zero e = let same : z ≡ x = cc in let there : f z ≡ Some y = ap f same ∙ is in
+        (zero, ap (λ (o : Option B). slice_get (cons_option o (filter_map f zs)) 0) there)
+    go (z ∷ zs) (suc i) e = later (f z) (filter_map f zs) (go zs i e)
+
+pub filter_map_has : {A B : Type 0} (f : A → Option B) (xs : List A) (y : B) → Has (filter_map f xs) y → (x : A) × Has xs x × (f x ≡ Some y)
+filter_map_has f [] y has = absurd (let e = has.1 in cc)
+filter_map_has {A = A} {B = B} f (z ∷ zs) y has =
+    go (f z) refl has.0 has.1 (λ (i : ℕ) (e : slice_get (filter_map f zs) i ≡ Some y). filter_map_has f zs y (i, e))
+  where
+    later : ((x : A) × Has zs x × (f x ≡ Some y)) → ((x : A) × Has (z ∷ zs) x × (f x ≡ Some y))
+    later r = (r.0, (suc r.1.0, r.1.1), r.2)
+
+    go : (o : Option B) → f z ≡ o → (i : ℕ) → slice_get (cons_option o (filter_map f zs)) i ≡ Some y →
+        ((j : ℕ) → slice_get (filter_map f zs) j ≡ Some y → ((x : A) × Has zs x × (f x ≡ Some y))) → ((x : A) × Has (z ∷ zs) x × (f x ≡ Some y))
+    go None is i e rest = later (rest i e)
+    go (Some w) is zero e rest = (z, (zero, refl), is ∙ e)
+    go (Some w) is (suc i) e rest = later (rest i e)
+
+-- ---- lists whose items differ, and their fronts
+
+pub cases_le : (m n : ℕ) → (m ≤ n) ⊎ (n < m)
+cases_le m n = elim (cases_lt n m) [ inl a ↦ inr a | inr b ↦ inl b ]
+
+abbrev pub Differ : List ℕ → Type 0
+Differ xs = (i j x : ℕ) → slice_get xs i ≡ Some x → slice_get xs j ≡ Some x → i ≡ j
+
+-- an item of the list that a front has stands in the front
+pub within_front : (xs ys : List ℕ) (i x : ℕ) → Differ ys → IsPrefix xs ys → slice_get ys i ≡ Some x → Has xs x → i < length xs
+within_front xs ys i x differ front at has =
+    let same : has.0 ≡ i = differ has.0 i x (slice_get_front xs ys has.0 x front has.1) at in
+    let short = slice_get_within xs has.0 x has.1 in omega arith
+
+-- where a front has each item before this one, and not this, it is as long as these
+pub front_ends : (xs ys : List ℕ) (i x : ℕ) → Differ ys → IsPrefix xs ys → slice_get ys i ≡ Some x → (Has xs x → ⊥) →
+    ((j y : ℕ) → j < i → slice_get ys j ≡ Some y → Has xs y) → length xs ≡ i
+front_ends xs ys zero x differ front at fresh before = first (length xs) refl
+  where
+    first : (n : ℕ) → length xs ≡ n → length xs ≡ 0
+    first zero e = e
+    first (suc n) e =
+        let one = element xs 0 (omega arith) in
+        let there : slice_get ys 0 ≡ Some one.0 = slice_get_front xs ys 0 one.0 front one.1 in
+        let same : one.0 ≡ x = cc in
+        absurd (fresh (0, one.1 ∙ ap Some same))
+front_ends xs ys (suc i) x differ front at fresh before =
+    let ends = slice_get_within ys (suc i) x at in
+    let one = element ys i (omega arith) in
+    let long : i < length xs = within_front xs ys i one.0 differ front one.1 (before i one.0 (omega arith) one.1) in
+    tests (cases_le (length xs) (suc i)) long
+  where
+    tests : (length xs ≤ suc i) ⊎ (suc i < length xs) → i < length xs → length xs ≡ suc i
+    tests (inl a) long = omega arith
+    tests (inr b) long =
+        let two = element xs (suc i) b in
+        let there : slice_get ys (suc i) ≡ Some two.0 = slice_get_front xs ys (suc i) two.0 front two.1 in
+        let same : two.0 ≡ x = cc in
+        absurd (fresh (suc i, two.1 ∙ ap Some same))
+
+-- such a front grows by this item
+pub front_grows : (xs ys : List ℕ) (i x : ℕ) → Differ ys → IsPrefix xs ys → slice_get ys i ≡ Some x → (Has xs x → ⊥) →
+    ((j y : ℕ) → j < i → slice_get ys j ≡ Some y → Has xs y) → IsPrefix (xs ++ x ∷ []) ys
+front_grows xs ys i x differ front at fresh before =
+    front_next xs ys x front (subst (λ (k : ℕ). slice_get ys k ≡ Some x) (sym (front_ends xs ys i x differ front at fresh before)) at)
+
+-- a front that is as long is all
+pub front_whole : {A : Type 0} (xs ys : List A) → IsPrefix xs ys → length ys ≤ length xs → xs ≡ ys
+front_whole {A = A} xs ys f short = go f.0 refl
+  where
+    long : length xs + length f.0 ≤ length xs
+    long = rw (← length-append xs f.0, f.1) short
+
+    go : (rest : List A) → f.0 ≡ rest → xs ≡ ys
+    go [] e = sym (append-nil xs) ∙ ap (λ (r : List A). xs ++ r) (sym e) ∙ f.1
+    go (x ∷ rest) e =
+        let bad : length xs + length (x ∷ rest) ≤ length xs = subst (λ (r : List A). length xs + length r ≤ length xs) e long in absurd (omega arith)
+
+-- a front that has each item is the list
+pub front_has_all : (xs ys : List ℕ) → Differ ys → IsPrefix xs ys → ((y : ℕ) → Has ys y → Has xs y) → xs ≡ ys
+front_has_all xs ys differ front all = front_whole xs ys front (tests (cases_le (length ys) (length xs)))
+  where
+    tests : (length ys ≤ length xs) ⊎ (length xs < length ys) → length ys ≤ length xs
+    tests (inl a) = a
+    tests (inr b) =
+        let one = element ys (length xs) b in
+        let long = within_front xs ys (length xs) one.0 differ front one.1 (all one.0 (length xs, one.1)) in
+        absurd (omega arith)
+
+-- ---- the numbers below a bound that pass a test
+
+abbrev pub below : (ℕ → Bool) → ℕ → List ℕ
+below p n = filter p (range_with_len 0 n)
+
+pub below_more : (p : ℕ → Bool) (n : ℕ) → below p (suc n) ≡ below p n ++ cond (p n) (n ∷ []) []
+below_more p n = ap (filter p) (range_push 0 n) ∙ filter-append p (range_with_len 0 n) ((0 + n) ∷ []) ∙ (let z : 0 + n ≡ n = omega arith in rw z refl)
+
+-- a number that passes stands behind the lower ones that pass
+pub below_at : (p : ℕ → Bool) (m n : ℕ) → n < m → p n ≡ true → slice_get (below p m) (length (below p n)) ≡ Some n
+below_at p zero n lt passes = absurd (omega arith)
+below_at p (suc m) n lt passes = rw (below_more p m) (tests (cases_lt n m) (λ (a : n < m). below_at p m n a passes))
+  where
+    tests : (n < m) ⊎ (m ≤ n) → (n < m → slice_get (below p m) (length (below p n)) ≡ Some n) →
+        slice_get (below p m ++ cond (p m) (m ∷ []) []) (length (below p n)) ≡ Some n
+    tests (inl a) rest = slice_get_more (below p m) (cond (p m) (m ∷ []) []) (length (below p n)) n (rest a)
+    tests (inr b) rest = let same : m ≡ n = omega arith in rw (same, passes) (slice_get_last (below p n) n)
+
+-- what stands there passes, is below the bound, and stands behind the lower ones
+pub record IsBelow (p : ℕ → Bool) (m j n : ℕ) : Type 0 where
+  pub less : n < m
+  pub passes : p n ≡ true
+  pub place : j ≡ length (below p n)
+
+pub below_has : (p : ℕ → Bool) (m j n : ℕ) → slice_get (below p m) j ≡ Some n → IsBelow p m j n
+below_has p zero j n e = absurd (cc)
+below_has p (suc m) j n e = go (p m) refl (rw (below_more p m) at e) (below_has p m j n)
+  where
+    later : IsBelow p m j n → IsBelow p (suc m) j n
+    later r = let less = r.less in record { less = omega arith; passes = r.passes; place = r.place }
+
+    go : (b : Bool) → p m ≡ b → slice_get (below p m ++ cond b (m ∷ []) []) j ≡ Some n → (slice_get (below p m) j ≡ Some n → IsBelow p m j n) →
+        IsBelow p (suc m) j n
+    go false is e rest = later (rest (rw (append-nil (below p m)) at e))
+    go true is e rest = elim (get_pushed (below p m) m j n e) [
+      | inl h ↦ later (rest h)
+      | inr h ↦ record { less = omega (arith, h.1); passes = ap p (sym h.1) ∙ is; place = h.0 ∙ ap (λ (k : ℕ). length (below p k)) h.1 }
+    ]
+
+pub below_differ : (p : ℕ → Bool) (m : ℕ) → Differ (below p m)
+below_differ p m i j x one two = (below_has p m i x one).place ∙ sym (below_has p m j x two).place

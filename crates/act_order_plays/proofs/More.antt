@@ -1,0 +1,58 @@
+-- What stands after one more happening.
+use Rattle.std.proofs.Common.{◌≡◌, ℕ, inl, inr, List, [], ◌∷◌, ◌++◌, map, Some, Err, slice_get, sym, ap, subst, ◌∙◌}
+use Rattle.std.specs.List.{AllByRecursion}
+use Rattle.std.proofs.lemmas.List.{append-nil}
+use Rattle.act_types.specs.declared.call.Fault.TheVariants.{ActorDied}
+use Rattle.act_rules.specs.declared.history.Post.{Post}
+use Rattle.act_rules.specs.declared.history.Post.TheVariants.{Reply as ReplyPost, Death as DeathPost}
+use Rattle.act_rules.specs.History.{History}
+use Rattle.act_rules.proofs.Lists.{All_weaker, slice_get_more}
+use Rattle.act_orders.specs.declared.told.Happening.{Happening}
+use Rattle.act_orders.specs.declared.told.Happening.TheVariants.{Ran, Answered}
+use Rattle.act_orders.specs.declared.told.Outcome.TheVariants.{Died}
+use Rattle.act_orders.specs.declared.told.Told.{Told}
+use Rattle.act_orders.specs.Order.{call_of}
+use Rattle.act_order_plays.specs.Plays.{kept_for}
+use Rattle.act_order_plays.proofs.Lists.{has_more, has_pushed}
+use Rattle.act_order_plays.proofs.Fronts.{submits, rans, rans_of}
+use Rattle.act_order_plays.proofs.Causes.{submits_more, rans_more, rans_of_more}
+use Rattle.act_order_plays.proofs.Answering.{Suits, IsTaken}
+use Rattle.act_order_plays.proofs.Stands.{Agree, pair_of, IsDeath, IsRight, Shape, Keeps}
+
+pub death_more : (told : Told) (before : List Happening) (x : Happening) (a : ℕ) → IsDeath told before a → IsDeath told (before ++ x ∷ []) a
+death_more told before x a death = record { call = death.call; has = has_more before (x ∷ []) _ death.has; died = death.died; actor = death.actor }
+
+pub right_more : (told : Told) (before : List Happening) (x : Happening) (post : Post) → IsRight told before post → IsRight told (before ++ x ∷ []) post
+right_more told before x (ReplyPost c a place) right = (
+  right.0,
+  subst (λ (ns : List ℕ). slice_get ns place ≡ Some right.0) (sym (rans_of_more told before x a))
+      (slice_get_more (rans_of told before a) (rans_of told (x ∷ []) a) place right.0 right.1),
+  right.2,
+)
+right_more told before x (DeathPost c a) right = death_more told before x a right
+
+pub rights_more : (told : Told) (before : List Happening) (x : Happening) (posts : List Post) → AllByRecursion (IsRight told before) posts →
+    AllByRecursion (IsRight told (before ++ x ∷ [])) posts
+rights_more told before x posts rights = All_weaker (IsRight told before) (IsRight told (before ++ x ∷ [])) posts (right_more told before x) rights
+
+pub keeps_more : (told : Told) (before : List Happening) (x : Happening) (h : History) → Keeps told before h →
+    ((n : ℕ) → x ≡ Ran n → IsTaken (call_of told n).outcome → Suits (call_of told n).outcome (kept_for told n h)) →
+    ((n : ℕ) → x ≡ Answered n → (call_of told n).outcome ≡ Died → kept_for told n h ≡ Some (Err ActorDied)) → Keeps told (before ++ x ∷ []) h
+keeps_more told before x h keeps one two = record {
+  answers = λ n has taken. elim (has_pushed before x (Ran n) has) [ inl old ↦ keeps.answers n old taken | inr e ↦ one n e taken ];
+  deaths = λ n has died. elim (has_pushed before x (Answered n) has) [ inl old ↦ keeps.deaths n old died | inr e ↦ two n e died ];
+}
+
+-- an answer adds no call and no run
+pub shape_answered : (told : Told) (before : List Happening) (n : ℕ) (h : History) → Shape told before h → Shape told (before ++ Answered n ∷ []) h
+shape_answered told before n h shape = record {
+  casts = shape.casts;
+  copied = shape.copied;
+  released = shape.released;
+  retired = shape.retired;
+  submitted = shape.submitted ∙ ap (map (pair_of told)) (sym (submits_more before (Answered n) ∙ append-nil (submits before)));
+  ran = subst (λ (ns : List ℕ). Agree told h.ran ns) (sym (rans_more before (Answered n) ∙ append-nil (rans before))) shape.ran;
+  collected = rights_more told before (Answered n) h.collected shape.collected;
+  killed = λ a is. death_more told before (Answered n) a (shape.killed a is);
+  sound = shape.sound;
+}

@@ -1,0 +1,213 @@
+-- An actor ran as many of a caller's calls as come before its next call to it.
+use Rattle.std.proofs.Common.{◌≡◌, ℕ, zero, suc, ◌+◌, ◌<◌, ◌≤◌, ◌==◌, Bool, true, false, cond, List, [], ◌∷◌, length, map, filter, take, Some, slice_get, refl, sym, ap, subst, ◌∙◌, arith}
+use Rattle.std.specs.Prelude.{option_map}
+use Rattle.std.specs.List.{enumerate_from}
+use Rattle.std.proofs.lemmas.Bool.{eqb-true, eq-eqb}
+use Rattle.std.proofs.lemmas.List.{length-map}
+use Rattle.std.proofs.lemmas.Option.{slice_get-map}
+use Rattle.act_rules.specs.Consistent.{IsPrefix}
+use Rattle.act_rules.specs.declared.history.RunItem.{RunItem}
+use Rattle.act_rules.specs.declared.history.Submission.{Submission}
+use Rattle.act_rules.specs.RunList.{items_of}
+use Rattle.act_rules.specs.Submissions.{calls_to, number_of}
+use Rattle.act_rules.specs.History.{History, calls_of, runs_of, ran_count}
+use Rattle.act_rules.proofs.Lists.{element, slice_get_front, IsPrefix-map}
+use Rattle.act_rules.proofs.Growth.{calls_to_grow}
+use Rattle.act_rules.proofs.Letters.{calls_to-number}
+use Rattle.act_rules.proofs.Order.{InOrder, numbered, numbers}
+use Rattle.act_rules.proofs.AsSubmitted.{calls_to-at}
+use Rattle.act_rules.proofs.Unique.{map-slice_get}
+use Rattle.act_orders.specs.declared.told.Happening.{Happening}
+use Rattle.act_orders.specs.declared.told.Happening.TheVariants.{Submitted, Ran}
+use Rattle.act_orders.specs.declared.told.Run.{Run}
+use Rattle.act_orders.specs.declared.told.Told.{Told}
+use Rattle.act_orders.specs.Order.{call_of, SameWay, RunsInTurn, IsCause}
+use Rattle.act_order_plays.specs.Plays.{calls_by, future_of}
+use Rattle.act_order_plays.proofs.Premises.{Premises}
+use Rattle.act_order_plays.proofs.Lists.{Has, has_filter, filter_has, Differ, front_ends}
+use Rattle.act_order_plays.proofs.Fronts.{subs_of, rans_of, rans_of_has, has_rans_of, call_at, call_before, calls_differ, IsRunAt, run_at, ran_earlier, get_taken, take_front}
+use Rattle.act_order_plays.proofs.Causes.{IsNext, Good, earlier_ran}
+use Rattle.act_order_plays.proofs.Answering.{call_of_item, item_of_call}
+use Rattle.act_order_plays.proofs.Stands.{sub_of, Shape, runs_are, calls_are}
+use Rattle.act_order_plays.proofs.Keeping.{call_stands, same_call, ran_submitted}
+
+-- ---- the futures of a caller's calls to an actor
+
+-- the places of items that pass, counted from n
+abbrev places : {A : Type 0} → (ℕ × A → Bool) → ℕ → List A → List ℕ
+places t n xs = map (λ e. e.0) (filter t (enumerate_from n xs))
+
+places_from : {A : Type 0} (t : ℕ × A → Bool) (n : ℕ) (xs : List A) (m k : ℕ) → slice_get (places t n xs) m ≡ Some k → n ≤ k
+places_from t n [] m k e = absurd (cc)
+places_from {A = A} t n (x ∷ xs) m k e = go (t (n, x)) m (λ (i : ℕ). places_from t (n + 1) xs i k) e
+  where
+    go : (b : Bool) (m : ℕ) → ((i : ℕ) → slice_get (places t (n + 1) xs) i ≡ Some k → n + 1 ≤ k) →
+        slice_get (map (λ (e : ℕ × A). e.0) (cond b ((n, x) ∷ filter t (enumerate_from (n + 1) xs)) (filter t (enumerate_from (n + 1) xs)))) m ≡ Some k → n ≤ k
+    go true zero rest e = let same : n ≡ k = cc in omega arith
+    go true (suc i) rest e = let more : n + 1 ≤ k = rest i e in omega arith
+    go false m rest e = let more : n + 1 ≤ k = rest m e in omega arith
+
+places_differ : {A : Type 0} (t : ℕ × A → Bool) (n : ℕ) (xs : List A) → Differ (places t n xs)
+places_differ t n [] m i k e f = absurd (cc)
+places_differ {A = A} t n (x ∷ xs) m i k e f = go (t (n, x)) m i (λ (p q : ℕ). places_differ t (n + 1) xs p q k) (λ (p : ℕ). places_from t (n + 1) xs p k) e f
+  where
+    rest : List (ℕ × A)
+    rest = filter t (enumerate_from (n + 1) xs)
+
+    go : (b : Bool) (m i : ℕ) → ((p q : ℕ) → slice_get (places t (n + 1) xs) p ≡ Some k → slice_get (places t (n + 1) xs) q ≡ Some k → p ≡ q) →
+        ((p : ℕ) → slice_get (places t (n + 1) xs) p ≡ Some k → n + 1 ≤ k) → slice_get (map (λ (e : ℕ × A). e.0) (cond b ((n, x) ∷ rest) rest)) m ≡ Some k →
+        slice_get (map (λ (e : ℕ × A). e.0) (cond b ((n, x) ∷ rest) rest)) i ≡ Some k → m ≡ i
+    go true zero zero same from e f = refl
+    go true zero (suc i) same from e f = let is : n ≡ k = cc in let more : n + 1 ≤ k = from i f in absurd (omega arith)
+    go true (suc m) zero same from e f = let is : n ≡ k = cc in let more : n + 1 ≤ k = from m e in absurd (omega arith)
+    go true (suc m) (suc i) same from e f = ap (λ (j : ℕ). suc j) (same m i e f)
+    go false m i same from e f = same m i e f
+
+abbrev pub futures_to : ℕ → List Submission → List ℕ
+futures_to a calls = map (λ call. call.0) (calls_to a calls)
+
+pub futures_differ : (a : ℕ) (calls : List Submission) → Differ (futures_to a calls)
+futures_differ a calls = places_differ (λ (call : ℕ × Submission). call.1.actor == a) 0 calls
+
+count_from : (a n : ℕ) (calls : List Submission) →
+    length (filter (λ (call : ℕ × Submission). call.1.actor == a) (enumerate_from n calls)) ≡ length (filter (λ (call : Submission). call.actor == a) calls)
+count_from a n [] = refl
+count_from a n (x ∷ xs) = go (x.actor == a) (count_from a (n + 1) xs)
+  where
+    go : (b : Bool) → length (filter (λ (call : ℕ × Submission). call.1.actor == a) (enumerate_from (n + 1) xs)) ≡ length
+        (filter (λ (call : Submission). call.actor == a) xs) →
+        length (cond b ((n, x) ∷ filter (λ (call : ℕ × Submission). call.1.actor == a) (enumerate_from (n + 1) xs))
+        (filter (λ (call : ℕ × Submission). call.1.actor == a) (enumerate_from (n + 1) xs))) ≡ length
+        (cond b (x ∷ filter (λ (call : Submission). call.actor == a) xs) (filter (λ (call : Submission). call.actor == a) xs))
+    go true e = ap (λ (k : ℕ). suc k) e
+    go false e = e
+
+-- one call to the actor before the caller's call k
+record IsLower (a k q : ℕ) (calls : List Submission) : Type 0 where
+  call : Submission
+  at : slice_get calls q ≡ Some call
+  actor : call.actor ≡ a
+  less : q < k
+
+lower : (a k j y : ℕ) (calls : List Submission) → j < number_of a k calls → slice_get (futures_to a calls) j ≡ Some y → IsLower a k y calls
+lower a k j y calls less at =
+    let short : j < length (calls_to a (take k calls)) = (let e = count_from a 0 (take k calls) in omega arith) in
+    let one = element (calls_to a (take k calls)) j short in
+    let is = calls_to-at a (take k calls) j one.0 one.1 in
+    let early = get_taken k calls one.0.0 one.0.1 is.at in
+    let there : slice_get (calls_to a calls) j ≡ Some one.0 =
+    slice_get_front (calls_to a (take k calls)) (calls_to a calls) j one.0 (calls_to_grow a (take k calls) calls (take_front k calls)) one.1 in
+    let future : slice_get (futures_to a calls) j ≡ Some one.0.0 =
+    slice_get-map (λ (call : ℕ × Submission). call.0) (calls_to a calls) j ∙ ap (option_map (λ (call : ℕ × Submission). call.0)) there in
+    let same : one.0.0 ≡ y = cc in
+    subst (λ (q : ℕ). IsLower a k q calls) same (record { call = one.0.1; at = early.1; actor = is.actor; less = early.0 })
+
+-- ---- those that ran
+
+map-second : (n : ℕ) (xs : List ℕ) → map (λ (p : ℕ × ℕ). p.1) (enumerate_from n xs) ≡ xs
+map-second n [] = refl
+map-second n (x ∷ xs) = ap (λ (l : List ℕ). x ∷ l) (map-second (n + 1) xs)
+
+map-numbered : (items : List RunItem) → map (λ (p : ℕ × ℕ). p.1) (map numbered items) ≡ map (λ (item : RunItem). item.future) items
+map-numbered [] = refl
+map-numbered (item ∷ items) = ap (λ (l : List ℕ). item.future ∷ l) (map-numbered items)
+
+abbrev pub futures_ran : ℕ → ℕ → History → List ℕ
+futures_ran c a h = map (λ item. item.future) (items_of c (runs_of a h))
+
+pub front_ran : (h : History) (c a : ℕ) → InOrder h → IsPrefix (futures_ran c a h) (futures_to a (calls_of c h))
+front_ran h c a order =
+    let both = IsPrefix-map (λ (p : ℕ × ℕ). p.1) (map numbered (items_of c (runs_of a h))) (numbers a (calls_of c h)) (order a c) in
+    subst (λ (l : List ℕ). IsPrefix l (futures_to a (calls_of c h))) (map-numbered (items_of c (runs_of a h)))
+    (subst (λ (l : List ℕ). IsPrefix (map (λ (p : ℕ × ℕ). p.1) (map numbered (items_of c (runs_of a h)))) l) (map-second 0 (futures_to a (calls_of c h))) both)
+
+pub ran_front : (told : Told) (before : List Happening) (h : History) (c a : ℕ) → Shape told before h →
+    IsPrefix (futures_ran c a h) (futures_to a (calls_of c h))
+ran_front told before h c a shape = front_ran h c a shape.sound.order
+
+-- a call that ran is among the futures that ran
+pub ran_has : (told : Told) (before : List Happening) (h : History) (n : ℕ) → Shape told before h → Has before (Ran n) →
+    Has (futures_ran (call_of told n).caller (call_of told n).actor h) (future_of told n)
+ran_has told before h n shape has =
+    let c = (call_of told n).caller in
+    let a = (call_of told n).actor in
+    let there = rans_of_has told before n a has refl in
+    let item = item_of_call told (runs_of a h) (rans_of told before a) there.0 n (runs_are told before h a shape) there.1 in
+    let mine = has_filter (λ (i : RunItem). i.caller == c) (runs_of a h) item.0 (there.0, item.1) (eq-eqb item.0.caller c item.2.caller) in (
+      mine.0,
+      slice_get-map (λ (i : RunItem). i.future) (items_of c (runs_of a h)) mine.0 ∙ ap (option_map (λ (i : RunItem). i.future)) mine.1
+          ∙ ap (λ (k : ℕ). Some k) item.2.future,
+    )
+
+-- and such a future is that of a call that ran
+pub has_ran : (told : Told) (before : List Happening) (h : History) (n : ℕ) → Good told before → Shape told before h → n < length told.calls →
+    Has (futures_ran (call_of told n).caller (call_of told n).actor h) (future_of told n) → Has before (Ran n)
+has_ran told before h n good shape lt has =
+    let c = (call_of told n).caller in
+    let a = (call_of told n).actor in
+    let one = map-slice_get (λ (i : RunItem). i.future) (items_of c (runs_of a h)) has.0 (future_of told n) has.1 in
+    let item = filter_has (λ (i : RunItem). i.caller == c) (runs_of a h) one.0 (has.0, one.1) in
+    let call = call_of_item told (runs_of a h) (rans_of told before a) item.0.0 one.0 (runs_are told before h a shape) item.0.1 in
+    let ran = has_rans_of told before call.0 a (item.0.0, call.1) in
+    let caller : (call_of told call.0).caller ≡ c = sym call.2.caller ∙ eqb-true one.0.caller c item.1 in
+    let future : future_of told call.0 ≡ future_of told n = sym call.2.future ∙ one.2 in
+    let same : call.0 ≡ n = same_call told call.0 n (good.happened (Submitted call.0) (ran_submitted told before call.0 good ran.0)) lt caller future in
+    subst (λ (k : ℕ). Has before (Ran k)) same ran.0
+
+-- the submission at a place is that of a call
+pub sub_call : (told : Told) (before : List Happening) (h : History) (c q : ℕ) (call : Submission) → Good told before → Shape told before h →
+    slice_get (calls_of c h) q ≡ Some call → (m : ℕ) × (slice_get (calls_by told c) q ≡ Some m) × (sub_of told m ≡ call)
+sub_call told before h c q call good shape at =
+    let one = map-slice_get (sub_of told) (subs_of told before c) q call
+    (subst (λ (calls : List Submission). slice_get calls q ≡ Some call) (calls_are told before h c shape) at) in
+    (one.0, slice_get_front (subs_of told before c) (calls_by told c) q one.0 (good.calls c) one.1, one.2)
+
+module _ (told : Told) (fits : Premises told) (turn : RunsInTurn told) (before : List Happening) (n : ℕ) (good : Good told before)
+    (next : IsNext told before (Ran n)) where
+  abbrev c : ℕ
+  c = (call_of told n).caller
+
+  abbrev a : ℕ
+  a = (call_of told n).actor
+
+  place : (p : ℕ) × (run : Run) × IsRunAt told n p run
+  place = run_at told n next.happened
+
+  -- an earlier call of the caller to the actor ran
+  earlier_call_ran : (m : ℕ) → m < n → SameWay told m n → Has before (Ran m)
+  earlier_call_ran m less way =
+      let p = place.0 in
+      let run = place.1 in
+      let is = place.2 in
+      let there = (turn p run is.at).in_turn m (subst (λ (k : ℕ). m < k) (sym is.call) less) (subst (λ (k : ℕ). SameWay told m k) (sym is.call) way) in
+      let early = ran_earlier told p m there in
+      let one : (call_of told m).actor ≡ early.1.actor = ap (λ (k : ℕ). (call_of told k).actor) (sym early.3.call) ∙ (turn early.0 early.1 early.3.at).here in
+      let two : (call_of told n).actor ≡ run.actor = ap (λ (k : ℕ). (call_of told k).actor) (sym is.call) ∙ (turn p run is.at).here in
+      let has = earlier_ran told before early.0 p early.1 run fits good.closed early.3.at is.at early.2 (sym one ∙ way.1 ∙ two)
+      (λ cause e. next.causes cause (subst (λ (k : ℕ). IsCause told cause (Ran k)) is.call e)) in
+      subst (λ (k : ℕ). Has before (Ran k)) early.3.call has
+
+  pub number_is : (h : History) → Shape told before h → Has before (Submitted n) → ran_count c a h ≡ number_of a (future_of told n) (calls_of c h)
+  number_is h shape has =
+      let k = future_of told n in
+      let calls = calls_of c h in
+      let number = number_of a k calls in
+      let lt = good.happened (Submitted n) has in
+      let stands = call_stands told before h n good shape has in
+      let at : slice_get (futures_to a calls) number ≡ Some k =
+      slice_get-map (λ (call : ℕ × Submission). call.0) (calls_to a calls) number
+      ∙ ap (option_map (λ (call : ℕ × Submission). call.0)) (calls_to-number a calls k (sub_of told n) stands (eq-eqb a a refl)) in
+      sym (length-map (items_of c (runs_of a h)) (λ (i : RunItem). i.future))
+      ∙ front_ends (futures_ran c a h) (futures_to a calls) number k (futures_differ a calls) (ran_front told before h c a shape) at
+      (λ h_ran. next.fresh (has_ran told before h n good shape lt h_ran)) (λ j y less at_y.
+      let low = lower a k j y calls less at_y in
+      let m = sub_call told before h c y low.call good shape low.at in
+      let earlier = call_before told n y m.0 lt low.less m.1 in
+      let actor : (call_of told m.0).actor ≡ a = ap (λ (s : Submission). s.actor) m.2 ∙ low.actor in
+      let ran = earlier_call_ran m.0 earlier.0 (earlier.1, actor) in
+      let m_lt = good.happened (Submitted m.0) (ran_submitted told before m.0 good ran) in
+      let future : future_of told m.0 ≡ y = calls_differ told c (future_of told m.0) y m.0
+      (subst (λ (d : ℕ). slice_get (calls_by told d) (future_of told m.0) ≡ Some m.0) earlier.1 (call_at told m.0 m_lt)) m.1 in
+      subst (λ (q : ℕ). Has (futures_ran c a h) q) future
+      (subst (λ (b : ℕ). Has (futures_ran c b h) (future_of told m.0)) actor
+      (subst (λ (d : ℕ). Has (futures_ran d (call_of told m.0).actor h) (future_of told m.0)) earlier.1 (ran_has told before h m.0 shape ran))))

@@ -1,0 +1,62 @@
+-- A history in order is a play.
+use Rattle.std.proofs.Common.{◌≡◌, ◌≢◌, ℕ, zero, suc, ◌<◌, ◌≤◌, List, ◌++◌, length, take, refl, sym, subst, arith}
+use Rattle.std.specs.List.{Contains}
+use Rattle.act_rules.specs.declared.event.Event.{Event}
+use Rattle.act_rules.specs.History.{History, opening}
+use Rattle.act_rules.specs.Laws.{history}
+use Rattle.act_rules.proofs.Steps.{after_all-append}
+use Rattle.act_orders.specs.declared.told.End.{End}
+use Rattle.act_orders.specs.declared.told.End.TheVariants.{Live, Dead, Retired}
+use Rattle.act_orders.specs.declared.told.Happening.{Happening}
+use Rattle.act_orders.specs.declared.told.Happening.TheVariants.{Submitted, Ran, Answered}
+use Rattle.act_orders.specs.declared.told.Outcome.TheVariants.{Open}
+use Rattle.act_orders.specs.declared.told.Told.{Told}
+use Rattle.act_orders.specs.Order.{call_of, Happened, IsInOrderBy}
+use Rattle.act_orders.specs.Causes.{IsWhole}
+use Rattle.act_order_plays.specs.Plays.{Fits, LeavesTold, IsPlayOf, casts_of}
+use Rattle.act_order_plays.proofs.Lists.{has_of, contains_of}
+use Rattle.act_order_plays.proofs.Fronts.{get_taken}
+use Rattle.act_order_plays.proofs.Premises.{Premises, premises}
+use Rattle.act_order_plays.proofs.Stands.{Leads, leads_now, leads_then}
+use Rattle.act_order_plays.proofs.Playing.{all_reached, waited_more}
+use Rattle.act_order_plays.proofs.Ends.{end_of, Stage, first_stage, lives_on, dies_now, all_end}
+use Rattle.act_order_plays.proofs.Releasing.{retires_now}
+
+-- one actor more ends
+next_stage : (told : Told) (fits : Premises told) (j : ℕ) (h : History) → j < length told.actors → Stage told j h → Leads (Stage told (suc j)) h
+next_stage told fits j h lt stage = go (end_of told j) refl
+  where
+    go : (e : End) → end_of told j ≡ e → Leads (Stage told (suc j)) h
+    go Live e = leads_now (Stage told (suc j)) h (lives_on told j h stage e)
+    go Dead e = dies_now told fits j h lt stage e
+    go Retired e = retires_now told j lt e h stage
+
+stages : (told : Told) (fits : Premises told) (j : ℕ) (h : History) → j ≤ length told.actors → Stage told 0 h → Leads (Stage told j) h
+stages told fits zero h le stage = leads_now (Stage told 0) h stage
+stages told fits (suc j) h le stage =
+    leads_then (Stage told j) (Stage told (suc j)) h (stages told fits j h (omega arith) stage) (λ g now. next_stage told fits j g le now)
+
+-- an answer that a call took which ran is among what happened
+taken_told : (told : Told) (order : List Happening) → IsInOrderBy told order → (n m : ℕ) → Happened told (Ran n) → Contains (call_of told n).takes m →
+    (call_of told m).outcome ≢ Open
+taken_told told order by n m ran takes =
+    let at = has_of order (Ran n) (by.causes.all (Ran n) ran) in
+    let early = has_of (take at.0 order) (Answered m) ((by.causes.after at.0 (Ran n) at.1).causes (Answered m) takes) in
+    (by.causes.only (Answered m) (contains_of order (Answered m) (early.0, (get_taken at.0 order early.0 (Answered m) early.1).1))).1
+
+pub play_of : (told : Told) (order : List Happening) → IsWhole told → Fits told → IsInOrderBy told order → (events : List Event) × IsPlayOf told events
+play_of told order whole fits by =
+    let given = premises told order whole fits by in
+    let all = all_reached told order given by in
+    let h = history (casts_of told) all.events in
+    let ends : Leads (LeavesTold told) h = leads_then (Stage told (length told.actors)) (LeavesTold told) h
+    (stages told given (length told.actors) h (omega arith) (first_stage told order h by all.good all.stands))
+    (λ g stage. leads_now (LeavesTold told) g (all_end told g stage)) in (
+      all.events ++ ends.0,
+      record {
+        leaves = subst (LeavesTold told) (sym (after_all-append (opening (casts_of told)) all.events ends.0)) ends.1;
+        waits = λ n m lt waits. waited_more told all.events ends.0 n m (all.waits n m (has_of order (Submitted n) (by.causes.all (Submitted n) lt)) waits);
+        last_waits = λ m waits. (by.waits m waits).1;
+        taken = λ n m ran takes. taken_told told order by n m ran takes;
+      },
+    )
