@@ -1,0 +1,38 @@
+-- Each play is left by events that the rules accept.
+use Rattle.std.proofs.Common.{◌≡◌, ℕ, List, [], ◌∷◌, ◌++◌, refl, ap, sym, ◌∙◌, subst, All}
+use Rattle.std.specs.Prelude.{Option, IsOk}
+use Rattle.std.proofs.lemmas.List.Elements.{All-append, All-cons, All-nil}
+use Rattle.act_rules.specs.declared.event.Event.{Event}
+use Rattle.act_rules.specs.declared.outcome.WorldRefusal.{WorldRefusal}
+use Rattle.act_rules.specs.declared.script.Step.{Step}
+use Rattle.act_rules.specs.History.{ActorSpec, History, opening}
+use Rattle.act_rules.specs.Rules.{Outcome, outcome_by, after_by, outcome_of, outcomes, after_all}
+use Rattle.act_rules.proofs.Steps.{IsKept, after_all-append, outcomes-append}
+use Rattle.act_early.specs.Plays.{At, IsPlay}
+use Rattle.act_early.proofs.Worlds.{play_keeps}
+
+record IsLeft (specs : List ActorSpec) (h : History) : Type 0 where
+  events : List Event
+  accepted : All IsOk (outcomes (opening specs) events)
+  left : h ≡ after_all (opening specs) events
+
+one_more : (specs : List ActorSpec) → IsKept (IsLeft specs)
+one_more specs h other before may = record {
+  events = before.events ++ other ∷ [];
+  accepted = subst (λ (l : List Outcome). All IsOk l)
+      (sym (outcomes-append (opening specs) before.events (other ∷ [])
+      ∙ ap (λ (g : History). outcomes (opening specs) before.events ++ outcome_of g other ∷ []) (sym before.left)))
+      (All-append IsOk (outcomes (opening specs) before.events) (outcome_of h other ∷ []) before.accepted
+      (All-cons IsOk (outcome_of h other) [] ok (All-nil IsOk)));
+  left = sym (after_all-append (opening specs) before.events (other ∷ []) ∙ ap (λ (g : History). after_all g (other ∷ [])) (sym before.left)
+      ∙ ap (after_by h other) may);
+}
+  where
+    ok : IsOk (outcome_of h other)
+    ok = subst (λ (o : Option WorldRefusal). IsOk (outcome_by h other o)) (sym may) refl
+
+pub accepted_play : (casts : List ActorSpec) (plans : ℕ → List Step) (at : At) → IsPlay casts plans at
+    → (events : List Event) × All IsOk (outcomes (opening casts) events) × (at.history ≡ after_all (opening casts) events)
+accepted_play casts plans at play =
+    let left = play_keeps (IsLeft casts) (one_more casts) casts plans at (record { events = []; accepted = All-nil IsOk; left = refl }) play in
+    (left.events, left.accepted, left.left)

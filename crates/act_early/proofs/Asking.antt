@@ -1,0 +1,142 @@
+-- The kills that are asked are those of the steps that callers are done with.
+use Rattle.std.proofs.Common.{◌≡◌, ℕ, Bool, true, false, cond, List, [], ◌∷◌, Some, None, refl, ap, sym, ◌∙◌, subst}
+use Rattle.std.specs.Prelude.{Option, ◌==◌, ◌||◌}
+use Rattle.std.specs.List.{list_any}
+use Rattle.std.proofs.lemmas.Bool.{eqb-true, eq-eqb}
+use Rattle.std.proofs.lemmas.List.Folds.{list_any-append}
+use Rattle.act_rules.specs.declared.event.Event.{Event}
+use Rattle.act_rules.specs.declared.event.Event.TheVariants as event
+use Rattle.act_rules.specs.declared.history.RunItem.{RunItem}
+use Rattle.act_rules.specs.declared.script.Step.{Step}
+use Rattle.act_rules.specs.declared.script.Step.TheVariants.{Submit, Copy, Release, Kill, Await}
+use Rattle.act_rules.specs.Plans.{is_kill_of}
+use Rattle.act_rules.specs.History.{ActorSpec, History, contains, is_dead, next_item}
+use Rattle.act_rules.specs.Rules.{add_event, after_run}
+use Rattle.act_rules.proofs.Steps.{IsKept}
+use Rattle.act_rules.proofs.Ended.{contains_more, dead_stays}
+use Rattle.act_early.specs.Plays.{At, next_step, after_step, taken, IsPlay, Opens, Takes, Skips, Closes, Happens}
+use Rattle.act_early.proofs.Worlds.{step_keeps, contains_push, either_of, or_second}
+use Rattle.act_early.proofs.Counting.{done_steps, done-push}
+use Rattle.act_early.proofs.Progress.{free_idle}
+
+-- ---- asked or dead, for good
+
+asked_stays : (a : ℕ) (h : History) (other : Event) → contains a h.asked ≡ true → contains a (add_event h other).asked ≡ true
+asked_stays a h (event.Submit c b method args) e = e
+asked_stays a h (event.Copy c b) e = e
+asked_stays a h (event.Release c b) e = e
+asked_stays a h (event.Send c k) e = e
+asked_stays a h (event.Deliver i) e = e
+asked_stays a h (event.Run b c) e = go (next_item b c h)
+  where
+    go : (o : Option RunItem) → contains a (after_run b c h o).asked ≡ true
+    go None = e
+    go (Some item) = e
+asked_stays a h (event.Collect j) e = e
+asked_stays a h (event.AskKill c b) e = contains_more a h.asked (b ∷ []) e
+asked_stays a h (event.TakeKill b) e = e
+asked_stays a h (event.Tell b c) e = e
+asked_stays a h (event.Retire b) e = e
+
+abbrev pub IsAskedOrDead : ℕ → History → Type 0
+IsAskedOrDead a h = (contains a h.asked || is_dead a h) ≡ true
+
+or_first : (x y : Bool) → x ≡ true → (x || y) ≡ true
+or_first true y e = refl
+or_first false y e = cc
+
+asked_or_dead_step : (a : ℕ) → IsKept (IsAskedOrDead a)
+asked_or_dead_step a h other held accepted = either_of (contains a h.asked) (is_dead a h) (IsAskedOrDead a (add_event h other)) held
+    (λ e. or_first (contains a (add_event h other).asked) (is_dead a (add_event h other)) (asked_stays a h other e))
+    (λ e. or_second (contains a (add_event h other).asked) (is_dead a (add_event h other)) (dead_stays a h other accepted e))
+
+-- ---- each kill of a step that is done was asked, or its actor is dead
+
+abbrev pub AsksAll : (ℕ → List Step) → ℕ → At → Type 0
+AsksAll plans a at = (c : ℕ) → list_any (is_kill_of a) (done_steps plans c at) ≡ true → IsAskedOrDead a at.history
+
+-- a step asks what it says
+step_asks : (c d a : ℕ) (step : Step) (h : History) → list_any (is_kill_of a) (cond (c == d) (step ∷ []) []) ≡ true
+    → contains a (after_step c step h).asked ≡ true
+step_asks c d a step h e = go (c == d) step e
+  where
+    go : (same : Bool) (step : Step) → list_any (is_kill_of a) (cond same (step ∷ []) []) ≡ true → contains a (after_step c step h).asked ≡ true
+    go false step e = cc
+    go true (Submit b method args) e = cc
+    go true (Copy b) e = cc
+    go true (Release b) e = cc
+    go true (Kill b) e = contains_push a b h.asked ∙ or_second (contains a h.asked) (b == a) (either_of (b == a) false ((b == a) ≡ true) e (λ x. x) (λ x. cc))
+    go true (Await k) e = cc
+
+done_any : (plans : ℕ → List Step) (c d a : ℕ) (step : Step) (at : At) → next_step plans c at ≡ Some step
+    → list_any (is_kill_of a) (done_steps plans d (taken c step at))
+    ≡ (list_any (is_kill_of a) (done_steps plans d at) || list_any (is_kill_of a) (cond (c == d) (step ∷ []) []))
+done_any plans c d a step at is = ap (list_any (is_kill_of a)) (done-push plans c d at step is)
+    ∙ list_any-append (is_kill_of a) (done_steps plans d at) (cond (c == d) (step ∷ []) [])
+
+skip_dead : (c d a b : ℕ) (h : History) → list_any (is_kill_of a) (cond (c == d) (Kill b ∷ []) []) ≡ true → is_dead b h ≡ true → is_dead a h ≡ true
+skip_dead c d a b h e dead = go (c == d) e
+  where
+    go : (same : Bool) → list_any (is_kill_of a) (cond same (Kill b ∷ []) []) ≡ true → is_dead a h ≡ true
+    go false e = cc
+    go true e = subst (λ (x : ℕ). is_dead x h ≡ true) (eqb-true b a (either_of (b == a) false ((b == a) ≡ true) e (λ x. x) (λ x. cc))) dead
+
+pub asks_all : (casts : List ActorSpec) (plans : ℕ → List Step) (a : ℕ) (at : At) → IsPlay casts plans at → AsksAll plans a at
+asks_all casts plans a at Opens d e = cc
+asks_all casts plans a at (Takes before c step play is may) d e =
+    either_of (list_any (is_kill_of a) (done_steps plans d before)) (list_any (is_kill_of a) (cond (c == d) (step ∷ []) []))
+    (IsAskedOrDead a (after_step c step before.history)) (sym (done_any plans c d a step before is) ∙ e)
+    (λ old. step_keeps (IsAskedOrDead a) (asked_or_dead_step a) c step before.history (asks_all casts plans a before play d old) may)
+    (λ new. or_first (contains a (after_step c step before.history).asked) (is_dead a (after_step c step before.history))
+    (step_asks c d a step before.history new))
+asks_all casts plans a at (Skips before c b play is named dead) d e =
+    either_of (list_any (is_kill_of a) (done_steps plans d before)) (list_any (is_kill_of a) (cond (c == d) (Kill b ∷ []) []))
+    (IsAskedOrDead a before.history) (sym (done_any plans c d a (Kill b) before is) ∙ e)
+    (λ old. asks_all casts plans a before play d old)
+    (λ new. or_second (contains a before.history.asked) (is_dead a before.history) (skip_dead c d a b before.history new dead))
+asks_all casts plans a at (Closes before c b play none may) d e =
+    asked_or_dead_step a before.history (event.Release c b) (asks_all casts plans a before play d e) may
+asks_all casts plans a at (Happens before other play free may) d e = asked_or_dead_step a before.history other (asks_all casts plans a before play d e) may
+
+-- ---- each kill that was asked is that of a step that is done
+
+abbrev pub IsAskedBy : (ℕ → List Step) → ℕ → At → Type 0
+IsAskedBy plans a at = (c : ℕ) × (list_any (is_kill_of a) (done_steps plans c at) ≡ true)
+
+-- what a step asks, it says
+step_asked : (c a : ℕ) (step : Step) (h : History) → contains a (after_step c step h).asked ≡ true → (contains a h.asked || is_kill_of a step) ≡ true
+step_asked c a (Submit b method args) h e = or_first (contains a h.asked) false e
+step_asked c a (Copy b) h e = or_first (contains a h.asked) false e
+step_asked c a (Release b) h e = or_first (contains a h.asked) false e
+step_asked c a (Kill b) h e = sym (contains_push a b h.asked) ∙ e
+step_asked c a (Await k) h e = or_first (contains a h.asked) false e
+
+any_one : (same : Bool) (a : ℕ) (step : Step) → same ≡ true → is_kill_of a step ≡ true → list_any (is_kill_of a) (cond same (step ∷ []) []) ≡ true
+any_one true a step e is = rw is refl
+any_one false a step e is = cc
+
+asked_more : (plans : ℕ → List Step) (c a : ℕ) (step : Step) (at : At) → next_step plans c at ≡ Some step → IsAskedBy plans a at
+    → IsAskedBy plans a (taken c step at)
+asked_more plans c a step at is by = (
+  by.0,
+  done_any plans c by.0 a step at is ∙ or_first (list_any (is_kill_of a) (done_steps plans by.0 at))
+      (list_any (is_kill_of a) (cond (c == by.0) (step ∷ []) [])) by.1,
+)
+
+pub asked_by : (casts : List ActorSpec) (plans : ℕ → List Step) (a : ℕ) (at : At) → IsPlay casts plans at → contains a at.history.asked ≡ true
+    → IsAskedBy plans a at
+asked_by casts plans a at Opens e = cc
+asked_by casts plans a at (Takes before c step play is may) e =
+    either_of (contains a before.history.asked) (is_kill_of a step) (IsAskedBy plans a (taken c step before)) (step_asked c a step before.history e)
+    (λ old. asked_more plans c a step before is (asked_by casts plans a before play old))
+    (λ new. (
+      c,
+      done_any plans c c a step before is
+          ∙ or_second (list_any (is_kill_of a) (done_steps plans c before)) (list_any (is_kill_of a) (cond (c == c) (step ∷ []) []))
+          (any_one (c == c) a step (eq-eqb c c refl) new),
+    ))
+asked_by casts plans a at (Skips before c b play is named dead) e = let more =
+    asked_more plans c a (Kill b) before is (asked_by casts plans a before play e) in (more.0, more.1)
+asked_by casts plans a at (Closes before c b play none may) e = let by = asked_by casts plans a before play e in (by.0, by.1)
+asked_by casts plans a at (Happens before other play free may) e =
+    let by = asked_by casts plans a before play (subst (λ (xs : List ℕ). contains a xs ≡ true) (free_idle before.history other free).asked e) in (by.0, by.1)

@@ -1,0 +1,107 @@
+-- What leaves the choices as they are.
+use Rattle.std.proofs.Common.{◌≡◌, ℕ, zero, suc, Bool, true, false, cond, List, [], ◌∷◌, ◌++◌, Option, Some, None, refl, ap, sym, ◌∙◌}
+use Rattle.std.specs.Prelude.{◌==◌, ◌&&◌, map, filter_map, slice_get, Err}
+use Rattle.std.specs.List.{cons_option}
+use Rattle.std.proofs.lemmas.List.Elements.{filter_map-append}
+use Rattle.act_types.specs.declared.call.Fault.TheVariants.{ActorDied}
+use Rattle.act_rules.specs.declared.event.Event.{Event}
+use Rattle.act_rules.specs.declared.history.RunItem.{RunItem}
+use Rattle.act_rules.specs.declared.history.Submission.{Submission}
+use Rattle.act_rules.specs.declared.history.Post.{Post}
+use Rattle.act_rules.specs.declared.history.Post.TheVariants.{Death as DeathPost}
+use Rattle.act_rules.specs.RunList.{Answer}
+use Rattle.act_rules.specs.Submissions.{kept_at}
+use Rattle.act_rules.specs.History.{History, under, runs_of, calls_of, kept_of, answer_in, first_answer}
+use Rattle.act_rules.specs.Rules.{add_event}
+use Rattle.act_rules.proofs.Lists.{slice_get_front, filter_map-same, All_weaker}
+use Rattle.act_rules.proofs.Growth.{Grows, added_grows, calls_grow}
+use Rattle.act_rules.proofs.Posts.{IsSoundPost, PostsAreSound}
+use Rattle.act_rules.proofs.Kept.{answer_in_stays, kept_by, kept_at_is}
+use Rattle.act_rules.proofs.Unique.{held_submission}
+use Rattle.act_rules.proofs.Sound.{IsSound}
+use Rattle.act_early.specs.Early.{is_reply, is_heard, choices_of}
+
+pub map-same_at : {A B : Type 0} (f g : A → B) (xs : List A) → ((place : ℕ) (x : A) → slice_get xs place ≡ Some x → f x ≡ g x) → map f xs ≡ map g xs
+map-same_at f g [] each = refl
+map-same_at {B = B} f g (x ∷ xs) each = ap (λ (y : B). y ∷ map f xs) (each zero x refl)
+    ∙ ap (λ (l : List B). g x ∷ l) (map-same_at f g xs (λ k y at. each (suc k) y at))
+
+-- ---- the first answer
+
+-- what was collected answers the same later
+pub answers_same : (h g : History) (c : ℕ) (call : ℕ × Submission) → Grows h g → PostsAreSound h
+    → filter_map (answer_in g c call.0 call.1.actor) h.collected ≡ filter_map (answer_in h c call.0 call.1.actor) h.collected
+answers_same h g c call grows s =
+    filter_map-same (answer_in g c call.0 call.1.actor) (answer_in h c call.0 call.1.actor) h.collected
+    (All_weaker (IsSoundPost h) (λ post. answer_in g c call.0 call.1.actor post ≡ answer_in h c call.0 call.1.actor post) h.collected
+    (answer_in_stays h g c call.0 call.1.actor grows) s.collected)
+
+pub first_same : (h g : History) (c : ℕ) (call : ℕ × Submission) → Grows h g → PostsAreSound h → g.collected ≡ h.collected
+    → first_answer g c call ≡ first_answer h c call
+first_same h g c call grows s same =
+    ap (λ (posts : List Post). slice_get (filter_map (answer_in g c call.0 call.1.actor) posts) 0) same
+    ∙ ap (λ (l : List Answer). slice_get l 0) (answers_same h g c call grows s)
+
+pub first_more : (h g : History) (c : ℕ) (call : ℕ × Submission) (post : Post) → Grows h g → PostsAreSound h → g.collected ≡ h.collected ++ post ∷ []
+    → first_answer g c call ≡ slice_get (filter_map (answer_in h c call.0 call.1.actor) h.collected
+    ++ cons_option (answer_in g c call.0 call.1.actor post) []) 0
+first_more h g c call post grows s more =
+    ap (λ (posts : List Post). slice_get (filter_map (answer_in g c call.0 call.1.actor) posts) 0) more
+    ∙ ap (λ (l : List Answer). slice_get l 0)
+    (filter_map-append (answer_in g c call.0 call.1.actor) h.collected (post ∷ [])
+    ∙ ap (λ (l : List Answer). l ++ cons_option (answer_in g c call.0 call.1.actor post) []) (answers_same h g c call grows s))
+
+-- one answer more that is no reply
+no_reply_more : (xs : List Answer) (o : Option Answer) → is_reply o ≡ false → is_reply (slice_get (xs ++ cons_option o []) 0) ≡ is_reply (slice_get xs 0)
+no_reply_more [] None e = refl
+no_reply_more [] (Some answer) e = e
+no_reply_more (x ∷ xs) o e = refl
+
+-- ---- what is heard
+
+-- the kept answer of a call that stands
+pub kept_first : (h : History) (c k : ℕ) (call : Submission) → slice_get (calls_of c h) k ≡ Some call → kept_at (kept_of c h) k ≡ first_answer h c (k, call)
+kept_first h c k call at = kept_at_is h c k ∙ ap (kept_by h c k) at
+
+pub heard_quiet : (h g : History) (a place : ℕ) (item : RunItem) → Grows h g → IsSound h → g.collected ≡ h.collected
+    → slice_get (runs_of a h) place ≡ Some item → is_heard g item ≡ is_heard h item
+heard_quiet h g a place item grows sound same at =
+    let c = item.caller in
+    let k = item.future in
+    let call = held_submission h a c k place item sound.order at refl refl in
+    let there = slice_get_front (calls_of c h) (calls_of c g) k call.0 (calls_grow c h g grows) call.1 in
+    ap is_reply (kept_first g c k call.0 there ∙ first_same h g c (k, call.0) grows sound.posts same ∙ sym (kept_first h c k call.0 call.1))
+
+pub heard_more : (h g : History) (a place : ℕ) (item : RunItem) (post : Post) → Grows h g → IsSound h → g.collected ≡ h.collected ++ post ∷ []
+    → slice_get (runs_of a h) place ≡ Some item
+    → ((b : ℕ) → is_reply (answer_in g item.caller item.future b post) ≡ false) → is_heard g item ≡ is_heard h item
+heard_more h g a place item post grows sound more at none =
+    let c = item.caller in
+    let k = item.future in
+    let call = held_submission h a c k place item sound.order at refl refl in
+    let there = slice_get_front (calls_of c h) (calls_of c g) k call.0 (calls_grow c h g grows) call.1 in
+    ap is_reply (kept_first g c k call.0 there ∙ first_more h g c (k, call.0) post grows sound.posts more)
+    ∙ no_reply_more (filter_map (answer_in h c k call.0.actor) h.collected) (answer_in g c k call.0.actor post) (none call.0.actor)
+    ∙ ap is_reply (sym (kept_first h c k call.0 call.1))
+
+pub death_no_reply : (h : History) (c k b d a : ℕ) → is_reply (answer_in h c k b (DeathPost d a)) ≡ false
+death_no_reply h c k b d a = go ((d == c) && (a == b))
+  where
+    go : (x : Bool) → is_reply (cond x (Some (Err ActorDied)) None) ≡ false
+    go true = refl
+    go false = refl
+
+-- ---- the choices
+
+pub choices_same : (h g : History) (a : ℕ) → g.ran ≡ h.ran
+    → ((place : ℕ) (item : RunItem) → slice_get (runs_of a h) place ≡ Some item → is_heard g item ≡ is_heard h item) → choices_of a g ≡ choices_of a h
+choices_same h g a ran heard =
+    ap (λ (l : List (ℕ × RunItem)). map (λ (item : RunItem). (item.caller, is_heard g item)) (under a l)) ran
+    ∙ map-same_at (λ (item : RunItem). (item.caller, is_heard g item)) (λ (item : RunItem). (item.caller, is_heard h item)) (runs_of a h)
+    (λ place item at. ap (λ (b : Bool). (item.caller, b)) (heard place item at))
+
+-- an event that runs and collects nothing
+pub choices_quiet : (h : History) (other : Event) (a : ℕ) → IsSound h → (add_event h other).ran ≡ h.ran → (add_event h other).collected ≡ h.collected
+    → choices_of a (add_event h other) ≡ choices_of a h
+choices_quiet h other a sound ran same =
+    choices_same h (add_event h other) a ran (λ place item at. heard_quiet h (add_event h other) a place item (added_grows h other) sound same at)

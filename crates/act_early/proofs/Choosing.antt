@@ -1,0 +1,214 @@
+-- Each choice of a settled play leads on to a settled play.
+use Rattle.std.proofs.Common.{◌≡◌, ℕ, ◌<◌, Bool, true, false, cond, List, [], ◌∷◌, ◌++◌, length, Option, Some, None, refl, ap, sym, ◌∙◌, subst, arith}
+use Rattle.std.specs.Prelude.{◌==◌, ◌&&◌, find, filter_map, slice_get, option_map, option_and_then, is_some}
+use Rattle.std.specs.List.{cons_option}
+use Rattle.std.proofs.lemmas.Bool.{eqb-true, eq-eqb, and_parts, and_from}
+use Rattle.std.proofs.lemmas.Option.{slice_get_within}
+use Rattle.act_types.specs.KindState.{KindState}
+use Rattle.act_rules.specs.declared.event.Event.TheVariants as event
+use Rattle.act_rules.specs.declared.history.RunItem.{RunItem}
+use Rattle.act_rules.specs.declared.history.Submission.{Submission}
+use Rattle.act_rules.specs.declared.history.Post.{Post}
+use Rattle.act_rules.specs.declared.history.Post.TheVariants.{Reply as ReplyPost}
+use Rattle.act_rules.specs.declared.script.Step.{Step}
+use Rattle.act_rules.specs.RunList.{Answer, answers_from, answer_at}
+use Rattle.act_rules.specs.Submissions.{kept_at}
+use Rattle.act_rules.specs.History.{ActorSpec, History, contains, under, names, cast_of, runs_of, calls_of, kept_of, is_item_of, answer_of, answer_in, first_answer, next_item}
+use Rattle.act_rules.specs.Rules.{refusal_of, and_also}
+use Rattle.act_rules.proofs.Lists.{slice_get_front, slice_get_last, element}
+use Rattle.act_rules.proofs.Growth.{Grows, added_grows, runs_grow, calls_grow}
+use Rattle.act_rules.proofs.Ended.{run_needs}
+use Rattle.act_rules.proofs.Posts.{run_stands}
+use Rattle.act_rules.proofs.Kept.{length-answers_from}
+use Rattle.act_rules.proofs.KindFaults.{answer_alive}
+use Rattle.act_rules.proofs.Unique.{one_place}
+use Rattle.act_early.specs.Plays.{At, with_event, Happens}
+use Rattle.act_early.specs.Early.{is_reply, choices_of, HasRunMore, HasTakenMore}
+use Rattle.act_early.proofs.Worlds.{world, contains_push}
+use Rattle.act_early.proofs.Replies.{reply_died}
+use Rattle.act_early.proofs.Choices.{first_more, kept_first, heard_quiet, heard_more, choices_same}
+use Rattle.act_early.proofs.Listed.{IsOpen}
+use Rattle.act_early.proofs.Running.{more_choices, IsRun, item_caller, run_is, run_call, run_runs, unheard, lost_more}
+
+-- ---- its reply
+
+-- the reply of the run is collected
+record IsReplied (a c : ℕ) (h g k : History) (item : RunItem) : Type 0 where
+  run : IsRun a c h g item
+  grows : Grows g k
+  ran : k.ran ≡ g.ran
+  collected : k.collected ≡ g.collected ++ ReplyPost c a (length (runs_of a h)) ∷ []
+  casts : k.casts ≡ g.casts
+  -- the actor has a cast
+  known : is_some (cast_of a g) ≡ true
+
+stands_at : (a c : ℕ) (h g : History) (item : RunItem) → IsRun a c h g item → slice_get (runs_of a g) (length (runs_of a h)) ≡ Some item
+stands_at a c h g item r = ap (λ (l : List (ℕ × RunItem)). slice_get (under a l) (length (runs_of a h))) r.ran ∙ run_stands a h.ran item
+
+-- the reply answers no older item
+other_reply : (a b c place : ℕ) (h g k : History) (item other : RunItem) → IsReplied a c h g k item → slice_get (runs_of b h) place ≡ Some other → (d : ℕ)
+    → is_reply (answer_in k other.caller other.future d (ReplyPost c a (length (runs_of a h)))) ≡ false
+other_reply a b c place h g k item other r at d = go ((c == other.caller) && is_item_of other.caller other.future (slice_get (runs_of a k) n)) refl
+  where
+    n : ℕ
+    n = length (runs_of a h)
+
+    there : slice_get (runs_of a k) n ≡ Some item
+    there = ap (λ (l : List (ℕ × RunItem)). slice_get (under a l) n) r.ran ∙ stands_at a c h g item r.run
+
+    later : slice_get (runs_of b g) place ≡ Some other
+    later = slice_get_front (runs_of b h) (runs_of b g) place other (runs_grow b h g r.run.grows) at
+
+    go : (x : Bool) → ((c == other.caller) && is_item_of other.caller other.future (slice_get (runs_of a k) n)) ≡ x
+        → is_reply (cond x (answer_of a n k) None) ≡ false
+    go false e = refl
+    go true e =
+        let parts = and_parts (c == other.caller) (is_item_of other.caller other.future (slice_get (runs_of a k) n)) e in
+        let both = and_parts (item.caller == other.caller) (item.future == other.future) (ap (is_item_of other.caller other.future) (sym there) ∙ parts.1) in
+        let one = one_place g other.caller other.future b place a n other item r.run.after.order later refl refl (stands_at a c h g item r.run)
+        (eqb-true item.caller other.caller both.0) (eqb-true item.future other.future both.1) in
+        let lt : place < length (runs_of b h) = slice_get_within (runs_of b h) place other at in
+        let lt' : n < n = subst (λ (x : ℕ). n < length (runs_of x h)) (sym one.0) (subst (λ (m : ℕ). m < length (runs_of b h)) (sym one.1) lt) in
+        absurd (omega (arith, lt'))
+
+-- it answers the new one
+answered_by : (a c : ℕ) (h g k : History) (item : RunItem) → IsReplied a c h g k item
+    → (answer : Answer) × (answer_of a (length (runs_of a h)) k ≡ Some answer) × (is_reply (Some answer) ≡ true)
+answered_by a c h g k item r = go (cast_of a k) refl (ap (λ (l : List ActorSpec). is_some (find (λ (cast : ActorSpec). cast.actor == a) l)) r.casts ∙ r.known)
+  where
+    n : ℕ
+    n = length (runs_of a h)
+
+    there : slice_get (runs_of a k) n ≡ Some item
+    there = ap (λ (l : List (ℕ × RunItem)). slice_get (under a l) n) r.ran ∙ stands_at a c h g item r.run
+
+    alive : (state : KindState) (answer : Answer) → answer_at state (runs_of a k) n ≡ Some answer → (x : Bool) → is_reply (Some answer) ≡ x
+        → is_reply (Some answer) ≡ true
+    alive state answer at true e = e
+    alive state answer at false e = absurd (answer_alive state (runs_of a k) n answer at (reply_died answer e))
+
+    go : (o : Option ActorSpec) → cast_of a k ≡ o → is_some o ≡ true → (answer : Answer) × (answer_of a n k ≡ Some answer) × (is_reply (Some answer) ≡ true)
+    go None e some = cc
+    go (Some cast) e some =
+        let lt : n < length (runs_of a k) = slice_get_within (runs_of a k) n item there in
+        let long : length (answers_from cast.opening (runs_of a k)) ≡ length (runs_of a k) = length-answers_from cast.opening (runs_of a k) in
+        let found = element (answers_from cast.opening (runs_of a k)) n (omega (arith, lt, long)) in (
+          found.0,
+          ap (λ (o : Option ActorSpec). option_and_then (λ (state : KindState). answer_at state (runs_of a k) n)
+              (option_map (λ (cast : ActorSpec). cast.opening) o)) e ∙ found.1,
+          alive cast.opening found.0 found.1 (is_reply (Some found.0)) refl,
+        )
+
+first_none : (xs : List Answer) (o : Option Answer) → slice_get xs 0 ≡ None → slice_get (xs ++ cons_option o []) 0 ≡ o
+first_none [] None e = refl
+first_none [] (Some answer) e = refl
+first_none (x ∷ xs) o e = cc
+
+-- a reply that is kept
+heard_more_choices : (a b c : ℕ) (h g k : History) (item : RunItem) → IsReplied a c h g k item
+    → choices_of b k ≡ choices_of b h ++ cond (a == b) ((c, true) ∷ []) []
+heard_more_choices a b c h g k item r =
+    more_choices h k a b c item true (ap (λ (l : List (ℕ × RunItem)). under b l) r.ran ∙ run_runs a b c h g item r.run)
+    (λ place other at.
+    let later = slice_get_front (runs_of b h) (runs_of b g) place other (runs_grow b h g r.run.grows) at in
+    heard_more g k b place other (ReplyPost c a n) r.grows r.run.after r.collected later (other_reply a b c place h g k item other r at)
+    ∙ heard_quiet h g b place other r.run.grows r.run.sound r.run.collected at)
+    caller
+    (ap (λ (d : ℕ). is_reply (kept_at (kept_of d k) item.future)) caller ∙ ap is_reply new ∙ answer.2)
+  where
+    n : ℕ
+    n = length (runs_of a h)
+
+    caller : item.caller ≡ c
+    caller = item_caller a c h item r.run.next
+
+    answer : (answer : Answer) × (answer_of a n k ≡ Some answer) × (is_reply (Some answer) ≡ true)
+    answer = answered_by a c h g k item r
+
+    call : (call : Submission) × (slice_get (calls_of c h) item.future ≡ Some call)
+    call = run_call a c h g item r.run
+
+    before : slice_get (calls_of c g) item.future ≡ Some call.0
+    before = slice_get_front (calls_of c h) (calls_of c g) item.future call.0 (calls_grow c h g r.run.grows) call.1
+
+    after : slice_get (calls_of c k) item.future ≡ Some call.0
+    after = slice_get_front (calls_of c g) (calls_of c k) item.future call.0 (calls_grow c g k r.grows) before
+
+    there : slice_get (runs_of a k) n ≡ Some item
+    there = ap (λ (l : List (ℕ × RunItem)). slice_get (under a l) n) r.ran ∙ stands_at a c h g item r.run
+
+    mine : ((c == c) && is_item_of c item.future (slice_get (runs_of a k) n)) ≡ true
+    mine = and_from (c == c) (is_item_of c item.future (slice_get (runs_of a k) n)) (eq-eqb c c refl)
+        (ap (is_item_of c item.future) there ∙ and_from (item.caller == c) (item.future == item.future) (eq-eqb item.caller c caller)
+        (eq-eqb item.future item.future refl))
+
+    gives : answer_in k c item.future call.0.actor (ReplyPost c a n) ≡ Some answer.0
+    gives = ap (λ (x : Bool). cond x (answer_of a n k) None) mine ∙ answer.1
+
+    none : first_answer g c (item.future, call.0) ≡ None
+    none = sym (kept_first g c item.future call.0 before) ∙ unheard a c h g item r.run
+
+    new : kept_at (kept_of c k) item.future ≡ Some answer.0
+    new = kept_first k c item.future call.0 after ∙ first_more g k c (item.future, call.0) (ReplyPost c a n) r.grows r.run.after.posts r.collected
+        ∙ ap (λ (o : Option Answer). slice_get (filter_map (answer_in g c item.future call.0.actor) g.collected ++ cons_option o []) 0) gives
+        ∙ first_none (filter_map (answer_in g c item.future call.0.actor) g.collected) (Some answer.0) none
+
+-- ---- the plays
+
+pub lost_play : (specs : List ActorSpec) (plans : ℕ → List Step) (a c : ℕ) (p : At) (item : RunItem) → IsOpen specs plans p
+    → refusal_of p.history (event.Run a c) ≡ None → next_item a c p.history ≡ Some item
+    → (q : At) × IsOpen specs plans q × HasRunMore a c false p.history q.history
+lost_play specs plans a c p item begun may e =
+    let q = with_event (event.Run a c) p in
+    let r = run_is specs plans a c p item begun.play may e in (
+      q,
+      record { play = Happens p (event.Run a c) begun.play refl may; live = r.retired ∙ begun.live },
+      ((λ b. lost_more a b c p.history q.history item r), λ b. ap (contains b) r.killed),
+    )
+
+cast_known : (o : Option ActorSpec) (c : ℕ) → names c o ≡ true → is_some o ≡ true
+cast_known None c e = cc
+cast_known (Some cast) c e = refl
+
+pub heard_play : (specs : List ActorSpec) (plans : ℕ → List Step) (a c : ℕ) (p : At) (item : RunItem) → IsOpen specs plans p
+    → refusal_of p.history (event.Run a c) ≡ None → next_item a c p.history ≡ Some item
+    → (q : At) × IsOpen specs plans q × HasRunMore a c true p.history q.history
+heard_play specs plans a c p item begun may e =
+    let h = p.history in
+    let q = with_event (event.Run a c) p in
+    let r = run_is specs plans a c p item begun.play may e in
+    let g = q.history in
+    let j = length h.posts in
+    let post = ReplyPost c a (length (runs_of a h)) in
+    let place : slice_get g.posts j ≡ Some post = ap (λ (l : List Post). slice_get l j) r.posts ∙ slice_get_last h.posts post in
+    let there : refusal_of g (event.Collect j) ≡ None = let some : is_some (slice_get g.posts j) ≡ true =
+    ap (λ (o : Option Post). is_some o) place in rw some refl in
+    let z = with_event (event.Collect j) q in
+    let known : is_some (cast_of a g) ≡ true =
+    ap (λ (l : List ActorSpec). is_some (find (λ (cast : ActorSpec). cast.actor == a) l)) r.casts ∙ cast_known (cast_of a h) c (run_needs h a c may).1 in
+    let replied : IsReplied a c h g z.history item = record {
+      run = r;
+      grows = added_grows g (event.Collect j);
+      ran = refl;
+      collected = ap (and_also g.collected) place;
+      casts = refl;
+      known = known;
+    } in (
+      z,
+      record { play = Happens q (event.Collect j) (Happens p (event.Run a c) begun.play refl may) refl there; live = r.retired ∙ begun.live },
+      ((λ b. heard_more_choices a b c h g z.history item replied), λ b. ap (contains b) r.killed),
+    )
+
+pub kill_play : (specs : List ActorSpec) (plans : ℕ → List Step) (a : ℕ) (p : At) → IsOpen specs plans p → refusal_of p.history (event.TakeKill a) ≡ None
+    → (q : At) × IsOpen specs plans q × HasTakenMore a p.history q.history
+kill_play specs plans a p begun may =
+    let h = p.history in
+    let q = with_event (event.TakeKill a) p in
+    let sound = (world specs plans p begun.play).sound in (
+      q,
+      record { play = Happens p (event.TakeKill a) begun.play refl may; live = begun.live },
+      (
+        (λ b. choices_same h q.history b refl (λ place item at. heard_quiet h q.history b place item (added_grows h (event.TakeKill a)) sound refl at)),
+        λ b. contains_push b a h.killed,
+      ),
+    )

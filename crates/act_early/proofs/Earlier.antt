@@ -1,0 +1,80 @@
+-- What stays while a play goes on.
+use Rattle.std.proofs.Common.{◌≡◌, ℕ, Bool, true, false, List, None, refl, ◌∙◌, subst}
+use Rattle.std.specs.Prelude.{◌||◌}
+use Rattle.act_rules.specs.declared.event.Event.{Event}
+use Rattle.act_rules.specs.declared.event.Event.TheVariants as event
+use Rattle.act_rules.specs.declared.script.Step.{Step}
+use Rattle.act_rules.specs.declared.script.Step.TheVariants.{Submit, Copy, Release, Kill, Await}
+use Rattle.act_rules.specs.History.{History, contains, runs_of, kept_of, is_dead, is_retired}
+use Rattle.act_rules.specs.Rules.{refusal_of, add_event}
+use Rattle.act_rules.specs.Consistent.{IsPrefix}
+use Rattle.act_rules.proofs.Lists.{whole_front, front_trans}
+use Rattle.act_rules.proofs.Growth.{added_grows, runs_grow}
+use Rattle.act_rules.proofs.Ended.{contains_more, ended_stays, dead_stays}
+use Rattle.act_rules.proofs.Settling.{Extends}
+use Rattle.act_rules.proofs.Letters.{kept_extends}
+use Rattle.act_rules.proofs.Sound.{IsSound}
+use Rattle.act_early.specs.Plays.{after_step, MayTake}
+
+pub record IsEarlier (h g : History) : Type 0 where
+  pub runs : (a : ℕ) → IsPrefix (runs_of a h) (runs_of a g)
+  pub kept : (c : ℕ) → Extends (kept_of c h) (kept_of c g)
+  pub killed : (a : ℕ) → contains a h.killed ≡ true → contains a g.killed ≡ true
+  pub dead : (a : ℕ) → is_dead a h ≡ true → is_dead a g ≡ true
+  -- nothing runs at the dead
+  pub last : (a : ℕ) → is_dead a h ≡ true → runs_of a g ≡ runs_of a h
+
+pub earlier_same : (h : History) → IsEarlier h h
+earlier_same h = record {
+  runs = λ a. whole_front (runs_of a h);
+  kept = λ c j answer e. e;
+  killed = λ a e. e;
+  dead = λ a e. e;
+  last = λ a e. refl;
+}
+
+pub earlier_trans : (f g h : History) → IsEarlier f g → IsEarlier g h → IsEarlier f h
+earlier_trans f g h one two = record {
+  runs = λ a. front_trans (runs_of a f) (runs_of a g) (runs_of a h) (one.runs a) (two.runs a);
+  kept = λ c j answer e. two.kept c j answer (one.kept c j answer e);
+  killed = λ a e. two.killed a (one.killed a e);
+  dead = λ a e. two.dead a (one.dead a e);
+  last = λ a e. two.last a (one.dead a e) ∙ one.last a e;
+}
+
+or_one : (x y : Bool) → x ≡ true → (x || y) ≡ true
+or_one true y e = refl
+or_one false y e = cc
+
+pub earlier_event : (h : History) (other : Event) → IsSound h → refusal_of h other ≡ None → IsEarlier h (add_event h other)
+earlier_event h other sound accepted =
+    let grows = added_grows h other in
+    record {
+      runs = λ a. runs_grow a h (add_event h other) grows;
+      kept = λ c. kept_extends c h (add_event h other) grows sound.posts;
+      killed = λ a e. subst (λ (xs : List ℕ). contains a xs ≡ true) grows.killed.1 (contains_more a h.killed grows.killed.0 e);
+      dead = λ a e. dead_stays a h other accepted e;
+      last = λ a e. (ended_stays a (runs_of a h) h other (record { ended = or_one (is_dead a h) (is_retired a h) e; same = refl }) accepted).same;
+    }
+
+pub earlier_step : (c : ℕ) (step : Step) (h : History) → IsSound h → MayTake c step h → IsEarlier h (after_step c step h)
+earlier_step c (Submit a method args) h sound may = earlier_event h (event.Submit c a method args) sound may
+earlier_step c (Copy a) h sound may = earlier_event h (event.Copy c a) sound may
+earlier_step c (Release a) h sound may = earlier_event h (event.Release c a) sound may
+earlier_step c (Kill a) h sound may = earlier_event h (event.AskKill c a) sound may
+earlier_step c (Await k) h sound may = earlier_same h
+
+-- a step runs nothing
+pub step_runs : (c : ℕ) (step : Step) (h : History) → (after_step c step h).ran ≡ h.ran
+step_runs c (Submit a method args) h = refl
+step_runs c (Copy a) h = refl
+step_runs c (Release a) h = refl
+step_runs c (Kill a) h = refl
+step_runs c (Await k) h = refl
+
+pub step_kills : (c : ℕ) (step : Step) (h : History) → (after_step c step h).killed ≡ h.killed
+step_kills c (Submit a method args) h = refl
+step_kills c (Copy a) h = refl
+step_kills c (Release a) h = refl
+step_kills c (Kill a) h = refl
+step_kills c (Await k) h = refl

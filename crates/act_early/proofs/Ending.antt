@@ -1,0 +1,138 @@
+-- Where the late play is ended, the one that was seen ends alike.
+use Rattle.std.proofs.Common.{◌≡◌, ℕ, suc, ◌+◌, ◌≤◌, Bool, true, false, List, [], ◌∷◌, length, Option, Some, None, refl, ap, sym, ◌∙◌, subst, arith}
+use Rattle.std.specs.Prelude.{◌==◌, ◌||◌, find, filter_map, slice_get, is_some}
+use Rattle.std.specs.List.{list_all, enumerate_from}
+use Rattle.std.proofs.lemmas.Bool.{eq-eqb, and_from}
+use Rattle.std.proofs.lemmas.List.{length-map}
+use Rattle.std.proofs.lemmas.Option.{slice_get_past}
+use Rattle.act_rules.specs.declared.event.Event.TheVariants as event
+use Rattle.act_rules.specs.declared.history.RunItem.{RunItem}
+use Rattle.act_rules.specs.declared.history.Submission.{Submission}
+use Rattle.act_rules.specs.declared.history.Letter.TheVariants.{Note as NoteLetter}
+use Rattle.act_rules.specs.declared.script.Step.{Step}
+use Rattle.act_rules.specs.RunList.{Answer, items_of}
+use Rattle.act_rules.specs.Submissions.{calls_to, kept_at}
+use Rattle.act_rules.specs.History.{ActorSpec, History, contains, callers_in, cast_of, runs_of, calls_of, kept_of, is_retired, is_ended, has_letter, ran_count, is_done, is_drained, first_answer}
+use Rattle.act_rules.specs.Rules.{refusal_of}
+use Rattle.act_rules.proofs.Kept.{kept_at_is, kept_by}
+use Rattle.act_rules.proofs.RanAll.{ran_all}
+use Rattle.act_early.specs.Plays.{At, steps_of, next_step, IsPlay}
+use Rattle.act_early.specs.Early.{IsWholeSearch, IsEnded, LosesOnly, EndsAlike}
+use Rattle.act_early.proofs.Counting.{past_none, take-past}
+use Rattle.act_early.proofs.Progress.{Follows, follows, submission_in}
+use Rattle.act_early.proofs.Earlier.{earlier_same}
+use Rattle.act_early.proofs.Ahead.{AreBoth}
+use Rattle.act_early.proofs.Possible.{IsReached}
+use Rattle.act_early.proofs.Searching.{is_seen, both_of, reached}
+
+-- ---- lists
+
+pub same_kept : (xs ys : List (Option Answer)) → length xs ≡ length ys → ((k : ℕ) → kept_at xs k ≡ kept_at ys k) → xs ≡ ys
+same_kept [] [] long at = refl
+same_kept [] (y ∷ ys) long at = absurd (omega (arith, long))
+same_kept (x ∷ xs) [] long at = absurd (omega (arith, long))
+same_kept (x ∷ xs) (y ∷ ys) long at =
+    let first : x ≡ y = at 0 in
+    let rest = same_kept xs ys (omega (arith, long)) (λ k. at (suc k)) in
+    ap (λ (z : Option Answer). z ∷ xs) first ∙ ap (λ (l : List (Option Answer)). y ∷ l) rest
+
+all_from : (p : ℕ → Bool) (xs : List ℕ) → ((c : ℕ) → contains c xs ≡ true → p c ≡ true) → list_all p xs ≡ true
+all_from p [] each = refl
+all_from p (x ∷ xs) each = and_from (p x) (list_all p xs) (each x (first (x == x) (eq-eqb x x refl)))
+    (all_from p xs (λ c has. each c (later (x == c) (contains c xs) has)))
+  where
+    first : (b : Bool) → b ≡ true → (b || contains x xs) ≡ true
+    first true e = refl
+    first false e = cc
+
+    later : (b d : Bool) → d ≡ true → (b || d) ≡ true
+    later true d e = refl
+    later false d e = e
+
+length-enumerate_from : {A : Type 0} (n : ℕ) (xs : List A) → length (enumerate_from n xs) ≡ length xs
+length-enumerate_from n [] = refl
+length-enumerate_from n (x ∷ xs) = ap suc (length-enumerate_from (n + 1) xs)
+
+kept_size : (c : ℕ) (h : History) → length (kept_of c h) ≡ length (calls_of c h)
+kept_size c h = length-map (enumerate_from 0 (calls_of c h)) (first_answer h c) ∙ length-enumerate_from 0 (calls_of c h)
+
+pub kept_long : (c : ℕ) (h g : History) → calls_of c h ≡ calls_of c g → length (kept_of c h) ≡ length (kept_of c g)
+kept_long c h g same = kept_size c h ∙ ap (λ (l : List Submission). length l) same ∙ sym (kept_size c g)
+
+-- ---- the same end
+
+past_plan : (plans : ℕ → List Step) (c : ℕ) (late early : At) → next_step plans c late ≡ None → steps_of c late ≤ steps_of c early
+    → length (plans c) ≤ steps_of c early
+past_plan plans c late early done le = let past = past_none (plans c) (steps_of c late) done in omega arith
+
+all_calls : (plans : ℕ → List Step) (c : ℕ) (at : At) → Follows plans c at → length (plans c) ≤ steps_of c at
+    → calls_of c at.history ≡ filter_map submission_in (plans c)
+all_calls plans c at f past = f.calls ∙ ap (filter_map submission_in) (take-past (plans c) (steps_of c at) past)
+
+pub ends_alike : (casts : List ActorSpec) (plans : ℕ → List Step) (early late : At) → AreBoth casts plans early late → ((a : ℕ) → IsReached a late early)
+    → IsEnded plans late → ((c : ℕ) → Follows plans c late) → EndsAlike plans early late.history
+ends_alike casts plans early late both r ended f = record {
+  done = done;
+  calls = calls;
+  kept = λ c. same_kept (kept_of c early.history) (kept_of c late.history) (kept_long c early.history late.history (calls c)) (answers c);
+  runs = λ a. (r a).runs;
+  dead = λ a. (r a).dead;
+  retires = retires;
+}
+  where
+    past : (c : ℕ) → length (plans c) ≤ steps_of c early
+    past c = past_plan plans c late early (ended.done c) ((r 0).steps c)
+
+    done : (c : ℕ) → next_step plans c early ≡ None
+    done c = slice_get_past (plans c) (steps_of c early) (past c)
+
+    calls : (c : ℕ) → calls_of c early.history ≡ calls_of c late.history
+    calls c = all_calls plans c early (both.goes c) (past c) ∙ sym (all_calls plans c late (f c) (past_none (plans c) (steps_of c late) (ended.done c)))
+
+    answers : (c k : ℕ) → kept_at (kept_of c early.history) k ≡ kept_at (kept_of c late.history) k
+    answers c k = go (slice_get (calls_of c late.history) k) refl
+      where
+        some : (o : Option Answer) → kept_at (kept_of c late.history) k ≡ o → is_some o ≡ true
+            → kept_at (kept_of c early.history) k ≡ kept_at (kept_of c late.history) k
+        some None e is = cc
+        some (Some answer) e is = (r 0).kept c k answer e ∙ sym e
+
+        go : (o : Option Submission) → slice_get (calls_of c late.history) k ≡ o → kept_at (kept_of c early.history) k ≡ kept_at (kept_of c late.history) k
+        go (Some call) at = some (kept_at (kept_of c late.history) k) refl (ended.over.answered c k call at)
+        go None at =
+            let there : slice_get (calls_of c early.history) k ≡ None = ap (λ (l : List Submission). slice_get l k) (calls c) ∙ at in
+            kept_at_is early.history c k ∙ ap (kept_by early.history c k) there ∙ sym (kept_at_is late.history c k ∙ ap (kept_by late.history c k) at)
+
+    same_cast : (a : ℕ) → cast_of a early.history ≡ cast_of a late.history
+    same_cast a = ap (λ (l : List ActorSpec). find (λ (cast : ActorSpec). cast.actor == a) l) (r 0).casts
+
+    live : (a : ℕ) → is_retired a late.history ≡ true → is_ended a early.history ≡ false
+    live a retired = ap (λ (b : Bool). b || is_retired a early.history) ((r a).dead ∙ both.late.live a retired) ∙ ap (contains a) both.settled.live
+
+    -- an actor that retired ran all calls
+    count : (c a : ℕ) → is_retired a late.history ≡ true → ran_count c a early.history ≡ length (calls_to a (calls_of c early.history))
+    count c a retired =
+        ap (λ (items : List RunItem). length (items_of c items)) (r a).runs
+        ∙ sym (length-map (items_of c (runs_of a late.history)) (λ (i : RunItem). i.future))
+        ∙ ap (λ (l : List ℕ). length l) (ran_all late.history a c both.late.sound both.late.retires retired)
+        ∙ length-map (calls_to a (calls_of c late.history)) (λ (call : ℕ × Submission). call.0)
+        ∙ ap (λ (l : List Submission). length (calls_to a l)) (sym (calls c))
+
+    drained : (a : ℕ) → is_retired a late.history ≡ true → is_drained a early.history ≡ true
+    drained a retired = all_from (λ c. is_done c a early.history) (callers_in (cast_of a early.history)) (λ c named.
+        subst (λ (n : ℕ). has_letter (NoteLetter c a n) early.history.arrived ≡ true) (sym (count c a retired))
+        (both.settled.noted c a (both.settled.closed c a (done c) named) (live a retired)))
+
+    retires : (a : ℕ) → is_retired a late.history ≡ true → refusal_of early.history (event.Retire a) ≡ None
+    retires a retired =
+        let cast : is_some (cast_of a early.history) ≡ true = ap (λ (o : Option ActorSpec). is_some o) (same_cast a) ∙ both.late.cast a retired in
+        rw (cast, live a retired, drained a retired) refl
+
+pub enough : (casts : List ActorSpec) (plans : ℕ → List Step) (may_lose : ℕ → Bool) (Seen : At → Type 0) (late : At)
+    → IsWholeSearch casts plans may_lose Seen → IsPlay casts plans late → IsEnded plans late → LosesOnly may_lose late.history
+    → (early : At) × Seen early × EndsAlike plans early late.history
+enough casts plans may_lose Seen late search is ended losing =
+    let s = is_seen casts plans may_lose Seen late search is losing late is (earlier_same late.history) in
+    let both = both_of casts plans may_lose Seen s.early late search s.has is in
+    let r = reached casts plans late s.early late is both (earlier_same late.history) s.exactly in
+    (s.early, s.has, ends_alike casts plans s.early late both r ended (follows casts plans late is))

@@ -1,0 +1,120 @@
+-- The early play ran the same call where the late one runs its next.
+use Rattle.std.proofs.Common.{◌≡◌, ℕ, ◌+◌, true, List, length, Option, Some, refl, ap, sym, ◌∙◌, subst, arith}
+use Rattle.std.specs.Prelude.{◌==◌, map, filter, take, slice_get, option_map}
+use Rattle.std.specs.List.{list_all}
+use Rattle.std.proofs.lemmas.Bool.{eq-eqb}
+use Rattle.std.proofs.lemmas.Option.{slice_get-map}
+use Rattle.std.proofs.Math.Seq.{take-append_seam}
+use Rattle.act_rules.specs.declared.history.RunItem.{RunItem}
+use Rattle.act_rules.specs.declared.history.Submission.{Submission}
+use Rattle.act_rules.specs.declared.history.Letter.TheVariants.{Call as CallLetter}
+use Rattle.act_rules.specs.RunList.{items_of}
+use Rattle.act_rules.specs.Submissions.{calls_to, is_known, settle}
+use Rattle.act_rules.specs.Consistent.{IsPrefix, IsAsSubmitted}
+use Rattle.act_rules.specs.History.{History, runs_of, calls_of, kept_of, ran_count, run_item, next_item}
+use Rattle.act_rules.proofs.Lists.{slice_get_front, slice_get-filter, slice_get-enumerate_from, All_at}
+use Rattle.act_rules.proofs.Growth.{calls_to_grow}
+use Rattle.act_rules.proofs.Settling.{Extends, arguments_stay}
+use Rattle.act_rules.proofs.Letters.{IsSoundLetter, has_letter-sound}
+use Rattle.act_rules.proofs.Order.{IsNext, next_item_is, numbered, numbers}
+use Rattle.act_rules.proofs.AsSubmitted.{calls_to-at}
+use Rattle.act_rules.proofs.Sound.{IsSound, consistent}
+
+-- the call that runs next, with arguments that are known
+pub record IsReady (a c : ℕ) (h : History) (item : RunItem) : Type 0 where
+  pub next : IsNext a c h item
+  pub known : list_all (is_known (kept_of c h)) next.call.1.args ≡ true
+
+pub ready : (a c : ℕ) (h : History) (item : RunItem) → IsSound h → next_item a c h ≡ Some item → IsReady a c h item
+ready a c h item sound e = record { next = next; known = subst (λ (call : ℕ × Submission). list_all (is_known (kept_of c h)) call.1.args ≡ true) same letter.2 }
+  where
+    next : IsNext a c h item
+    next = next_item_is a c h item e
+
+    letter : IsSoundLetter h (CallLetter c a (ran_count c a h))
+    letter = has_letter-sound (IsSoundLetter h) (CallLetter c a (ran_count c a h)) h.arrived sound.letters.arrived next.arrived
+
+    same : letter.0 ≡ next.call
+    same = let e : Some letter.0 ≡ Some next.call = sym letter.1 ∙ next.at in cc
+
+item_same : (x y : RunItem) → x.caller ≡ y.caller → x.number ≡ y.number → x.future ≡ y.future → x.method ≡ y.method → x.args ≡ y.args → x ≡ y
+item_same x y c n f m s = λ i. record { caller = c i; number = n i; future = f i; method = m i; args = s i }
+
+take-front : {A : Type 0} (xs ys : List A) → IsPrefix xs ys → take (length xs) ys ≡ xs
+take-front {A = A} xs ys f = sym (ap (λ (l : List A). take (length xs) l) f.1) ∙ take-append_seam xs f.0
+
+-- the number and the future of the item that stands behind those of the play
+stands_next : (a c : ℕ) (play early : History) (other : RunItem) → IsSound early → IsPrefix (runs_of a play) (runs_of a early)
+    → slice_get (runs_of a early) (length (runs_of a play)) ≡ Some other → other.caller ≡ c
+    → slice_get (numbers a (calls_of c early)) (ran_count c a play) ≡ Some (numbered other)
+stands_next a c play early other sound front at caller =
+    let n = length (runs_of a play) in
+    let mine = slice_get-filter (λ (i : RunItem). i.caller == c) (runs_of a early) n other at (eq-eqb other.caller c caller) in
+    let rank : length (filter (λ (i : RunItem). i.caller == c) (take n (runs_of a early))) ≡ ran_count c a play =
+    ap (λ (items : List RunItem). length (filter (λ (i : RunItem). i.caller == c) items)) (take-front (runs_of a play) (runs_of a early) front) in
+    let there : slice_get (items_of c (runs_of a early)) (ran_count c a play) ≡ Some other =
+    subst (λ (m : ℕ). slice_get (items_of c (runs_of a early)) m ≡ Some other) rank mine in
+    slice_get_front (map numbered (items_of c (runs_of a early))) (numbers a (calls_of c early)) (ran_count c a play) (numbered other) (sound.order a c)
+    (slice_get-map numbered (items_of c (runs_of a early)) (ran_count c a play) ∙ ap (option_map numbered) there)
+
+-- and of the play's next call
+runs_next : (a c : ℕ) (play early : History) (call : ℕ × Submission) → IsPrefix (calls_of c play) (calls_of c early)
+    → slice_get (calls_to a (calls_of c play)) (ran_count c a play) ≡ Some call
+    → slice_get (numbers a (calls_of c early)) (ran_count c a play) ≡ Some (ran_count c a play, call.0)
+runs_next a c play early call front at =
+    let n = ran_count c a play in
+    let there : slice_get (calls_to a (calls_of c early)) n ≡ Some call =
+    slice_get_front (calls_to a (calls_of c play)) (calls_to a (calls_of c early)) n call (calls_to_grow a (calls_of c play) (calls_of c early) front) at in
+    let first : slice_get (map (λ (call : ℕ × Submission). call.0) (calls_to a (calls_of c early))) n ≡ Some call.0 =
+    slice_get-map (λ (call : ℕ × Submission). call.0) (calls_to a (calls_of c early)) n ∙ ap (option_map (λ (call : ℕ × Submission). call.0)) there in
+    let zero_add : 0 + n ≡ n = omega arith in
+    slice_get-enumerate_from 0 (map (λ (call : ℕ × Submission). call.0) (calls_to a (calls_of c early))) n ∙ rw (first, zero_add) refl
+
+some_same : {A : Type 0} (x y : A) → Some x ≡ Some y → x ≡ y
+some_same x y e = cc
+
+pub same_item : (a c : ℕ) (play early : History) (item other : RunItem) → IsSound early → IsReady a c play item → IsPrefix (runs_of a play) (runs_of a early)
+    → IsPrefix (calls_of c play) (calls_of c early) → Extends (kept_of c play) (kept_of c early)
+    → slice_get (runs_of a early) (length (runs_of a play)) ≡ Some other → other.caller ≡ c → other ≡ item
+same_item a c play early item other sound is runs calls extends at caller =
+    item_same other (run_item c n (kept_of c play) call) caller number future method args ∙ is.next.is
+  where
+    n : ℕ
+    n = ran_count c a play
+
+    call : ℕ × Submission
+    call = is.next.call
+
+    both : ◌≡◌ {A = Option (ℕ × ℕ)} (Some (numbered other)) (Some (n, call.0))
+    both = sym (stands_next a c play early other sound runs at caller) ∙ runs_next a c play early call calls is.next.at
+
+    pair : ◌≡◌ {A = ℕ × ℕ} (numbered other) (n, call.0)
+    pair = some_same (numbered other) (n, call.0) both
+
+    number : other.number ≡ n
+    number = ap (λ (p : ℕ × ℕ). p.0) pair
+
+    future : other.future ≡ call.0
+    future = ap (λ (p : ℕ × ℕ). p.1) pair
+
+    submitted : IsAsSubmitted (λ d. calls_of d early) (λ d. kept_of d early) other
+    submitted = All_at (IsAsSubmitted (λ d. calls_of d early) (λ d. kept_of d early)) (runs_of a early) (length (runs_of a play)) other
+        ((consistent early sound).as_submitted a) at
+
+    stands : slice_get (calls_of c early) call.0 ≡ Some call.1
+    stands = slice_get_front (calls_of c play) (calls_of c early) call.0 call.1 calls (calls_to-at a (calls_of c play) n call is.next.at).at
+
+    there : slice_get (calls_of c early) call.0 ≡ Some submitted.call
+    there = subst (λ (d : ℕ). slice_get (calls_of d early) call.0 ≡ Some submitted.call) caller
+        (subst (λ (k : ℕ). slice_get (calls_of other.caller early) k ≡ Some submitted.call) future submitted.at)
+
+    one : submitted.call ≡ call.1
+    one = let e : Some submitted.call ≡ Some call.1 = sym there ∙ stands in cc
+
+    method : other.method ≡ call.1.method
+    method = submitted.method ∙ ap (λ (s : Submission). s.method) one
+
+    args : other.args ≡ map (settle (kept_of c play)) call.1.args
+    args = submitted.args ∙ ap (λ (d : ℕ). map (settle (kept_of d early)) submitted.call.args) caller
+        ∙ ap (λ (s : Submission). map (settle (kept_of c early)) s.args) one
+        ∙ (arguments_stay (kept_of c play) (kept_of c early) extends call.1.args is.known).1

@@ -1,0 +1,155 @@
+-- A caller that holds no copy of a handle sent its note.
+use Rattle.std.proofs.Common.{◌≡◌, ℕ, zero, suc, ◌+◌, ◌-◌, Bool, true, false, cond, List, [], ◌∷◌, ◌++◌, length, Option, Some, None, refl, ap, sym, ◌∙◌, subst, arith}
+use Rattle.std.specs.Prelude.{◌==◌, ◌&&◌, ◌||◌, find, slice_get}
+use Rattle.std.proofs.lemmas.Bool.{eqb-true, eq-eqb, and_parts, and_from}
+use Rattle.std.proofs.lemmas.List.Folds.{list_any-append}
+use Rattle.act_rules.specs.declared.event.Event.{Event}
+use Rattle.act_rules.specs.declared.event.Event.TheVariants as event
+use Rattle.act_rules.specs.declared.history.RunItem.{RunItem}
+use Rattle.act_rules.specs.declared.history.Submission.{Submission}
+use Rattle.act_rules.specs.declared.history.Letter.{Letter}
+use Rattle.act_rules.specs.declared.history.Letter.TheVariants.{Call as CallLetter, Note as NoteLetter}
+use Rattle.act_rules.specs.declared.script.Step.{Step}
+use Rattle.act_rules.specs.Submissions.{calls_to, copies_held}
+use Rattle.act_rules.specs.History.{ActorSpec, History, opening, names, cast_of, count_pairs, calls_of, copies_of, is_letter, has_letter, next_item}
+use Rattle.act_rules.specs.Rules.{add_event, and_also, after_run, is_last}
+use Rattle.act_rules.specs.Consistent.{IsPrefix}
+use Rattle.act_rules.proofs.Steps.{IsKept}
+use Rattle.act_rules.proofs.Growth.{added_grows}
+use Rattle.act_rules.proofs.Letters.{letter_is}
+use Rattle.act_rules.proofs.Retired.{times-push, gone_step}
+use Rattle.act_early.specs.Plays.{At, IsPlay}
+use Rattle.act_early.proofs.Worlds.{play_keeps, or_second}
+
+-- ---- letters
+
+pub same_letter : (letter : Letter) → is_letter letter letter ≡ true
+same_letter (CallLetter c a n) = and_from ((c == c) && (a == a)) (n == n) (and_from (c == c) (a == a) (eq-eqb c c refl) (eq-eqb a a refl)) (eq-eqb n n refl)
+same_letter (NoteLetter c a n) = and_from ((c == c) && (a == a)) (n == n) (and_from (c == c) (a == a) (eq-eqb c c refl) (eq-eqb a a refl)) (eq-eqb n n refl)
+
+pub has_front : (letter : Letter) (xs ys : List Letter) → IsPrefix xs ys → has_letter letter xs ≡ true → has_letter letter ys ≡ true
+has_front letter xs ys f e = subst (λ (l : List Letter). has_letter letter l ≡ true) f.1
+    (list_any-append (is_letter letter) xs f.0 ∙ first (has_letter letter xs) (has_letter letter f.0) e)
+  where
+    first : (x y : Bool) → x ≡ true → (x || y) ≡ true
+    first true y e = refl
+    first false y e = cc
+
+pub has_last : (letter : Letter) (xs : List Letter) → has_letter letter (xs ++ letter ∷ []) ≡ true
+has_last letter xs = list_any-append (is_letter letter) xs (letter ∷ [])
+    ∙ or_second (has_letter letter xs) (has_letter letter (letter ∷ [])) (last (is_letter letter letter) (same_letter letter))
+  where
+    last : (x : Bool) → x ≡ true → (x || false) ≡ true
+    last true e = refl
+    last false e = cc
+
+pub letter_place : (letter : Letter) (xs : List Letter) → has_letter letter xs ≡ true → (i : ℕ) × (slice_get xs i ≡ Some letter)
+letter_place letter [] e = cc
+letter_place letter (x ∷ xs) e = go (is_letter letter x) refl (letter_place letter xs) e
+  where
+    go : (b : Bool) → is_letter letter x ≡ b → (has_letter letter xs ≡ true → (i : ℕ) × (slice_get xs i ≡ Some letter)) → (b || has_letter letter xs) ≡ true
+        → (i : ℕ) × (slice_get (x ∷ xs) i ≡ Some letter)
+    go true is rest e = (zero, ap (λ (l : Letter). Some l) (sym (letter_is letter x is)))
+    go false is rest e = let found = rest e in (suc found.0, found.1)
+
+-- ---- each note is sent
+
+abbrev pub NotesSent : History → Type 0
+NotesSent h = (c a : ℕ) → copies_of c a h ≡ Some 0 → has_letter (NoteLetter c a (length (calls_to a (calls_of c h)))) h.mail ≡ true
+
+differ_copy : (named : Bool) (made gone more n : ℕ) → cond named (Some ((1 + made) - gone)) None ≡ Some (suc n)
+    → cond named (Some ((1 + (made + more)) - gone)) None ≡ Some 0 → ⊥
+differ_copy true made gone more n e f = let some : (1 + made) - gone ≡ suc n = cc in let none : (1 + (made + more)) - gone ≡ 0 =
+    cc in absurd (omega (arith, some, none))
+differ_copy false made gone more n e f = cc
+
+last_copy : (named : Bool) (made gone n : ℕ) → cond named (Some ((1 + made) - gone)) None ≡ Some (suc n)
+    → cond named (Some ((1 + made) - (gone + 1))) None ≡ Some 0 → copies_held (cond named (Some ((1 + made) - gone)) None) ≡ 1
+last_copy true made gone n e f = let some : (1 + made) - gone ≡ suc n = cc in let none : (1 + made) - (gone + 1) ≡ 0 = cc in omega (arith, some, none)
+last_copy false made gone n e f = cc
+
+same_copies : (o : Option ℕ) (n : ℕ) → o ≡ Some (suc n) → o ≡ Some 0 → ⊥
+same_copies o n e f = let bad : Some (suc n) ≡ Some 0 = sym e ∙ f in cc
+
+release_sends : (h : History) (d b c a n : ℕ) → copies_of c a h ≡ Some (suc n) → copies_of c a (add_event h (event.Release d b)) ≡ Some 0
+    → has_letter (NoteLetter c a (length (calls_to a (calls_of c h)))) (add_event h (event.Release d b)).mail ≡ true
+release_sends h d b c a n e f = go ((d == c) && (b == a)) refl
+    (ap (λ (m : ℕ). cond (names c (cast_of a h)) (Some ((1 + count_pairs c a h.copied) - m)) None) (sym (times-push c a d b h.released)) ∙ f)
+  where
+    go : (x : Bool) → ((d == c) && (b == a)) ≡ x
+        → cond (names c (cast_of a h)) (Some ((1 + count_pairs c a h.copied) - (count_pairs c a h.released + cond ((d == c) && (b == a)) 1 0))) None ≡ Some 0
+        → has_letter (NoteLetter c a (length (calls_to a (calls_of c h)))) (add_event h (event.Release d b)).mail ≡ true
+    go false is g =
+        let zero_more : count_pairs c a h.released + cond ((d == c) && (b == a)) 1 0 ≡ count_pairs c a h.released =
+        ap (λ (x : Bool). count_pairs c a h.released + cond x 1 0) is ∙ omega arith in
+        absurd (same_copies (copies_of c a h) n e
+        (ap (λ (m : ℕ). cond (names c (cast_of a h)) (Some ((1 + count_pairs c a h.copied) - m)) None) (sym zero_more) ∙ g))
+    go true is g =
+        let parts = and_parts (d == c) (b == a) is in
+        let one_more : count_pairs c a h.released + cond ((d == c) && (b == a)) 1 0 ≡ count_pairs c a h.released + 1 =
+        ap (λ (x : Bool). count_pairs c a h.released + cond x 1 0) is in
+        let one : copies_held (copies_of c a h) ≡ 1 =
+        last_copy (names c (cast_of a h)) (count_pairs c a h.copied) (count_pairs c a h.released) n e
+        (ap (λ (m : ℕ). cond (names c (cast_of a h)) (Some ((1 + count_pairs c a h.copied) - m)) None) (sym one_more) ∙ g) in
+        let last : is_last c a h ≡ true = eq-eqb (copies_held (copies_of c a h)) 1 one in
+        let mail : (add_event h (event.Release c a)).mail ≡ h.mail ++ NoteLetter c a (length (calls_to a (calls_of c h))) ∷ [] =
+        ap (λ (x : Bool). and_also h.mail (cond x (Some (NoteLetter c a (length (calls_to a (calls_of c h))))) None)) last in
+        let there : has_letter (NoteLetter c a (length (calls_to a (calls_of c h)))) (add_event h (event.Release c a)).mail ≡ true =
+        ap (has_letter (NoteLetter c a (length (calls_to a (calls_of c h))))) mail
+        ∙ has_last (NoteLetter c a (length (calls_to a (calls_of c h)))) h.mail in
+        subst (λ (x : ℕ). has_letter (NoteLetter c a (length (calls_to a (calls_of c h)))) (add_event h (event.Release x b)).mail ≡ true)
+        (sym (eqb-true d c parts.0))
+        (subst (λ (y : ℕ). has_letter (NoteLetter c a (length (calls_to a (calls_of c h)))) (add_event h (event.Release c y)).mail ≡ true)
+        (sym (eqb-true b a parts.1)) there)
+
+-- where there was a copy, the event is the last release
+sends_last : (h : History) (other : Event) (c a n : ℕ) → copies_of c a h ≡ Some (suc n) → copies_of c a (add_event h other) ≡ Some 0
+    → has_letter (NoteLetter c a (length (calls_to a (calls_of c (add_event h other))))) (add_event h other).mail ≡ true
+sends_last h (event.Submit d b method args) c a n e f = absurd (same_copies (copies_of c a h) n e f)
+sends_last h (event.Copy d b) c a n e f =
+    absurd (differ_copy (names c (cast_of a h)) (count_pairs c a h.copied) (count_pairs c a h.released) (cond ((d == c) && (b == a)) 1 0) n e
+    (ap (λ (m : ℕ). cond (names c (cast_of a h)) (Some ((1 + m) - count_pairs c a h.released)) None) (sym (times-push c a d b h.copied)) ∙ f))
+sends_last h (event.Release d b) c a n e f = release_sends h d b c a n e f
+sends_last h (event.Send d k) c a n e f = absurd (same_copies (copies_of c a h) n e f)
+sends_last h (event.Deliver i) c a n e f = absurd (same_copies (copies_of c a h) n e f)
+sends_last h (event.Run b d) c a n e f = absurd (same_copies (copies_of c a h) n e (go (next_item b d h) f))
+  where
+    go : (o : Option RunItem) → copies_of c a (after_run b d h o) ≡ Some 0 → copies_of c a h ≡ Some 0
+    go None f = f
+    go (Some item) f = f
+sends_last h (event.Collect j) c a n e f = absurd (same_copies (copies_of c a h) n e f)
+sends_last h (event.AskKill d b) c a n e f = absurd (same_copies (copies_of c a h) n e f)
+sends_last h (event.TakeKill b) c a n e f = absurd (same_copies (copies_of c a h) n e f)
+sends_last h (event.Tell b d) c a n e f = absurd (same_copies (copies_of c a h) n e f)
+sends_last h (event.Retire b) c a n e f = absurd (same_copies (copies_of c a h) n e f)
+
+stranger : (x y : Bool) (m n : ℕ) → cond x (Some m) None ≡ None → y ≡ x → cond y (Some n) None ≡ Some 0 → ⊥
+stranger true y m n e same f = cc
+stranger false true m n e same f = cc
+stranger false false m n e same f = cc
+
+notes_sent_step : IsKept NotesSent
+notes_sent_step h other held accepted c a f = go (copies_of c a h) refl
+  where
+    g : History
+    g = add_event h other
+
+    casts : names c (cast_of a g) ≡ names c (cast_of a h)
+    casts = ap (λ (l : List ActorSpec). names c (find (λ (cast : ActorSpec). cast.actor == a) l)) (added_grows h other).casts
+
+    go : (o : Option ℕ) → copies_of c a h ≡ o → has_letter (NoteLetter c a (length (calls_to a (calls_of c g)))) g.mail ≡ true
+    go None e = absurd (stranger (names c (cast_of a h)) (names c (cast_of a g)) ((1 + count_pairs c a h.copied) - count_pairs c a h.released)
+        ((1 + count_pairs c a g.copied) - count_pairs c a g.released) e casts f)
+    go (Some zero) e =
+        let stays = gone_step c a h other (ap copies_held e) accepted in
+        subst (λ (l : List (ℕ × Submission)). has_letter (NoteLetter c a (length l)) g.mail ≡ true) (sym stays.calls)
+        (has_front (NoteLetter c a (length (calls_to a (calls_of c h)))) h.mail g.mail (added_grows h other).mail (held c a e))
+    go (Some (suc n)) e = sends_last h other c a n e f
+
+opened_none : (x : Bool) (P : Type 0) → cond x (Some ((1 + 0) - 0)) None ≡ Some 0 → P
+opened_none true P e = cc
+opened_none false P e = cc
+
+pub notes_sent : (casts : List ActorSpec) (plans : ℕ → List Step) (p : At) → IsPlay casts plans p → NotesSent p.history
+notes_sent casts plans p play = play_keeps NotesSent notes_sent_step casts plans p
+    (λ c a e. opened_none (names c (cast_of a (opening casts))) (has_letter (NoteLetter c a 0) [] ≡ true) e) play

@@ -1,0 +1,135 @@
+-- What the late play may choose, a settled play with the same choices so far may choose.
+use Rattle.std.proofs.Common.{◌≡◌, ℕ, ◌≤◌, Bool, true, false, List, length, Option, Some, None, refl, ap, sym, ◌∙◌, subst}
+use Rattle.std.specs.Prelude.{◌==◌, ◌||◌, find, map, slice_get, is_some}
+use Rattle.std.specs.List.{list_all, list_any}
+use Rattle.std.proofs.lemmas.List.Folds.{list_any-append}
+use Rattle.act_types.specs.declared.call.Settled.{Settled}
+use Rattle.act_rules.specs.declared.event.Event.TheVariants as event
+use Rattle.act_rules.specs.declared.history.RunItem.{RunItem}
+use Rattle.act_rules.specs.declared.history.Submission.{Submission}
+use Rattle.act_rules.specs.declared.history.Letter.{Letter}
+use Rattle.act_rules.specs.declared.history.Letter.TheVariants.{Call as CallLetter}
+use Rattle.act_rules.specs.declared.script.Step.{Step}
+use Rattle.act_rules.specs.Plans.{is_kill_of}
+use Rattle.act_rules.specs.Submissions.{calls_to, number_of, kept_at, is_known, settle}
+use Rattle.act_rules.specs.History.{ActorSpec, History, contains, names, is_caller, cast_of, runs_of, calls_of, kept_of, is_dead, is_retired, is_ended, has_letter, ran_count, next_item}
+use Rattle.act_rules.specs.Rules.{refusal_of, call_letter}
+use Rattle.act_rules.specs.RunList.{items_of}
+use Rattle.act_rules.specs.Consistent.{IsPrefix}
+use Rattle.act_rules.proofs.Lists.{slice_get_front}
+use Rattle.act_rules.proofs.Growth.{calls_to_grow}
+use Rattle.act_rules.proofs.Ended.{run_needs}
+use Rattle.act_rules.proofs.Settling.{Extends, arguments_stay}
+use Rattle.act_rules.proofs.AsSubmitted.{calls_to-at}
+use Rattle.act_early.specs.Plays.{At, steps_of, IsPlay}
+use Rattle.act_early.specs.Early.{IsSettled}
+use Rattle.act_early.proofs.Worlds.{take_needs}
+use Rattle.act_early.proofs.Counting.{done_steps, take-prefix}
+use Rattle.act_early.proofs.Asking.{asks_all, asked_by}
+use Rattle.act_early.proofs.Items.{IsReady}
+use Rattle.act_early.proofs.Unanswered.{number_is, next_unanswered}
+use Rattle.act_rules.proofs.Sound.{IsSound}
+
+-- ---- a run
+
+-- what the early play has, where the late one comes to a choice of the actor
+pub record IsReached (a : ℕ) (play early : At) : Type 0 where
+  pub runs : runs_of a early.history ≡ runs_of a play.history
+  pub dead : is_dead a early.history ≡ is_dead a play.history
+  pub steps : (c : ℕ) → steps_of c play ≤ steps_of c early
+  pub calls : (c : ℕ) → IsPrefix (calls_of c play.history) (calls_of c early.history)
+  pub kept : (c : ℕ) → Extends (kept_of c play.history) (kept_of c early.history)
+  pub casts : early.history.casts ≡ play.history.casts
+
+pub lives : (plans : ℕ → List Step) (a : ℕ) (play early : At) → IsReached a play early → IsSettled plans early → is_ended a play.history ≡ false
+    → is_ended a early.history ≡ false
+lives plans a play early r settled live =
+    ap (λ (b : Bool). b || is_retired a early.history) r.dead ∙ ap (λ (xs : List ℕ). is_dead a play.history || contains a xs) settled.live
+    ∙ go (is_dead a play.history) (is_retired a play.history) live
+  where
+    go : (x y : Bool) → (x || y) ≡ false → (x || false) ≡ false
+    go false y e = refl
+    go true y e = cc
+
+same_cast : (a : ℕ) (play early : At) → IsReached a play early → cast_of a early.history ≡ cast_of a play.history
+same_cast a play early r = ap (λ (l : List ActorSpec). find (λ (cast : ActorSpec). cast.actor == a) l) r.casts
+
+pub may_run : (plans : ℕ → List Step) (a c : ℕ) (play early : At) → IsReached a play early → IsSettled plans early
+    → refusal_of play.history (event.Run a c) ≡ None → refusal_of early.history (event.Run a c) ≡ None
+may_run plans a c play early r settled e =
+    let needed = run_needs play.history a c e in
+    let caller : is_caller c early.history ≡ true =
+    ap (λ (l : List ActorSpec). list_any (λ (cast : ActorSpec). contains c cast.callers) l) r.casts ∙ needed.0 in
+    let named : names c (cast_of a early.history) ≡ true = ap (λ (o : Option ActorSpec). names c o) (same_cast a play early r) ∙ needed.1 in
+    rw (caller, named, lives plans a play early r settled needed.2) refl
+
+pub runs_alike : (plans : ℕ → List Step) (a c : ℕ) (item : RunItem) (play early : At) → IsSound early.history → IsReached a play early
+    → IsSettled plans early → is_ended a play.history ≡ false → IsReady a c play.history item → next_item a c early.history ≡ Some item
+runs_alike plans a c item play early sound r settled live is =
+    rw (same_count, arrived, at) (ap (λ (i : RunItem). Some i) (ap with_args (settled_args.1)) ∙ ap (λ (i : RunItem). Some i) is.next.is)
+  where
+    g : History
+    g = early.history
+
+    n : ℕ
+    n = ran_count c a play.history
+
+    call : ℕ × Submission
+    call = is.next.call
+
+    with_args : List Settled → RunItem
+    with_args args = record { caller = c; number = n; future = call.0; method = call.1.method; args = args }
+
+    same_count : ran_count c a g ≡ n
+    same_count = ap (λ (items : List RunItem). length (items_of c items)) r.runs
+
+    at : slice_get (calls_to a (calls_of c g)) n ≡ Some call
+    at = slice_get_front (calls_to a (calls_of c play.history)) (calls_to a (calls_of c g)) n call
+        (calls_to_grow a (calls_of c play.history) (calls_of c g) (r.calls c)) is.next.at
+
+    stands : (slice_get (calls_of c g) call.0 ≡ Some call.1) × (call.1.actor ≡ a)
+    stands = let s = calls_to-at a (calls_of c g) n call at in (s.at, s.actor)
+
+    settled_args : (list_all (is_known (kept_of c g)) call.1.args ≡ true)
+        × (map (settle (kept_of c g)) call.1.args ≡ map (settle (kept_of c play.history)) call.1.args)
+    settled_args = arguments_stay (kept_of c play.history) (kept_of c g) (r.kept c) call.1.args is.known
+
+    unanswered : kept_at (kept_of c g) call.0 ≡ None
+    unanswered = next_unanswered g a c call sound (ap (λ (m : ℕ). slice_get (calls_to a (calls_of c g)) m) same_count ∙ at)
+        (lives plans a play early r settled live)
+
+    letter : call_letter c call.0 call.1 g ≡ CallLetter c a n
+    letter = ap (λ (b : ℕ). CallLetter c b (number_of b call.0 (calls_of c g))) stands.1 ∙ ap (CallLetter c a) (number_is a n (calls_of c g) call at)
+
+    arrived : has_letter (CallLetter c a n) g.arrived ≡ true
+    arrived = subst (λ (l : Letter). has_letter l g.arrived ≡ true) letter
+        (settled.sent c call.0 call.1 stands.0 unanswered settled_args.0
+        (subst (λ (b : ℕ). is_ended b g ≡ false) (sym stands.1) (lives plans a play early r settled live)))
+
+-- ---- a kill
+
+any_front : (p : Step → Bool) (xs ys : List Step) → IsPrefix xs ys → list_any p xs ≡ true → list_any p ys ≡ true
+any_front p xs ys f e = subst (λ (l : List Step). list_any p l ≡ true) f.1 (list_any-append p xs f.0 ∙ first (list_any p xs) (list_any p f.0) e)
+  where
+    first : (x y : Bool) → x ≡ true → (x || y) ≡ true
+    first true y e = refl
+    first false y e = cc
+
+pub may_kill : (specs : List ActorSpec) (plans : ℕ → List Step) (a : ℕ) (play early : At) → IsPlay specs plans play → IsPlay specs plans early
+    → IsReached a play early → IsSettled plans early
+    → refusal_of play.history (event.TakeKill a) ≡ None → refusal_of early.history (event.TakeKill a) ≡ None
+may_kill specs plans a play early is goes r settled e =
+    let needed = take_needs play.history a e in
+    let cast : is_some (cast_of a early.history) ≡ true = ap (λ (o : Option ActorSpec). is_some o) (same_cast a play early r) ∙ needed.0 in
+    let live = lives plans a play early r settled needed.1 in
+    let by = asked_by specs plans a play is needed.2 in
+    let front : IsPrefix (done_steps plans by.0 play) (done_steps plans by.0 early) =
+    take-prefix (plans by.0) (steps_of by.0 play) (steps_of by.0 early) (r.steps by.0) in
+    let there = asks_all specs plans a early goes by.0 (any_front (is_kill_of a) (done_steps plans by.0 play) (done_steps plans by.0 early) front by.1) in
+    let asked : contains a early.history.asked ≡ true = go (contains a early.history.asked) (is_dead a early.history) (is_retired a early.history) there live in
+    rw (cast, live, asked) refl
+  where
+    go : (x y z : Bool) → (x || y) ≡ true → (y || z) ≡ false → x ≡ true
+    go true y z e f = refl
+    go false true z e f = cc
+    go false false z e f = cc

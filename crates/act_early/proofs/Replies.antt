@@ -1,0 +1,101 @@
+-- Replies and deaths, and what is collected.
+use Rattle.std.proofs.Common.{◌≡◌, ◌≢◌, ℕ, zero, suc, ◌+◌, ◌≤◌, true, false, List, [], ◌∷◌, ◌++◌, length, Option, Some, None, refl, ap, sym, ◌∙◌, subst, arith, Contains, length-append}
+use Rattle.std.specs.Prelude.{◌==◌, ◌&&◌, filter, filter_map, slice_get, Ok, Err}
+use Rattle.std.specs.List.{cons_option}
+use Rattle.std.proofs.lemmas.Bool.{eqb-true, eq-eqb, and_from}
+use Rattle.std.proofs.lemmas.List.{append-nil}
+use Rattle.act_types.specs.declared.call.Fault.{Fault}
+use Rattle.act_types.specs.declared.call.Fault.TheVariants.{NoMethod, BadArgs, Overflow, NoKey, BadAmount, Insufficient, NoItems, NoItem, KindFull, Dependency, ActorDied, Own}
+use Rattle.act_rules.specs.declared.history.Submission.{Submission}
+use Rattle.act_rules.specs.declared.history.Post.TheVariants.{Death as DeathPost}
+use Rattle.act_rules.specs.RunList.{Answer}
+use Rattle.act_rules.specs.Submissions.{kept_at}
+use Rattle.act_rules.specs.History.{History, names, cast_of, calls_of, kept_of, answer_in}
+use Rattle.act_rules.specs.Consistent.{IsPrefix}
+use Rattle.act_rules.proofs.Lists.{All_at}
+use Rattle.act_rules.proofs.Kept.{kept_at_is, kept_by}
+use Rattle.act_rules.proofs.AsSubmitted.{filter-slice_get}
+use Rattle.act_rules.proofs.Unique.{map-slice_get}
+use Rattle.act_rules.proofs.RanAll.{IsNamed, AllNamed}
+use Rattle.act_early.specs.Early.{is_reply}
+
+-- ---- replies
+
+pub reply_some : (o : Option Answer) → is_reply o ≡ true → (answer : Answer) × (o ≡ Some answer)
+reply_some None e = cc
+reply_some (Some answer) e = (answer, refl)
+
+pub reply_alive : (answer : Answer) → is_reply (Some answer) ≡ true → answer ≢ Err ActorDied
+reply_alive answer e died = let bad : is_reply (Some (Err ActorDied)) ≡ true = subst (λ (x : Answer). is_reply (Some x) ≡ true) died e in cc
+
+fault_died : (fault : Fault) → is_reply (Some (Err fault)) ≡ false → fault ≡ ActorDied
+fault_died NoMethod e = cc
+fault_died BadArgs e = cc
+fault_died Overflow e = cc
+fault_died NoKey e = cc
+fault_died BadAmount e = cc
+fault_died Insufficient e = cc
+fault_died NoItems e = cc
+fault_died NoItem e = cc
+fault_died KindFull e = cc
+fault_died (Dependency k) e = cc
+fault_died ActorDied e = refl
+fault_died (Own name) e = cc
+
+pub reply_died : (answer : Answer) → is_reply (Some answer) ≡ false → answer ≡ Err ActorDied
+reply_died (Ok value) e = cc
+reply_died (Err fault) e = ap (λ (f : Fault). Err f) (fault_died fault e)
+
+-- ---- a death that is collected
+
+-- what stands in a list and gives something: then some first gives something
+some_first : {A B : Type 0} (f : A → Option B) (xs : List A) (x : A) (y : B) → Contains xs x → f x ≡ Some y → (z : B) × (slice_get (filter_map f xs) 0 ≡ Some z)
+some_first f [] x y has gives = absurd (let below = has.1 in omega arith)
+some_first {A = A} {B = B} f (w ∷ xs) x y (zero, below, is) gives = go (f w) (ap f is ∙ gives)
+  where
+    go : (o : Option B) → o ≡ Some y → (z : B) × (slice_get (cons_option o (filter_map f xs)) 0 ≡ Some z)
+    go None e = cc
+    go (Some first) e = (first, refl)
+some_first {A = A} {B = B} f (w ∷ xs) x y (suc i, below, is) gives = go (f w) (some_first f xs x y (i, omega arith, is) gives)
+  where
+    go : (o : Option B) → (z : B) × (slice_get (filter_map f xs) 0 ≡ Some z) → (z : B) × (slice_get (cons_option o (filter_map f xs)) 0 ≡ Some z)
+    go None rest = rest
+    go (Some first) rest = (first, refl)
+
+-- a call to an actor whose death was collected has an answer
+pub death_answers : (h : History) (c k : ℕ) (call : Submission) → slice_get (calls_of c h) k ≡ Some call → Contains h.collected (DeathPost c call.actor)
+    → (answer : Answer) × (kept_at (kept_of c h) k ≡ Some answer)
+death_answers h c k call at has =
+    let both : ((c == c) && (call.actor == call.actor)) ≡ true =
+    and_from (c == c) (call.actor == call.actor) (eq-eqb c c refl) (eq-eqb call.actor call.actor refl) in
+    let gives : answer_in h c k call.actor (DeathPost c call.actor) ≡ Some (Err ActorDied) = rw both refl in
+    let first = some_first (answer_in h c k call.actor) h.collected (DeathPost c call.actor) (Err ActorDied) has gives in
+    (first.0, kept_at_is h c k ∙ ap (kept_by h c k) at ∙ first.1)
+
+-- ---- whom a call goes to
+
+pub named_call : (h : History) (c k : ℕ) (call : Submission) → AllNamed h → slice_get (calls_of c h) k ≡ Some call → names c (cast_of call.actor h) ≡ true
+named_call h c k call named at =
+    let pair = map-slice_get (λ (s : ℕ × Submission). s.1) (filter (λ (s : ℕ × Submission). s.0 == c) h.submitted) k call at in
+    let place = filter-slice_get (λ (s : ℕ × Submission). s.0 == c) h.submitted k pair.0 pair.1 in
+    let mine : pair.0.0 ≡ c = eqb-true pair.0.0 c place.passes in
+    let is : names pair.0.0 (cast_of pair.0.1.actor h) ≡ true = All_at (IsNamed h) h.submitted place.place pair.0 named place.at in
+    subst (λ (s : Submission). names c (cast_of s.actor h) ≡ true) pair.2 (subst (λ (x : ℕ). names x (cast_of pair.0.1.actor h) ≡ true) mine is)
+
+-- ---- fronts
+
+-- a front that is as long is all
+pub front_whole : {A : Type 0} (xs ys : List A) → IsPrefix xs ys → length ys ≤ length xs → xs ≡ ys
+front_whole {A = A} xs ys f short = go f.0 refl
+  where
+    long : length xs + length f.0 ≤ length xs
+    long = rw (← length-append xs f.0, f.1) short
+
+    go : (rest : List A) → f.0 ≡ rest → xs ≡ ys
+    go [] e = sym (append-nil xs) ∙ ap (λ (r : List A). xs ++ r) (sym e) ∙ f.1
+    go (x ∷ rest) e = let bad : length xs + length (x ∷ rest) ≤ length xs =
+        subst (λ (r : List A). length xs + length r ≤ length xs) e long in absurd (omega arith)
+
+pub front_short : {A : Type 0} (xs ys : List A) → IsPrefix xs ys → length xs ≤ length ys
+front_short {A = A} xs ys f = let sum : length (xs ++ f.0) ≡ length xs + length f.0 =
+    length-append xs f.0 in subst (λ (l : List A). length xs ≤ length l) f.1 (omega arith)

@@ -1,0 +1,139 @@
+-- Where a settled play ends as an ended one did, its actors can retire.
+use Rattle.std.proofs.Common.{◌≡◌, ℕ, Bool, true, false, cond, List, [], ◌∷◌, ◌++◌, Option, Some, None, refl, ap, sym, ◌∙◌, subst}
+use Rattle.std.specs.Prelude.{◌==◌, ◌||◌, find, slice_get, is_some}
+use Rattle.std.specs.List.{AllByRecursion}
+use Rattle.std.proofs.lemmas.Bool.{eqb-true, eq-eqb}
+use Rattle.act_rules.specs.declared.event.Event.TheVariants as event
+use Rattle.act_rules.specs.declared.history.Submission.{Submission}
+use Rattle.act_rules.specs.declared.script.Step.{Step}
+use Rattle.act_rules.specs.RunList.{Answer}
+use Rattle.act_rules.specs.Submissions.{kept_at}
+use Rattle.act_rules.specs.History.{ActorSpec, contains, cast_of, is_dead, is_retired, is_ended}
+use Rattle.act_rules.specs.Rules.{refusal_of}
+use Rattle.act_early.specs.Plays.{At, IsPlay, Happens}
+use Rattle.act_early.specs.Early.{IsSettled, IsEnded, EndsAlike}
+use Rattle.act_early.specs.Settling.{IsSameEnd}
+use Rattle.act_early.proofs.Worlds.{IsWorld, world, contains_push, either_of, or_second, not_dead, retire_needs}
+use Rattle.act_early.proofs.Listed.{all_actors, all_listed}
+
+-- the play, with these actors retired
+abbrev pub with_retired : At → List ℕ → At
+with_retired p retired = record { history = record p.history { retired = retired }; stepped = p.stepped }
+
+-- some of the actors that retired in the late play, and all of these
+record HasRetired (specs : List ActorSpec) (plans : ℕ → List Step) (early late : At) (xs before : List ℕ) : Type 0 where
+  now : List ℕ
+  play : IsPlay specs plans (with_retired early now)
+  only : (a : ℕ) → contains a now ≡ true → is_retired a late.history ≡ true
+  stay : (a : ℕ) → contains a before ≡ true → contains a now ≡ true
+  all : AllByRecursion (λ a. is_retired a late.history ≡ true → contains a now ≡ true) xs
+
+first_or : (x y : Bool) → x ≡ true → (x || y) ≡ true
+first_or true y e = refl
+first_or false y e = cc
+
+-- one actor more
+retire_one : (specs : List ActorSpec) (plans : ℕ → List Step) (early late : At) (x : ℕ) (before : List ℕ) → EndsAlike plans early late.history
+    → IsPlay specs plans (with_retired early before) → ((a : ℕ) → contains a before ≡ true → is_retired a late.history ≡ true)
+    → HasRetired specs plans early late (x ∷ []) before
+retire_one specs plans early late x before ends play only = go (is_retired x late.history) (contains x before) refl refl
+  where
+    go : (r b : Bool) → is_retired x late.history ≡ r → contains x before ≡ b → HasRetired specs plans early late (x ∷ []) before
+    go false b is has = record { now = before; play = play; only = only; stay = λ a e. e; all = ((λ yes. let bad : true ≡ false = sym yes ∙ is in cc), tt) }
+    go true true is has = record { now = before; play = play; only = only; stay = λ a e. e; all = ((λ _. has), tt) }
+    go true false is has =
+        let needed = retire_needs early.history x (ends.retires x is) in
+        let alive : is_ended x (with_retired early before).history ≡ false =
+        ap (λ (d : Bool). d || contains x before) (not_dead x early.history needed.1) ∙ has in
+        let may : refusal_of (with_retired early before).history (event.Retire x) ≡ None = rw (needed.0, alive, needed.2) refl in
+        record {
+          now = before ++ x ∷ [];
+          play = Happens (with_retired early before) (event.Retire x) play refl may;
+          only = λ a e. either_of (contains a before) (x == a) (is_retired a late.history ≡ true) (sym (contains_push a x before) ∙ e) (only a)
+              (λ same. subst (λ (y : ℕ). is_retired y late.history ≡ true) (eqb-true x a same) is);
+          stay = λ a e. contains_push a x before ∙ first_or (contains a before) (x == a) e;
+          all = ((λ _. contains_push x x before ∙ or_second (contains x before) (x == x) (eq-eqb x x refl)), tt);
+        }
+
+retire_all : (specs : List ActorSpec) (plans : ℕ → List Step) (early late : At) (xs before : List ℕ) → EndsAlike plans early late.history
+    → IsPlay specs plans (with_retired early before) → ((a : ℕ) → contains a before ≡ true → is_retired a late.history ≡ true)
+    → HasRetired specs plans early late xs before
+retire_all specs plans early late [] before ends play only = record { now = before; play = play; only = only; stay = λ a e. e; all = tt }
+retire_all specs plans early late (x ∷ xs) before ends play only =
+    let one = retire_one specs plans early late x before ends play only in
+    let rest = retire_all specs plans early late xs one.now ends one.play one.only in
+    record {
+      now = rest.now;
+      play = rest.play;
+      only = rest.only;
+      stay = λ a e. rest.stay a (one.stay a e);
+      all = ((λ yes. rest.stay x (one.all.0 yes)), rest.all);
+    }
+
+-- an actor with a cast is listed
+cast_listed : (a : ℕ) (casts : List ActorSpec) → is_some (find (λ (cast : ActorSpec). cast.actor == a) casts) ≡ true → contains a (all_actors casts) ≡ true
+cast_listed a [] e = cc
+cast_listed a (cast ∷ casts) e = go (cast.actor == a) (cast_listed a casts) e
+  where
+    Rest : Type 0
+    Rest = is_some (find (λ (cast : ActorSpec). cast.actor == a) casts) ≡ true → contains a (all_actors casts) ≡ true
+
+    go : (x : Bool) → Rest → is_some (cond x (Some cast) (find (λ (cast : ActorSpec). cast.actor == a) casts)) ≡ true
+        → (x || contains a (all_actors casts)) ≡ true
+    go true rest e = refl
+    go false rest e = rest e
+
+same_truth : (x y : Bool) → (x ≡ true → y ≡ true) → (y ≡ true → x ≡ true) → x ≡ y
+same_truth true y f g = sym (f refl)
+same_truth false true f g = g refl
+same_truth false false f g = refl
+
+pub retired_play : (casts : List ActorSpec) (plans : ℕ → List Step) (early late : At) → IsPlay casts plans early → IsSettled plans early
+    → IsPlay casts plans late → IsEnded plans late → EndsAlike plans early late.history
+    → (end : At) × IsPlay casts plans end × IsEnded plans end × IsSameEnd end.history late.history
+retired_play casts plans early late play settled goes ended ends = (end, done.play, is_ended_there, same)
+  where
+    begun : IsPlay casts plans (with_retired early [])
+    begun = subst (λ (xs : List ℕ). IsPlay casts plans (with_retired early xs)) settled.live play
+
+    done : HasRetired casts plans early late (all_actors casts) []
+    done = retire_all casts plans early late (all_actors casts) [] ends begun (λ a e. cc)
+
+    end : At
+    end = with_retired early done.now
+
+    w : IsWorld casts late.history
+    w = world casts plans late goes
+
+    listed : (a : ℕ) → is_retired a late.history ≡ true → contains a (all_actors casts) ≡ true
+    listed a retired = cast_listed a casts (ap (λ (l : List ActorSpec). is_some (find (λ (cast : ActorSpec). cast.actor == a) l)) (sym w.casts)
+        ∙ w.cast a retired)
+
+    same : IsSameEnd end.history late.history
+    same = record {
+      calls = ends.calls;
+      kept = ends.kept;
+      runs = ends.runs;
+      dead = ends.dead;
+      retired = λ a. same_truth (contains a done.now) (is_retired a late.history) (done.only a)
+          (λ yes. all_listed (λ a. is_retired a late.history ≡ true → contains a done.now ≡ true) (all_actors casts) a done.all (listed a yes) yes);
+    }
+
+    alike_casts : end.history.casts ≡ late.history.casts
+    alike_casts = (world casts plans early play).casts ∙ sym w.casts
+
+    is_ended_there : IsEnded plans end
+    is_ended_there = record {
+      done = ends.done;
+      over = record {
+        answered = λ c k call at.
+            ap (λ (l : List (Option Answer)). is_some (kept_at l k)) (ends.kept c)
+            ∙ ended.over.answered c k call (ap (λ (l : List Submission). slice_get l k) (sym (ends.calls c)) ∙ at);
+        ended = λ a cast.
+            let there : is_some (cast_of a late.history) ≡ true =
+            ap (λ (l : List ActorSpec). is_some (find (λ (cast : ActorSpec). cast.actor == a) l)) (sym alike_casts) ∙ cast in
+            ap (λ (x : Bool). x || contains a done.now) (ends.dead a)
+            ∙ ap (λ (x : Bool). is_dead a late.history || x) (same.retired a)
+            ∙ ended.over.ended a there;
+      };
+    }

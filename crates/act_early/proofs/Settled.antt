@@ -1,0 +1,107 @@
+-- A play can be settled: deaths told, steps taken, handles let go, letters sent and delivered.
+use Rattle.std.proofs.Common.{◌≡◌, ℕ, true, List, Option, Some, None, refl, ap, sym, ◌∙◌, subst}
+use Rattle.std.specs.Prelude.{◌==◌, find, is_some, option_map}
+use Rattle.std.specs.List.{AllByRecursion}
+use Rattle.act_rules.specs.declared.script.Step.{Step}
+use Rattle.act_rules.specs.declared.script.Step.TheVariants.{Submit, Copy, Release, Kill, Await}
+use Rattle.act_rules.specs.declared.outcome.WorldRefusal.TheVariants.{Submit as SubmitRefused, Handle, NoCaller}
+use Rattle.act_rules.specs.RunList.{Answer}
+use Rattle.act_rules.specs.Submissions.{kept_at, copy_refusal, handle_refusal}
+use Rattle.act_rules.specs.History.{ActorSpec, History, contains, names, cast_of, is_caller, copies_of, kept_of}
+use Rattle.act_rules.specs.Rules.{submission_refusal}
+use Rattle.act_rules.proofs.Ended.{needs-none}
+use Rattle.act_rules.proofs.RanAll.{copies_named}
+use Rattle.act_rules.proofs.Sound.{kept_from}
+use Rattle.act_early.specs.Plays.{At, MayTake}
+use Rattle.act_early.specs.Early.{IsSettled}
+use Rattle.act_early.proofs.Worlds.{IsWorld, world}
+use Rattle.act_early.proofs.Replies.{named_call}
+use Rattle.act_early.proofs.Settles.{Settles, settles_trans}
+use Rattle.act_early.proofs.Listed.{all_callers, all_actors, caller_listed, named_caller, actor_listed, all_listed, IsOpen}
+use Rattle.act_early.proofs.Telling.{IsTold, told_stays, settling, tell_all}
+use Rattle.act_early.proofs.Stepping.{IsStuck, going_on, step_all}
+use Rattle.act_early.proofs.Closing.{IsClosed, closing_on, close_all}
+use Rattle.act_early.proofs.Mailing.{IsSent, IsNoted, mailing, send_all, note_all}
+
+-- ---- who does anything is listed
+
+pub named_as_listed : (specs : List ActorSpec) (h : History) (c a : ℕ) → h.casts ≡ specs → names c (cast_of a h) ≡ true
+    → (contains c (all_callers specs) ≡ true) × (contains a (all_actors specs) ≡ true)
+named_as_listed specs h c a casts named =
+    let there : names c (find (λ (cast : ActorSpec). cast.actor == a) specs) ≡ true =
+    ap (λ (l : List ActorSpec). names c (find (λ (cast : ActorSpec). cast.actor == a) l)) (sym casts) ∙ named in
+    (caller_listed c specs (named_caller c a specs there), actor_listed c a specs there)
+
+caller_as_listed : (specs : List ActorSpec) (h : History) (c : ℕ) → h.casts ≡ specs → is_caller c h ≡ true → contains c (all_callers specs) ≡ true
+caller_as_listed specs h c casts is = subst (λ (l : List ActorSpec). contains c (all_callers l) ≡ true) casts (caller_listed c h.casts is)
+
+pub may_listed : (specs : List ActorSpec) (h : History) (c : ℕ) (step : Step) → IsWorld specs h → MayTake c step h → contains c (all_callers specs) ≡ true
+may_listed specs h c (Submit a method args) w may =
+    caller_as_listed specs h c w.casts (needs-none (is_caller c h) NoCaller (option_map SubmitRefused (submission_refusal c a args h)) may).0
+may_listed specs h c (Copy a) w may = caller_as_listed specs h c w.casts
+    (needs-none (is_caller c h) NoCaller (option_map Handle (copy_refusal (copies_of c a h))) may).0
+may_listed specs h c (Release a) w may =
+    caller_as_listed specs h c w.casts (needs-none (is_caller c h) NoCaller (option_map Handle (handle_refusal (copies_of c a h))) may).0
+may_listed specs h c (Kill a) w may = caller_as_listed specs h c w.casts
+    (needs-none (is_caller c h) NoCaller (option_map Handle (handle_refusal (copies_of c a h))) may).0
+may_listed specs h c (Await k) w may = go (kept_at (kept_of c h) k) refl may
+  where
+    go : (o : Option Answer) → kept_at (kept_of c h) k ≡ o → is_some o ≡ true → contains c (all_callers specs) ≡ true
+    go None e some = cc
+    go (Some answer) e some =
+        let from = kept_from h c k answer w.sound.posts e in
+        (named_as_listed specs h c from.call.actor w.casts (named_call h c k from.call w.retires.named from.at)).0
+
+-- ---- what holds for all that are listed holds for all
+
+abbrev ForBoth : List ActorSpec → (ℕ → ℕ → Type 0) → Type 0
+ForBoth specs P = AllByRecursion (λ c. AllByRecursion (P c) (all_actors specs)) (all_callers specs)
+
+for_named : (specs : List ActorSpec) (h : History) (P : ℕ → ℕ → Type 0) → h.casts ≡ specs → ForBoth specs P → (c a : ℕ) → names c (cast_of a h) ≡ true → P c a
+for_named specs h P casts all c a named =
+    let listed = named_as_listed specs h c a casts named in
+    all_listed (P c) (all_actors specs) a (all_listed (λ c. AllByRecursion (P c) (all_actors specs)) (all_callers specs) c all listed.0) listed.1
+
+-- ---- all of it
+
+pub record IsDone (specs : List ActorSpec) (plans : ℕ → List Step) (p q : At) : Type 0 where
+  pub settles : Settles specs plans p q
+  pub settled : IsSettled plans q
+
+pub settle : (specs : List ActorSpec) (plans : ℕ → List Step) (p : At) → IsOpen specs plans p → (q : At) × IsDone specs plans p q
+settle specs plans p begun =
+    let one = tell_all specs plans p begun in
+    let two = step_all specs plans one.0 ((settling specs plans).opens p one.0 one.1) in
+    let three = close_all specs plans two.0 ((going_on specs plans).opens one.0 two.0 two.1) in
+    let four = send_all specs plans three.0 ((closing_on specs plans).opens two.0 three.0 three.1) in
+    let five = note_all specs plans four.0 ((mailing specs plans).opens three.0 four.0 four.1) in
+    let q = five.0 in
+    let mails = (mailing specs plans).joins three.0 four.0 q four.1 five.1 in
+    let w = world specs plans q five.1.settles.play in
+    let first = world specs plans one.0 one.1.play in
+    let later = settles_trans specs plans one.0 two.0 q two.1.settles (settles_trans specs plans two.0 three.0 q three.1.settles mails.settles) in (
+      q,
+      record {
+        settles = settles_trans specs plans p one.0 q one.1 later;
+        settled = record {
+          waits = λ c step next may.
+              let listed = may_listed specs q.history c step w may in
+              let stuck : IsStuck plans c two.0 = all_listed (λ c. IsStuck plans c two.0) (all_callers specs) c two.2 listed in
+              (mails.stuck c (three.1.stuck c stuck)).waits step next may;
+          needs = λ c a next named.
+              let listed = (named_as_listed specs q.history c a w.casts named).0 in
+              let stuck : IsStuck plans c two.0 = all_listed (λ c. IsStuck plans c two.0) (all_callers specs) c two.2 listed in
+              (mails.stuck c (three.1.stuck c stuck)).needs a next named;
+          closed = λ c a next named. mails.closed c a (for_named specs q.history (IsClosed plans three.0) w.casts three.2 c a named) next named;
+          sent = λ c k call at none known live.
+              let listed = (named_as_listed specs q.history c call.actor w.casts (named_call q.history c k call w.retires.named at)).0 in
+              let sent : (k : ℕ) → IsSent four.0 c k = all_listed (λ c. (k : ℕ) → IsSent four.0 c k) (all_callers specs) c four.2 listed in
+              five.1.sent c k (sent k) call at none known live;
+          noted = λ c a gone live.
+              let named = copies_named c a q.history (ap (λ (o : Option ℕ). is_some o) gone) in
+              for_named specs q.history (IsNoted q) w.casts five.2 c a named gone live;
+          told = λ c a dead named. told_stays specs plans one.0 q later c a (for_named specs q.history (IsTold one.0) w.casts one.2 c a named) dead named;
+          live = five.1.settles.live;
+        };
+      },
+    )

@@ -1,0 +1,178 @@
+-- Going on without a choice.
+use Rattle.std.proofs.Common.{◌≡◌, ℕ, Bool, true, false, List, [], ◌∷◌, ◌++◌, Option, Some, None, refl, ap, sym, ◌∙◌, subst}
+use Rattle.std.specs.Prelude.{◌==◌, ◌||◌, find, slice_get, is_some}
+use Rattle.act_rules.specs.declared.event.Event.{Event}
+use Rattle.act_rules.specs.declared.event.Event.TheVariants as event
+use Rattle.act_rules.specs.declared.history.RunItem.{RunItem}
+use Rattle.act_rules.specs.declared.history.Post.{Post}
+use Rattle.act_rules.specs.declared.history.Post.TheVariants.{Death as DeathPost}
+use Rattle.act_rules.specs.declared.script.Step.{Step}
+use Rattle.act_rules.specs.declared.script.Step.TheVariants.{Submit, Copy, Release, Kill, Await}
+use Rattle.act_rules.specs.History.{ActorSpec, History, under, contains, cast_of, names, runs_of, is_dead}
+use Rattle.act_rules.specs.Rules.{refusal_of, add_event, and_also}
+use Rattle.act_rules.specs.Consistent.{IsPrefix}
+use Rattle.act_rules.specs.RunList.{has_terminated}
+use Rattle.act_rules.proofs.Lists.{whole_front, front_trans}
+use Rattle.act_rules.proofs.Growth.{added_grows}
+use Rattle.act_early.specs.Plays.{At, next_step, MayTake, taken, skipped, with_event, IsPlay, Takes, Skips, Happens}
+use Rattle.act_early.specs.Early.{choices_of}
+use Rattle.act_early.proofs.Worlds.{world}
+use Rattle.act_early.proofs.Choices.{choices_quiet, choices_same, heard_more, death_no_reply}
+
+-- the second play goes on from the first, and made no choice more
+pub record Settles (specs : List ActorSpec) (plans : ℕ → List Step) (p q : At) : Type 0 where
+  pub play : IsPlay specs plans q
+  pub live : q.history.retired ≡ []
+  pub choices : (a : ℕ) → choices_of a q.history ≡ choices_of a p.history
+  pub killed : q.history.killed ≡ p.history.killed
+  pub ran : q.history.ran ≡ p.history.ran
+  pub casts : q.history.casts ≡ p.history.casts
+  pub collected : IsPrefix p.history.collected q.history.collected
+  pub arrived : IsPrefix p.history.arrived q.history.arrived
+
+pub settles_same : (specs : List ActorSpec) (plans : ℕ → List Step) (p : At) → IsPlay specs plans p → p.history.retired ≡ [] → Settles specs plans p p
+settles_same specs plans p play live = record {
+  play = play;
+  live = live;
+  choices = λ a. refl;
+  killed = refl;
+  ran = refl;
+  casts = refl;
+  collected = whole_front p.history.collected;
+  arrived = whole_front p.history.arrived;
+}
+
+pub settles_trans : (specs : List ActorSpec) (plans : ℕ → List Step) (p q r : At) → Settles specs plans p q → Settles specs plans q r → Settles specs plans p r
+settles_trans specs plans p q r one two = record {
+  play = two.play;
+  live = two.live;
+  choices = λ a. two.choices a ∙ one.choices a;
+  killed = two.killed ∙ one.killed;
+  ran = two.ran ∙ one.ran;
+  casts = two.casts ∙ one.casts;
+  collected = front_trans p.history.collected q.history.collected r.history.collected one.collected two.collected;
+  arrived = front_trans p.history.arrived q.history.arrived r.history.arrived one.arrived two.arrived;
+}
+
+-- ---- events
+
+-- what an event leaves that is no choice, and collects nothing
+abbrev pub is_quiet : Event → Bool
+is_quiet (event.Submit c a method args) = true
+is_quiet (event.Copy c a) = true
+is_quiet (event.Release c a) = true
+is_quiet (event.Send c k) = true
+is_quiet (event.Deliver i) = true
+is_quiet (event.Run a c) = false
+is_quiet (event.Collect j) = false
+is_quiet (event.AskKill c a) = true
+is_quiet (event.TakeKill a) = false
+is_quiet (event.Tell a c) = true
+is_quiet (event.Retire a) = false
+
+record IsQuiet (h g : History) : Type 0 where
+  ran : g.ran ≡ h.ran
+  collected : g.collected ≡ h.collected
+  killed : g.killed ≡ h.killed
+  retired : g.retired ≡ h.retired
+
+quiet : (h : History) (other : Event) → is_quiet other ≡ true → IsQuiet h (add_event h other)
+quiet h (event.Submit c a method args) e = record { ran = refl; collected = refl; killed = refl; retired = refl }
+quiet h (event.Copy c a) e = record { ran = refl; collected = refl; killed = refl; retired = refl }
+quiet h (event.Release c a) e = record { ran = refl; collected = refl; killed = refl; retired = refl }
+quiet h (event.Send c k) e = record { ran = refl; collected = refl; killed = refl; retired = refl }
+quiet h (event.Deliver i) e = record { ran = refl; collected = refl; killed = refl; retired = refl }
+quiet h (event.Run a c) e = cc
+quiet h (event.Collect j) e = cc
+quiet h (event.AskKill c a) e = record { ran = refl; collected = refl; killed = refl; retired = refl }
+quiet h (event.TakeKill a) e = cc
+quiet h (event.Tell a c) e = record { ran = refl; collected = refl; killed = refl; retired = refl }
+quiet h (event.Retire a) e = cc
+
+-- a play of which only the history and the callers' places changed
+pub quiet_settles : (specs : List ActorSpec) (plans : ℕ → List Step) (other : Event) (p q : At) → IsPlay specs plans p → p.history.retired ≡ []
+    → is_quiet other ≡ true → q.history ≡ add_event p.history other → IsPlay specs plans q → Settles specs plans p q
+quiet_settles specs plans other p q play live e is goes =
+    let h = p.history in
+    let calm = quiet h other e in
+    let grows = added_grows h other in
+    subst (λ (g : History). Settles specs plans p (record { history = g; stepped = q.stepped })) (sym is) (record {
+      play = subst (λ (g : History). IsPlay specs plans (record { history = g; stepped = q.stepped })) is goes;
+      live = calm.retired ∙ live;
+      choices = λ a. choices_quiet h other a (world specs plans p play).sound calm.ran calm.collected;
+      killed = calm.killed;
+      ran = calm.ran;
+      casts = grows.casts;
+      collected = grows.collected;
+      arrived = grows.arrived;
+    })
+
+pub step_settles : (specs : List ActorSpec) (plans : ℕ → List Step) (c : ℕ) (step : Step) (p : At) → IsPlay specs plans p → p.history.retired ≡ []
+    → next_step plans c p ≡ Some step → MayTake c step p.history → Settles specs plans p (taken c step p)
+step_settles specs plans c (Submit a method args) p play live next may =
+    quiet_settles specs plans (event.Submit c a method args) p (taken c (Submit a method args) p) play live refl refl
+    (Takes p c (Submit a method args) play next may)
+step_settles specs plans c (Copy a) p play live next may =
+    quiet_settles specs plans (event.Copy c a) p (taken c (Copy a) p) play live refl refl (Takes p c (Copy a) play next may)
+step_settles specs plans c (Release a) p play live next may =
+    quiet_settles specs plans (event.Release c a) p (taken c (Release a) p) play live refl refl (Takes p c (Release a) play next may)
+step_settles specs plans c (Kill a) p play live next may =
+    quiet_settles specs plans (event.AskKill c a) p (taken c (Kill a) p) play live refl refl (Takes p c (Kill a) play next may)
+step_settles specs plans c (Await k) p play live next may = record {
+  play = Takes p c (Await k) play next may;
+  live = live;
+  choices = λ a. refl;
+  killed = refl;
+  ran = refl;
+  casts = refl;
+  collected = whole_front p.history.collected;
+  arrived = whole_front p.history.arrived;
+}
+
+pub skip_settles : (specs : List ActorSpec) (plans : ℕ → List Step) (c a : ℕ) (p : At) → IsPlay specs plans p → p.history.retired ≡ []
+    → next_step plans c p ≡ Some (Kill a) → names c (cast_of a p.history) ≡ true → is_dead a p.history ≡ true → Settles specs plans p (skipped c p)
+skip_settles specs plans c a p play live next named dead = record {
+  play = Skips p c a play next named dead;
+  live = live;
+  choices = λ a. refl;
+  killed = refl;
+  ran = refl;
+  casts = refl;
+  collected = whole_front p.history.collected;
+  arrived = whole_front p.history.arrived;
+}
+
+-- a collected death
+pub death_settles : (specs : List ActorSpec) (plans : ℕ → List Step) (j c a : ℕ) (p : At) → IsPlay specs plans p → p.history.retired ≡ []
+    → slice_get p.history.posts j ≡ Some (DeathPost c a) → Settles specs plans p (with_event (event.Collect j) p)
+death_settles specs plans j c a p play live at = record {
+  play = Happens p (event.Collect j) play refl may;
+  live = live;
+  choices = λ b. choices_same h (add_event h (event.Collect j)) b refl (λ place item there.
+      heard_more h (add_event h (event.Collect j)) b place item (DeathPost c a) (added_grows h (event.Collect j)) (world specs plans p play).sound more there
+      (λ d. death_no_reply (add_event h (event.Collect j)) item.caller item.future d c a));
+  killed = refl;
+  ran = refl;
+  casts = refl;
+  collected = (added_grows h (event.Collect j)).collected;
+  arrived = whole_front h.arrived;
+}
+  where
+    h : History
+    h = p.history
+
+    may : refusal_of h (event.Collect j) ≡ None
+    may = let some : is_some (slice_get h.posts j) ≡ true = ap (λ (o : Option Post). is_some o) at in rw some refl
+
+    more : and_also h.collected (slice_get h.posts j) ≡ h.collected ++ DeathPost c a ∷ []
+    more = ap (and_also h.collected) at
+
+-- ---- what stays
+
+pub dead_same : (specs : List ActorSpec) (plans : ℕ → List Step) (p q : At) (a : ℕ) → Settles specs plans p q → is_dead a q.history ≡ is_dead a p.history
+dead_same specs plans p q a s =
+    ap (λ (xs : List ℕ). contains a xs || has_terminated (runs_of a q.history)) s.killed
+    ∙ ap (λ (l : List (ℕ × RunItem)). contains a p.history.killed || has_terminated (under a l)) s.ran
+
+pub cast_same : (specs : List ActorSpec) (plans : ℕ → List Step) (p q : At) (a : ℕ) → Settles specs plans p q → cast_of a q.history ≡ cast_of a p.history
+cast_same specs plans p q a s = ap (λ (l : List ActorSpec). find (λ (cast : ActorSpec). cast.actor == a) l) s.casts

@@ -1,0 +1,175 @@
+-- What every play of plans leaves is a world: each of its parts fits the others.
+use Rattle.std.proofs.Common.{◌≡◌, ℕ, Bool, true, false, List, [], ◌∷◌, ◌++◌, Some, None, refl, sym, ◌∙◌, subst}
+use Rattle.std.specs.Prelude.{Option, ◌==◌, ◌||◌, not, is_some}
+use Rattle.std.proofs.lemmas.Bool.{eqb-true, not-true}
+use Rattle.std.proofs.lemmas.List.Folds.{list_any-append}
+use Rattle.act_rules.specs.declared.event.Event.TheVariants as event
+use Rattle.act_rules.specs.declared.history.RunItem.{RunItem}
+use Rattle.act_rules.specs.declared.outcome.WorldRefusal.TheVariants.{Handle, ActorEnded, NoKill, NotDrained}
+use Rattle.act_rules.specs.declared.outcome.HandleRefusal.TheVariants.{NoActor}
+use Rattle.act_rules.specs.declared.script.Step.{Step}
+use Rattle.act_rules.specs.declared.script.Step.TheVariants.{Submit, Copy, Release, Kill, Await}
+use Rattle.act_rules.specs.RunList.{has_terminated}
+use Rattle.act_rules.specs.Submissions.{needs}
+use Rattle.act_rules.specs.History.{ActorSpec, History, opening, contains, runs_of, cast_of, is_dead, is_retired, is_ended, is_drained, next_item}
+use Rattle.act_rules.specs.Rules.{refusal_of, add_event, after_run}
+use Rattle.act_rules.proofs.Steps.{IsKept}
+use Rattle.act_rules.proofs.Growth.{added_grows}
+use Rattle.act_rules.proofs.Ended.{needs-none, ended_stays, NothingFollows, nothing_follows_step}
+use Rattle.act_rules.proofs.Sound.{IsSound, sound_step, world_sound}
+use Rattle.act_rules.proofs.RanAll.{Retires, retires_step, world_retires}
+use Rattle.act_early.specs.Plays.{At, after_step, MayTake, IsPlay, Opens, Takes, Skips, Closes, Happens}
+
+-- ---- what each event keeps holds of every play
+
+pub step_keeps : (P : History → Type 0) → IsKept P → (c : ℕ) (step : Step) (h : History) → P h → MayTake c step h → P (after_step c step h)
+step_keeps P kept c (Submit a method args) h held may = kept h (event.Submit c a method args) held may
+step_keeps P kept c (Copy a) h held may = kept h (event.Copy c a) held may
+step_keeps P kept c (Release a) h held may = kept h (event.Release c a) held may
+step_keeps P kept c (Kill a) h held may = kept h (event.AskKill c a) held may
+step_keeps P kept c (Await k) h held may = held
+
+pub play_keeps : (P : History → Type 0) → IsKept P → (casts : List ActorSpec) (plans : ℕ → List Step) (at : At) → P (opening casts) → IsPlay casts plans at
+    → P at.history
+play_keeps P kept casts plans at first Opens = first
+play_keeps P kept casts plans at first (Takes before c step play is may) =
+    step_keeps P kept c step before.history (play_keeps P kept casts plans before first play) may
+play_keeps P kept casts plans at first (Skips before c a play is named dead) = play_keeps P kept casts plans before first play
+play_keeps P kept casts plans at first (Closes before c a play is may) =
+    kept before.history (event.Release c a) (play_keeps P kept casts plans before first play) may
+play_keeps P kept casts plans at first (Happens before other play free may) = kept before.history other (play_keeps P kept casts plans before first play) may
+
+-- ---- a retired actor isn't dead
+
+pub contains_push : (a b : ℕ) (xs : List ℕ) → contains a (xs ++ b ∷ []) ≡ (contains a xs || (b == a))
+contains_push a b xs = list_any-append (λ m. m == a) xs (b ∷ []) ∙ go (contains a xs) (b == a)
+  where
+    go : (x y : Bool) → (x || (y || false)) ≡ (x || y)
+    go true y = refl
+    go false true = refl
+    go false false = refl
+
+pub either_of : (x y : Bool) (P : Type 0) → (x || y) ≡ true → (x ≡ true → P) → (y ≡ true → P) → P
+either_of true y P e f g = f refl
+either_of false y P e f g = g e
+
+pub or_second : (x y : Bool) → y ≡ true → (x || y) ≡ true
+or_second true y e = refl
+or_second false y e = e
+
+pub take_needs : (h : History) (a : ℕ) → refusal_of h (event.TakeKill a) ≡ None
+    → (is_some (cast_of a h) ≡ true) × (is_ended a h ≡ false) × (contains a h.asked ≡ true)
+take_needs h a e =
+    let first = needs-none (is_some (cast_of a h)) (Handle NoActor) (needs (not (is_ended a h)) ActorEnded (needs (contains a h.asked) NoKill None)) e in
+    let second = needs-none (not (is_ended a h)) ActorEnded (needs (contains a h.asked) NoKill None) first.1 in
+    (first.0, not-true (is_ended a h) second.0, (needs-none (contains a h.asked) NoKill None second.1).0)
+
+pub retire_needs : (h : History) (a : ℕ) → refusal_of h (event.Retire a) ≡ None
+    → (is_some (cast_of a h) ≡ true) × (is_ended a h ≡ false) × (is_drained a h ≡ true)
+retire_needs h a e =
+    let first = needs-none (is_some (cast_of a h)) (Handle NoActor) (needs (not (is_ended a h)) ActorEnded (needs (is_drained a h) NotDrained None)) e in
+    let second = needs-none (not (is_ended a h)) ActorEnded (needs (is_drained a h) NotDrained None) first.1 in
+    (first.0, not-true (is_ended a h) second.0, (needs-none (is_drained a h) NotDrained None second.1).0)
+
+pub not_dead : (a : ℕ) (h : History) → is_ended a h ≡ false → is_dead a h ≡ false
+not_dead a h e = go (is_dead a h) (is_retired a h) e
+  where
+    go : (x y : Bool) → (x || y) ≡ false → x ≡ false
+    go false y e = refl
+    go true y e = cc
+
+abbrev pub RetiredLive : History → Type 0
+RetiredLive h = (a : ℕ) → is_retired a h ≡ true → is_dead a h ≡ false
+
+retired_run : (h : History) (b c : ℕ) → RetiredLive h → refusal_of h (event.Run b c) ≡ None → RetiredLive (add_event h (event.Run b c))
+retired_run h b c live accepted a retired = go (next_item b c h) refl retired
+  where
+    go : (o : Option RunItem) → next_item b c h ≡ o → is_retired a (after_run b c h o) ≡ true → is_dead a (after_run b c h o) ≡ false
+    go None e r = live a r
+    go (Some item) e r =
+        let ended : is_ended a h ≡ true = or_second (is_dead a h) (is_retired a h) r in
+        let same = (ended_stays a (runs_of a h) h (event.Run b c) (record { ended = ended; same = refl }) accepted).same in
+        let same' : runs_of a (after_run b c h (Some item)) ≡ runs_of a h =
+        subst (λ (o : Option RunItem). runs_of a (after_run b c h o) ≡ runs_of a h) e same in
+        subst (λ (items : List RunItem). (contains a h.killed || has_terminated items) ≡ false) (sym same') (live a r)
+
+pub retired_live_step : IsKept RetiredLive
+retired_live_step h (event.Submit c b method args) live accepted a retired = live a retired
+retired_live_step h (event.Copy c b) live accepted a retired = live a retired
+retired_live_step h (event.Release c b) live accepted a retired = live a retired
+retired_live_step h (event.Send c k) live accepted a retired = live a retired
+retired_live_step h (event.Deliver i) live accepted a retired = live a retired
+retired_live_step h (event.Run b c) live accepted a retired = retired_run h b c live accepted a retired
+retired_live_step h (event.Collect j) live accepted a retired = live a retired
+retired_live_step h (event.AskKill c b) live accepted a retired = live a retired
+retired_live_step h (event.TakeKill b) live accepted a retired = go (b == a) refl
+  where
+    go : (same : Bool) → (b == a) ≡ same → (contains a (h.killed ++ b ∷ []) || has_terminated (runs_of a h)) ≡ false
+    go true e =
+        let is : b ≡ a = eqb-true b a e in
+        let ended : is_ended a h ≡ true = or_second (is_dead a h) (is_retired a h) retired in
+        let lives : is_ended a h ≡ false = subst (λ (x : ℕ). is_ended x h ≡ false) is (take_needs h b accepted).1 in
+        let bad : true ≡ false = sym ended ∙ lives in cc
+    go false e = rw (contains_push a b h.killed, e) (let l = live a retired in more (contains a h.killed) (has_terminated (runs_of a h)) l)
+      where
+        more : (x y : Bool) → (x || y) ≡ false → ((x || false) || y) ≡ false
+        more false y e = e
+        more true y e = cc
+retired_live_step h (event.Tell b c) live accepted a retired = live a retired
+retired_live_step h (event.Retire b) live accepted a retired =
+    either_of (contains a h.retired) (b == a) (is_dead a h ≡ false) (sym (contains_push a b h.retired) ∙ retired) (live a)
+    (λ e. not_dead a h (subst (λ (x : ℕ). is_ended x h ≡ false) (eqb-true b a e) (retire_needs h b accepted).1))
+
+-- ---- a retired actor has a cast
+
+abbrev pub RetiredCast : History → Type 0
+RetiredCast h = (a : ℕ) → is_retired a h ≡ true → is_some (cast_of a h) ≡ true
+
+pub retired_cast_step : IsKept RetiredCast
+retired_cast_step h (event.Submit c b method args) cast accepted a retired = cast a retired
+retired_cast_step h (event.Copy c b) cast accepted a retired = cast a retired
+retired_cast_step h (event.Release c b) cast accepted a retired = cast a retired
+retired_cast_step h (event.Send c k) cast accepted a retired = cast a retired
+retired_cast_step h (event.Deliver i) cast accepted a retired = cast a retired
+retired_cast_step h (event.Run b c) cast accepted a retired = go (next_item b c h) retired
+  where
+    go : (o : Option RunItem) → is_retired a (after_run b c h o) ≡ true → is_some (cast_of a (after_run b c h o)) ≡ true
+    go None r = cast a r
+    go (Some item) r = cast a r
+retired_cast_step h (event.Collect j) cast accepted a retired = cast a retired
+retired_cast_step h (event.AskKill c b) cast accepted a retired = cast a retired
+retired_cast_step h (event.TakeKill b) cast accepted a retired = cast a retired
+retired_cast_step h (event.Tell b c) cast accepted a retired = cast a retired
+retired_cast_step h (event.Retire b) cast accepted a retired =
+    either_of (contains a h.retired) (b == a) (is_some (cast_of a h) ≡ true) (sym (contains_push a b h.retired) ∙ retired) (cast a)
+    (λ e. subst (λ (x : ℕ). is_some (cast_of x h) ≡ true) (eqb-true b a e) (retire_needs h b accepted).0)
+
+-- ---- all of it
+
+pub record IsWorld (specs : List ActorSpec) (h : History) : Type 0 where
+  pub sound : IsSound h
+  pub retires : Retires h
+  pub follows : NothingFollows h
+  pub casts : h.casts ≡ specs
+  pub live : RetiredLive h
+  pub cast : RetiredCast h
+
+world_step : (casts : List ActorSpec) → IsKept (IsWorld casts)
+world_step casts h other w accepted = record {
+  sound = sound_step h other w.sound accepted;
+  retires = retires_step h other w.retires accepted;
+  follows = nothing_follows_step h other w.follows accepted;
+  casts = (added_grows h other).casts ∙ w.casts;
+  live = retired_live_step h other w.live accepted;
+  cast = retired_cast_step h other w.cast accepted;
+}
+
+pub world : (casts : List ActorSpec) (plans : ℕ → List Step) (at : At) → IsPlay casts plans at → IsWorld casts at.history
+world casts plans at play = play_keeps (IsWorld casts) (world_step casts) casts plans at (record {
+  sound = world_sound casts [];
+  retires = world_retires casts [];
+  follows = λ a place ends. cc;
+  casts = refl;
+  live = λ a e. cc;
+  cast = λ a e. cc;
+}) play
