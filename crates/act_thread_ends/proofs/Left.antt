@@ -1,0 +1,63 @@
+-- Each caller and each actor of the casts is left by a joined run.
+use Rattle.std.proofs.Common.{◌≡◌, ℕ, ◌==◌, true, List, map, Option, Some, None, refl, sym, subst, All, Contains}
+use Rattle.std.specs.Prelude.{find, is_some}
+use Rattle.std.specs.List.{list_any}
+use Rattle.std.proofs.lemmas.Bool.{eq-eqb, eqb-true}
+use Rattle.std.proofs.lemmas.Map.Keys.{any_passes_from_place}
+use Rattle.act_types.specs.declared.limits.TheConstants.{MAX_ACTORS, MAX_CALLERS}
+use Rattle.act_rules.specs.declared.script.Step.{Step}
+use Rattle.act_rules.specs.History.{ActorSpec, contains}
+use Rattle.act_rules.specs.Report.{one_to}
+use Rattle.act_rules.proofs.Unique.{map-slice_get}
+use Rattle.act_owner.specs.Owner.{OwnerView}
+use Rattle.act_serve.specs.Served.{EndView, end_id}
+use Rattle.act_plans.specs.Runs.{callers_of_casts, actors_of_casts}
+use Rattle.act_executor.specs.Joined.{owner_of, end_of}
+use Rattle.act_executor.proofs.Elements.{IsIn, in_from_contains, all_in, in_filter, found_is, finds, any_is, contains_is}
+use Rattle.act_thread_ends.specs.ThreadEnds.{AreOfARun}
+use Rattle.act_thread_ends.proofs.Plans.{is_named}
+
+-- the caller stands among those that are left
+pub record IsOwnerLeft (owners : List OwnerView) (c : ℕ) : Type 0 where
+  pub owner : OwnerView
+  pub inside : IsIn owners owner
+  pub id : owner.id ≡ c
+  pub is : owner_of c owners ≡ Some owner
+
+pub owner_left : (casts : List ActorSpec) (plans : List (ℕ × List Step)) (owners : List OwnerView) → AreOfARun casts plans
+    → map (λ (owner : OwnerView). owner.id) owners ≡ callers_of_casts casts → (c : ℕ) → is_named casts c ≡ true → IsOwnerLeft owners c
+owner_left casts plans owners of ids c named =
+    let cast = any_is (λ (x : ActorSpec). contains c x.callers) casts named in
+    let listed = all_in (λ (x : ActorSpec). All (λ d. Contains (one_to MAX_CALLERS) d) x.callers) casts cast.0 of.callers cast.1.inside in
+    let number = all_in (λ (d : ℕ). Contains (one_to MAX_CALLERS) d) cast.0.callers c listed (contains_is c cast.0.callers cast.1.passes) in
+    let within : IsIn (callers_of_casts casts) c = in_filter (is_named casts) (one_to MAX_CALLERS) c (in_from_contains (one_to MAX_CALLERS) c number) named in
+    let there : IsIn (map (λ (owner : OwnerView). owner.id) owners) c = subst (λ (ns : List ℕ). IsIn ns c) (sym ids) within in
+    let one = map-slice_get (λ (owner : OwnerView). owner.id) owners there.place c there.at in
+    let found = finds (λ (owner : OwnerView). owner.id == c) owners there.place one.0 one.1 (eq-eqb one.0.id c one.2) in
+    let is = found_is (λ (owner : OwnerView). owner.id == c) owners found.one found.is in
+    record { owner = found.one; inside = is.inside; id = eqb-true found.one.id c is.passes; is = found.is }
+
+-- so does the actor
+pub record IsEndLeft (ends : List EndView) (a : ℕ) : Type 0 where
+  pub end : EndView
+  pub inside : IsIn ends end
+  pub id : end_id end ≡ a
+  pub is : end_of a ends ≡ Some end
+
+pub end_left : (casts : List ActorSpec) (plans : List (ℕ × List Step)) (ends : List EndView) → AreOfARun casts plans → map end_id ends ≡ actors_of_casts casts
+    → (a : ℕ) → is_some (find (λ (cast : ActorSpec). cast.actor == a) casts) ≡ true → IsEndLeft ends a
+end_left casts plans ends of ids a known = go (find (λ (cast : ActorSpec). cast.actor == a) casts) refl known
+  where
+    go : (o : Option ActorSpec) → find (λ (cast : ActorSpec). cast.actor == a) casts ≡ o → is_some o ≡ true → IsEndLeft ends a
+    go None e some = cc
+    go (Some cast) e some =
+        let at = found_is (λ (x : ActorSpec). x.actor == a) casts cast e in
+        let number = all_in (λ (x : ActorSpec). Contains (one_to MAX_ACTORS) x.actor) casts cast of.actors at.inside in
+        let mine : Contains (one_to MAX_ACTORS) a = subst (λ (n : ℕ). Contains (one_to MAX_ACTORS) n) (eqb-true cast.actor a at.passes) number in
+        let any : list_any (λ (x : ActorSpec). x.actor == a) casts ≡ true = any_passes_from_place (λ (x : ActorSpec). x.actor == a) casts at.inside.place cast at.inside.at at.passes in
+        let within : IsIn (actors_of_casts casts) a = in_filter (λ (n : ℕ). list_any (λ (x : ActorSpec). x.actor == n) casts) (one_to MAX_ACTORS) a (in_from_contains (one_to MAX_ACTORS) a mine) any in
+        let there : IsIn (map end_id ends) a = subst (λ (ns : List ℕ). IsIn ns a) (sym ids) within in
+        let one = map-slice_get end_id ends there.place a there.at in
+        let found = finds (λ (end : EndView). end_id end == a) ends there.place one.0 one.1 (eq-eqb (end_id one.0) a one.2) in
+        let is = found_is (λ (end : EndView). end_id end == a) ends found.one found.is in
+        record { end = found.one; inside = is.inside; id = eqb-true (end_id found.one) a is.passes; is = found.is }

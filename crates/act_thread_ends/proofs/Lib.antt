@@ -1,0 +1,4 @@
+pub mod Plans
+pub mod Left
+pub mod Ends
+pub mod Fitting

@@ -1,0 +1,125 @@
+-- Whoever does its plan in the events keeps to it as the law of lists asks.
+use Rattle.std.proofs.Common.{◌≡◌, ℕ, suc, ◌==◌, Bool, true, false, cond, List, [], ◌∷◌, ◌++◌, Option, Some, None, refl, sym, ◌∙◌, subst, arith, All}
+use Rattle.std.specs.Prelude.{find, IsOk}
+use Rattle.std.specs.Option.{option_map}
+use Rattle.std.specs.List.{list_any}
+use Rattle.std.proofs.lemmas.Bool.{eqb-true}
+use Rattle.std.proofs.lemmas.List.Elements.{All-cons, All-weaker}
+use Rattle.act_rules.specs.declared.event.Event.{Event}
+use Rattle.act_rules.specs.declared.event.Event.TheVariants as event
+use Rattle.act_rules.specs.declared.outcome.WorldRefusal.{WorldRefusal}
+use Rattle.act_rules.specs.declared.outcome.WorldRefusal.TheVariants.{Submit as SubmitRefused, Handle, NoCaller}
+use Rattle.act_rules.specs.declared.script.Step.{Step}
+use Rattle.act_rules.specs.declared.script.Step.TheVariants.{Submit, Copy, Release, Kill, Await}
+use Rattle.act_rules.specs.Submissions.{handle_refusal, copy_refusal}
+use Rattle.act_rules.specs.History.{ActorSpec, History, contains, is_caller, copies_of}
+use Rattle.act_rules.specs.Rules.{refusal_of, submission_refusal, outcome_by, outcome_of, outcomes, after}
+use Rattle.act_rules.proofs.Ended.{needs-none}
+use Rattle.act_rules.proofs.Growth.{added_grows}
+use Rattle.act_rules.proofs.Steps.{after_keeps}
+use Rattle.act_early.specs.Lists.{is_step_by, AreOthers, DoesStepBy, DoesStepsBy}
+use Rattle.act_early.proofs.Shifting.{none_others}
+use Rattle.act_plans.specs.Runs.{steps_of_plan, plan_of}
+use Rattle.act_executor.specs.PlanPlays.{step_of, IsMeanwhile, DoesStepIn, DoesPlanIn}
+use Rattle.act_executor.proofs.Elements.{all_in, found_is}
+
+-- ---- the steps of a plan
+
+no_step : (b : Bool) (step : Step) → cond b (Some step) None ≡ None → b ≡ false
+no_step true step e = cc
+no_step false step e = refl
+
+other_event : (c : ℕ) (other : Event) → step_of c other ≡ None → is_step_by c other ≡ false
+other_event c (event.Submit d a method args) e = no_step (d == c) (Submit a method args) e
+other_event c (event.Copy d a) e = no_step (d == c) (Copy a) e
+other_event c (event.Release d a) e = no_step (d == c) (Release a) e
+other_event c (event.Send d k) e = refl
+other_event c (event.Deliver i) e = refl
+other_event c (event.Run a d) e = refl
+other_event c (event.Collect j) e = refl
+other_event c (event.AskKill d a) e = no_step (d == c) (Kill a) e
+other_event c (event.TakeKill a) e = refl
+other_event c (event.Tell a d) e = refl
+other_event c (event.Retire a) e = refl
+
+others : (c : ℕ) (events : List Event) → IsMeanwhile c events → AreOthers c events
+others c events all = All-weaker (λ other. step_of c other ≡ None) (λ other. is_step_by c other ≡ false) (other_event c) events all
+
+step_by : (casts : List ActorSpec) (c : ℕ) (step : Step) (before done : List Event) → DoesStepIn casts c step before done → DoesStepBy casts c step before done
+step_by casts c (Submit a method args) before done does = does
+step_by casts c (Copy a) before done does = does
+step_by casts c (Release a) before done does = does
+step_by casts c (Kill a) before done does = does
+step_by casts c (Await k) before done does = does
+
+pub steps_by : (casts : List ActorSpec) (c : ℕ) (plan : List Step) (before events : List Event) → DoesPlanIn casts c plan before events
+    → DoesStepsBy casts c plan before events
+steps_by casts c [] before events does = others c events does
+steps_by casts c (step ∷ plan) before events (first, done, later, split, meanwhile, does, rest) = (
+  first,
+  done,
+  later,
+  split,
+  others c first meanwhile,
+  step_by casts c step (before ++ first) done does,
+  steps_by casts c plan (before ++ first ++ done) later rest,
+)
+
+-- ---- whom no cast names does nothing, and has no plan
+
+accepted_none : (h : History) (other : Event) → IsOk (outcome_of h other) → refusal_of h other ≡ None
+accepted_none h other ok = go (refusal_of h other) ok
+  where
+    go : (o : Option WorldRefusal) → IsOk (outcome_by h other o) → o ≡ None
+    go None e = refl
+    go (Some refusal) e = cc
+
+same_caller : (c d : ℕ) (h : History) → (d == c) ≡ true → is_caller d h ≡ true → is_caller c h ≡ true
+same_caller c d h is caller = subst (λ (x : ℕ). is_caller x h ≡ true) (eqb-true d c is) caller
+
+step_caller : (c : ℕ) (h : History) (other : Event) → refusal_of h other ≡ None → is_step_by c other ≡ true → is_caller c h ≡ true
+step_caller c h (event.Submit d a method args) e is =
+    same_caller c d h is (needs-none (is_caller d h) NoCaller (option_map SubmitRefused (submission_refusal d a args h)) e).0
+step_caller c h (event.Copy d a) e is =
+    same_caller c d h is (needs-none (is_caller d h) NoCaller (option_map Handle (copy_refusal (copies_of d a h))) e).0
+step_caller c h (event.Release d a) e is =
+    same_caller c d h is (needs-none (is_caller d h) NoCaller (option_map Handle (handle_refusal (copies_of d a h))) e).0
+step_caller c h (event.Send d k) e is = cc
+step_caller c h (event.Deliver i) e is = cc
+step_caller c h (event.Run a d) e is = cc
+step_caller c h (event.Collect j) e is = cc
+step_caller c h (event.AskKill d a) e is =
+    same_caller c d h is (needs-none (is_caller d h) NoCaller (option_map Handle (handle_refusal (copies_of d a h))) e).0
+step_caller c h (event.TakeKill a) e is = cc
+step_caller c h (event.Tell a d) e is = cc
+step_caller c h (event.Retire a) e is = cc
+
+abbrev pub is_named : List ActorSpec → ℕ → Bool
+is_named casts c = list_any (λ (cast : ActorSpec). contains c cast.callers) casts
+
+pub strangers : (casts : List ActorSpec) (c : ℕ) (h : History) (events : List Event) → h.casts ≡ casts → is_named casts c ≡ false
+    → All IsOk (outcomes h events) → AreOthers c events
+strangers casts c h [] same none ok = none_others c
+strangers casts c h (other ∷ events) same none ok =
+    let first : IsOk (outcome_of h other) = ok 0 (outcome_of h other) (omega arith) in
+    let rest : All IsOk (outcomes (after h other) events) = λ i d within. ok (suc i) d (omega arith) in
+    let stay = after_keeps (λ (g : History). g.casts ≡ casts) h other same (λ _. (added_grows h other).casts ∙ same) in
+    All-cons (λ (x : Event). is_step_by c x ≡ false) other events (go (is_step_by c other) refl (accepted_none h other first)) (strangers casts c (after h other) events stay none rest)
+  where
+    go : (b : Bool) → is_step_by c other ≡ b → refusal_of h other ≡ None → is_step_by c other ≡ false
+    go false is e = is
+    go true is e =
+        let caller : is_named casts c ≡ true = subst (λ (l : List ActorSpec). is_named l c ≡ true) same (step_caller c h other e is) in
+        let bad : true ≡ false = sym caller ∙ none in cc
+
+pub no_plan : (casts : List ActorSpec) (c : ℕ) (plans : List (ℕ × List Step)) → All (λ plan. is_named casts plan.0 ≡ true) plans
+    → is_named casts c ≡ false → plan_of c plans ≡ []
+no_plan casts c plans all none = go (find (λ (plan : ℕ × List Step). plan.0 == c) plans) refl
+  where
+    go : (o : Option (ℕ × List Step)) → find (λ (plan : ℕ × List Step). plan.0 == c) plans ≡ o → steps_of_plan o ≡ []
+    go None e = refl
+    go (Some plan) e =
+        let found = found_is (λ (p : ℕ × List Step). p.0 == c) plans plan e in
+        let named = all_in (λ (p : ℕ × List Step). is_named casts p.0 ≡ true) plans plan all found.inside in
+        let here : is_named casts c ≡ true = subst (λ (n : ℕ). is_named casts n ≡ true) (eqb-true plan.0 c found.passes) named in
+        let bad : true ≡ false = sym here ∙ none in cc
