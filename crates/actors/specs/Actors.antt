@@ -4,7 +4,7 @@
 pub use Rattle.act_actor.specs.Cast.{IsFitting, CallersDiffer, ActorsDiffer}
 pub use Rattle.act_actor.specs.Casts.{actor_spec, actors_that_name, limits_that_name}
 -- what contracts see of an actor that runs, was killed, or ended by itself
-pub use Rattle.act_actor.specs.View.{LiveView, ActorView, DeadView, RetiredView}
+pub use Rattle.act_actor.specs.View.{LiveView, LeftView, ActorView, DeadView, RetiredView}
 pub use Rattle.act_actor.specs.StateViews.{live_view, retired_view}
 -- what arrives
 pub use Rattle.act_actor.specs.Actor.{arrival_at, call_arrival_at, note_arrival_at}

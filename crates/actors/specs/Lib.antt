@@ -36,6 +36,10 @@ pub use Rattle.act_drive.specs.declared.refusals.WaitRefusal
 pub use Rattle.act_drive.specs.declared.refusals.KillRefusal
 pub use Rattle.act_replay.specs.declared.run.RecordFault
 pub use Rattle.act_service.specs.declared.epochs.EpochFault
+-- histories by order alone
+pub use Rattle.act_orders.specs.declared.told.Told
+pub use Rattle.act_orders.specs.declared.verdict.Refused
+pub use Rattle.act_written.specs.declared.fault.WriteFault
 -- scripts
 pub use Rattle.act_rules.specs.declared.script.Mode
 pub use Rattle.act_rules.specs.declared.script.Role
@@ -53,4 +57,5 @@ pub mod Threads
 pub mod Codes
 pub mod Plays
 pub mod Epochs
+pub mod Histories
 pub mod Scripts

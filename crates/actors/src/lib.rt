@@ -7,6 +7,7 @@
 //! - The same in threads: `run_plans` for plans of `Step`, `run_callers` for callers that are `Code`.
 //! - Such a run with a list of events that ends so: `run_recorded`.
 //! - Runs that follow one another, for as long as a `Service` has codes to give: `run_epochs`.
+//! - The history that a run in threads leaves, judged by its order alone: `told_of`, `judge`, `write_history`.
 //! - One caller and one actor without either: `Owner`, `Live`, `Packet`, `Notice`.
 //! - Laws of every run, which you call where you need what they say: `kept_answers_stay` and others.
 //!
@@ -60,6 +61,11 @@ pub use act_serve::{Ended, Finished, Gate, NoGate};
 // Runs in threads that follow one another.
 pub use act_epochs::{epochs_are_consistent, epochs_go_on, kept_over_epochs};
 pub use act_service::{EpochFault, Service, run_epochs};
+
+// Histories of runs in threads, judged by their order and written.
+pub use act_orders::{Refused, Told, is_whole, judge};
+pub use act_told::{joined_runs_are_in_turn, joined_runs_end_right, names_of, told_of};
+pub use act_written::{WriteFault, history_text, write_history};
 
 // Scripts.
 pub use act_rules::{KindName, Mode, Role, Wrong};

@@ -23,6 +23,8 @@ pub(crate) enum Stop {
     Thread,
     #[error("the standard output failed")]
     Io,
+    #[error("the history of the run is not in order")]
+    Order,
 }
 
 impl From<NoMemory> for Stop {
@@ -49,7 +51,8 @@ impl From<io::Error> for Stop {
     }
 }
 
-/// 1 for a crew that does not fit, 2 for the command line, 3 for memory or a thread, 4 for writing.
+/// 1 for a crew that does not fit, 2 for the command line, 3 for memory or a thread, 4 for writing, 5 for
+/// a history that is not in order.
 pub(crate) fn exit_code(stop: &Stop) -> ExitCode
     ensures { exit_status result ≡ status_of stop.now }
 {
@@ -58,5 +61,6 @@ pub(crate) fn exit_code(stop: &Stop) -> ExitCode
         Stop::Usage => 2,
         Stop::Memory | Stop::Thread => 3,
         Stop::Io => 4,
+        Stop::Order => 5,
     })
 }

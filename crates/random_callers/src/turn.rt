@@ -19,6 +19,8 @@ use act_actor::{Cast, cast_fits};
 use act_console::joined_report;
 use act_executor::{Code, Joined, NoGate, Plan, RunFault, codes_fit, plans_fit, run_callers};
 use act_kinds::Actor;
+use act_orders::{Refused, is_whole, judge};
+use act_told::told_of;
 use act_types::CallerId;
 use std::alloc::Global;
 use std::io;
@@ -93,6 +95,25 @@ fn print_joined<Rt: Print, K: Actor>(
     Ok(())
 }
 
+/// Judges the history of a run by its order alone.
+fn judge_joined<K: Actor>(alloc: Global, joined: &Joined<K>) -> Result<(), Stop> {
+    let told = told_of(alloc, joined)?;
+    if !is_whole(&told) {
+        return Err(Stop::Order);
+    }
+    match judge(alloc, &told) {
+        Ok(_) => Ok(()),
+        Err(Refused::Faults(_)) => Err(Stop::Order),
+        Err(Refused::NoMemory) => Err(Stop::Memory),
+    }
+}
+
+/// Prints what all left, and judges it.
+fn finish<Rt: Print, K: Actor>(rt: &Rt, alloc: Global, joined: &Joined<K>) -> Result<(), Stop> {
+    print_joined(rt, alloc, joined)?;
+    judge_joined(alloc, joined)
+}
+
 /// Runs a scene, and prints what all left, or that a code gave up.
 fn print_scene<Rt: Print + Threads + Wait + Sync, K: Actor + Send, C: Code + Send>(
     rt: &Rt,
@@ -103,7 +124,7 @@ fn print_scene<Rt: Print + Threads + Wait + Sync, K: Actor + Send, C: Code + Sen
         return Err(Stop::Unfit);
     }
     match run_scene(rt, alloc, scene) {
-        Ok(joined) => print_joined(rt, alloc, &joined),
+        Ok(joined) => finish(rt, alloc, &joined),
         Err(RunFault::NoMemory) => Ok(println!(rt; "no memory")?),
         Err(RunFault::NoThread) => Err(Stop::Thread),
         Err(_) => Err(Stop::Unfit),

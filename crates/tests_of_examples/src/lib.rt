@@ -14,6 +14,8 @@ mod first;
 #[cfg(test)]
 mod gauge;
 #[cfg(test)]
+mod histories;
+#[cfg(test)]
 mod impatient;
 #[cfg(test)]
 mod limiter;

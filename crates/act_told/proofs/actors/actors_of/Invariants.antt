@@ -1,0 +1,9 @@
+use Rattle.std.proofs.Common.{◌≡◌, map, take}
+use Rattle.act_serve.specs.Served.{end_view}
+use Rattle.act_serve.specs.declared.turn.Finished.{Finished}
+use Rattle.act_told.specs.Told.{actor_told}
+use Rattle.act_told.proofs.actors.actors_of.Given as goal
+
+-- those so far are told
+abbrev pub invariant-loop-actor : goal.invariant-loop-actor
+invariant-loop-actor g l = l.told ≡ map (actor_told l.owners) (map (λ (actor : Finished _). end_view g.K.Actor.state actor.ended) (take l.actor-index l.actors))

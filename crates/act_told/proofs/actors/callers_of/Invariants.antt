@@ -1,0 +1,7 @@
+use Rattle.std.proofs.Common.{◌≡◌, take}
+use Rattle.act_told.specs.Told.{callers_told}
+use Rattle.act_told.proofs.actors.callers_of.Given as goal
+
+-- those so far are told
+abbrev pub invariant-loop-owner : goal.invariant-loop-owner
+invariant-loop-owner l = l.callers ≡ callers_told (take l.owner-index l.owners) l.id

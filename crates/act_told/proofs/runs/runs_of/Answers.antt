@@ -1,0 +1,15 @@
+use Rattle.std.proofs.Common.{map, ◌++◌, ◌∙◌, ap}
+use Rattle.act_serve.specs.Served.{end_view}
+use Rattle.act_serve.specs.declared.turn.Finished.{Finished}
+use Rattle.act_told.specs.Starts.{run_by}
+use Rattle.act_told.proofs.Going.{log_more, mapped_here}
+use Rattle.act_told.proofs.runs.runs_of.Goals as goal
+
+pub loop-place-preserved : goal.loop-place-preserved
+loop-place-preserved g c =
+    let view = λ (actor : Finished _). end_view g.K.Actor.state actor.ended in
+    let starts = c.args.starts.now in
+    log_more starts c.args.all (map view c.args.actors.now) c.loop-place.place (view c.index-actors-place.result) c.loop-place.runs c.push_runs.new.runs _
+    (mapped_here view c.args.actors.now c.loop-place.place c.index-actors-place.result c.loop-place-test.true c.index-actors-place.is)
+    (c.in_ok-push_runs.ensures ∙ ap (λ log. c.loop-place.runs ++ map (run_by starts c.args.all c.loop-place.place) log) c.log_of.ensures)
+    c.loop-place.invariant

@@ -1,0 +1,3 @@
+pub mod Told
+pub mod Starts
+pub mod InOrder

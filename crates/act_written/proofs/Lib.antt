@@ -1,0 +1,3 @@
+pub mod Pushed
+pub mod Each
+pub mod Appended

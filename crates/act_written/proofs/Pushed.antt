@@ -1,0 +1,24 @@
+-- Numbers of calls and of runs, as they are found one after another.
+use Rattle.std.proofs.Common.{◌≡◌, ◌≢◌, ℕ, zero, suc, ◌+◌, ◌<◌, ◌⊎◌, inl, inr, List, [], ◌∷◌, ◌++◌, length, get_or, refl, ap, sym, ◌∙◌, arith}
+use Rattle.std.proofs.lemmas.List.{get_or_append_left}
+use Rattle.std.proofs.Math.Seq.{get_or-append_seam}
+use Rattle.act_orders.specs.declared.told.Told.{Told}
+use Rattle.act_written.specs.Texts.{call_number}
+
+-- two numbers are one, or not
+pub same_or_not : (m n : ℕ) → (m ≡ n) ⊎ (m ≢ n)
+same_or_not zero zero = inl refl
+same_or_not zero (suc n) = inr (λ e. absurd (omega arith))
+same_or_not (suc m) zero = inr (λ e. absurd (omega arith))
+same_or_not (suc m) (suc n) = elim (same_or_not m n) [ inl e ↦ inl (ap (λ k. suc k) e) | inr d ↦ inr (λ e. d (omega arith)) ]
+
+-- the numbers of the calls so far, and one more
+pub number_pushed : (told : Told) (numbers : List ℕ) (place number : ℕ) → length numbers ≡ place →
+    ((n : ℕ) → n < place → get_or numbers n 0 ≡ call_number told n) → number ≡ call_number told place →
+    (n : ℕ) → n < place + 1 → get_or (numbers ++ number ∷ []) n 0 ≡ call_number told n
+number_pushed told numbers place number count so_far is n lt =
+    elim (same_or_not n place) [
+      | inl e ↦ ap (λ k. get_or (numbers ++ number ∷ []) k 0) (e ∙ sym count) ∙ get_or-append_seam numbers number [] 0 ∙ is
+          ∙ ap (call_number told) (sym e)
+      | inr other ↦ get_or_append_left numbers (number ∷ []) 0 n (omega arith) ∙ so_far n (omega arith)
+    ]

@@ -1,0 +1,9 @@
+use Rattle.std.proofs.Common.{string_bytes}
+use Rattle.act_written.specs.Texts.{role_line}
+use Rattle.act_written.proofs.Each.{each_next}
+use Rattle.act_written.proofs.text.push_roles.Goals as goal
+
+pub loop-place-preserved : goal.loop-place-preserved
+loop-place-preserved c =
+    each_next (role_line c.args.told.now c.args.names.now) c.loop-place.place (string_bytes c.args.text.now) (string_bytes c.loop-place.text)
+    (string_bytes c.push_role.new.text) c.loop-place.invariant c.in_ok-push_role.ensures
