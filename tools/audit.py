@@ -1013,8 +1013,9 @@ HEAD = """\
 # What to read to believe it
 
 This page is for somebody who trusts the checker and nobody else. The checker finds that each function keeps its
-clauses (postconditions). What a clause means hangs on the definitions that it names, so these have to be read. The
-headline takes about fifteen minutes. The [roots](#the-roots) below it have all that is promised, and take longer.
+clauses (postconditions). What a clause means depends on the definitions that it names, so these have to be read. The
+headline takes about fifteen minutes, and [what it says of a world](#of-which-worlds-it-holds) eight more. The
+[roots](#the-roots) below have all that is promised.
 
 `python3 tools/audit.py` writes this page, and `./test` fails where it is out of date. Each block of code is quoted from
 the sources. The sentences around the blocks only help to read them. [glossary.md](glossary.md) has the words.
@@ -1022,16 +1023,16 @@ the sources. The sentences around the blocks only help to read them. [glossary.m
 ## The headline
 
 An actor ran each caller's calls in the order in which they were submitted: it passed none over, and ran none twice. An
-answer that a caller has is that of the call's one run, or says that the actor is dead. So it is in a world between any
-two events, and in what a run in threads leaves:
+answer that a caller has is that of the call's one run, or says that the actor is dead. So it is in a world, which has
+callers and actors and is moved by events, between any two events. And so it is in what a run in threads leaves:
 """
 WHAT_IT_SPEAKS_OF = """\
 It has four clauses, and they speak of five things. Callers c, actors a and futures k are numbers. A future stands for
 the answer of a call.
 """
 BEFORE_PARTS = """\
-Each part below has the definitions that one thing or one clause needs; with the record above these are {count}, of
-{lines} lines. What a definition needs stands before it. They are written so:
+The parts below, down to *After a kill*, have what each of these things and clauses needs: with the record above
+{count} definitions, {lines} lines in all. From here on what a definition needs stands before it. They are written so:
 """
 BEFORE_VIEWS = """\
 Types of Rust stand for themselves; a `u32` is a number of `ℕ`, and a `Vec` is a list. Of these types contracts see
@@ -1058,26 +1059,45 @@ WHAT_IT_DOESNT_SAY = """\
 - **An order between two callers, or between two actors.** Each pair of a caller and an actor has its own.
 - **That a call never ran whose answer is a death.** An actor may run it, and be dead before the reply comes. In
   threads such a call never ran (`ran` of `IsJoined`).
-- **That `calls` has what somebody asked for.** `apply` says so by the rules (`outcome`), with more behind it. What the
-  lists hold is shown: a program reads the same ones by `World::owner` and `World::stage`.
+- **That `calls` has what somebody asked for.** The clause `shown` of `apply` says so, by
+  [what was told](#what-was-told). A program reads the same lists by `World::owner` and `World::stage`.
 - **What a kind answers.** That is the table, `reply_of`.
 - **Time, and the machine.** The README tells [what is trusted](../README.md#what-it-stands-on) beside the checker.
 """
 OF_WHICH_WORLDS = """\
-A world has callers and actors, and events move it. The headline holds of each world that the calls below make. In a
-clause, `self.old` is the world before the call and `self.new` after it, and `result` is what the call gives. `IfOk`
-and `OnOk` speak of results that are `Ok`, and `world_view K.state` is what contracts see of a world.
+The headline holds of each world that the functions below make. `ensures name { .. }` is the clause of that name.
+There `x.old` is the value of a parameter before the call and `x.new` after it, `x.now` where it doesn't change, and
+`result` is what the function gives. `.items` is a `Vec` as a list. `IfOk` and `OnOk` speak of results that are `Ok`,
+and `is_memory result` says that memory was refused.
+
+`K` is the type of the actors' kinds, and `K.state` reads the state that a kind is in. A `Cast` sets up an actor, and
+`actor_spec K.state` is what contracts see of it: its name, callers and opening state. `world_view K.state` is what they
+see of a world. `consistent` does nothing: its clause is a law for whoever calls it.
 """
 AFTER_WORLDS = """\
 `IsReachedBy` needn't be unfolded. `World::open` gives it, `apply` and `play` carry it on, and `World::consistent`
-spends it. So whatever it says, each world that these calls make is consistent. `apply_owned` and `play_reserved` carry
-it on by the same clauses, and `make_room` changes nothing. No other public function can change a world. Where memory
-is refused, `apply` leaves the world as it was (`err`), and `play` has played the events before.
+asks for it. So whatever it says, each world that these functions make is consistent. `apply_owned` and `play_reserved`
+have the same clauses, `shown` below among them, and `make_room` changes nothing. No other public function can change a
+world. Where memory is refused, `apply` leaves the world as it was (`err`: `self.new ≡ self.old`), and `play` has played
+the events before.
 
 In threads there is no such word: what `run_plans` and `run_callers` leave is `Consistent` (`IsJoined`, below).
 
-So the five things are read off a world. What its casts tell of an actor (`opening_of`) is its opening state. Here
+So four of the five things are read off a world, and the opening states off its casts (`opening_of`). Here
 `option_map_or f x d` is `x.map_or(d, f)`, `option_map` is `map`, and `find` gives the first item of a list that passes.
+An actor of a world `Runs`, has `Died`, or has `Ended`: it retired, once it ran all that was submitted to it.
+"""
+TOLD_TITLE = "What was told"
+TOLD = """\
+A world that was just opened shows no call and no run. After that an event adds what is told of it, and nothing else
+does. A `Submit` that is told as the future k adds the caller's call k. A run of caller c that is told adds an item of c
+to the actor's run list, at the place that is told: `in_order` says which call that is. So "submitted" and "ran" mean
+what was told, and no definition of how a world moves has to be read for that. Which outcome an event has is another
+clause, `outcome`: by the rules no other event is told as a future or as a run.
+
+Here `record { a = x }` is a struct with these fields, and `if b then x else y` gives x where b succeeds. `drop n xs` is
+xs without its first n items, and `length xs` is their number. `flat_map f xs` is `xs.flat_map(f)`. `zip` pairs two
+lists, up to the end of the shorter. What is kept, and who is dead, is read from the world alone.
 """
 ROOTS = """\
 ## The roots
@@ -1213,6 +1233,13 @@ def named_clause(function, name):
     return textwrap.dedent(f"{head}\n{text[found.start() : closing(text, found.end() - 1) + 1]}").split("\n")
 
 
+# The definitions by which clauses say that a world shows what was told, and whose clauses the page quotes.
+SHOWN = ("act_world", "Shown")
+SHOWN_OF = ("open", "apply", "play")
+# What they speak of: what can be asked of a world, and what is told of it.
+TOLD_TYPES = (("event", "Event"), ("outcome", "Did"), ("outcome", "Outcome"))
+
+
 # The public functions that can change a world, which the page speaks of.
 CHANGING = {"make_room", "apply", "apply_owned", "play", "play_reserved"}
 # Those that the page quotes, each with the clause by which a world is reached.
@@ -1250,7 +1277,21 @@ def worlds_of_page(audit):
     yield AFTER_WORLDS
     yield block(map(quoted, shown))
     yield from ["", *places(shown)]
-    return {played, *shown}
+    told = yield from told_of_page(audit)
+    return {played, *shown, *told}
+
+
+def told_of_page(audit):
+    """That what is submitted and what runs is what is told."""
+    functions = [function_named(audit.sources, *WORLD, name) for name in SHOWN_OF]
+    named = audit.sources.file(SHOWN[0], "specs", [SHOWN[1]]).definitions
+    rust = [audit.sources.file("act_rules", "src", [module]).named(name)[0] for module, name in TOLD_TYPES]
+    told = [*rust, *(definition for found in named.values() for definition in found)]
+    yield f"### {TOLD_TITLE}\n"
+    yield TOLD
+    yield block([*map(quoted, told), *(named_clause(each, "shown") for each in functions)])
+    yield from ["", *places([*told, *functions])]
+    return set(told)
 
 
 # The roots on the page.

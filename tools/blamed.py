@@ -28,7 +28,7 @@ def read_told(line):
     future, item = re.fullmatch(CALL, words[0]), re.fullmatch(PLACE, words[0])
     if future and (words[2:] == ["?"] or words[2:3] == ["="] and len(words) == 4):
         for word in words[3:]:
-            reading.read_answer(word)
+            word == "*" or reading.read_answer(word)
         return "future", reading.read_caller(f"c{future[1]}"), reading.read_number(future[2]), reading.read_actor(words[1])
     if item and len(words) > 2 and (call := re.fullmatch(CALL, words[1])):
         reading.read_method(words[2])
@@ -36,7 +36,7 @@ def read_told(line):
             read_settled(word)
         return "item", int(item[1]), reading.read_number(item[2]), reading.read_caller(f"c{call[1]}"), reading.read_number(call[2])
     if len(words) > 1 and re.fullmatch("a[1-8]", words[0]):
-        if words[1:] == ["dead"]:
+        if words[1:] in (["dead"], ["live", "?"], ["retired", "?"]):
             return "end", int(words[0][1:]), None
         if words[1] in ("live", "retired") and words[2:3] and words[2] in reading.KINDS:
             for word in words[3:]:
@@ -136,9 +136,9 @@ def misread(front, lines, status, told):
 
 # What is said, and of which line: one that begins with that name, or a future or an item of that call.
 BEGINS = [
-    "(a[1-8])[.][0-9]+ is a terminate, so its actor is dead$", "(a[1-8]) retired, and didn't run ", f"({PLACE}) is ",
-    f"({PLACE}) skips ", f"({PLACE}) runs ", f"({PLACE}) isn't ", f"the arguments at ({PLACE}) are ",
-    f"({CALL}) has an answer, and ", f"({CALL}) has ActorDied, and ", f"({CALL}) has no answer$", f"the answer of ({CALL}) is ",
+    "(a[1-8])[.][0-9]+ is a terminate, so its actor is dead$", f"a[1-8] retired, and didn't run ({CALL})$", f"({PLACE}) is ",
+    f"({PLACE}) skips ", f"({PLACE}) runs ", f"({PLACE}) isn't ", f"the (?:arguments|answer) at ({PLACE}) (?:are|is) ",
+    f"({CALL}) has an answer, and ", f"({CALL}) has ActorDied, and ", f"({CALL}) has no answer$",
     "(a[1-8]) is dead, and its callers ",
 ]  # fmt: skip
 HAS = [f"({CALL}) takes the answer of ", f"({CALL}) waits for "]
@@ -161,7 +161,7 @@ def first_of(patterns, reason):
     return next(each for each in found.groups() if each and NAME.fullmatch(each)) if found else None
 
 
-def shows(line, reason, lines):
+def shows(line, reason):
     """Whether a reason shows at this line."""
     if ", and by the rules: " in reason:
         return reason.startswith(f"{line}, and by the rules: ")
@@ -169,11 +169,26 @@ def shows(line, reason, lines):
     if both:  # it shows at the second of the two lines
         return both[1] == both[3] and line.startswith(f"c{both[1]}.{max(int(both[2]), int(both[4]))} ")
     begins, has = first_of(BEGINS, reason), first_of(HAS, reason)
-    answer = re.match(f"the answer at ({PLACE}) is ", reason)
-    if answer:
-        calls = [each.split(" ")[1] for each in lines if each.startswith(f"{answer[1]} ")]
-        return [line.split(" ")[0]] == calls
     return line.startswith(f"{begins} ") if begins else has in names_of(line)
+
+
+# What is told of another line: a place, the line that submits a call, and the one that tells the answer at a place.
+OTHER_PLACE = re.compile(rf"(?:, which runs at|again, after) ({PLACE}) [(]line ([0-9]+)[)]$")
+SUBMITTED = re.compile(rf"isn't {CALL} as it was submitted [(]line ([0-9]+)[)]$")
+OTHER_ANSWER = re.compile(rf"the answer at ({PLACE}) is .* by the rules, and the history tells (.*) [(]line ([0-9]+)[)]$")
+
+
+def shows_beside(reason, line, whole):
+    """Whether the other line that a reason tells of, if it does, is the right one of the whole history."""
+    if found := OTHER_PLACE.search(reason):
+        return whole[int(found[4]) - 1].startswith(f"{found[1]} ")
+    if found := SUBMITTED.search(reason):
+        steps = [number for number, each in enumerate(whole, 1) if each.startswith(f"submit c{found[1]} ")]
+        return steps[int(found[2]) :][:1] == [int(found[3])]
+    if found := OTHER_ANSWER.fullmatch(reason):
+        told = whole[int(found[5]) - 1].split(" ")
+        return told[0] == line.split(" ")[1] and told[2:] == ["=", found[4]]
+    return True
 
 
 def reasons_of(text):
@@ -202,8 +217,10 @@ def misplaced(front, lines, text):
             continue
         if not first <= number < first + len(lines):
             return f"line {number} tells nothing of what was left: {reason}"
-        if not shows(lines[number - first], reason, lines):
+        if not shows(lines[number - first], reason):
             return f"line {number} is {lines[number - first]!r}, and told of it is: {reason}"
+        if not shows_beside(reason, lines[number - first], steps[:-1] + lines):
+            return f"another line than this one is told: {reason}"
     return None
 
 

@@ -4,7 +4,11 @@
 - Random plans are run in threads. What each run left has a play, with the script's submit lines or without them.
 - The same reports are damaged, at one place each. A play is found only where the second reading knows of one, and no
   play only where it knows of none.
-- Small histories with run lists in any order, which may lead into a circle: the same of them.
+- Of both kinds of reports some answers and states are left open: the same of them.
+- Small histories with run lists in any order, which may lead into a circle: the same of them. Others have run lists in
+  which calls stand twice, elsewhere or not at all.
+- Of each of these `check-all` tells every fault that tools/faults_told.py finds, letter by letter; and what `check` tells
+  where it finds none.
 - What must be told of a few histories, to the letter: circles, a call skipped, an answer that is another.
 
 Wherever a play is found, the second reading plays it: no event is refused, it has the roles and the submit lines of the
@@ -16,17 +20,20 @@ another status, and a reason that blames another call, must be wrong.
 import argparse
 import collections
 import concurrent.futures
+import itertools
 import pathlib
 import random
+import re
 import subprocess
 import sys
 
 import blamed
+import faults_told
 import reading_of_rules as reading
 import seeds
 import threads
 from blamed import MISTAKE, PLAY, REFUSED
-from program import CHECKS, TOP, proved, program_of
+from program import CHECKS, CHECKS_ALL, TOP, proved, program_of
 
 AT_ONCE = 4
 MAX_SECONDS = 60
@@ -77,23 +84,35 @@ def wrong_play(front, report, play):
     outcomes = [line for line in got.split(b"\n") if line[:1].isdigit()]
     if any(b": refused " in line or line.endswith(b": gap") for line in outcomes):
         return "an event of the play is refused"
-    if got.split(b"\n")[len(outcomes) : -1] != lines_told(report):
+    if not ends_as(got.split(b"\n")[len(outcomes) : -1], lines_told(report)):
         return "the play ends otherwise"
     return None
+
+
+# What a line of a history may end with, to leave an answer or a state open.
+MARKS = b" = *", b" live ?", b" retired ?"
+
+
+def ends_as(shown, told):
+    """Whether the lines are those that are told, but for what these leave open."""
+    pairs = list(zip(shown, told))
+    return len(shown) == len(told) and all(
+        line == other or other.endswith(MARKS) and line.startswith(other[:-1]) for line, other in pairs
+    )
 
 
 # Runs of the program.
 
 
-def check(program, history):
+def check(program, history, words=CHECKS.words):
     """What the program says of a history, and its status."""
-    done = subprocess.run([program, *CHECKS.words], input=history, capture_output=True, timeout=MAX_SECONDS)
+    done = subprocess.run([program, *words], input=history, capture_output=True, timeout=MAX_SECONDS)
     return done.stdout, done.returncode if not done.stderr else (done.returncode, done.stderr)
 
 
-def checks(program, histories):
+def checks(program, histories, words=CHECKS.words):
     with concurrent.futures.ThreadPoolExecutor(max_workers=AT_ONCE) as pool:
-        yield from pool.map(lambda history: check(program, history), histories)
+        yield from pool.map(lambda history: check(program, history, words), histories)
 
 
 def unplayed(front, report, got):
@@ -115,7 +134,7 @@ def misjudged(script, report, got):
     whole = lines_of(line.decode("latin-1") for line in lines_told(report)) if report else report
     reading_says = reading.judge(script, whole, 0, of_plans=reading.OF_AWAITS)
     if status == PLAY:
-        if reading_says and b" ?\n" not in whole and b" live " not in whole:
+        if reading_says and b"\nsubmit " in script and not OPEN.search(whole):
             return f"a play is found, and the second reading knows of none: {reading_says}"
         return wrong_play(script, report, text)
     if status != REFUSED:
@@ -123,6 +142,27 @@ def misjudged(script, report, got):
     if reading_says is None:
         return f"the second reading knows of a play, and none was found: {text!r:.300}"
     return blamed.misplaced(script, lines_in(report), text.decode("latin-1"))
+
+
+# A call without an answer, of which the second reading of a report knows nothing. Nor does it of calls that no line
+# submits.
+OPEN = re.compile(rb"^c\S+ \S+ [?]$", re.M)
+
+
+def misjudged_all(script, report, got, got_all):
+    """Why what `check-all` says of a history is wrong, beside what `check` does."""
+    if got[1] == MISTAKE:
+        return None if got_all == got else f"check-all tells another mistake: {got_all!r:.300}"
+    faults = faults_told.faults_text(script, lines_in(report)).encode()
+    due = (faults, REFUSED) if faults else got
+    if got_all != due:
+        return f"check-all tells {got_all!r:.600}, and due is {due!r:.600}"
+    is_of_faults = b" by the rules, and the history tells " in got[0] or got[0].count(b"\n") == 1
+    if faults and got[1] == PLAY:
+        return f"a play is found, and there are faults: {faults!r:.300}"
+    if faults and is_of_faults and got[0] not in faults:
+        return f"check tells {got[0]!r:.300}, and this isn't among all faults: {faults!r:.300}"
+    return None
 
 
 def unmended(program, script, report, right, got):
@@ -193,6 +233,77 @@ def small_histories(seed, count):
         yield lines_of(lists.script()), lines_of(lists.report())
 
 
+# The same with run lists in which calls stand twice, elsewhere, or not at all, or ran otherwise.
+
+
+def jumbled(chance, report):
+    """The report of a small history with some changes in its run lists."""
+    lines = report.decode().splitlines()
+    futures, ends, runs = [], {}, {}
+    for line in lines:
+        actor = line.partition(" ")[0].partition(".")[0]
+        if line.startswith("c"):
+            futures.append(line)
+        elif "." in line.partition(" ")[0]:
+            runs[actor].append(line.partition(" ")[2])
+        else:
+            ends[actor], runs[actor] = line, []
+    for _ in range(chance.randint(1, 4)):
+        chance.choice(JUMBLES)(chance, runs)
+    for actor, end in ends.items():
+        ends[actor] = chance.choice([end, end, end.replace("retired", "live"), f"{actor} dead", f"{actor} retired ?"])
+    futures = [told_otherwise(chance, line) for line in futures]
+    told = ((ends[actor], *(f"{actor}.{place} {run}" for place, run in enumerate(items))) for actor, items in runs.items())
+    return lines_of([*futures, *itertools.chain.from_iterable(told)])
+
+
+def told_otherwise(chance, line):
+    head, mark, _ = line.rpartition(" = ")
+    others = [f"{head} = {chance.choice(['*', 'ActorDied', 'NoKey', '7'])}", f"{head} ?"]
+    return line if not mark or chance.random() < 0.8 else chance.choice(others)
+
+
+def some_list(chance, runs):
+    return chance.choice([items for items in runs.values() if items] or [[]])
+
+
+def swap_two(chance, runs):
+    items = some_list(chance, runs)
+    if len(items) > 1:
+        place = chance.randrange(len(items) - 1)
+        items[place], items[place + 1] = items[place + 1], items[place]
+
+
+def drop_one(chance, runs):
+    items = some_list(chance, runs)
+    if items:
+        del items[chance.randrange(len(items))]
+
+
+def repeat_one(chance, runs):
+    items = some_list(chance, runs)
+    if items:
+        chance.choice([*runs.values(), items]).append(chance.choice(items))
+
+
+def run_otherwise(chance, runs):
+    items = some_list(chance, runs)
+    if items:
+        place = chance.randrange(len(items))
+        call, words = items[place].split(" ")[0], items[place].split(" ")[1:]
+        others = [f"{call} terminate", f"{call} push !0", f"{call} push 9", f"c1.9 {' '.join(words)}", f"{call} len"]
+        items[place] = chance.choice(others)
+
+
+JUMBLES = swap_two, drop_one, repeat_one, run_otherwise
+
+
+def jumbled_histories(seed, count):
+    for place, (script, report) in enumerate(small_histories(f"jumbled {seed}", count)):
+        chance = random.Random(f"jumbled {seed}.{place}")
+        yield chance.choice([script, without_plans(script)]), jumbled(chance, report), None
+
+
 # Worked histories, and what must be told of them.
 
 LISTS = "actor a1 list c1 c2\nactor a2 list c1 c2\n"
@@ -225,10 +336,10 @@ WORKED = {
     "a circle": (CROSSED + CYCLIC, CIRCLE, REFUSED),
     "a circle by awaits": (AWAITED, AWAITED_CIRCLE, REFUSED),
     "a circle that no submit line makes": (LISTS + CYCLIC, None, PLAY),
-    "a call skipped": (ONE + TWO_CALLS + "a1.0 c1.1 add 2\na1.1 c1.0 add 1\n", "line 5: a1.0 skips c1.0\n", REFUSED),
+    "a call skipped": (ONE + TWO_CALLS + "a1.0 c1.1 add 2\na1.1 c1.0 add 1\n", "line 5: a1.0 skips c1.0, which runs at a1.1 (line 6)\n", REFUSED),
     "another answer": (
         ONE + TWO_CALLS.replace("= 3", "= 4") + "a1.0 c1.0 add 1\na1.1 c1.1 add 2\n",
-        "line 3: the answer at a1.1 is 3, not 4\n",
+        "line 6: the answer at a1.1 is 3 by the rules, and the history tells 4 (line 3)\n",
         REFUSED,
     ),
     "another state": (
@@ -238,7 +349,7 @@ WORKED = {
     ),
     "another argument": (
         ONE + "submit c1 a1 add 1\nsubmit c1 a1 add @0\n" + TWO_CALLS + "a1.0 c1.0 add 1\na1.1 c1.1 add 2\n",
-        "line 8: the arguments at a1.1 are 1, not 2\n",
+        "line 8: the arguments at a1.1 are 1 by the rules, and the history tells 2\n",
         REFUSED,
     ),
     "a limit": (
@@ -250,6 +361,64 @@ WORKED = {
     "a line of events": (ONE + "send c1 0\n", "line 2: BadLine\n", MISTAKE),
     "an actor without a line": (ONE, "line 0: NoEnd: an actor has a role, and no line tells its end\n", MISTAKE),
 }
+
+
+# A history with many faults, and all that must be told of it.
+MANY = """actor a1 counter c1 c2
+actor a2 counter c1
+actor a3 list c2
+submit c1 a1 add 1
+submit c1 a2 add @0
+submit c1 a1 add 3
+submit c1 a1 add 4
+c1.0 a1 = 7
+c1.1 a2 ?
+c1.2 a1 = 8
+c1.3 a1 = 3
+c2.0 a1 = ActorDied
+c2.1 a3 ?
+c2.2 a3 = ActorDied
+c2.3 a3 = 1
+a1 live counter 7
+a1.0 c1.2 add 3
+a1.1 c1.0 add 1
+a1.2 c1.0 add 1
+a1.3 c1.3 add 5
+a1.4 c2.1 push 1
+a1.5 c2.7 get
+a2 retired ?
+a2.0 c2.3 get
+a2.1 c1.0 add 1
+a3 dead
+a3.0 c2.3 terminate
+a3.1 c2.1 push 1
+"""
+MANY_TOLD = """line 9: a2 retired, and didn't run c1.1
+line 12: c2.0 has ActorDied, and a1 isn't dead
+line 14: c2.1 has no answer, and the death that answered c2.2 answers both
+line 17: a1.0 skips c1.0, which runs at a1.1 (line 18)
+line 17: the answer at a1.0 is 3 by the rules, and the history tells 8 (line 10)
+line 18: the answer at a1.1 is 4 by the rules, and the history tells 7 (line 8)
+line 19: a1.2 runs c1.0 again, after a1.1 (line 18)
+line 20: a1.3 isn't c1.3 as it was submitted (line 7)
+line 20: the answer at a1.3 is 10 by the rules, and the history tells 3 (line 11)
+line 21: a1.4 is c2.1, which goes to a3
+line 22: a1.5 is c2.7, which has no line
+line 24: a2.0 is a call of c2, which has no handle
+line 25: a2.1 is c1.0, which goes to a1
+line 27: a3.0 skips c2.1, which runs at a3.1 (line 28)
+line 27: a3.0 skips c2.2, which didn't run
+line 27: the answer at a3.0 is unit by the rules, and the history tells 1 (line 15)
+line 28: a3.1 runs after a terminate
+"""
+WORKED_ALL = {"many faults": (MANY, MANY_TOLD)}
+
+
+def parts_of(history):
+    """The roles and steps of a history, and the lines below them."""
+    lines = history.splitlines()
+    first = next(place for place, line in enumerate(lines) if re.match(r"[ac]\d", line))
+    return "".join(f"{line}\n" for line in lines[:first]).encode(), lines[first:]
 
 
 # All checks.
@@ -275,6 +444,28 @@ class Tally:
             tell(name, history, why)
 
 
+def left_open(chance, report):
+    """The report with some answers and states that aren't told, and with some actors live that retired."""
+    return b"".join(line_left_open(chance, line) + b"\n" for line in report.split(b"\n")[:-1])
+
+
+def line_left_open(chance, line):
+    if chance.random() < 0.5:
+        return line
+    words = line.split(b" ")
+    if words[0].startswith(b"c") and words[2:3] == [b"="]:
+        return b" ".join([*words[:3], b"*"])
+    if words[1:2] == [b"retired"]:
+        return b" ".join([words[0], chance.choice([b"live", b"retired"]), chance.choice([b"?", b" ".join(words[2:])])])
+    return line
+
+
+def some_left_open(seed, triples):
+    """The same of histories that may be damaged. None of them has the right report."""
+    for place, (script, report, _) in enumerate(triples):
+        yield script, left_open(random.Random(f"open {seed}.{place}"), report), None
+
+
 def try_runs(tally, program, reports):
     fronts = [(front, report) for script, report in reports for front in (with_end(script), without_plans(script))]
     for (front, report), got in zip(fronts, checks(program, [front + report for front, report in fronts])):
@@ -293,8 +484,9 @@ def try_either(tally, program, name, triples):
     """Histories that may have a play or not, some with the right report. How many have one."""
     found, told = 0, []
     gots = checks(program, [script + report for script, report, _ in triples])
-    for (script, report, right), got in zip(triples, gots):
-        why = misjudged(script, report, got)
+    alls = checks(program, [script + report for script, report, _ in triples], CHECKS_ALL.words)
+    for (script, report, right), got, got_all in zip(triples, gots, alls):
+        why = misjudged(script, report, got) or misjudged_all(script, report, got, got_all)
         if why is None and right is not None and got[1] == REFUSED:
             why = unmended(program, script, report, right, got)
         tally.add(name, script + report, why)
@@ -338,6 +530,10 @@ def try_worked(tally, program):
         text, got = check(program, history.encode())
         is_well = got == status and (told is None or text.decode() == told)
         tally.add(name, history.encode(), None if is_well else f"status {got}, and {text!r}")
+    for name, (history, told) in WORKED_ALL.items():
+        text, got = check(program, history.encode(), CHECKS_ALL.words)
+        is_well = got == REFUSED and text.decode() == told == faults_told.faults_text(*parts_of(history))
+        tally.add(name, history.encode(), None if is_well else f"all faults, status {got}, and {text!r}")
 
 
 def chosen_options():
@@ -359,7 +555,11 @@ def main():
         scripts = [*threads.random_scripts(seed, chosen.count).values(), *threads.worked_scripts().values()]
         reports = reports_of(runs, scripts)
         try_runs(tally, program, reports)
-        try_either(tally, program, "reports that were damaged", list(damaged_reports(seed, reports)))
+        damaged = list(damaged_reports(seed, reports))
+        try_either(tally, program, "reports that were damaged", damaged)
+        right = [(with_end(script), report, None) for script, report in reports]
+        try_either(tally, program, "reports that leave something open", list(some_left_open(seed, right + damaged)))
+        try_either(tally, program, "small histories that are jumbled", list(jumbled_histories(seed, chosen.lists)))
         small = [(*history, None) for history in small_histories(seed, chosen.lists)]
         if not 0 < try_either(tally, program, "small histories", small) < len(small):
             tally.add("small histories", b"", "all of them have a play, or none has")

@@ -41,7 +41,7 @@ ELSEWHERE = {
 }
 STAND_INS = {"NAME", "FILE", "CRATE"}
 ALSO_THERE = {name for names in ELSEWHERE.values() for name in names.split()}
-KIT = r"`rattle-kit-\w+(?: logic \w+)?`"
+KIT = r"`rattle-kit-\w+(?: logic \w+)?`|`logic \w+`"
 FILE = r"(?<![\w./{*-])[\w{][\w./{}*-]*\.(?:rt|antt|py|actors|play|history|md|c|rs|svg|txt)\b(?!\.[\w{])"
 # Words that tell of somebody who asked, planned or was told, whom no reader knows.
 SPOKEN = re.compile(

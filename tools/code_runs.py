@@ -5,7 +5,7 @@
 
 The program is crates/random_callers: the code of each of its callers draws its steps by a seed, and decides by what
 it is told. Some callers have plans in the place of code. It prints what each caller asked for and was told, and what
-all left. Without `--seed` there are two, each with half of the runs: one that stays, and one that changes with the
+all left, and ends with a status of its own where `judge` finds the history of the run not in order. Without `--seed` there are two, each with half of the runs: one that stays, and one that changes with the
 commit.
 
 What was asked for and not refused is a script for threads, so tools/threads.py judges what all left. Judged here is

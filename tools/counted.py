@@ -232,9 +232,11 @@ def said_by(*words):
 
 
 def faults_of_kit(texts):
-    """Whether README.md names another kit than the one that is there, and what it has no command or flag for."""
-    if (kit := said_by("version")) and f"`{kit}`" not in " ".join(texts["README.md"].split()):
-        yield "README.md", f"the kit is {kit}, and another is named"
+    """Whether README.md names another logic than that of the kit which is there, and what the kit has no command or flag
+    for. Kits of one logic accept the same proofs, so their names may differ."""
+    _, word, logic = said_by("version").partition(" logic ")
+    if word and f"`logic {logic}`" not in " ".join(texts["README.md"].split()):
+        yield "README.md", f"the kit's logic is {logic}, and another is named"
     told = set(re.findall(r"--[\w-]+|[\w-]+", said_by("--help")))
     for page in sorted(path for path in texts if path.endswith(".md") and told):
         spans = (code for _, paragraph in paragraphs_of(texts[page]) for code in code_of(paragraph))

@@ -9,9 +9,9 @@ and what counters ran. There are three works, each with so many seeds, which sta
 
   - correct: a play must be found, which the second reading of the rules plays to the same end.
   - two senders: of two calls in a row of one caller to one counter the second is sent first. It must be refused, and
-    the reason must be that the first call is skipped, at the place where it is.
+    the reason must be that the first call is skipped, at the place where it is, and where it runs.
   - run twice: a caller sends a call again that had arrived. It must be refused, and the reason must be that this call
-    runs again, at its second place.
+    runs again, at its second place, after its first one.
 
 A run that ends otherwise is a failure. Which call is planted, a comment of the history says. Threads and processes are
 joined, and no fault depends on time: the first of two calls is sent once the second has its answer.
@@ -132,12 +132,17 @@ def reason_due(history):
     caller, number = planted[1], int(planted[2])
     runs = runs_of(history, caller)
     own = [(line, place) for line, place, ran in runs if ran == number]
+    if planted[3] and len(own) == 2:
+        (before, first), (line, at) = own
+        return f"line {line}: {at} runs {caller}.{number} again, after {first} (line {before})\n"
     if planted[3]:
-        return "line {}: {} runs {}.{} again\n".format(*own[1], caller, number) if len(own) == 2 else None
+        return None
     line, at = own[0]
     actor = at.partition(".")[0]
     passed = [(earlier, place) for earlier, place, ran in runs if ran > number and place.startswith(f"{actor}.")]
-    return "line {}: {} skips {}.{}\n".format(*passed[0], caller, number) if passed and passed[0][0] < line else None
+    if not passed or passed[0][0] > line:
+        return None
+    return "line {}: {} skips {}.{}, which runs at {} (line {})\n".format(*passed[0], caller, number, at, line)
 
 
 def verdict(program, history):

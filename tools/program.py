@@ -32,6 +32,8 @@ class Program:
 RUNS = Program("ray_actors")
 RECORDS = Program("ray_commands", "record")
 CHECKS = Program("ray_commands", "check")
+ORDERS = Program("ray_orders")
+CHECKS_ALL = Program("ray_commands", "check-all")
 PROVED = RUNS.proved
 # The one that is built unproved, for all of them.
 UNPROVED = "ray_commands"
@@ -150,6 +152,21 @@ def kept(tool, program=RUNS):
         say(tool, f"the proved program, {program.proved.relative_to(TOP)}")
         return program.proved
     path = unproved_of(tool)
+    say(tool, f"an unproved program of these sources, {shown(path)} (./test makes a proved one)")
+    return path
+
+
+def kept_alone(tool, program):
+    """The same of a program that no other one stands for: it is built unproved by itself."""
+    if is_fresh(program.proved, program.name, PROVED_CODE):
+        say(tool, f"the proved program, {program.proved.relative_to(TOP)}")
+        return program.proved
+    name = name_of(program.name)
+    path = next((folder / name for folder in folders() if os.access(folder / name, os.X_OK)), None)
+    if path is None:
+        import unproved  # its imports are dear, and a build is rare
+
+        path = unproved.build(tool, program.name, name)
     say(tool, f"an unproved program of these sources, {shown(path)} (./test makes a proved one)")
     return path
 

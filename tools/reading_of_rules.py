@@ -792,8 +792,17 @@ def giver_of(call):
     return death_of(call.actor) if fault_of(call) == "ActorDied" else run_of(call)
 
 
-# Whose steps a play does in their order: those of the callers with an `await`, as in a history that is told.
+# Whose steps a play does in their order: those of the callers with an `await`, as in a history that is told. It may
+# leave open which answer a call has, that of its run or where it didn't run of its actor's death, and the state of an
+# actor; and an actor may be live.
 OF_AWAITS = "awaits"
+
+
+class Unjudged:
+    """What is kept of a call whose answer isn't told."""
+
+
+UNJUDGED = Unjudged()
 
 
 class Ways:
@@ -932,6 +941,7 @@ class Judge:
         self.place = 0
         self.ran = set()  # the calls that stand in a run list, by caller and future
         self.ends = {}  # of each actor the text of its end
+        self.is_history = of_plans == OF_AWAITS
 
     def next_line(self, begins):
         """What follows on the next line, which must begin so."""
@@ -953,6 +963,7 @@ class Judge:
             raise NotAllowed(f"'{self.lines[self.place]}' after the end")
         for name, actor in sorted(self.world.actors.items()):
             self.replay(name, actor)
+        self.judge_unjudged()
         for caller in self.world.callers.values():
             for call in caller.calls:
                 self.judge_call(call)
@@ -965,6 +976,9 @@ class Judge:
     def read_future(self, call):
         """The line of a future, which must have an answer."""
         word = self.next_line(f"{call.spelled_future()} a{call.actor} = ")
+        if word == "*" and self.is_history:
+            call.kept = UNJUDGED
+            return
         try:
             call.kept = read_answer(word)
         except BadWord:
@@ -987,13 +1001,41 @@ class Judge:
         calls, before = caller.calls_to(name), actor.ran_of(int(found[1]))
         if before == len(calls):
             raise NotAllowed(f"a{name} ran '{words}', and c{found[1]} has no further call to it")
-        item = Item(calls[before], list(caller.settled(calls[before])), None)
+        item = Item(calls[before], list(self.settled(caller, calls[before], words)), None)
         if item.spelled() != words:
             raise NotAllowed(f"a{name} ran '{words}' where '{item.spelled()}' is the next call of c{found[1]}")
         self.ran.add((item.call.caller, item.call.future))
         return item
 
+    def settled(self, caller, call, words):
+        """The arguments of a call that ran. What one is that has an answer which isn't judged, the line tells."""
+        told = words.split(" ")[2:]
+        for place, kept in enumerate(caller.settled(call)):
+            if kept is UNJUDGED and place < len(told):
+                is_future = told[place] == f"!{call.arguments[place].number}"
+                kept = call.arguments[place] if is_future else self.value_of(told[place])
+            yield kept
+
+    def value_of(self, word):
+        try:
+            return read_value(word)
+        except BadWord:
+            raise NotAllowed(f"the argument '{word}' is none") from None
+
     # Whether all that is as the rules say.
+
+    def judge_unjudged(self):
+        """Answers that aren't judged are those of runs, once these are replayed, and else deaths; and each call ran with
+        the arguments that they settle."""
+        for caller in self.world.callers.values():
+            for call in caller.calls:
+                if call.kept is UNJUDGED:
+                    call.kept = Fault("ActorDied")
+        for actor in self.world.actors.values():
+            for item in actor.ran:
+                due = Item(item.call, list(self.world.callers[item.call.caller].settled(item.call)), None)
+                if item.spelled() != due.spelled():
+                    raise NotAllowed(f"'{item.spelled()}' ran where '{due.spelled()}' is due")
 
     def replay(self, name, actor):
         """Each item is answered as it stands in the run list; then the end must be right."""
@@ -1001,17 +1043,26 @@ class Judge:
             raise NotAllowed(f"a{name} ran a call after a terminate")
         for item in actor.ran:
             item.answer = answer_of(actor.kind, item.call.method, item.arguments)
+            if item.call.kept is UNJUDGED:
+                item.call.kept = item.answer
             if fault_of(item.call) != "ActorDied" and spelled(item.call.kept) != spelled(item.answer):
                 told = f"{item.call.spelled_future()} = {spelled(item.call.kept)}"
                 raise NotAllowed(f"{told}, but at its place a{name} answers {spelled(item.answer)}")
         if actor.stage == "dead":
             self.judge_dead(name, actor)
-        elif self.ends[name] != f"retired {actor.kind.text()}":
+        elif self.ends[name] not in self.ends_of(actor.kind.text()):
             raise NotAllowed(f"'a{name} {self.ends[name]}' after a run list that leaves '{actor.kind.text()}'")
+        elif actor.stage == "live":
+            if any(item.ends_actor() for item in actor.ran):
+                raise NotAllowed(f"a{name} is live after a terminate")
         elif len(actor.ran) != sum(len(caller.calls_to(name)) for caller in self.world.callers.values()):
             raise NotAllowed(f"a{name} retired before it ran all calls")
         elif any(item.ends_actor() for item in actor.ran):
             raise NotAllowed(f"a{name} retired after a terminate")
+
+    def ends_of(self, state):
+        """How the end of an actor may be told that isn't dead: in threads it retired, with its state."""
+        return [f"{stage} {told}" for stage in ("live", "retired") for told in (state, "?")] if self.is_history else [f"retired {state}"]
 
     def judge_dead(self, name, actor):
         if self.ends[name] != "dead":

@@ -32,6 +32,7 @@ OVER_ANY = [
     "fuzz.py --program {run}", "threads.py --program {run}", "check_histories.py --program {check} --runs {run}",
     "explained.py --program {run}", "plain_play.py --small --may-miss --program {run}",
     "test_ray_history.py --program {check}", "peers_checked.py --small --may-miss --program {check}",
+    "orders.py --small",
 ]  # fmt: skip
 # What runs the programs as two compilers made them, and what can run over one of them that isn't proved.
 ROWS, ROWS_OF_ONE = "rows.py", "rows.py --program {run}"

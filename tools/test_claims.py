@@ -137,9 +137,9 @@ class Numbers(unittest.TestCase):
                 found = self.faults_with(lambda texts: counted.faults_of_lists(SOURCES, texts, crates), page, old, new)
                 self.assertEqual(len([fault for fault in found if wanted in fault]), 1, found)
 
-    def test_another_kit_is_told(self):
-        page = "Proved with `rattle-kit-1\nlogic 2`."
-        for said, count in ("rattle-kit-1 logic 2", 0), ("rattle-kit-3 logic 4", 1), ("", 0):
+    def test_another_logic_is_told(self):
+        page = "Proved with `rattle-kit-1` of `logic\n2`."
+        for said, count in ("rattle-kit-1 logic 2", 0), ("rattle-kit-3 logic 2", 0), ("rattle-kit-1 logic 4", 1), ("", 0):
             with mock.patch.object(counted, "said_by", lambda word, said=said: said if word == "version" else ""):
                 self.assertEqual(len(list(counted.faults_of_kit({"README.md": page}))), count)
 
