@@ -1,4 +1,4 @@
--- A settled play with the choices of the late one is ahead of it.
+-- A quiescent play with the choices of the late one is ahead of it.
 use Rattle.std.proofs.Common.{◌≡◌, ℕ, ◌+◌, ◌≤◌, Bool, true, false, cond, List, [], ◌∷◌, ◌++◌, length, Option, Some, None, refl, ap, sym, ◌∙◌, subst, arith}
 use Rattle.std.specs.Prelude.{◌==◌, find, slice_get}
 use Rattle.std.proofs.lemmas.Bool.{eqb-true}
@@ -16,7 +16,7 @@ use Rattle.act_rules.proofs.Lists.{front_next, slice_get_front, element}
 use Rattle.act_rules.proofs.Ended.{under-push}
 use Rattle.act_rules.proofs.Posts.{run_stands, next_item_caller}
 use Rattle.act_early.specs.Plays.{At, steps_of, after_step, IsPlay, Opens, Takes, Skips, Closes, Happens}
-use Rattle.act_early.specs.Early.{IsSettled}
+use Rattle.act_early.specs.Early.{IsQuiescent}
 use Rattle.act_early.proofs.Worlds.{IsWorld, world}
 use Rattle.act_early.proofs.Counting.{occurrences-push}
 use Rattle.act_early.proofs.Progress.{Follows, follows}
@@ -31,7 +31,7 @@ pub record AreBoth (specs : List ActorSpec) (plans : ℕ → List Step) (e l : A
   pub early : IsWorld specs e.history
   pub late : IsWorld specs l.history
   pub goes : (c : ℕ) → Follows plans c e
-  pub settled : IsSettled plans e
+  pub quiescent : IsQuiescent plans e
 
 pub with_play : (specs : List ActorSpec) (plans : ℕ → List Step) (play early late : At) → AreBoth specs plans early late → IsPlay specs plans play
     → AreWorlds specs plans play early late
@@ -41,7 +41,7 @@ with_play specs plans play early late both is = record {
   late = both.late;
   moves = follows specs plans play is;
   goes = both.goes;
-  settled = both.settled;
+  quiescent = both.quiescent;
 }
 
 -- what matches a play matches each front of it
@@ -132,7 +132,7 @@ ahead specs plans early late both play (Takes before c step is next may) m =
     let w = with_play specs plans before early late both is in
     let was = weaken before.history (after_step c step before.history) early.history late.history (earlier_step c step before.history w.play.sound may) m in
     let old = ahead specs plans early late both before is was in
-    let more = not_behind specs plans c step before early w.play w.early (w.moves c) (w.goes c) both.settled
+    let more = not_behind specs plans c step before early w.play w.early (w.moves c) (w.goes c) both.quiescent
     (kept_ahead specs plans before early late c w was old) next may (old.steps c) in
     record {
       steps = steps_more c before early old.steps more;
@@ -143,7 +143,7 @@ ahead specs plans early late both play (Skips before c a is next named dead) m =
     let w = with_play specs plans before early late both is in
     let there : names c (cast_of a early.history) ≡ true =
     ap (λ (l : List ActorSpec). names c (find (λ (cast : ActorSpec). cast.actor == a) l)) (w.early.casts ∙ sym w.play.casts) ∙ named in
-    let more = not_behind_dead plans c a before early both.settled next there (dead_ahead a before early late m old dead) (old.steps c) in
+    let more = not_behind_dead plans c a before early both.quiescent next there (dead_ahead a before early late m old dead) (old.steps c) in
     record { steps = steps_more c before early old.steps more; runs = old.runs }
 ahead specs plans early late both play (Closes before c a is next may) m =
     let w = with_play specs plans before early late both is in

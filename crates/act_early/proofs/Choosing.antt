@@ -1,4 +1,4 @@
--- Each choice of a settled play leads on to a settled play.
+-- Each choice of a quiescent play leads on to a quiescent play.
 use Rattle.std.proofs.Common.{◌≡◌, ℕ, ◌<◌, Bool, true, false, cond, List, [], ◌∷◌, ◌++◌, length, Option, Some, None, refl, ap, sym, ◌∙◌, subst, arith}
 use Rattle.std.specs.Prelude.{◌==◌, ◌&&◌, find, filter_map, slice_get, option_map, option_and_then, is_some}
 use Rattle.std.specs.List.{cons_option}

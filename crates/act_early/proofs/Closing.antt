@@ -13,7 +13,7 @@ use Rattle.act_rules.specs.Rules.{refusal_of, add_event}
 use Rattle.act_rules.proofs.Retired.{times-push}
 use Rattle.act_early.specs.Plays.{At, next_step, with_event, Closes}
 use Rattle.act_early.proofs.Worlds.{world}
-use Rattle.act_early.proofs.Settles.{Settles, settles_same, settles_trans, quiet_settles}
+use Rattle.act_early.proofs.Quiesces.{Quiesces, quiesces_same, quiesces_trans, quiet_quiesces}
 use Rattle.act_early.proofs.Listed.{all_callers, all_actors, named_caller, IsOpen, IsWay, Comes, for_all}
 use Rattle.act_early.proofs.Stepping.{IsStuck, may_before}
 
@@ -22,20 +22,20 @@ IsClosed plans p c a = next_step plans c p ≡ None → names c (cast_of a p.his
 
 -- going on, so that who waits goes on waiting, and what was let go stays so
 pub record ClosesOn (specs : List ActorSpec) (plans : ℕ → List Step) (p q : At) : Type 0 where
-  pub settles : Settles specs plans p q
+  pub quiesces : Quiesces specs plans p q
   pub stuck : (c : ℕ) → IsStuck plans c p → IsStuck plans c q
   pub closed : (c a : ℕ) → IsClosed plans p c a → IsClosed plans q c a
 
 pub closing_on : (specs : List ActorSpec) (plans : ℕ → List Step) → IsWay specs plans (ClosesOn specs plans)
 closing_on specs plans = record {
-  stays = λ p begun. record { settles = settles_same specs plans p begun.play begun.live; stuck = λ c s. s; closed = λ c a x. x };
+  stays = λ p begun. record { quiesces = quiesces_same specs plans p begun.play begun.live; stuck = λ c s. s; closed = λ c a x. x };
   joins = λ p q r one two. record {
-    settles = settles_trans specs plans p q r one.settles two.settles;
+    quiesces = quiesces_trans specs plans p q r one.quiesces two.quiesces;
     stuck = λ c s. two.stuck c (one.stuck c s);
     closed =
         λ c a x. two.closed c a (one.closed c a x);
   };
-  opens = λ p q s. record { play = s.settles.play; live = s.settles.live };
+  opens = λ p q s. record { play = s.quiesces.play; live = s.quiesces.live };
 }
 
 -- ---- one release
@@ -51,7 +51,7 @@ one_left true x y z n one e = let some : x - y ≡ suc n = cc in let less : x - 
 release_on : (specs : List ActorSpec) (plans : ℕ → List Step) (p : At) (c a : ℕ) → IsOpen specs plans p → next_step plans c p ≡ None
     → refusal_of p.history (event.Release c a) ≡ None → ClosesOn specs plans p (with_event (event.Release c a) p)
 release_on specs plans p c a begun done may = record {
-  settles = quiet_settles specs plans (event.Release c a) p (with_event (event.Release c a) p) begun.play begun.live refl refl
+  quiesces = quiet_quiesces specs plans (event.Release c a) p (with_event (event.Release c a) p) begun.play begun.live refl refl
       (Closes p c a begun.play done may);
   stuck = λ d s. waits d s (c == d) refl;
   closed = λ d b x none named. copies d b (x none named);

@@ -7,31 +7,31 @@ use Rattle.act_rules.specs.declared.script.Step.{Step}
 use Rattle.act_rules.specs.History.{ActorSpec, History, under, contains, runs_of, next_item}
 use Rattle.act_rules.specs.Rules.{refusal_of}
 use Rattle.act_early.specs.Plays.{At, opened, IsPlay, Opens}
-use Rattle.act_early.specs.Early.{choices_of, IsSettled, HasRunMore, HasTakenMore, IsWholeSearch, IsEnded, EndsAlike}
+use Rattle.act_early.specs.Early.{choices_of, IsQuiescent, HasRunMore, HasTakenMore, IsWholeSearch, IsEnded, EndsAlike}
 use Rattle.act_early.specs.Fronts.{HaveSameChoices}
-use Rattle.act_early.specs.Settling.{IsEarly, Starts, RunsMore, TakesMore}
+use Rattle.act_early.specs.Quiescence.{IsEarly, Starts, RunsMore, TakesMore}
 use Rattle.act_early.proofs.Worlds.{or_second}
 use Rattle.act_early.proofs.Ending.{enough}
 use Rattle.act_early.proofs.Listed.{IsOpen}
-use Rattle.act_early.proofs.Settled.{settle}
+use Rattle.act_early.proofs.Quiescent.{quiesce}
 use Rattle.act_early.proofs.Choosing.{lost_play, heard_play, kill_play}
 
-pub settled_play : (casts : List ActorSpec) (plans : ℕ → List Step) (at : At) → IsPlay casts plans at → at.history.retired ≡ []
-    → (settled : At) × IsPlay casts plans settled × IsSettled plans settled × HaveSameChoices at.history settled.history
-settled_play casts plans at play live =
-    let done = settle casts plans at (record { play = play; live = live }) in (
+pub quiescent_play : (casts : List ActorSpec) (plans : ℕ → List Step) (at : At) → IsPlay casts plans at → at.history.retired ≡ []
+    → (quiescent : At) × IsPlay casts plans quiescent × IsQuiescent plans quiescent × HaveSameChoices at.history quiescent.history
+quiescent_play casts plans at play live =
+    let done = quiesce casts plans at (record { play = play; live = live }) in (
       done.0,
-      done.1.settles.play,
-      done.1.settled,
-      record { choices = λ a. sym (done.1.settles.choices a); killed = λ a. ap (contains a) (sym done.1.settles.killed) },
+      done.1.quiesces.play,
+      done.1.quiescent,
+      record { choices = λ a. sym (done.1.quiesces.choices a); killed = λ a. ap (contains a) (sym done.1.quiesces.killed) },
     )
 
 -- ---- what an early play is
 
-pub early_play : (casts : List ActorSpec) (plans : ℕ → List Step) (at : At) → IsEarly casts plans at → IsPlay casts plans at × IsSettled plans at
-early_play casts plans at (Starts _ play settled none alive) = (play, settled)
-early_play casts plans at (RunsMore before _ a c heard early may there more play settled) = (play, settled)
-early_play casts plans at (TakesMore before _ a early may more play settled) = (play, settled)
+pub early_play : (casts : List ActorSpec) (plans : ℕ → List Step) (at : At) → IsEarly casts plans at → IsPlay casts plans at × IsQuiescent plans at
+early_play casts plans at (Starts _ play quiescent none alive) = (play, quiescent)
+early_play casts plans at (RunsMore before _ a c heard early may there more play quiescent) = (play, quiescent)
+early_play casts plans at (TakesMore before _ a early may more play quiescent) = (play, quiescent)
 
 -- ---- each choice leads to an early play
 
@@ -53,9 +53,9 @@ early_run casts plans at a c heard early may there = go (next_item a c at.histor
     ends : (heard : Bool) → (q : At) × IsOpen casts plans q × HasRunMore a c heard at.history q.history
         → (next : At) × IsEarly casts plans next × HasRunMore a c heard at.history next.history
     ends heard q =
-        let done = settle casts plans q.0 q.1 in
-        let more = run_more a c heard at.history q.0.history done.0.history q.2 done.1.settles.choices done.1.settles.killed in
-        (done.0, RunsMore at done.0 a c heard early may there more done.1.settles.play done.1.settled, more)
+        let done = quiesce casts plans q.0 q.1 in
+        let more = run_more a c heard at.history q.0.history done.0.history q.2 done.1.quiesces.choices done.1.quiesces.killed in
+        (done.0, RunsMore at done.0 a c heard early may there more done.1.quiesces.play done.1.quiescent, more)
 
     go : (o : Option RunItem) → next_item a c at.history ≡ o → (heard : Bool) → is_some o ≡ true
         → (next : At) × IsEarly casts plans next × HasRunMore a c heard at.history next.history
@@ -68,20 +68,20 @@ early_kill : (casts : List ActorSpec) (plans : ℕ → List Step) (at : At) (a :
 early_kill casts plans at a early may =
     let is = early_play casts plans at early in
     let q = kill_play casts plans a at (record { play = is.0; live = is.1.live }) may in
-    let done = settle casts plans q.0 q.1 in
-    let more = taken_more a at.history q.0.history done.0.history q.2 done.1.settles.choices done.1.settles.killed in
-    (done.0, TakesMore at done.0 a early may more done.1.settles.play done.1.settled, more)
+    let done = quiesce casts plans q.0 q.1 in
+    let more = taken_more a at.history q.0.history done.0.history q.2 done.1.quiesces.choices done.1.quiesces.killed in
+    (done.0, TakesMore at done.0 a early may more done.1.quiesces.play done.1.quiescent, more)
 
 -- ---- all of them are a whole search
 
 all_early : (casts : List ActorSpec) (plans : ℕ → List Step) → IsWholeSearch casts plans (λ a. true) (IsEarly casts plans)
 all_early casts plans = record {
   plays = λ at early. (early_play casts plans at early).0;
-  settled = λ at early. (early_play casts plans at early).1;
+  quiescent = λ at early. (early_play casts plans at early).1;
   start =
-      let done = settle casts plans (opened casts) (record { play = Opens; live = refl }) in
-      let none : (a : ℕ) → runs_of a done.0.history ≡ [] = λ a. ap (λ (l : List (ℕ × RunItem)). under a l) done.1.settles.ran in
-      (done.0, Starts done.0 done.1.settles.play done.1.settled none done.1.settles.killed, none, done.1.settles.killed);
+      let done = quiesce casts plans (opened casts) (record { play = Opens; live = refl }) in
+      let none : (a : ℕ) → runs_of a done.0.history ≡ [] = λ a. ap (λ (l : List (ℕ × RunItem)). under a l) done.1.quiesces.ran in
+      (done.0, Starts done.0 done.1.quiesces.play done.1.quiescent none done.1.quiesces.killed, none, done.1.quiesces.killed);
   runs = λ at a c heard early may there _. early_run casts plans at a c heard early may there;
   takes = λ at a early may. early_kill casts plans at a early may;
 }

@@ -107,7 +107,7 @@ ends_alike casts plans early late both r ended f = record {
     same_cast a = ap (λ (l : List ActorSpec). find (λ (cast : ActorSpec). cast.actor == a) l) (r 0).casts
 
     live : (a : ℕ) → is_retired a late.history ≡ true → is_ended a early.history ≡ false
-    live a retired = ap (λ (b : Bool). b || is_retired a early.history) ((r a).dead ∙ both.late.live a retired) ∙ ap (contains a) both.settled.live
+    live a retired = ap (λ (b : Bool). b || is_retired a early.history) ((r a).dead ∙ both.late.live a retired) ∙ ap (contains a) both.quiescent.live
 
     -- an actor that retired ran all calls
     count : (c a : ℕ) → is_retired a late.history ≡ true → ran_count c a early.history ≡ length (calls_to a (calls_of c early.history))
@@ -121,7 +121,7 @@ ends_alike casts plans early late both r ended f = record {
     drained : (a : ℕ) → is_retired a late.history ≡ true → is_drained a early.history ≡ true
     drained a retired = all_from (λ c. is_done c a early.history) (callers_in (cast_of a early.history)) (λ c named.
         subst (λ (n : ℕ). has_letter (NoteLetter c a n) early.history.arrived ≡ true) (sym (count c a retired))
-        (both.settled.noted c a (both.settled.closed c a (done c) named) (live a retired)))
+        (both.quiescent.noted c a (both.quiescent.closed c a (done c) named) (live a retired)))
 
     retires : (a : ℕ) → is_retired a late.history ≡ true → refusal_of early.history (event.Retire a) ≡ None
     retires a retired =

@@ -8,7 +8,7 @@ use Rattle.act_rules.specs.Laws.{history}
 use Rattle.act_rules.specs.Rules.{outcomes}
 use Rattle.act_early.specs.Plays.{At, IsPlay}
 use Rattle.act_early.specs.Early.{IsWholeSearch, IsOver, IsEnded, LosesOnly, EndsAlike}
-use Rattle.act_early.specs.Settling.{IsEarly, IsSameEnd}
+use Rattle.act_early.specs.Quiescence.{IsEarly, IsSameEnd}
 use Rattle.act_early.specs.Lists.{KeepsToPlans}
 use Rattle.act_early.proofs.Ending.{enough}
 use Rattle.act_early.proofs.Early.{early_play, early_ends}

@@ -1,4 +1,4 @@
--- Settled plays with the same choices are alike.
+-- Quiescent plays with the same choices are alike.
 use Rattle.std.proofs.Common.{◌≡◌, ℕ, List, length, Option, Some, None, refl, sym, ◌∙◌, arith}
 use Rattle.std.proofs.lemmas.List.{length-map}
 use Rattle.act_rules.specs.declared.history.RunItem.{RunItem}
@@ -8,7 +8,7 @@ use Rattle.act_rules.specs.Submissions.{kept_at}
 use Rattle.act_rules.specs.History.{ActorSpec, History, runs_of, calls_of, kept_of}
 use Rattle.act_rules.proofs.Settling.{Extends}
 use Rattle.act_early.specs.Plays.{At, IsPlay}
-use Rattle.act_early.specs.Early.{is_heard, choices_of, IsSettled, IsEnded, EndsAlike}
+use Rattle.act_early.specs.Early.{is_heard, choices_of, IsQuiescent, IsEnded, EndsAlike}
 use Rattle.act_early.specs.Fronts.{HaveSameChoices, AreAlike}
 use Rattle.act_early.proofs.Worlds.{world}
 use Rattle.act_early.proofs.Counting.{take-past}
@@ -20,13 +20,13 @@ use Rattle.act_early.proofs.Possible.{IsReached}
 use Rattle.act_early.proofs.Searching.{Exactly, reached}
 use Rattle.act_early.proofs.Ending.{same_kept, kept_long, ends_alike}
 
-pub both_settled : (casts : List ActorSpec) (plans : ℕ → List Step) (early late : At) → IsPlay casts plans early → IsSettled plans early
+pub both_quiescent : (casts : List ActorSpec) (plans : ℕ → List Step) (early late : At) → IsPlay casts plans early → IsQuiescent plans early
     → IsPlay casts plans late → AreBoth casts plans early late
-both_settled casts plans early late is settled goes = record {
+both_quiescent casts plans early late is quiescent goes = record {
   early = world casts plans early is;
   late = world casts plans late goes;
   goes = follows casts plans early is;
-  settled = settled;
+  quiescent = quiescent;
 }
 
 exactly : (early late : At) → HaveSameChoices early.history late.history → Exactly late early late.history
@@ -38,15 +38,15 @@ exactly early late same = record {
   killed = same.killed;
 }
 
-pub all_reached : (casts : List ActorSpec) (plans : ℕ → List Step) (early late : At) → IsPlay casts plans early → IsSettled plans early
+pub all_reached : (casts : List ActorSpec) (plans : ℕ → List Step) (early late : At) → IsPlay casts plans early → IsQuiescent plans early
     → IsPlay casts plans late → HaveSameChoices early.history late.history → (a : ℕ) → IsReached a late early
-all_reached casts plans early late is settled goes same =
-    reached casts plans late early late goes (both_settled casts plans early late is settled goes) (earlier_same late.history) (exactly early late same)
+all_reached casts plans early late is quiescent goes same =
+    reached casts plans late early late goes (both_quiescent casts plans early late is quiescent goes) (earlier_same late.history) (exactly early late same)
 
-pub same_end : (casts : List ActorSpec) (plans : ℕ → List Step) (early late : At) → IsPlay casts plans early → IsSettled plans early
+pub same_end : (casts : List ActorSpec) (plans : ℕ → List Step) (early late : At) → IsPlay casts plans early → IsQuiescent plans early
     → IsPlay casts plans late → IsEnded plans late → HaveSameChoices early.history late.history → EndsAlike plans early late.history
-same_end casts plans early late is settled goes ended same =
-    ends_alike casts plans early late (both_settled casts plans early late is settled goes) (all_reached casts plans early late is settled goes same) ended
+same_end casts plans early late is quiescent goes ended same =
+    ends_alike casts plans early late (both_quiescent casts plans early late is quiescent goes) (all_reached casts plans early late is quiescent goes same) ended
     (follows casts plans late goes)
 
 turned : (h g : History) → HaveSameChoices h g → HaveSameChoices g h
@@ -61,9 +61,9 @@ both_keep xs ys one two k = go (kept_at xs k) (kept_at ys k) refl refl
     go None (Some answer) e f = two k answer f ∙ sym f
     go (Some answer) p e f = e ∙ sym (one k answer e)
 
-pub alike : (casts : List ActorSpec) (plans : ℕ → List Step) (one other : At) → IsPlay casts plans one → IsPlay casts plans other → IsSettled plans one
-    → IsSettled plans other → HaveSameChoices one.history other.history → AreAlike one other
-alike casts plans one other is goes settled rests same = record {
+pub alike : (casts : List ActorSpec) (plans : ℕ → List Step) (one other : At) → IsPlay casts plans one → IsPlay casts plans other → IsQuiescent plans one
+    → IsQuiescent plans other → HaveSameChoices one.history other.history → AreAlike one other
+alike casts plans one other is goes quiescent rests same = record {
   steps = λ c. let le = (there 0).steps c in let ge = (back 0).steps c in omega (arith, le, ge);
   calls = calls;
   kept = λ c. same_kept (kept_of c one.history) (kept_of c other.history) (kept_long c one.history other.history (calls c))
@@ -74,7 +74,7 @@ alike casts plans one other is goes settled rests same = record {
   where
     -- the first is ahead of the second, and the second of the first
     there : (a : ℕ) → IsReached a other one
-    there = all_reached casts plans one other is settled goes same
+    there = all_reached casts plans one other is quiescent goes same
 
     back : (a : ℕ) → IsReached a one other
     back = all_reached casts plans other one goes rests is (turned one.history other.history same)

@@ -15,14 +15,14 @@ pub mod Ending
 pub mod Keys
 pub mod Stuck
 pub mod Choices
-pub mod Settles
+pub mod Quiesces
 pub mod Listed
 pub mod Telling
 pub mod Stepping
 pub mod Closing
 pub mod Notes
 pub mod Mailing
-pub mod Settled
+pub mod Quiescent
 pub mod Running
 pub mod Choosing
 pub mod Early

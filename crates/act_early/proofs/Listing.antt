@@ -19,7 +19,7 @@ use Rattle.act_early.specs.Lists.{is_step_by, DoesStepBy, DoesStepsBy, KeepsToPl
 use Rattle.act_early.proofs.Worlds.{world}
 use Rattle.act_early.proofs.Deaths.{collected_death}
 use Rattle.act_early.proofs.Listed.{all_callers, all_listed}
-use Rattle.act_early.proofs.Settled.{may_listed, named_as_listed}
+use Rattle.act_early.proofs.Quiescent.{may_listed, named_as_listed}
 use Rattle.act_early.proofs.Shifting.{one_after, shift}
 use Rattle.act_early.proofs.Owning.{drop_none, closings, Left, next_is, rest_is, awaits, leaves_out, after_one, IsOwn, does_own}
 

@@ -20,7 +20,7 @@ use Rattle.act_rules.proofs.Growth.{added_grows}
 use Rattle.act_early.specs.Plays.{At, MayTake, with_event, Happens}
 use Rattle.act_early.proofs.Worlds.{world, or_second}
 use Rattle.act_early.proofs.Replies.{named_call}
-use Rattle.act_early.proofs.Settles.{Settles, settles_same, settles_trans, quiet_settles}
+use Rattle.act_early.proofs.Quiesces.{Quiesces, quiesces_same, quiesces_trans, quiet_quiesces}
 use Rattle.act_early.proofs.Listed.{all_callers, all_actors, named_caller, IsOpen, IsWay, Comes, for_each, for_all}
 use Rattle.act_early.proofs.Stepping.{IsStuck}
 use Rattle.act_early.proofs.Closing.{IsClosed}
@@ -37,7 +37,7 @@ IsNoted p c a = copies_of c a p.history ≡ Some 0 → is_ended a p.history ≡ 
 
 -- going on by letters alone
 pub record MailsOn (specs : List ActorSpec) (plans : ℕ → List Step) (p q : At) : Type 0 where
-  pub settles : Settles specs plans p q
+  pub quiesces : Quiesces specs plans p q
   pub submitted : q.history.submitted ≡ p.history.submitted
   pub stuck : (c : ℕ) → IsStuck plans c p → IsStuck plans c q
   pub closed : (c a : ℕ) → IsClosed plans p c a → IsClosed plans q c a
@@ -47,7 +47,7 @@ pub record MailsOn (specs : List ActorSpec) (plans : ℕ → List Step) (p q : A
 pub mailing : (specs : List ActorSpec) (plans : ℕ → List Step) → IsWay specs plans (MailsOn specs plans)
 mailing specs plans = record {
   stays = λ p begun. record {
-    settles = settles_same specs plans p begun.play begun.live;
+    quiesces = quiesces_same specs plans p begun.play begun.live;
     submitted = refl;
     stuck = λ c s. s;
     closed = λ c a x. x;
@@ -56,14 +56,14 @@ mailing specs plans = record {
     noted = λ c a x. x;
   };
   joins = λ p q r one two. record {
-    settles = settles_trans specs plans p q r one.settles two.settles;
+    quiesces = quiesces_trans specs plans p q r one.quiesces two.quiesces;
     submitted = two.submitted ∙ one.submitted;
     stuck = λ c s. two.stuck c (one.stuck c s);
     closed = λ c a x. two.closed c a (one.closed c a x);
     sent = λ c k x. two.sent c k (one.sent c k x);
     noted = λ c a x. two.noted c a (one.noted c a x);
   };
-  opens = λ p q s. record { play = s.settles.play; live = s.settles.live };
+  opens = λ p q s. record { play = s.quiesces.play; live = s.quiesces.live };
 }
 
 -- ---- one event
@@ -85,7 +85,7 @@ deliver_may i c (Await k) h may = may
 send_on : (specs : List ActorSpec) (plans : ℕ → List Step) (d j : ℕ) (p : At) → IsOpen specs plans p → refusal_of p.history (event.Send d j) ≡ None
     → MailsOn specs plans p (with_event (event.Send d j) p)
 send_on specs plans d j p begun may = record {
-  settles = quiet_settles specs plans (event.Send d j) p (with_event (event.Send d j) p) begun.play begun.live refl refl
+  quiesces = quiet_quiesces specs plans (event.Send d j) p (with_event (event.Send d j) p) begun.play begun.live refl refl
       (Happens p (event.Send d j) begun.play refl may);
   submitted = refl;
   stuck = λ c s. record { waits = λ step next may. s.waits step next (send_may d j c step p.history may); needs = λ a next named. s.needs a next named };
@@ -97,7 +97,7 @@ send_on specs plans d j p begun may = record {
 deliver_on : (specs : List ActorSpec) (plans : ℕ → List Step) (i : ℕ) (p : At) → IsOpen specs plans p → refusal_of p.history (event.Deliver i) ≡ None
     → MailsOn specs plans p (with_event (event.Deliver i) p)
 deliver_on specs plans i p begun may = record {
-  settles = quiet_settles specs plans (event.Deliver i) p (with_event (event.Deliver i) p) begun.play begun.live refl refl
+  quiesces = quiet_quiesces specs plans (event.Deliver i) p (with_event (event.Deliver i) p) begun.play begun.live refl refl
       (Happens p (event.Deliver i) begun.play refl may);
   submitted = refl;
   stuck = λ c s. record { waits = λ step next may. s.waits step next (deliver_may i c step p.history may); needs = λ a next named. s.needs a next named };

@@ -1,4 +1,4 @@
--- A settled play with the same choices keeps each answer that the late play keeps.
+-- A quiescent play with the same choices keeps each answer that the late play keeps.
 use Rattle.std.proofs.Common.{◌≡◌, ℕ, ◌≤◌, Bool, true, false, List, length, Option, Some, None, refl, ap, sym, ◌∙◌, subst}
 use Rattle.std.specs.Prelude.{◌==◌, ◌||◌, filter_map, slice_get, option_map, option_and_then, find, Err}
 use Rattle.std.proofs.lemmas.List.Elements.{filter_map-append}
@@ -18,7 +18,7 @@ use Rattle.act_rules.proofs.Settling.{Extends}
 use Rattle.act_rules.proofs.Sound.{answers_are, deaths_are}
 use Rattle.act_rules.proofs.Unique.{held_submission}
 use Rattle.act_early.specs.Plays.{At, steps_of}
-use Rattle.act_early.specs.Early.{is_reply, is_heard, choices_of, IsSettled}
+use Rattle.act_early.specs.Early.{is_reply, is_heard, choices_of, IsQuiescent}
 use Rattle.act_early.proofs.Worlds.{IsWorld, either_of, or_second}
 use Rattle.act_early.proofs.Counting.{take-prefix}
 use Rattle.act_early.proofs.Progress.{Follows, submission_in}
@@ -90,14 +90,14 @@ heard_is h c k item caller future = rw (caller, future) refl
 
 -- ---- the answers
 
--- what the early play needs to have settled
+-- what the early play needs to have quiescent
 pub record AreWorlds (specs : List ActorSpec) (plans : ℕ → List Step) (p e l : At) : Type 0 where
   pub play : IsWorld specs p.history
   pub early : IsWorld specs e.history
   pub late : IsWorld specs l.history
   pub moves : (c : ℕ) → Follows plans c p
   pub goes : (c : ℕ) → Follows plans c e
-  pub settled : IsSettled plans e
+  pub quiescent : IsQuiescent plans e
 
 -- a reply that the play keeps
 reply_ahead : (specs : List ActorSpec) (plans : ℕ → List Step) (play early late : At) (c k : ℕ) (answer : Answer) → AreWorlds specs plans play early late
@@ -162,7 +162,7 @@ death_ahead specs plans play early late c k w m ahead e = go (is_reply (Some som
 
     some : (answer : Answer) × (kept_at (kept_of c early.history) k ≡ Some answer)
     some = death_answers early.history c k call there
-        (w.settled.told c b (dead_ahead b play early late m ahead from.dead) (named_call early.history c k call w.early.retires.named there))
+        (w.quiescent.told c b (dead_ahead b play early late m ahead from.dead) (named_call early.history c k call w.early.retires.named there))
 
     -- no reply was heard of it in the late play, so none in the early one
     none : is_reply (Some some.0) ≡ true → ⊥

@@ -1,4 +1,4 @@
--- What the late play may choose, a settled play with the same choices so far may choose.
+-- What the late play may choose, a quiescent play with the same choices so far may choose.
 use Rattle.std.proofs.Common.{◌≡◌, ℕ, ◌≤◌, Bool, true, false, List, length, Option, Some, None, refl, ap, sym, ◌∙◌, subst}
 use Rattle.std.specs.Prelude.{◌==◌, ◌||◌, find, map, slice_get, is_some}
 use Rattle.std.specs.List.{list_all, list_any}
@@ -22,7 +22,7 @@ use Rattle.act_rules.proofs.Ended.{run_needs}
 use Rattle.act_rules.proofs.Settling.{Extends, arguments_stay}
 use Rattle.act_rules.proofs.AsSubmitted.{calls_to-at}
 use Rattle.act_early.specs.Plays.{At, steps_of, IsPlay}
-use Rattle.act_early.specs.Early.{IsSettled}
+use Rattle.act_early.specs.Early.{IsQuiescent}
 use Rattle.act_early.proofs.Worlds.{take_needs}
 use Rattle.act_early.proofs.Counting.{done_steps, take-prefix}
 use Rattle.act_early.proofs.Asking.{asks_all, asked_by}
@@ -41,10 +41,10 @@ pub record IsReached (a : ℕ) (play early : At) : Type 0 where
   pub kept : (c : ℕ) → Extends (kept_of c play.history) (kept_of c early.history)
   pub casts : early.history.casts ≡ play.history.casts
 
-pub lives : (plans : ℕ → List Step) (a : ℕ) (play early : At) → IsReached a play early → IsSettled plans early → is_ended a play.history ≡ false
+pub lives : (plans : ℕ → List Step) (a : ℕ) (play early : At) → IsReached a play early → IsQuiescent plans early → is_ended a play.history ≡ false
     → is_ended a early.history ≡ false
-lives plans a play early r settled live =
-    ap (λ (b : Bool). b || is_retired a early.history) r.dead ∙ ap (λ (xs : List ℕ). is_dead a play.history || contains a xs) settled.live
+lives plans a play early r quiescent live =
+    ap (λ (b : Bool). b || is_retired a early.history) r.dead ∙ ap (λ (xs : List ℕ). is_dead a play.history || contains a xs) quiescent.live
     ∙ go (is_dead a play.history) (is_retired a play.history) live
   where
     go : (x y : Bool) → (x || y) ≡ false → (x || false) ≡ false
@@ -54,18 +54,18 @@ lives plans a play early r settled live =
 same_cast : (a : ℕ) (play early : At) → IsReached a play early → cast_of a early.history ≡ cast_of a play.history
 same_cast a play early r = ap (λ (l : List ActorSpec). find (λ (cast : ActorSpec). cast.actor == a) l) r.casts
 
-pub may_run : (plans : ℕ → List Step) (a c : ℕ) (play early : At) → IsReached a play early → IsSettled plans early
+pub may_run : (plans : ℕ → List Step) (a c : ℕ) (play early : At) → IsReached a play early → IsQuiescent plans early
     → refusal_of play.history (event.Run a c) ≡ None → refusal_of early.history (event.Run a c) ≡ None
-may_run plans a c play early r settled e =
+may_run plans a c play early r quiescent e =
     let needed = run_needs play.history a c e in
     let caller : is_caller c early.history ≡ true =
     ap (λ (l : List ActorSpec). list_any (λ (cast : ActorSpec). contains c cast.callers) l) r.casts ∙ needed.0 in
     let named : names c (cast_of a early.history) ≡ true = ap (λ (o : Option ActorSpec). names c o) (same_cast a play early r) ∙ needed.1 in
-    rw (caller, named, lives plans a play early r settled needed.2) refl
+    rw (caller, named, lives plans a play early r quiescent needed.2) refl
 
 pub runs_alike : (plans : ℕ → List Step) (a c : ℕ) (item : RunItem) (play early : At) → IsSound early.history → IsReached a play early
-    → IsSettled plans early → is_ended a play.history ≡ false → IsReady a c play.history item → next_item a c early.history ≡ Some item
-runs_alike plans a c item play early sound r settled live is =
+    → IsQuiescent plans early → is_ended a play.history ≡ false → IsReady a c play.history item → next_item a c early.history ≡ Some item
+runs_alike plans a c item play early sound r quiescent live is =
     rw (same_count, arrived, at) (ap (λ (i : RunItem). Some i) (ap with_args (settled_args.1)) ∙ ap (λ (i : RunItem). Some i) is.next.is)
   where
     g : History
@@ -96,15 +96,15 @@ runs_alike plans a c item play early sound r settled live is =
 
     unanswered : kept_at (kept_of c g) call.0 ≡ None
     unanswered = next_unanswered g a c call sound (ap (λ (m : ℕ). slice_get (calls_to a (calls_of c g)) m) same_count ∙ at)
-        (lives plans a play early r settled live)
+        (lives plans a play early r quiescent live)
 
     letter : call_letter c call.0 call.1 g ≡ CallLetter c a n
     letter = ap (λ (b : ℕ). CallLetter c b (number_of b call.0 (calls_of c g))) stands.1 ∙ ap (CallLetter c a) (number_is a n (calls_of c g) call at)
 
     arrived : has_letter (CallLetter c a n) g.arrived ≡ true
     arrived = subst (λ (l : Letter). has_letter l g.arrived ≡ true) letter
-        (settled.sent c call.0 call.1 stands.0 unanswered settled_args.0
-        (subst (λ (b : ℕ). is_ended b g ≡ false) (sym stands.1) (lives plans a play early r settled live)))
+        (quiescent.sent c call.0 call.1 stands.0 unanswered settled_args.0
+        (subst (λ (b : ℕ). is_ended b g ≡ false) (sym stands.1) (lives plans a play early r quiescent live)))
 
 -- ---- a kill
 
@@ -116,12 +116,12 @@ any_front p xs ys f e = subst (λ (l : List Step). list_any p l ≡ true) f.1 (l
     first false y e = cc
 
 pub may_kill : (specs : List ActorSpec) (plans : ℕ → List Step) (a : ℕ) (play early : At) → IsPlay specs plans play → IsPlay specs plans early
-    → IsReached a play early → IsSettled plans early
+    → IsReached a play early → IsQuiescent plans early
     → refusal_of play.history (event.TakeKill a) ≡ None → refusal_of early.history (event.TakeKill a) ≡ None
-may_kill specs plans a play early is goes r settled e =
+may_kill specs plans a play early is goes r quiescent e =
     let needed = take_needs play.history a e in
     let cast : is_some (cast_of a early.history) ≡ true = ap (λ (o : Option ActorSpec). is_some o) (same_cast a play early r) ∙ needed.0 in
-    let live = lives plans a play early r settled needed.1 in
+    let live = lives plans a play early r quiescent needed.1 in
     let by = asked_by specs plans a play is needed.2 in
     let front : IsPrefix (done_steps plans by.0 play) (done_steps plans by.0 early) =
     take-prefix (plans by.0) (steps_of by.0 play) (steps_of by.0 early) (r.steps by.0) in

@@ -1,4 +1,4 @@
--- Where a settled play ends as an ended one did, its actors can retire.
+-- Where a quiescent play ends as an ended one did, its actors can retire.
 use Rattle.std.proofs.Common.{◌≡◌, ℕ, Bool, true, false, cond, List, [], ◌∷◌, ◌++◌, Option, Some, None, refl, ap, sym, ◌∙◌, subst}
 use Rattle.std.specs.Prelude.{◌==◌, ◌||◌, find, slice_get, is_some}
 use Rattle.std.specs.List.{AllByRecursion}
@@ -11,8 +11,8 @@ use Rattle.act_rules.specs.Submissions.{kept_at}
 use Rattle.act_rules.specs.History.{ActorSpec, contains, cast_of, is_dead, is_retired, is_ended}
 use Rattle.act_rules.specs.Rules.{refusal_of}
 use Rattle.act_early.specs.Plays.{At, IsPlay, Happens}
-use Rattle.act_early.specs.Early.{IsSettled, IsEnded, EndsAlike}
-use Rattle.act_early.specs.Settling.{IsSameEnd}
+use Rattle.act_early.specs.Early.{IsQuiescent, IsEnded, EndsAlike}
+use Rattle.act_early.specs.Quiescence.{IsSameEnd}
 use Rattle.act_early.proofs.Worlds.{IsWorld, world, contains_push, either_of, or_second, not_dead, retire_needs}
 use Rattle.act_early.proofs.Listed.{all_actors, all_listed}
 
@@ -88,13 +88,13 @@ same_truth true y f g = sym (f refl)
 same_truth false true f g = g refl
 same_truth false false f g = refl
 
-pub retired_play : (casts : List ActorSpec) (plans : ℕ → List Step) (early late : At) → IsPlay casts plans early → IsSettled plans early
+pub retired_play : (casts : List ActorSpec) (plans : ℕ → List Step) (early late : At) → IsPlay casts plans early → IsQuiescent plans early
     → IsPlay casts plans late → IsEnded plans late → EndsAlike plans early late.history
     → (end : At) × IsPlay casts plans end × IsEnded plans end × IsSameEnd end.history late.history
-retired_play casts plans early late play settled goes ended ends = (end, done.play, is_ended_there, same)
+retired_play casts plans early late play quiescent goes ended ends = (end, done.play, is_ended_there, same)
   where
     begun : IsPlay casts plans (with_retired early [])
-    begun = subst (λ (xs : List ℕ). IsPlay casts plans (with_retired early xs)) settled.live play
+    begun = subst (λ (xs : List ℕ). IsPlay casts plans (with_retired early xs)) quiescent.live play
 
     done : HasRetired casts plans early late (all_actors casts) []
     done = retire_all casts plans early late (all_actors casts) [] ends begun (λ a e. cc)

@@ -101,7 +101,7 @@ both_of casts plans may_lose Seen early late search has is = record {
   early = world casts plans early (search.plays early has);
   late = world casts plans late is;
   goes = follows casts plans early (search.plays early has);
-  settled = search.settled early has;
+  quiescent = search.quiescent early has;
 }
 
 run_seen : (casts : List ActorSpec) (plans : ℕ → List Step) (may_lose : ℕ → Bool) (Seen : At → Type 0) (b c : ℕ) (before late : At)
@@ -145,11 +145,11 @@ run_seen casts plans may_lose Seen b c before late search is ends losing may was
         there = slice_get_front (runs_of b (after_run b c h (Some item))) (runs_of b late.history) n item (later.runs b) (run_stands b h.ran item)
 
         possible : next_item b c s.early.history ≡ Some item
-        possible = runs_alike plans b c item before s.early both.early.sound r both.settled (run_needs h b c may).2
+        possible = runs_alike plans b c item before s.early both.early.sound r both.quiescent (run_needs h b c may).2
             (ready b c h item (world casts plans before is).sound e)
 
         next : (g : At) × Seen g × HasRunMore b c heard s.early.history g.history
-        next = search.runs s.early b c heard s.has (may_run plans b c before s.early r both.settled may) (ap (λ (o : Option RunItem). is_some o) possible)
+        next = search.runs s.early b c heard s.has (may_run plans b c before s.early r both.quiescent may) (ap (λ (o : Option RunItem). is_some o) possible)
             (losing b n item there)
 
         choice : slice_get (choices_of b late.history) n ≡ Some (c, heard)
@@ -172,7 +172,7 @@ kill_seen : (casts : List ActorSpec) (plans : ℕ → List Step) (may_lose : ℕ
 kill_seen casts plans may_lose Seen b before late search is ends may was s =
     let both = both_of casts plans may_lose Seen s.early late search s.has ends in
     let r = reached casts plans before s.early late is both was s.exactly b in
-    let next = search.takes s.early b s.has (may_kill casts plans b before s.early is (search.plays s.early s.has) r both.settled may) in
+    let next = search.takes s.early b s.has (may_kill casts plans b before s.early is (search.plays s.early s.has) r both.quiescent may) in
     record {
       early = next.0;
       has = next.1;

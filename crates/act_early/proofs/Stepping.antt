@@ -24,7 +24,7 @@ use Rattle.act_early.proofs.Counting.{occurrences-push, other_next}
 use Rattle.act_early.proofs.Progress.{submission_in, is_copy_of, is_release_of, submitted_one, copied_one, released_one}
 use Rattle.act_early.proofs.Waiting.{IsAlike, copies_from, may_take}
 use Rattle.act_early.proofs.Choices.{first_same, map-same_at}
-use Rattle.act_early.proofs.Settles.{Settles, settles_same, settles_trans, step_settles, skip_settles}
+use Rattle.act_early.proofs.Quiesces.{Quiesces, quiesces_same, quiesces_trans, step_quiesces, skip_quiesces}
 use Rattle.act_early.proofs.Listed.{all_callers, IsOpen, IsWay, Comes, for_each}
 
 -- ---- what a step leaves of another caller
@@ -93,14 +93,14 @@ pub record IsStuck (plans : ℕ → List Step) (c : ℕ) (p : At) : Type 0 where
 
 -- going on, so that who waits goes on waiting
 pub record GoesOn (specs : List ActorSpec) (plans : ℕ → List Step) (p q : At) : Type 0 where
-  pub settles : Settles specs plans p q
+  pub quiesces : Quiesces specs plans p q
   pub stuck : (c : ℕ) → IsStuck plans c p → IsStuck plans c q
 
 pub going_on : (specs : List ActorSpec) (plans : ℕ → List Step) → IsWay specs plans (GoesOn specs plans)
 going_on specs plans = record {
-  stays = λ p begun. record { settles = settles_same specs plans p begun.play begun.live; stuck = λ c s. s };
-  joins = λ p q r one two. record { settles = settles_trans specs plans p q r one.settles two.settles; stuck = λ c s. two.stuck c (one.stuck c s) };
-  opens = λ p q s. record { play = s.settles.play; live = s.settles.live };
+  stays = λ p begun. record { quiesces = quiesces_same specs plans p begun.play begun.live; stuck = λ c s. s };
+  joins = λ p q r one two. record { quiesces = quiesces_trans specs plans p q r one.quiesces two.quiesces; stuck = λ c s. two.stuck c (one.stuck c s) };
+  opens = λ p q s. record { play = s.quiesces.play; live = s.quiesces.live };
 }
 
 -- ---- one step
@@ -147,7 +147,7 @@ others_wait_on plans c d p e s = record {
 pub step_on : (specs : List ActorSpec) (plans : ℕ → List Step) (c : ℕ) (step : Step) (p : At) → IsOpen specs plans p → next_step plans c p ≡ Some step
     → MayTake c step p.history → GoesOn specs plans p (taken c step p)
 step_on specs plans c step p begun next may = record {
-  settles = step_settles specs plans c step p begun.play begun.live next may;
+  quiesces = step_quiesces specs plans c step p begun.play begun.live next may;
   stuck = λ d s. go d s (c == d) refl;
 }
   where
@@ -158,7 +158,7 @@ step_on specs plans c step p begun next may = record {
 skip_on : (specs : List ActorSpec) (plans : ℕ → List Step) (c a : ℕ) (p : At) → IsOpen specs plans p → next_step plans c p ≡ Some (Kill a)
     → names c (cast_of a p.history) ≡ true → is_dead a p.history ≡ true → GoesOn specs plans p (skipped c p)
 skip_on specs plans c a p begun next named dead = record {
-  settles = skip_settles specs plans c a p begun.play begun.live next named dead;
+  quiesces = skip_quiesces specs plans c a p begun.play begun.live next named dead;
   stuck = λ d s. go d s (c == d) refl;
 }
   where

@@ -1,4 +1,4 @@
--- A settled play that made some of a late play's choices may make one more.
+-- A quiescent play that made some of a late play's choices may make one more.
 use Rattle.std.proofs.Common.{◌≡◌, ℕ, ◌<◌, ◌≤◌, Bool, true, false, cond, List, [], ◌∷◌, ◌++◌, length, Option, Some, None, inl, inr, ◌⊎◌, refl, ap, sym, ◌∙◌, subst, arith}
 use Rattle.std.specs.Prelude.{◌==◌, ◌||◌, slice_get, is_some}
 use Rattle.std.proofs.lemmas.Bool.{eqb-true, eq-eqb, cases_lt}
@@ -15,7 +15,7 @@ use Rattle.act_rules.proofs.Lists.{slice_get_front}
 use Rattle.act_rules.proofs.Ended.{under-push, run_needs}
 use Rattle.act_rules.proofs.Posts.{run_stands, next_item_caller}
 use Rattle.act_early.specs.Plays.{At, after_step, IsPlay, Opens, Takes, Skips, Closes, Happens}
-use Rattle.act_early.specs.Early.{is_heard, choices_of, IsSettled}
+use Rattle.act_early.specs.Early.{is_heard, choices_of, IsQuiescent}
 use Rattle.act_early.specs.Fronts.{IsFrontOf, Nearer, Whole, MayRun, MayKill}
 use Rattle.act_early.proofs.Worlds.{world, contains_push, either_of, not_dead, take_needs, or_second}
 use Rattle.act_early.proofs.Replies.{front_whole, front_short}
@@ -24,7 +24,7 @@ use Rattle.act_early.proofs.Matching.{Matches, IsAhead, AreWorlds, calls_ahead, 
 use Rattle.act_early.proofs.Ahead.{AreBoth, with_play, ahead}
 use Rattle.act_early.proofs.Items.{ready}
 use Rattle.act_early.proofs.Possible.{IsReached, may_run, runs_alike, may_kill}
-use Rattle.act_early.proofs.Keys.{both_settled}
+use Rattle.act_early.proofs.Keys.{both_quiescent}
 
 -- the early play made each choice of this front of the late one
 record IsCovered (play early : History) : Type 0 where
@@ -129,12 +129,12 @@ run_near casts plans b c before early late both is f may was later cov = go (nex
             let front = ahead casts plans early late both before is m in
             let needed = run_needs h b c may in
             let r = at_actor casts plans b before early late w front m short (alive short (contains b early.history.killed) refl) (not_dead b h needed.2) in
-            let possible = runs_alike plans b c item before early both.early.sound r both.settled needed.2 (ready b c h item w.play.sound e) in
+            let possible = runs_alike plans b c item before early both.early.sound r both.quiescent needed.2 (ready b c h item w.play.sound e) in
             let place : length (runs_of b early.history) ≡ n = ap (λ (l : List RunItem). length l) r.runs in
             inr (MayRun b c (is_heard late.history item)
             (ap (slice_get (choices_of b late.history)) place ∙ choice_at late.history b n item there
             ∙ ap (λ (d : ℕ). Some (d, is_heard late.history item)) (next_item_caller b c h item e))
-            (may_run plans b c before early r both.settled may) (ap (λ (o : Option RunItem). is_some o) possible))
+            (may_run plans b c before early r both.quiescent may) (ap (λ (o : Option RunItem). is_some o) possible))
 
 kill_near : (casts : List ActorSpec) (plans : ℕ → List Step) (b : ℕ) (before early late : At) → AreBoth casts plans early late → IsPlay casts plans early
     → IsPlay casts plans before → IsFrontOf early.history late.history
@@ -172,7 +172,7 @@ kill_near casts plans b before early late both goes is f may was later cov = go 
         let same : length (runs_of b early.history) ≡ length (runs_of b late.history) = ap (λ (l : List RunItem). length l) (r.runs ∙ sym last) in
         inr (MayKill b (later.killed b taken_here) e
         (front_whole (choices_of b early.history) (choices_of b late.history) (f.choices b) (omega (arith, one, two, same)))
-        (may_kill casts plans b before early is goes r both.settled may))
+        (may_kill casts plans b before early is goes r both.quiescent may))
 
 event_near : (casts : List ActorSpec) (plans : ℕ → List Step) (other : Event) (before early late : At) → AreBoth casts plans early late
     → IsPlay casts plans early → IsPlay casts plans before → IsFrontOf early.history late.history
@@ -221,10 +221,10 @@ comes_near casts plans early late both goes f play (Happens before other is free
     or_near early late before.history (add_event before.history other) (comes_near casts plans early late both goes f before is was)
     (λ cov. event_near casts plans other before early late both goes is f may was later cov)
 
-pub no_front_is_stuck : (casts : List ActorSpec) (plans : ℕ → List Step) (early late : At) → IsPlay casts plans early → IsSettled plans early
+pub no_front_is_stuck : (casts : List ActorSpec) (plans : ℕ → List Step) (early late : At) → IsPlay casts plans early → IsQuiescent plans early
     → IsPlay casts plans late → IsFrontOf early.history late.history → Nearer early.history late.history
-no_front_is_stuck casts plans early late goes settled is f =
-    go (comes_near casts plans early late (both_settled casts plans early late goes settled is) goes f late is (earlier_same late.history))
+no_front_is_stuck casts plans early late goes quiescent is f =
+    go (comes_near casts plans early late (both_quiescent casts plans early late goes quiescent is) goes f late is (earlier_same late.history))
   where
     killed : (a : ℕ) → IsCovered late.history early.history → (x y : Bool) → contains a early.history.killed ≡ x → contains a late.history.killed ≡ y → x ≡ y
     killed a cov true y e k = sym (f.killed a e) ∙ k

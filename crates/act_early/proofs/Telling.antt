@@ -10,26 +10,26 @@ use Rattle.act_rules.specs.History.{ActorSpec, History, names, cast_of, is_calle
 use Rattle.act_rules.specs.Rules.{refusal_of, and_also}
 use Rattle.act_rules.proofs.Lists.{slice_get_last}
 use Rattle.act_early.specs.Plays.{At, with_event, Happens}
-use Rattle.act_early.proofs.Settles.{Settles, settles_same, settles_trans, quiet_settles, death_settles, dead_same, cast_same}
+use Rattle.act_early.proofs.Quiesces.{Quiesces, quiesces_same, quiesces_trans, quiet_quiesces, death_quiesces, dead_same, cast_same}
 use Rattle.act_early.proofs.Listed.{all_callers, all_actors, named_caller, IsOpen, IsWay, Comes, for_all}
 use Rattle.std.proofs.lemmas.List.Elements.{Contains-append_left, Contains-append_right}
 
 abbrev pub IsTold : At → ℕ → ℕ → Type 0
 IsTold p c a = is_dead a p.history ≡ true → names c (cast_of a p.history) ≡ true → Contains p.history.collected (DeathPost c a)
 
-pub told_stays : (specs : List ActorSpec) (plans : ℕ → List Step) (p q : At) → Settles specs plans p q → (c a : ℕ) → IsTold p c a → IsTold q c a
+pub told_stays : (specs : List ActorSpec) (plans : ℕ → List Step) (p q : At) → Quiesces specs plans p q → (c a : ℕ) → IsTold p c a → IsTold q c a
 told_stays specs plans p q s c a told dead named =
     let before = told (sym (dead_same specs plans p q a s) ∙ dead) (ap (λ (o : Option ActorSpec). names c o) (sym (cast_same specs plans p q a s)) ∙ named) in
     subst (λ (posts : List Post). Contains posts (DeathPost c a)) s.collected.1 (Contains-append_left p.history.collected s.collected.0 (DeathPost c a) before)
 
-pub settling : (specs : List ActorSpec) (plans : ℕ → List Step) → IsWay specs plans (Settles specs plans)
-settling specs plans = record {
-  stays = λ p begun. settles_same specs plans p begun.play begun.live;
-  joins = λ p q r one two. settles_trans specs plans p q r one two;
+pub quiescence : (specs : List ActorSpec) (plans : ℕ → List Step) → IsWay specs plans (Quiesces specs plans)
+quiescence specs plans = record {
+  stays = λ p begun. quiesces_same specs plans p begun.play begun.live;
+  joins = λ p q r one two. quiesces_trans specs plans p q r one two;
   opens = λ p q s. record { play = s.play; live = s.live };
 }
 
-tell_one : (specs : List ActorSpec) (plans : ℕ → List Step) (p : At) → IsOpen specs plans p → (c a : ℕ) → Comes (Settles specs plans) (λ q. IsTold q c a) p
+tell_one : (specs : List ActorSpec) (plans : ℕ → List Step) (p : At) → IsOpen specs plans p → (c a : ℕ) → Comes (Quiesces specs plans) (λ q. IsTold q c a) p
 tell_one specs plans p begun c a = go (is_dead a h) (names c (cast_of a h)) refl refl
   where
     h : History
@@ -41,22 +41,22 @@ tell_one specs plans p begun c a = go (is_dead a h) (names c (cast_of a h)) refl
     place : slice_get told.history.posts (length h.posts) ≡ Some (DeathPost c a)
     place = slice_get_last h.posts (DeathPost c a)
 
-    go : (x y : Bool) → is_dead a h ≡ x → names c (cast_of a h) ≡ y → Comes (Settles specs plans) (λ q. IsTold q c a) p
-    go false y dead named = (p, settles_same specs plans p begun.play begun.live, λ is _. let bad : true ≡ false = sym is ∙ dead in cc)
-    go true false dead named = (p, settles_same specs plans p begun.play begun.live, λ _ is. let bad : true ≡ false = sym is ∙ named in cc)
+    go : (x y : Bool) → is_dead a h ≡ x → names c (cast_of a h) ≡ y → Comes (Quiesces specs plans) (λ q. IsTold q c a) p
+    go false y dead named = (p, quiesces_same specs plans p begun.play begun.live, λ is _. let bad : true ≡ false = sym is ∙ dead in cc)
+    go true false dead named = (p, quiesces_same specs plans p begun.play begun.live, λ _ is. let bad : true ≡ false = sym is ∙ named in cc)
     go true true dead named =
         let caller : is_caller c h ≡ true = named_caller c a h.casts named in
         let may : refusal_of h (event.Tell a c) ≡ None = rw (caller, named, dead) refl in
-        let first = quiet_settles specs plans (event.Tell a c) p told begun.play begun.live refl refl (Happens p (event.Tell a c) begun.play refl may) in
-        let second = death_settles specs plans (length h.posts) c a told first.play first.live place in (
+        let first = quiet_quiesces specs plans (event.Tell a c) p told begun.play begun.live refl refl (Happens p (event.Tell a c) begun.play refl may) in
+        let second = death_quiesces specs plans (length h.posts) c a told first.play first.live place in (
           with_event (event.Collect (length h.posts)) told,
-          settles_trans specs plans p told (with_event (event.Collect (length h.posts)) told) first second,
+          quiesces_trans specs plans p told (with_event (event.Collect (length h.posts)) told) first second,
           λ _ _. subst (λ (posts : List Post). Contains posts (DeathPost c a)) (sym (ap (and_also h.collected) place))
               (Contains-append_right h.collected (DeathPost c a ∷ []) (DeathPost c a) (0, omega arith, refl)),
         )
 
 -- all deaths
 pub tell_all : (specs : List ActorSpec) (plans : ℕ → List Step) (p : At) → IsOpen specs plans p
-    → Comes (Settles specs plans) (λ q. AllByRecursion (λ c. AllByRecursion (IsTold q c) (all_actors specs)) (all_callers specs)) p
-tell_all specs plans p begun = for_all specs plans (Settles specs plans) IsTold (settling specs plans) (told_stays specs plans) (tell_one specs plans)
+    → Comes (Quiesces specs plans) (λ q. AllByRecursion (λ c. AllByRecursion (IsTold q c) (all_actors specs)) (all_callers specs)) p
+tell_all specs plans p begun = for_all specs plans (Quiesces specs plans) IsTold (quiescence specs plans) (told_stays specs plans) (tell_one specs plans)
     (all_callers specs) (all_actors specs) p begun

@@ -1,4 +1,4 @@
--- A settled caller isn't behind: what the late play's caller may do next, it did already.
+-- A quiescent caller isn't behind: what the late play's caller may do next, it did already.
 use Rattle.std.proofs.Common.{◌≡◌, ℕ, ◌+◌, ◌-◌, ◌<◌, ◌≤◌, Bool, true, false, cond, List, [], ◌∷◌, length, Option, Some, None, inl, inr, ◌⊎◌, refl, ap, sym, ◌∙◌, subst, arith}
 use Rattle.std.specs.Prelude.{◌==◌, filter, filter_map, find, take, slice_get, option_map, is_none, is_some, nat_lt}
 use Rattle.std.specs.Option.{option_or}
@@ -24,7 +24,7 @@ use Rattle.act_rules.proofs.Ended.{needs-none}
 use Rattle.act_rules.proofs.Settling.{Extends}
 use Rattle.act_rules.proofs.Limits.{limit_of-same}
 use Rattle.act_early.specs.Plays.{At, steps_of, next_step, MayTake}
-use Rattle.act_early.specs.Early.{IsSettled}
+use Rattle.act_early.specs.Early.{IsQuiescent}
 use Rattle.act_early.proofs.Worlds.{IsWorld}
 use Rattle.act_early.proofs.Counting.{done_steps}
 use Rattle.act_early.proofs.Progress.{Follows, submission_in, is_copy_of, is_release_of}
@@ -141,7 +141,7 @@ may_take c (Await k) h g same extends may = go (kept_at (kept_of c h) k) refl ma
     go None e some = cc
     go (Some answer) e some = ap (λ (o : Option Answer). is_some o) (extends k answer e)
 
--- ---- a settled caller isn't behind
+-- ---- a quiescent caller isn't behind
 
 not_level : (m n : ℕ) → m ≤ n → (m ≡ n → ⊥) → m + 1 ≤ n
 not_level m n le differ = go (cases_lt m n)
@@ -151,16 +151,16 @@ not_level m n le differ = go (cases_lt m n)
     go (inr ge) = absurd (differ (omega arith))
 
 pub not_behind : (specs : List ActorSpec) (plans : ℕ → List Step) (c : ℕ) (step : Step) (play early : At) → IsWorld specs play.history
-    → IsWorld specs early.history → Follows plans c play → Follows plans c early → IsSettled plans early
+    → IsWorld specs early.history → Follows plans c play → Follows plans c early → IsQuiescent plans early
     → Extends (kept_of c play.history) (kept_of c early.history) → next_step plans c play ≡ Some step → MayTake c step play.history
     → steps_of c play ≤ steps_of c early → steps_of c play + 1 ≤ steps_of c early
-not_behind specs plans c step play early w v f g settled extends next may le = not_level (steps_of c play) (steps_of c early) le (λ same.
-    settled.waits c step (ap (λ (n : ℕ). slice_get (plans c) n) (sym same) ∙ next)
+not_behind specs plans c step play early w v f g quiescent extends next may le = not_level (steps_of c play) (steps_of c early) le (λ same.
+    quiescent.waits c step (ap (λ (n : ℕ). slice_get (plans c) n) (sym same) ∙ next)
     (may_take c step play.history early.history (alike specs plans c step play early w v f g same next) extends may))
 
-pub not_behind_dead : (plans : ℕ → List Step) (c a : ℕ) (play early : At) → IsSettled plans early → next_step plans c play ≡ Some (Kill a)
+pub not_behind_dead : (plans : ℕ → List Step) (c a : ℕ) (play early : At) → IsQuiescent plans early → next_step plans c play ≡ Some (Kill a)
     → names c (cast_of a early.history) ≡ true → is_dead a early.history ≡ true → steps_of c play ≤ steps_of c early → steps_of c play + 1 ≤ steps_of c early
-not_behind_dead plans c a play early settled next named dead le = not_level (steps_of c play) (steps_of c early) le (λ same.
-    let no = settled.needs c a (ap (λ (n : ℕ). slice_get (plans c) n) (sym same) ∙ next) named in
+not_behind_dead plans c a play early quiescent next named dead le = not_level (steps_of c play) (steps_of c early) le (λ same.
+    let no = quiescent.needs c a (ap (λ (n : ℕ). slice_get (plans c) n) (sym same) ∙ next) named in
     let bad : true ≡ false = sym dead ∙ no in
     cc)

@@ -46,7 +46,7 @@ HasTakenMore a h g =
 -- ---- as early as can be
 
 -- nothing is left to do that is no choice, and no actor retired
-pub record IsSettled (plans : ℕ → List Step) (at : At) : Type 0 where
+pub record IsQuiescent (plans : ℕ → List Step) (at : At) : Type 0 where
   -- no caller may take its next step, or leave it out
   pub waits : (c : ℕ) (step : Step) → next_step plans c at ≡ Some step → MayTake c step at.history → ⊥
   pub needs : (c a : ℕ) → next_step plans c at ≡ Some (Kill a) → names c (cast_of a at.history) ≡ true →
@@ -72,9 +72,9 @@ pub record IsSettled (plans : ℕ → List Step) (at : At) : Type 0 where
 -- what a search that looks at each choice has looked at; may_lose says at which actors it tries to lose a reply
 pub record IsWholeSearch (casts : List ActorSpec) (plans : ℕ → List Step) (may_lose : ℕ → Bool)
     (Seen : At → Type 0) : Type 0 where
-  -- plays, each settled
+  -- plays, each quiescent
   pub plays : (at : At) → Seen at → IsPlay casts plans at
-  pub settled : (at : At) → Seen at → IsSettled plans at
+  pub quiescent : (at : At) → Seen at → IsQuiescent plans at
   -- one has no choice made yet
   pub start : (at : At) × Seen at × ((a : ℕ) → runs_of a at.history ≡ []) × (at.history.killed ≡ [])
   -- whatever may run next, with its reply kept or lost: some play with the same choices and this one more was seen

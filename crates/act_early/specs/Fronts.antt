@@ -6,7 +6,7 @@ use Rattle.act_rules.specs.Consistent.{IsPrefix}
 use Rattle.act_rules.specs.History.{ActorSpec, History, contains, calls_of, runs_of, kept_of, is_dead, next_item}
 use Rattle.act_rules.specs.Rules.{refusal_of}
 use Rattle.act_early.specs.Plays.{At, steps_of, IsPlay}
-use Rattle.act_early.specs.Early.{choices_of, IsSettled, IsEnded, EndsAlike}
+use Rattle.act_early.specs.Early.{choices_of, IsQuiescent, IsEnded, EndsAlike}
 
 -- each actor made the same choices in both
 pub record HaveSameChoices (h g : History) : Type 0 where
@@ -21,16 +21,16 @@ pub record AreAlike (one other : At) : Type 0 where
   pub runs : (a : ℕ) → runs_of a one.history ≡ runs_of a other.history
   pub dead : (a : ℕ) → is_dead a one.history ≡ is_dead a other.history
 
--- the choices tell a settled play apart: a search may look at one of those that made the same
+-- the choices tell a quiescent play apart: a search may look at one of those that made the same
 abbrev pub ChoicesTellAll : Type 0
 ChoicesTellAll = (casts : List ActorSpec) (plans : ℕ → List Step) (one other : At) →
-    IsPlay casts plans one → IsPlay casts plans other → IsSettled plans one → IsSettled plans other →
+    IsPlay casts plans one → IsPlay casts plans other → IsQuiescent plans one → IsQuiescent plans other →
     HaveSameChoices one.history other.history → AreAlike one other
 
--- a settled play with the choices of an ended one ends alike
+-- a quiescent play with the choices of an ended one ends alike
 abbrev pub SameChoicesEndAlike : Type 0
 SameChoicesEndAlike = (casts : List ActorSpec) (plans : ℕ → List Step) (early late : At) →
-    IsPlay casts plans early → IsSettled plans early → IsPlay casts plans late → IsEnded plans late →
+    IsPlay casts plans early → IsQuiescent plans early → IsPlay casts plans late → IsEnded plans late →
     HaveSameChoices early.history late.history → EndsAlike plans early late.history
 
 -- ---- some of the choices
@@ -55,5 +55,5 @@ pub data Nearer (early late : History) : Type 0 where
 -- whoever follows the choices of a play, at any actor first, and does all else early, is never stuck
 abbrev pub NoFrontIsStuck : Type 0
 NoFrontIsStuck = (casts : List ActorSpec) (plans : ℕ → List Step) (early late : At) →
-    IsPlay casts plans early → IsSettled plans early → IsPlay casts plans late →
+    IsPlay casts plans early → IsQuiescent plans early → IsPlay casts plans late →
     IsFrontOf early.history late.history → Nearer early.history late.history

@@ -1,5 +1,5 @@
 pub mod Plays
 pub mod Early
 pub mod Fronts
-pub mod Settling
+pub mod Quiescence
 pub mod Lists

@@ -11,7 +11,7 @@ use Rattle.act_rules.specs.Rules.{outcomes}
 use Rattle.act_rules.specs.Submissions.{kept_at}
 use Rattle.act_early.specs.Plays.{At, next_step, IsPlay}
 use Rattle.act_early.specs.Early.{IsWholeSearch, IsOver, LosesOnly, EndsAlike}
-use Rattle.act_early.specs.Settling.{IsEarly, IsSameEnd}
+use Rattle.act_early.specs.Quiescence.{IsEarly, IsSameEnd}
 
 -- whether the event is a step of the caller's
 abbrev pub is_step_by : ℕ → Event → Bool

@@ -18,7 +18,7 @@ pub fn early_is_enough()
 
 ghost use Rattle.act_early.specs.Fronts.{ChoicesTellAll, SameChoicesEndAlike, NoFrontIsStuck};
 
-/// Settled plays with the same choices are alike, and end as each play does that made these choices.
+/// Quiescent plays with the same choices are alike, and end as each play does that made these choices.
 #[tactic(none)]
 pub fn choices_tell_all()
     ensures state { ChoicesTellAll }
@@ -31,13 +31,13 @@ pub fn no_front_is_stuck()
     ensures { NoFrontIsStuck }
 {}
 
-ghost use Rattle.act_early.specs.Settling.{SettlingCanBeDone, EarlyPlaysHaveAllEnds, ActorsCanRetire};
+ghost use Rattle.act_early.specs.Quiescence.{QuiescenceCanBeReached, EarlyPlaysHaveAllEnds, ActorsCanRetire};
 
-/// Each play can be settled, and for each ended play one made of choices alone ends alike: its actors
-/// can retire, and it is the same end.
+/// Each play can be made quiescent, and for each ended play one made of choices alone ends alike: its
+/// actors can retire, and it is the same end.
 #[tactic(none)]
 pub fn early_plays_have_all_ends()
-    ensures settling { SettlingCanBeDone }
+    ensures quiescence { QuiescenceCanBeReached }
     ensures ends { EarlyPlaysHaveAllEnds }
     ensures retiring { ActorsCanRetire }
 {}

@@ -20,7 +20,7 @@ use Rattle.act_early.proofs.Worlds.{world}
 use Rattle.act_early.proofs.Choices.{choices_quiet, choices_same, heard_more, death_no_reply}
 
 -- the second play goes on from the first, and made no choice more
-pub record Settles (specs : List ActorSpec) (plans : ℕ → List Step) (p q : At) : Type 0 where
+pub record Quiesces (specs : List ActorSpec) (plans : ℕ → List Step) (p q : At) : Type 0 where
   pub play : IsPlay specs plans q
   pub live : q.history.retired ≡ []
   pub choices : (a : ℕ) → choices_of a q.history ≡ choices_of a p.history
@@ -30,8 +30,8 @@ pub record Settles (specs : List ActorSpec) (plans : ℕ → List Step) (p q : A
   pub collected : IsPrefix p.history.collected q.history.collected
   pub arrived : IsPrefix p.history.arrived q.history.arrived
 
-pub settles_same : (specs : List ActorSpec) (plans : ℕ → List Step) (p : At) → IsPlay specs plans p → p.history.retired ≡ [] → Settles specs plans p p
-settles_same specs plans p play live = record {
+pub quiesces_same : (specs : List ActorSpec) (plans : ℕ → List Step) (p : At) → IsPlay specs plans p → p.history.retired ≡ [] → Quiesces specs plans p p
+quiesces_same specs plans p play live = record {
   play = play;
   live = live;
   choices = λ a. refl;
@@ -42,8 +42,8 @@ settles_same specs plans p play live = record {
   arrived = whole_front p.history.arrived;
 }
 
-pub settles_trans : (specs : List ActorSpec) (plans : ℕ → List Step) (p q r : At) → Settles specs plans p q → Settles specs plans q r → Settles specs plans p r
-settles_trans specs plans p q r one two = record {
+pub quiesces_trans : (specs : List ActorSpec) (plans : ℕ → List Step) (p q r : At) → Quiesces specs plans p q → Quiesces specs plans q r → Quiesces specs plans p r
+quiesces_trans specs plans p q r one two = record {
   play = two.play;
   live = two.live;
   choices = λ a. two.choices a ∙ one.choices a;
@@ -90,13 +90,13 @@ quiet h (event.Tell a c) e = record { ran = refl; collected = refl; killed = ref
 quiet h (event.Retire a) e = cc
 
 -- a play of which only the history and the callers' places changed
-pub quiet_settles : (specs : List ActorSpec) (plans : ℕ → List Step) (other : Event) (p q : At) → IsPlay specs plans p → p.history.retired ≡ []
-    → is_quiet other ≡ true → q.history ≡ add_event p.history other → IsPlay specs plans q → Settles specs plans p q
-quiet_settles specs plans other p q play live e is goes =
+pub quiet_quiesces : (specs : List ActorSpec) (plans : ℕ → List Step) (other : Event) (p q : At) → IsPlay specs plans p → p.history.retired ≡ []
+    → is_quiet other ≡ true → q.history ≡ add_event p.history other → IsPlay specs plans q → Quiesces specs plans p q
+quiet_quiesces specs plans other p q play live e is goes =
     let h = p.history in
     let calm = quiet h other e in
     let grows = added_grows h other in
-    subst (λ (g : History). Settles specs plans p (record { history = g; stepped = q.stepped })) (sym is) (record {
+    subst (λ (g : History). Quiesces specs plans p (record { history = g; stepped = q.stepped })) (sym is) (record {
       play = subst (λ (g : History). IsPlay specs plans (record { history = g; stepped = q.stepped })) is goes;
       live = calm.retired ∙ live;
       choices = λ a. choices_quiet h other a (world specs plans p play).sound calm.ran calm.collected;
@@ -107,18 +107,18 @@ quiet_settles specs plans other p q play live e is goes =
       arrived = grows.arrived;
     })
 
-pub step_settles : (specs : List ActorSpec) (plans : ℕ → List Step) (c : ℕ) (step : Step) (p : At) → IsPlay specs plans p → p.history.retired ≡ []
-    → next_step plans c p ≡ Some step → MayTake c step p.history → Settles specs plans p (taken c step p)
-step_settles specs plans c (Submit a method args) p play live next may =
-    quiet_settles specs plans (event.Submit c a method args) p (taken c (Submit a method args) p) play live refl refl
+pub step_quiesces : (specs : List ActorSpec) (plans : ℕ → List Step) (c : ℕ) (step : Step) (p : At) → IsPlay specs plans p → p.history.retired ≡ []
+    → next_step plans c p ≡ Some step → MayTake c step p.history → Quiesces specs plans p (taken c step p)
+step_quiesces specs plans c (Submit a method args) p play live next may =
+    quiet_quiesces specs plans (event.Submit c a method args) p (taken c (Submit a method args) p) play live refl refl
     (Takes p c (Submit a method args) play next may)
-step_settles specs plans c (Copy a) p play live next may =
-    quiet_settles specs plans (event.Copy c a) p (taken c (Copy a) p) play live refl refl (Takes p c (Copy a) play next may)
-step_settles specs plans c (Release a) p play live next may =
-    quiet_settles specs plans (event.Release c a) p (taken c (Release a) p) play live refl refl (Takes p c (Release a) play next may)
-step_settles specs plans c (Kill a) p play live next may =
-    quiet_settles specs plans (event.AskKill c a) p (taken c (Kill a) p) play live refl refl (Takes p c (Kill a) play next may)
-step_settles specs plans c (Await k) p play live next may = record {
+step_quiesces specs plans c (Copy a) p play live next may =
+    quiet_quiesces specs plans (event.Copy c a) p (taken c (Copy a) p) play live refl refl (Takes p c (Copy a) play next may)
+step_quiesces specs plans c (Release a) p play live next may =
+    quiet_quiesces specs plans (event.Release c a) p (taken c (Release a) p) play live refl refl (Takes p c (Release a) play next may)
+step_quiesces specs plans c (Kill a) p play live next may =
+    quiet_quiesces specs plans (event.AskKill c a) p (taken c (Kill a) p) play live refl refl (Takes p c (Kill a) play next may)
+step_quiesces specs plans c (Await k) p play live next may = record {
   play = Takes p c (Await k) play next may;
   live = live;
   choices = λ a. refl;
@@ -129,9 +129,9 @@ step_settles specs plans c (Await k) p play live next may = record {
   arrived = whole_front p.history.arrived;
 }
 
-pub skip_settles : (specs : List ActorSpec) (plans : ℕ → List Step) (c a : ℕ) (p : At) → IsPlay specs plans p → p.history.retired ≡ []
-    → next_step plans c p ≡ Some (Kill a) → names c (cast_of a p.history) ≡ true → is_dead a p.history ≡ true → Settles specs plans p (skipped c p)
-skip_settles specs plans c a p play live next named dead = record {
+pub skip_quiesces : (specs : List ActorSpec) (plans : ℕ → List Step) (c a : ℕ) (p : At) → IsPlay specs plans p → p.history.retired ≡ []
+    → next_step plans c p ≡ Some (Kill a) → names c (cast_of a p.history) ≡ true → is_dead a p.history ≡ true → Quiesces specs plans p (skipped c p)
+skip_quiesces specs plans c a p play live next named dead = record {
   play = Skips p c a play next named dead;
   live = live;
   choices = λ a. refl;
@@ -143,9 +143,9 @@ skip_settles specs plans c a p play live next named dead = record {
 }
 
 -- a collected death
-pub death_settles : (specs : List ActorSpec) (plans : ℕ → List Step) (j c a : ℕ) (p : At) → IsPlay specs plans p → p.history.retired ≡ []
-    → slice_get p.history.posts j ≡ Some (DeathPost c a) → Settles specs plans p (with_event (event.Collect j) p)
-death_settles specs plans j c a p play live at = record {
+pub death_quiesces : (specs : List ActorSpec) (plans : ℕ → List Step) (j c a : ℕ) (p : At) → IsPlay specs plans p → p.history.retired ≡ []
+    → slice_get p.history.posts j ≡ Some (DeathPost c a) → Quiesces specs plans p (with_event (event.Collect j) p)
+death_quiesces specs plans j c a p play live at = record {
   play = Happens p (event.Collect j) play refl may;
   live = live;
   choices = λ b. choices_same h (add_event h (event.Collect j)) b refl (λ place item there.
@@ -169,10 +169,10 @@ death_settles specs plans j c a p play live at = record {
 
 -- ---- what stays
 
-pub dead_same : (specs : List ActorSpec) (plans : ℕ → List Step) (p q : At) (a : ℕ) → Settles specs plans p q → is_dead a q.history ≡ is_dead a p.history
+pub dead_same : (specs : List ActorSpec) (plans : ℕ → List Step) (p q : At) (a : ℕ) → Quiesces specs plans p q → is_dead a q.history ≡ is_dead a p.history
 dead_same specs plans p q a s =
     ap (λ (xs : List ℕ). contains a xs || has_terminated (runs_of a q.history)) s.killed
     ∙ ap (λ (l : List (ℕ × RunItem)). contains a p.history.killed || has_terminated (under a l)) s.ran
 
-pub cast_same : (specs : List ActorSpec) (plans : ℕ → List Step) (p q : At) (a : ℕ) → Settles specs plans p q → cast_of a q.history ≡ cast_of a p.history
+pub cast_same : (specs : List ActorSpec) (plans : ℕ → List Step) (p q : At) (a : ℕ) → Quiesces specs plans p q → cast_of a q.history ≡ cast_of a p.history
 cast_same specs plans p q a s = ap (λ (l : List ActorSpec). find (λ (cast : ActorSpec). cast.actor == a) l) s.casts

@@ -1,4 +1,4 @@
--- A play can be settled: deaths told, steps taken, handles let go, letters sent and delivered.
+-- A play can be quiescent: deaths told, steps taken, handles let go, letters sent and delivered.
 use Rattle.std.proofs.Common.{◌≡◌, ℕ, true, List, Option, Some, None, refl, ap, sym, ◌∙◌, subst}
 use Rattle.std.specs.Prelude.{◌==◌, find, is_some, option_map}
 use Rattle.std.specs.List.{AllByRecursion}
@@ -13,12 +13,12 @@ use Rattle.act_rules.proofs.Ended.{needs-none}
 use Rattle.act_rules.proofs.RanAll.{copies_named}
 use Rattle.act_rules.proofs.Sound.{kept_from}
 use Rattle.act_early.specs.Plays.{At, MayTake}
-use Rattle.act_early.specs.Early.{IsSettled}
+use Rattle.act_early.specs.Early.{IsQuiescent}
 use Rattle.act_early.proofs.Worlds.{IsWorld, world}
 use Rattle.act_early.proofs.Replies.{named_call}
-use Rattle.act_early.proofs.Settles.{Settles, settles_trans}
+use Rattle.act_early.proofs.Quiesces.{Quiesces, quiesces_trans}
 use Rattle.act_early.proofs.Listed.{all_callers, all_actors, caller_listed, named_caller, actor_listed, all_listed, IsOpen}
-use Rattle.act_early.proofs.Telling.{IsTold, told_stays, settling, tell_all}
+use Rattle.act_early.proofs.Telling.{IsTold, told_stays, quiescence, tell_all}
 use Rattle.act_early.proofs.Stepping.{IsStuck, going_on, step_all}
 use Rattle.act_early.proofs.Closing.{IsClosed, closing_on, close_all}
 use Rattle.act_early.proofs.Mailing.{IsSent, IsNoted, mailing, send_all, note_all}
@@ -65,25 +65,25 @@ for_named specs h P casts all c a named =
 -- ---- all of it
 
 pub record IsDone (specs : List ActorSpec) (plans : ℕ → List Step) (p q : At) : Type 0 where
-  pub settles : Settles specs plans p q
-  pub settled : IsSettled plans q
+  pub quiesces : Quiesces specs plans p q
+  pub quiescent : IsQuiescent plans q
 
-pub settle : (specs : List ActorSpec) (plans : ℕ → List Step) (p : At) → IsOpen specs plans p → (q : At) × IsDone specs plans p q
-settle specs plans p begun =
+pub quiesce : (specs : List ActorSpec) (plans : ℕ → List Step) (p : At) → IsOpen specs plans p → (q : At) × IsDone specs plans p q
+quiesce specs plans p begun =
     let one = tell_all specs plans p begun in
-    let two = step_all specs plans one.0 ((settling specs plans).opens p one.0 one.1) in
+    let two = step_all specs plans one.0 ((quiescence specs plans).opens p one.0 one.1) in
     let three = close_all specs plans two.0 ((going_on specs plans).opens one.0 two.0 two.1) in
     let four = send_all specs plans three.0 ((closing_on specs plans).opens two.0 three.0 three.1) in
     let five = note_all specs plans four.0 ((mailing specs plans).opens three.0 four.0 four.1) in
     let q = five.0 in
     let mails = (mailing specs plans).joins three.0 four.0 q four.1 five.1 in
-    let w = world specs plans q five.1.settles.play in
+    let w = world specs plans q five.1.quiesces.play in
     let first = world specs plans one.0 one.1.play in
-    let later = settles_trans specs plans one.0 two.0 q two.1.settles (settles_trans specs plans two.0 three.0 q three.1.settles mails.settles) in (
+    let later = quiesces_trans specs plans one.0 two.0 q two.1.quiesces (quiesces_trans specs plans two.0 three.0 q three.1.quiesces mails.quiesces) in (
       q,
       record {
-        settles = settles_trans specs plans p one.0 q one.1 later;
-        settled = record {
+        quiesces = quiesces_trans specs plans p one.0 q one.1 later;
+        quiescent = record {
           waits = λ c step next may.
               let listed = may_listed specs q.history c step w may in
               let stuck : IsStuck plans c two.0 = all_listed (λ c. IsStuck plans c two.0) (all_callers specs) c two.2 listed in
@@ -101,7 +101,7 @@ settle specs plans p begun =
               let named = copies_named c a q.history (ap (λ (o : Option ℕ). is_some o) gone) in
               for_named specs q.history (IsNoted q) w.casts five.2 c a named gone live;
           told = λ c a dead named. told_stays specs plans one.0 q later c a (for_named specs q.history (IsTold one.0) w.casts one.2 c a named) dead named;
-          live = five.1.settles.live;
+          live = five.1.quiesces.live;
         };
       },
     )
