@@ -33,3 +33,4 @@ pub mod Shifting
 pub mod Owning
 pub mod Listing
 pub mod Found
+pub mod Told

@@ -3,3 +3,4 @@ pub mod Early
 pub mod Fronts
 pub mod Quiescence
 pub mod Lists
+pub mod Told

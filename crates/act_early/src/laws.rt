@@ -52,3 +52,12 @@ pub fn lists_are_plays()
     ensures found { EachListIsFound }
     ensures early { EachListIsMadeEarly }
 {}
+
+ghost use Rattle.act_early.specs.Told.{SameEndsAreToldAlike, EndsAreToldAlike};
+
+/// The same end is told alike, and plays that end alike are, once the actors of both retired.
+#[tactic(none)]
+pub fn ends_are_told_alike()
+    ensures same { SameEndsAreToldAlike }
+    ensures alike { EndsAreToldAlike }
+{}

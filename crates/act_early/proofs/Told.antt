@@ -1,0 +1,101 @@
+-- What is told of ends, part by part.
+use Rattle.std.proofs.Common.{◌≡◌, ℕ, zero, suc, ◌≤◌, arith, Bool, true, false, List, [], ◌∷◌, ◌++◌, Option, Some, None, refl, ap, sym, ◌∙◌}
+use Rattle.std.specs.Prelude.{◌==◌, ◌||◌, if◌then◌else◌, find, map, is_some, option_map}
+use Rattle.act_rules.specs.declared.history.RunItem.{RunItem}
+use Rattle.act_rules.specs.declared.history.Submission.{Submission}
+use Rattle.act_rules.specs.declared.script.Step.{Step}
+use Rattle.act_rules.specs.RunList.{Answer, state_after}
+use Rattle.act_rules.specs.History.{ActorSpec, History, contains, cast_of, calls_of, kept_of, runs_of, is_dead, is_retired, is_ended}
+use Rattle.std.specs.List.{flat_map}
+use Rattle.std.proofs.lemmas.Grind.{flat_map-append}
+use Rattle.act_rules.specs.Report.{summary, one_to, future_lines, actor_lines, stage_of, stage_text}
+use Rattle.act_early.specs.Plays.{At, IsPlay}
+use Rattle.act_early.specs.Early.{IsEnded, EndsAlike}
+use Rattle.act_early.specs.Quiescence.{IsSameEnd}
+use Rattle.act_early.specs.Told.{told_at_rest}
+use Rattle.act_early.proofs.Worlds.{world, or_second}
+
+-- how an actor with this cast stands
+abbrev pub stage_from : Option ActorSpec → Bool → Bool → List RunItem → Option (List ℕ)
+stage_from cast dead retired runs = option_map (λ state. stage_text dead retired (state_after state runs)) (option_map (λ cast. cast.opening) cast)
+
+-- the same lines of each number make the same text
+numbers_alike : (f g : ℕ → List ℕ) (n : ℕ) → ((a : ℕ) → 1 ≤ a → a ≤ n → f a ≡ g a) → flat_map f (one_to n) ≡ flat_map g (one_to n)
+numbers_alike f g zero same = refl
+numbers_alike f g (suc n) same =
+    let last : flat_map f (suc n ∷ []) ≡ flat_map g (suc n ∷ []) = ap (λ (text : List ℕ). text ++ []) (same (suc n) (omega arith) (omega arith)) in
+    flat_map-append f (one_to n) (suc n ∷ [])
+    ∙ ap (λ (text : List ℕ). text ++ flat_map f (suc n ∷ [])) (numbers_alike f g n (λ a low high. same a low (omega arith)))
+    ∙ ap (λ (text : List ℕ). flat_map g (one_to n) ++ text) last
+    ∙ sym (flat_map-append g (one_to n) (suc n ∷ []))
+
+-- the same of each actor is told, where calls, answers, run lists and stages are the same
+pub told_alike : (one other : History) → ((c : ℕ) → calls_of c one ≡ calls_of c other) → ((c : ℕ) → kept_of c one ≡ kept_of c other)
+    → ((a : ℕ) → 1 ≤ a → a ≤ 8 → stage_of a one ≡ stage_of a other) → ((a : ℕ) → runs_of a one ≡ runs_of a other) → summary one ≡ summary other
+told_alike one other calls kept stages runs =
+    ap (λ (text : List ℕ). text ++ flat_map (λ a. actor_lines a (runs_of a one) (stage_of a one)) (one_to 8))
+    (numbers_alike (λ c. future_lines c (calls_of c one) (kept_of c one)) (λ c. future_lines c (calls_of c other) (kept_of c other)) 16
+    (λ c _ _. ap (λ (l : List Submission). future_lines c l (kept_of c one)) (calls c) ∙ ap (λ (l : List (Option Answer)). future_lines c (calls_of c other) l) (kept c)))
+    ∙ ap (λ (text : List ℕ). flat_map (λ c. future_lines c (calls_of c other) (kept_of c other)) (one_to 16) ++ text)
+    (numbers_alike (λ a. actor_lines a (runs_of a one) (stage_of a one)) (λ a. actor_lines a (runs_of a other) (stage_of a other)) 8
+    (λ a low high. ap (λ (l : List RunItem). actor_lines a l (stage_of a one)) (runs a) ∙ ap (λ (o : Option (List ℕ)). actor_lines a (runs_of a other) o) (stages a low high)))
+
+cast_alike : (a : ℕ) (one other : History) → one.casts ≡ other.casts → cast_of a one ≡ cast_of a other
+cast_alike a one other same = ap (λ (casts : List ActorSpec). find (λ cast. cast.actor == a) casts) same
+
+stage_alike : (a : ℕ) (one other : History) → one.casts ≡ other.casts → is_dead a one ≡ is_dead a other → is_retired a one ≡ is_retired a other
+    → runs_of a one ≡ runs_of a other → stage_of a one ≡ stage_of a other
+stage_alike a one other casts dead retired runs =
+    ap (λ (cast : Option ActorSpec). stage_from cast (is_dead a one) (is_retired a one) (runs_of a one)) (cast_alike a one other casts)
+    ∙ ap (λ (b : Bool). stage_from (cast_of a other) b (is_retired a one) (runs_of a one)) dead
+    ∙ ap (λ (b : Bool). stage_from (cast_of a other) (is_dead a other) b (runs_of a one)) retired
+    ∙ ap (λ (items : List RunItem). stage_from (cast_of a other) (is_dead a other) (is_retired a other) items) runs
+
+pub same_told : (one other : History) → one.casts ≡ other.casts → IsSameEnd one other → summary one ≡ summary other
+same_told one other casts same =
+    told_alike one other same.calls same.kept (λ a _ _. stage_alike a one other casts (same.dead a) (same.retired a) (same.runs a)) same.runs
+
+-- of an actor that ended it doesn't matter otherwise whether it retired
+ended_stage : (cast : Option ActorSpec) (dead one other : Bool) (runs : List RunItem) → (is_some cast ≡ true → (dead || one) ≡ true)
+    → (is_some cast ≡ true → (dead || other) ≡ true) → stage_from cast dead one runs ≡ stage_from cast dead other runs
+ended_stage None dead one other runs first second = refl
+ended_stage (Some cast) true one other runs first second = refl
+ended_stage (Some cast) false one other runs first second =
+    ap (λ (b : Bool). stage_from (Some cast) false b runs) (first refl ∙ sym (second refl))
+
+-- each actor with a cast ended
+abbrev pub AllEnded : History → Type 0
+AllEnded h = (a : ℕ) → 1 ≤ a → a ≤ 8 → is_some (cast_of a h) ≡ true → is_ended a h ≡ true
+
+-- where each actor ended, calls, answers, run lists and deaths tell all
+pub ended_told : (one other : History) → one.casts ≡ other.casts → ((c : ℕ) → calls_of c one ≡ calls_of c other) → ((c : ℕ) → kept_of c one ≡ kept_of c other)
+    → ((a : ℕ) → runs_of a one ≡ runs_of a other) → ((a : ℕ) → is_dead a one ≡ is_dead a other) → AllEnded one → AllEnded other → summary one ≡ summary other
+ended_told one other casts calls kept runs dead first second = told_alike one other calls kept stages runs
+  where
+    stages : (a : ℕ) → 1 ≤ a → a ≤ 8 → stage_of a one ≡ stage_of a other
+    stages a low high =
+        ap (λ (cast : Option ActorSpec). stage_from cast (is_dead a one) (is_retired a one) (runs_of a one)) (cast_alike a one other casts)
+        ∙ ap (λ (b : Bool). stage_from (cast_of a other) b (is_retired a one) (runs_of a one)) (dead a)
+        ∙ ap (λ (items : List RunItem). stage_from (cast_of a other) (is_dead a other) (is_retired a one) items) (runs a)
+        ∙ ended_stage (cast_of a other) (is_dead a other) (is_retired a one) (is_retired a other) (runs_of a other)
+        (λ there. ap (λ (b : Bool). b || is_retired a one) (sym (dead a)) ∙ first a low high (ap (λ (cast : Option ActorSpec). is_some cast) (cast_alike a one other casts) ∙ there))
+        (λ there. second a low high there)
+
+-- an actor with a cast stands among the actors
+named_actor : (a : ℕ) (casts : List ActorSpec) → is_some (find (λ (cast : ActorSpec). cast.actor == a) casts) ≡ true → contains a (map (λ cast. cast.actor) casts) ≡ true
+named_actor a [] e = cc
+named_actor a (cast ∷ casts) e = go (cast.actor == a) (named_actor a casts) e
+  where
+    go : (b : Bool) → (is_some (find (λ (cast : ActorSpec). cast.actor == a) casts) ≡ true → contains a (map (λ cast. cast.actor) casts) ≡ true)
+        → is_some (if b then Some cast else find (λ (cast : ActorSpec). cast.actor == a) casts) ≡ true → (b || contains a (map (λ cast. cast.actor) casts)) ≡ true
+    go true rest e = refl
+    go false rest e = rest e
+
+pub at_rest : (h : History) → AllEnded (record h { retired = map (λ cast. cast.actor) h.casts })
+at_rest h a low high there = or_second (is_dead a h) (contains a (map (λ cast. cast.actor) h.casts)) (named_actor a h.casts there)
+
+pub alike_told : (casts : List ActorSpec) (plans : ℕ → List Step) (early late : At) → IsPlay casts plans early → IsPlay casts plans late → IsEnded plans late
+    → EndsAlike plans early late.history → told_at_rest early.history ≡ summary late.history
+alike_told casts plans early late play goes ended ends =
+    ended_told (record early.history { retired = map (λ cast. cast.actor) early.history.casts }) late.history
+    ((world casts plans early play).casts ∙ sym (world casts plans late goes).casts) ends.calls ends.kept ends.runs ends.dead (at_rest early.history) (λ a _ _. ended.over.ended a)
