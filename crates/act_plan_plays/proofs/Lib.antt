@@ -1,0 +1,14 @@
+pub mod Events
+pub mod Brought
+pub mod Loops
+pub mod Seen
+pub mod Done
+pub mod Quiet
+pub mod Moving
+pub mod Heard
+pub mod Gathered
+pub mod Chosen
+pub mod Ends
+pub mod Opened
+pub mod Prepared
+pub mod RetiredAll

@@ -1,0 +1,14 @@
+use Rattle.std.proofs.Common.{sym, ◌∙◌}
+use Rattle.act_rules.specs.declared.event.Event.TheVariants.{Run}
+use Rattle.act_rules.specs.Rules.{add_event}
+use Rattle.act_world.specs.View.{world_view}
+use Rattle.act_plan_plays.specs.Parts.{parts_of}
+use Rattle.act_plan_plays.proofs.Heard.{run_comes}
+use Rattle.act_plan_plays.proofs.choosing.run.Goals as goal
+
+pub returns : goal.returns
+returns g c = λ casts plans at stands.
+    let told = c.in_ok-told.ensures casts at.history stands.behind in
+    let next = c.in_ok-do_event.ensures casts (add_event at.history (Run c.args.a c.args.c)) told.2 in
+    run_comes casts plans c.args.a c.args.c c.in-Ran.field-0 c.in-Ran.j at (parts_of g.K.Actor.state c.args.played.now) (world_view g.K.Actor.state c.do_event-2.new.world) c.do_event-2.new.events.items stands
+    told.0 (sym c.in-Ran.is ∙ told.1) next.0 next.2

@@ -1,0 +1,13 @@
+use Rattle.std.proofs.Common.{ℕ, List}
+use Rattle.act_rules.specs.declared.script.Step.{Step}
+use Rattle.act_rules.specs.History.{ActorSpec}
+use Rattle.act_early.specs.Plays.{At}
+use Rattle.act_early.specs.Fronts.{HaveSameChoices}
+use Rattle.act_plan_plays.specs.Parts.{parts_of, Stands}
+use Rattle.act_plan_plays.specs.Play.{HoldPlans}
+use Rattle.act_plan_plays.proofs.making.quiesce.Given as goal
+
+-- the play went on without a choice
+abbrev pub invariant-loop : goal.invariant-loop
+invariant-loop g l = (casts : List ActorSpec) (plans : ℕ → List Step) (at : At) → Stands casts plans at (parts_of g.K.Actor.state l.fn.played) → HoldPlans casts plans l.setups →
+    (next : At) × Stands casts plans next (parts_of g.K.Actor.state l.played) × HaveSameChoices at.history next.history

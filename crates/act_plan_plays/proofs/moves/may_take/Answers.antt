@@ -1,0 +1,6 @@
+use Rattle.std.proofs.Common.{◌∙◌, ap, sym}
+use Rattle.act_plan_plays.specs.Moves.{may_take}
+use Rattle.act_plan_plays.proofs.moves.may_take.Goals as goal
+
+pub returns-in-Submit : goal.returns-in-Submit
+returns-in-Submit c = c.may_submit.ensures ∙ ap (may_take c.args.owner.now) (sym c.in-Submit.is)
