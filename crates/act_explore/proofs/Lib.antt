@@ -1,0 +1,10 @@
+pub mod Keys
+pub mod Paths
+pub mod Closing
+pub mod Looking
+pub mod Putting
+pub mod Oks
+pub mod Answering
+pub mod Holding
+pub mod Moved
+pub mod Collecting

@@ -1,0 +1,8 @@
+use Rattle.std.proofs.Common.{◌≡◌, string_bytes, flat_map}
+use Rattle.act_rules.specs.Report.{one_to}
+use Rattle.act_explore.specs.Paths.{part_of}
+use Rattle.act_explore.proofs.key.key_of.Given as goal
+
+-- the parts of the actors so far
+abbrev pub invariant-loop-before : goal.invariant-loop-before
+invariant-loop-before l = string_bytes l.key ≡ flat_map (part_of l.path) (one_to l.before)

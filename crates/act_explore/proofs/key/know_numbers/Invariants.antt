@@ -1,0 +1,7 @@
+use Rattle.std.proofs.Common.{All, take}
+use Rattle.act_explore.specs.Paths.{HasNumber}
+use Rattle.act_explore.proofs.key.know_numbers.Given as goal
+
+-- the choices so far are
+abbrev pub invariant-loop-choice : goal.invariant-loop-choice
+invariant-loop-choice l = All HasNumber (take l.choice-index l.path)

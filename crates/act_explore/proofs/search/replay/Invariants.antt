@@ -1,0 +1,13 @@
+use Rattle.std.proofs.Common.{ℕ, List, take, map}
+use Rattle.act_rules.specs.declared.script.Step.{Step}
+use Rattle.act_actor.specs.Casts.{actor_spec}
+use Rattle.act_early.specs.Plays.{At}
+use Rattle.act_early.specs.Early.{IsQuiescent}
+use Rattle.act_plan_plays.specs.Play.{HoldPlans, StandsAt, play_view}
+use Rattle.act_explore.specs.Paths.{HasMade}
+use Rattle.act_explore.proofs.search.replay.Given as goal
+
+-- the choices so far are made
+abbrev pub invariant-loop-choice : goal.invariant-loop-choice
+invariant-loop-choice g l = (plans : ℕ → List Step) → HoldPlans (map (actor_spec g.K.Actor.state) l.fn.casts.items) plans l.setups →
+    (at : At) × StandsAt (map (actor_spec g.K.Actor.state) l.fn.casts.items) plans at (play_view g.K.Actor.state l.play) × IsQuiescent plans at × HasMade (take l.choice-index l.path) at.history
