@@ -1,0 +1,4 @@
+pub mod Taking
+pub mod Calls
+pub mod Each
+pub mod Playing

@@ -1,0 +1,65 @@
+-- What a world that played events says of their history, beside what codes left.
+use Rattle.std.proofs.Common.{◌≡◌, ◌↔◌, ℕ, zero, suc, ◌<◌, Bool, true, false, if◌then◌else◌, refl, map, filter, List, [], ◌∷◌, ◌++◌, length, Option, Some, ap, sym, ◌∙◌, subst, arith}
+use Rattle.std.specs.Prelude.{All, IsOk, IsTrue, is_some}
+use Rattle.std.specs.List.{list_all}
+use Rattle.act_rules.specs.declared.event.Event.{Event}
+use Rattle.std.proofs.lemmas.Simd.{map-map}
+use Rattle.act_types.specs.KindState.{KindState}
+use Rattle.act_actor.specs.declared.cast.Cast.{Cast}
+use Rattle.act_actor.specs.Casts.{actor_spec, limits_that_name}
+use Rattle.act_rules.specs.History.{ActorSpec, History, opening, contains, calls_of, kept_of}
+use Rattle.act_rules.specs.Rules.{Outcome, outcomes}
+use Rattle.act_rules.specs.Submissions.{kept_at}
+use Rattle.act_rules.specs.RunList.{Answer}
+use Rattle.act_owner.specs.Owner.{OwnerView, opened_with}
+use Rattle.act_world.specs.View.{WorldView}
+use Rattle.act_world.specs.Refines.{IsOwnerAt}
+use Rattle.act_world.specs.IsReachedBy.{IsReachedBy, HasPlayed}
+use Rattle.act_drive.specs.Sessions.{SessionView}
+use Rattle.act_code_ends.specs.Rehearsals.{AreSame, HasEnded}
+use Rattle.act_code_ends.specs.Ends.{IsThrough, opened_of}
+
+-- what a world told of the events is what the rules tell
+pub told_in : (casts : List ActorSpec) (events : List Event) (old new : WorldView) (empty told : List Outcome) (r : Bool) → empty ≡ [] → HasPlayed events old new empty told → (IsTrue r ↔ All IsOk told) → IsReachedBy casts [] old → IsTrue r ↔ All IsOk (outcomes (opening casts) events)
+told_in casts events old new empty told r none played tells opened =
+    subst (λ (told : List Outcome). IsTrue r ↔ All IsOk told) ((played casts [] opened).1 ∙ ap (λ (front : List Outcome). front ++ outcomes (opening casts) events) none) tells
+
+kept_below : (kept : List (Option Answer)) (k : ℕ) (answer : Answer) → kept_at kept k ≡ Some answer → k < length kept
+kept_below [] k answer has = absurd (cc has)
+kept_below (x ∷ xs) zero answer has = omega arith
+kept_below (x ∷ xs) (suc k) answer has = let below = kept_below xs k answer has in omega (arith, below)
+
+-- a caller of the world that is left as its code left it
+pub through_is : {C : Type 0} (makes : C → Type 0) (tells : C → SessionView → SessionView → Type 0) (opened : OwnerView) (h : History) (c : ℕ) (owner other : OwnerView) → AreSame owner other → length owner.kept ≡ length owner.calls → IsOwnerAt h c (Some other)
+    → ((code : C) × makes code × HasEnded (tells code) opened owner.calls owner.kept) → list_all is_some other.kept ≡ true → IsThrough makes tells opened (calls_of c h) (kept_of c h)
+through_is makes tells opened h c owner other same places at ended answered = record {
+  code = ended.0;
+  made = ended.1;
+  ended = record {
+    last = ended.2.last;
+    told = ended.2.told;
+    calls_are = sym at.1.calls ∙ sym same.calls ∙ ended.2.calls_are;
+    kept_on = λ k answer has.
+        let mine = ended.2.kept_on k answer has in
+        let below = kept_below owner.kept k answer mine in
+        ap (λ (kept : List (Option Answer)). kept_at kept k) (sym at.1.kept) ∙ sym (same.answers k (omega (arith, below, places))) ∙ mine;
+  };
+  answered = subst (λ (kept : List (Option Answer)). list_all is_some kept ≡ true) at.1.kept answered;
+}
+
+-- ---- how a caller was opened
+
+kept_step : {X Y : Type 0} (f : X → Y) (x : X) (xs : List X) (ys : List Y) (b : Bool) → ys ≡ map f xs → (if b then f x ∷ ys else ys) ≡ map f (if b then x ∷ xs else xs)
+kept_step f x xs ys true is = ap (λ (l : List _). f x ∷ l) is
+kept_step f x xs ys false is = is
+
+filter_mapped : {X Y : Type 0} (p : Y → Bool) (f : X → Y) (xs : List X) → filter p (map f xs) ≡ map f (filter (λ x. p (f x)) xs)
+filter_mapped p f [] = refl
+filter_mapped p f (x ∷ xs) = kept_step f x (filter (λ x. p (f x)) xs) (filter p (map f xs)) (p (f x)) (filter_mapped p f xs)
+
+-- as its casts open it
+pub opened_as : {K : Type 0} (state : K → KindState) (c : ℕ) (casts : List (Cast K)) → opened_with c (limits_that_name c casts) ≡ opened_of c (map (actor_spec state) casts)
+opened_as {K} state c casts = sym (
+    ap (λ (l : List ActorSpec). opened_with c (map (λ cast. (cast.actor, cast.pending)) l)) (filter_mapped (λ (cast : ActorSpec). contains c cast.callers) (actor_spec state) casts)
+    ∙ ap (λ (l : List (ℕ × Option ℕ)). opened_with c l) (map-map (λ (cast : ActorSpec). (cast.actor, cast.pending)) (actor_spec state) (filter (λ (cast : Cast K). contains c cast.callers) casts))
+    )

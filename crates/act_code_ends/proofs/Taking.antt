@@ -1,0 +1,72 @@
+-- What stays while notices are taken.
+use Rattle.std.proofs.Common.{◌≡◌, ℕ, List, length, is_some, refl, ◌∙◌, ap, subst}
+use Rattle.act_rules.specs.Submissions.{kept_at}
+use Rattle.act_rules.specs.declared.script.Step.{Step}
+use Rattle.act_types.specs.declared.call.Arg.{Arg}
+use Rattle.act_types.specs.declared.call.Method.{Method}
+use Rattle.act_types.specs.declared.call.Notice.{Notice}
+use Rattle.act_handles.specs.Handles.{copies_in}
+use Rattle.act_handles.proofs.Lookups.{copies-with_number}
+use Rattle.act_owner.specs.Owner.{OwnerView, after_collect, with_submission}
+use Rattle.act_owner.specs.Life.{Noticed, Submitted}
+use Rattle.act_owner.proofs.Life.{step}
+use Rattle.act_drive.specs.Driven.{KeptOn}
+use Rattle.act_drive.specs.Sessions.{SessionView, session_view, IsLater, Submits}
+use Rattle.act_drive.proofs.CodeSteps.{hears_trans, later_trans}
+use Rattle.act_drive.proofs.Drivers.{notice_keeps}
+use Rattle.act_code_ends.specs.Rehearsals.{OnlyTakes}
+
+-- what is seen of a caller, by the kills that it asked and the steps that it did
+abbrev pub seen_of : OwnerView → List ℕ → List Step → SessionView
+seen_of owner kills did = record (session_view owner) { kills = kills; did = did }
+
+pub places_heard : (owner : OwnerView) (notice : Notice) → length owner.kept ≡ length owner.calls → length (after_collect owner notice).kept ≡ length (after_collect owner notice).calls
+places_heard owner notice places = (step owner (Noticed notice) places).places
+
+pub takes_nothing : (seen : SessionView) → OnlyTakes seen seen
+takes_nothing seen = record {
+  hears = record { calls = refl; handles = refl; kills = refl };
+  on = record { limits = refl; kept = λ k answer has. has };
+  did = refl;
+}
+
+pub takes_more : (old mid new : SessionView) → OnlyTakes old mid → OnlyTakes mid new → OnlyTakes old new
+takes_more old mid new before after = record {
+  hears = hears_trans old mid new before.hears after.hears;
+  on = later_trans old mid new before.on after.on;
+  did = after.did ∙ before.did;
+}
+
+kept_stays : (owner : OwnerView) (notice : Notice) → length owner.kept ≡ length owner.calls → KeptOn owner.kept (after_collect owner notice).kept
+kept_stays owner notice places k answer has =
+    (step owner (Noticed notice) places).kept k (ap is_some has) ∙ has
+
+-- a notice more
+pub takes_one : (owner : OwnerView) (notice : Notice) (kills : List ℕ) (did : List Step) → length owner.kept ≡ length owner.calls → OnlyTakes (seen_of owner kills did) (seen_of (after_collect owner notice) kills did)
+takes_one owner notice kills did places =
+    let keeps = notice_keeps owner notice in
+    record {
+      hears = record { calls = keeps.1; handles = keeps.2; kills = refl };
+      on = record { limits = keeps.3; kept = kept_stays owner notice places };
+      did = refl;
+    }
+
+-- ---- a call more
+
+-- the caller as it was seen, with a call more and other steps
+pub submits_seen : (old mid : SessionView) (owner : OwnerView) (a : ℕ) (method : Method) (args : List Arg) (kills : List ℕ) (did steps : List Step) → seen_of owner kills did ≡ old → mid ≡ seen_of (with_submission owner a method args) kills did
+    → Submits (record { actor = a; method = method; args = args }) old (record mid { did = steps })
+submits_seen old mid owner a method args kills did steps is same =
+    subst (λ (s : SessionView). Submits (record { actor = a; method = method; args = args }) s (record mid { did = steps })) is (record {
+      calls = ap (λ (s : SessionView). s.calls) same;
+      copies = λ b. ap (λ (s : SessionView). copies_in b s.handles) same ∙ copies-with_number a b owner.handles;
+      kills = ap (λ (s : SessionView). s.kills) same;
+    })
+
+pub later_seen : (old mid : SessionView) (owner : OwnerView) (a : ℕ) (method : Method) (args : List Arg) (kills : List ℕ) (did steps : List Step) → length owner.kept ≡ length owner.calls → seen_of owner kills did ≡ old → mid ≡ seen_of (with_submission owner a method args) kills did
+    → IsLater old (record mid { did = steps })
+later_seen old mid owner a method args kills did steps places is same =
+    subst (λ (s : SessionView). IsLater s (record mid { did = steps })) is (record {
+      limits = ap (λ (s : SessionView). s.limits) same;
+      kept = λ k answer has. ap (λ (s : SessionView). kept_at s.kept k) same ∙ (step owner (Submitted a method args) places).kept k (ap is_some has) ∙ has;
+    })

@@ -1,0 +1,5 @@
+use Rattle.act_code_ends.specs.Rehearsals.{OnlyTakes}
+use Rattle.act_code_ends.proofs.rehearsal.Rehearsal.take_some.Given as goal
+
+abbrev pub invariant-loop : goal.invariant-loop
+invariant-loop l = OnlyTakes l.initial.self l.self

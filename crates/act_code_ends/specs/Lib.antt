@@ -1,0 +1,4 @@
+pub mod Doing
+pub mod Rehearsals
+pub mod Ends
+pub mod FoundEnds
