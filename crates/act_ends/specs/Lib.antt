@@ -1,1 +1,4 @@
 pub mod Frontier
+pub mod Rest
+pub mod Kinds
+pub mod Scripted

@@ -1,7 +1,7 @@
 //! Ends that are told, each with a play that ends so.
 
-ghost use Rattle.std.specs.Prelude.{◌≡◌, ◌++◌, true, false, IfOk, IfSome, OnOk, OnErr, string_bytes};
-ghost use Rattle.std.specs.BTreeSet.{contains, Updates, IsUnchanged};
+ghost use Rattle.std.specs.Prelude.{◌≡◌, ◌++◌, true, false, None, IfOk, IfSome, OnOk, OnErr, string_bytes};
+ghost use Rattle.std.specs.BTreeSet.{contains, Updates, IsUnchanged, IsEmpty};
 ghost use Rattle.act_console.specs.Stock.{IsReady};
 ghost use Rattle.act_histories.specs.Checked.{IsPlayOfHistory};
 
@@ -70,7 +70,9 @@ fn play_of(alloc: Global, stock: Stock, script: &[u8], lines: &str) -> Result<Ve
 
 impl Ends {
     /// No end is told yet.
-    pub fn new(alloc: Global) -> Ends {
+    pub fn new(alloc: Global) -> Ends
+        ensures { IsEmpty result }
+    {
         Ends {
             told: BTreeSet::new(alloc),
         }
@@ -91,6 +93,7 @@ impl Ends {
             IsPlayOfHistory (script.now ++ string_bytes end.lines) end.play.items)) }
         ensures new { IfOk result (λ told. IfSome told (λ end.
             contains ⟦<String as Ord>⟧.cmp self.old lines ≡ false)) }
+        ensures known { IfOk result (λ told. told ≡ None → contains ⟦<String as Ord>⟧.cmp self.old lines ≡ true) }
         ensures told { OnOk result (Updates ⟦<String as Ord>⟧.cmp self.old self.new lines true) }
         ensures err { OnErr result (IsUnchanged self.old self.new) }
     {

@@ -39,6 +39,12 @@ pub enum EndFault {
     Memory,
 }
 
+impl From<NoMemory> for EndFault {
+    fn from(_error: NoMemory) -> EndFault {
+        EndFault::Memory
+    }
+}
+
 impl From<AllocError> for EndFault {
     fn from(_error: AllocError) -> EndFault {
         EndFault::Memory

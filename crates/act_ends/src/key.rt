@@ -3,6 +3,7 @@
 use crate::plans::Plans;
 use crate::shown::{View, push_answer};
 use crate::state::{Server, Standing, State, future_at};
+use act_kinds::Actor;
 use act_plans::CallerSetup;
 use act_types::{ActorId, NoMemory};
 use std::alloc::{AllocError, Global};

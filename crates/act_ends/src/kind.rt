@@ -1,5 +1,9 @@
 //! The kinds of a script, without a box.
 
+ghost use Rattle.std.specs.Prelude.{◌≡◌};
+ghost use Rattle.act_rules.specs.Scripts.{opening_state};
+ghost use Rattle.act_ends.specs.Kinds.{state_of};
+
 use act_kinds::{Account, Actor, Counter, ListKind, Table};
 use act_rules::KindName;
 use act_types::{Answer, Method, NoMemory, Value};
@@ -7,7 +11,7 @@ use std::alloc::Global;
 
 /// A kind of a script.
 #[derive(Drop)]
-pub(crate) enum Kind {
+pub enum Kind {
     Counter(Counter),
     Table(Table),
     Account(Account),
@@ -15,8 +19,10 @@ pub(crate) enum Kind {
 }
 
 impl Kind {
-    /// A kind of this name, in its opening state.
-    pub(crate) fn open(alloc: Global, name: KindName) -> Kind {
+    /// The kind of this name, in its opening state.
+    pub fn open(alloc: Global, name: KindName) -> Kind
+        ensures { state_of result ≡ opening_state name }
+    {
         match name {
             KindName::Counter => Kind::Counter(Counter::open()),
             KindName::Table => Kind::Table(Table::open(alloc)),
@@ -24,8 +30,14 @@ impl Kind {
             KindName::ListKind => Kind::List(ListKind::open(alloc)),
         }
     }
+}
 
-    pub(crate) fn ask(&mut self, method: &Method, args: &[Value]) -> Result<Answer, NoMemory> {
+impl Actor for Kind {
+    ghost use Rattle.act_ends.specs.Kinds.{state_of};
+
+    ghost state = { state_of };
+
+    fn ask(&mut self, method: &Method, args: &[Value]) -> Result<Answer, NoMemory> {
         match self {
             Kind::Counter(counter) => counter.ask(method, args),
             Kind::Table(table) => table.ask(method, args),
@@ -34,7 +46,7 @@ impl Kind {
         }
     }
 
-    pub(crate) fn state_text(&self, text: &mut String) -> Result<(), NoMemory> {
+    fn state_text(&self, text: &mut String) -> Result<(), NoMemory> {
         match self {
             Kind::Counter(counter) => counter.state_text(text),
             Kind::Table(table) => table.state_text(text),

@@ -2,6 +2,7 @@
 
 use crate::plans::Plans;
 use crate::state::{Ran, Server, Standing, State, future_at};
+use act_kinds::Actor;
 use act_types::{ActorId, Answer, CallerId, NoMemory};
 use std::alloc::{AllocError, Global};
 

@@ -6,6 +6,7 @@
 use crate::choice::Choice;
 use crate::kind::Kind;
 use crate::plans::{Plans, limit_of};
+use act_kinds::Actor;
 use act_plans::CallerSetup;
 use act_rules::Step;
 use act_types::{

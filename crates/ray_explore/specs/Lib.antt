@@ -1,2 +1,4 @@
 pub mod Status
 pub mod Told
+pub mod Telling
+pub mod All

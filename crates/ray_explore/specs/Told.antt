@@ -1,5 +1,5 @@
--- What is written of an end.
-use Rattle.std.specs.Prelude.{◌≡◌, ℕ, ◌+◌, zero, suc, ◌⊎◌, List, ◌++◌, Bool, true, false, Option, codes}
+-- What is written of ends.
+use Rattle.std.specs.Prelude.{◌≡◌, ℕ, ◌+◌, ◌⊎◌, List, [], ◌∷◌, ◌++◌, length, Bool, true, false, Option, codes}
 use Rattle.std.specs.Io.KnownBytes.{Appends}
 use Rattle.act_histories.specs.Checked.{IsPlayOfHistory}
 
@@ -8,18 +8,32 @@ pub record IsEndText (lines play text : List ℕ) : Type 0 where
   pub head : List ℕ
   pub same : text ≡ ((head ++ lines) ++ codes "play\n") ++ play
 
--- what was written of an end: its lines and a play of the script that ends so, or nothing of one that was told before
-abbrev pub TellsEnd : List ℕ → Bool → Option (List ℕ) → Option (List ℕ) → Type 0
-TellsEnd script true old new = (lines play text : List ℕ)
-    × IsPlayOfHistory (script ++ lines) play × IsEndText lines play text × Appends old new text
-TellsEnd script false old new = new ≡ old
+-- an end with these lines was written, with a play of the script that ends so
+pub record TellsEnd (script lines : List ℕ) (old new : Option (List ℕ)) : Type 0 where
+  pub play : List ℕ
+  pub text : List ℕ
+  pub played : IsPlayOfHistory (script ++ lines) play
+  pub shown : IsEndText lines play text
+  pub written : Appends old new text
 
--- the same of as many ends
-abbrev pub TellsEnds : List ℕ → ℕ → Option (List ℕ) → Option (List ℕ) → Type 0
-TellsEnds script zero old new = new ≡ old
-TellsEnds script (suc n) old new = (mid : Option (List ℕ)) × TellsEnds script n old mid × TellsEnd script true mid new
+-- the same of an end that is new; of one that was told before nothing was written
+abbrev pub TellsNew : List ℕ → List ℕ → Bool → Option (List ℕ) → Option (List ℕ) → Type 0
+TellsNew script lines true old new = TellsEnd script lines old new
+TellsNew script lines false old new = new ≡ old
+
+-- ends with these lines were written, in this order
+abbrev pub TellsEnds : List ℕ → List (List ℕ) → Option (List ℕ) → Option (List ℕ) → Type 0
+TellsEnds script [] old new = new ≡ old
+TellsEnds script (lines ∷ more) old new = (mid : Option (List ℕ)) × TellsEnd script lines old mid
+    × TellsEnds script more mid new
+
+-- so many ends were written
+pub record TellsCount (script : List ℕ) (count : ℕ) (old new : Option (List ℕ)) : Type 0 where
+  pub ends : List (List ℕ)
+  pub counted : length ends ≡ count
+  pub told : TellsEnds script ends old new
 
 -- after so many ends, none or one more is written
 abbrev pub TellsMore : List ℕ → ℕ → ℕ → Option (List ℕ) → Option (List ℕ) → Type 0
 TellsMore script count after old new =
-    ((after ≡ count) × (new ≡ old)) ⊎ ((after ≡ count + 1) × TellsEnd script true old new)
+    ((after ≡ count) × (new ≡ old)) ⊎ ((after ≡ count + 1) × (lines : List ℕ) × TellsEnd script lines old new)

@@ -5,7 +5,9 @@
 mod command;
 mod exploring;
 mod status;
+mod telling;
 mod told;
+mod writing;
 
 use command::{Command, read_command};
 use exploring::explore;
@@ -17,8 +19,7 @@ use std::rt::Env;
 fn run<Rt: Env + AllocGlobal + Input + Print + Eprint>(rt: &Rt) -> Result<(), Stop> {
     let command = read_command(rt)?;
     let mut reader = rt.reader();
-    let mut writer = io::writer(rt);
-    explore(rt, command, &mut reader, &mut writer)
+    explore(rt, command, &mut reader, io::writer(rt))
 }
 
 /// Ends with a status and, where that isn't on the standard output, one line on the standard error.

@@ -1,9 +1,9 @@
 //! What is told of ends.
 
-ghost use Rattle.std.specs.Prelude.{◌≡◌, ◌++◌, false, codes, IfOk, string_bytes};
+ghost use Rattle.std.specs.Prelude.{◌≡◌, ◌++◌, true, codes, IfOk, string_bytes};
 ghost use Rattle.ray_explore.specs.Told.{IsEndText};
 
-use act_ends::{End, Search, Searched};
+use act_ends::End;
 use std::alloc::{AllocError, Global};
 
 /// The lines of an end and those of its play, each below a line that says so.
@@ -19,22 +19,23 @@ pub(crate) fn end_text(alloc: Global, number: u64, end: &End) -> Result<Vec<u8>,
 }
 
 /// Says `whole` only where all was searched.
-fn word_of(search: &Search) -> &'static str
-    ensures { result.now ≡ codes "whole" → (search.now.left ≡ 0) × (search.now.has_lost ≡ false) }
+pub(crate) fn word_of(is_whole: bool) -> &'static str
+    ensures { result.now ≡ codes "whole" → is_whole ≡ true }
 {
-    match search.searched() {
-        Searched::Whole => "whole",
-        Searched::Part => "part",
-    }
+    if is_whole { "whole" } else { "part" }
 }
 
-/// The last line: whether all was searched, and how many ends and states there were.
-pub(crate) fn closing_line(
+/// The last line: whether all was searched, and how many ends there were.
+pub(crate) fn closing_line(alloc: Global, word: &str, ends: u64) -> Result<String, AllocError> {
+    format!(in alloc; "{word}: {ends} ends\n")
+}
+
+/// The same, with how many states there were.
+pub(crate) fn closing_states(
     alloc: Global,
-    search: &Search,
+    word: &str,
     ends: u64,
+    states: usize,
 ) -> Result<String, AllocError> {
-    let word = word_of(search);
-    let states = search.count();
     format!(in alloc; "{word}: {ends} ends, {states} states\n")
 }

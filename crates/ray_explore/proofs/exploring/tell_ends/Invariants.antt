@@ -1,11 +1,11 @@
 use Rattle.std.specs.Prelude.{◌≡◌, ◌≤◌}
-use Rattle.ray_explore.specs.Told.{TellsEnds}
+use Rattle.ray_explore.specs.Told.{TellsCount}
 use Rattle.ray_explore.proofs.exploring.tell_ends.Given as goal
 
 -- so many ends are written so far, all of the same script
 abbrev pub invariant-loop : goal.invariant-loop
 invariant-loop g l = record {
   script : l.search.script ≡ l.fn.search.script;
-  told : TellsEnds l.fn.search.script l.count (g.W.Write.contents l.fn.writer) (g.W.Write.contents l.writer);
+  told : TellsCount l.fn.search.script l.count (g.W.Write.contents l.fn.writer) (g.W.Write.contents l.writer);
   few : l.count ≤ l.counter;
 }

@@ -1,0 +1,119 @@
+-- Actors that retire, one after another.
+use Rattle.std.proofs.Common.{◌≡◌, ℕ, ◌+◌, ◌≤◌, arith, Bool, true, false, List, [], ◌∷◌, ◌++◌, Option, Some, None, Result, Ok, Err, refl, ap, sym, ◌∙◌, subst}
+use Rattle.std.specs.Prelude.{◌||◌, ◌==◌, is_some, map}
+use Rattle.std.proofs.lemmas.Bool.{eqb-true, eqb-false, eq-eqb}
+use Rattle.act_rules.specs.declared.event.Event.{Event}
+use Rattle.act_rules.specs.declared.event.Event.TheVariants as event
+use Rattle.act_rules.specs.declared.outcome.Did.{Did}
+use Rattle.act_rules.specs.declared.outcome.WorldRefusal.{WorldRefusal}
+use Rattle.act_rules.specs.History.{ActorSpec, History, contains, cast_of, is_dead, is_ended}
+use Rattle.act_rules.specs.Laws.{history}
+use Rattle.act_rules.specs.Report.{summary}
+use Rattle.act_rules.specs.Rules.{outcome_by, outcome_of, refusal_of, add_event, after, after_by}
+use Rattle.act_world.specs.View.{SlotView, Runs, Died, Ended, Vacant, WorldView}
+use Rattle.act_world.specs.Refines.{IsStage}
+use Rattle.act_world.specs.IsReachedBy.{IsReachedBy}
+use Rattle.act_early.specs.Told.{told_at_rest}
+use Rattle.act_early.proofs.Told.{ended_told, at_rest}
+use Rattle.act_early.proofs.Shifting.{one_after}
+use Rattle.act_early.proofs.Worlds.{contains_push, or_second}
+use Rattle.act_console.specs.Parts.{world_summary}
+use Rattle.act_console.proofs.Shown.{summary_is}
+use Rattle.act_ends.specs.Rest.{IsResting}
+
+-- an actor that has its cast, and doesn't run, ended
+pub rest_none : (h : History) (a : ℕ) → cast_of a h ≡ None → is_some (cast_of a h) ≡ true → is_ended a h ≡ true
+rest_none h a none there = let bad : false ≡ true = sym (ap (λ (cast : Option ActorSpec). is_some cast) none) ∙ there in cc
+
+pub first_or : (x y : Bool) → x ≡ true → (x || y) ≡ true
+first_or true y e = refl
+first_or false y e = cc
+
+-- before an actor more, where that one ended
+pub rest_still : (casts : List ActorSpec) (h : History) (n a : ℕ) (world : WorldView) → a ≡ n + 1
+    → ((events : List Event) → IsReachedBy casts events world → is_some (cast_of a (history casts events)) ≡ true → is_ended a (history casts events) ≡ true)
+    → IsResting casts h n world → IsResting casts h (n + 1) world
+rest_still casts h n a world next ended is = record {
+  events = is.events;
+  reached = is.reached;
+  retired = is.retired;
+  same = is.same;
+  rests = rests;
+}
+  where
+    Rests : ℕ → Type 0
+    Rests b = is_some (cast_of b h) ≡ true → (is_dead b h || contains b is.retired) ≡ true
+
+    last : Rests a
+    last = subst (λ (g : History). is_some (cast_of a g) ≡ true → is_ended a g ≡ true) is.same (ended is.events is.reached)
+
+    go : (b : ℕ) → 1 ≤ b → (c : Bool) → (b == a) ≡ c → b ≤ n + 1 → Rests b
+    go b low true same high = subst Rests (sym (eqb-true b a same)) last
+    go b low false other high = let differs : b ≡ a → ⊥ = eqb-false b a other in is.rests b low (omega arith)
+
+    rests : (b : ℕ) → 1 ≤ b → b ≤ n + 1 → Rests b
+    rests b low high = go b low (b == a) refl high
+
+accepted : (h : History) (event : Event) (refusal : Option WorldRefusal) (did : Did) → Ok did ≡ outcome_by h event refusal → refusal ≡ None
+accepted h event None did e = refl
+accepted h event (Some refusal) did e = cc
+
+-- one actor more, which retires
+pub rest_more : (casts : List ActorSpec) (h : History) (n a : ℕ) (old new : WorldView) (did : Did) → a ≡ n + 1
+    → ((events : List Event) → IsReachedBy casts events old → Ok did ≡ outcome_of (history casts events) (event.Retire a))
+    → ((events : List Event) → IsReachedBy casts events old → IsReachedBy casts (events ++ event.Retire a ∷ []) new)
+    → IsResting casts h n old → IsResting casts h (n + 1) new
+rest_more casts h n a old new did next told reached is = record {
+  events = is.events ++ event.Retire a ∷ [];
+  reached = reached is.events is.reached;
+  retired = is.retired ++ a ∷ [];
+  same = same;
+  rests = rests;
+}
+  where
+    none : refusal_of (history casts is.events) (event.Retire a) ≡ None
+    none = accepted (history casts is.events) (event.Retire a) (refusal_of (history casts is.events) (event.Retire a)) did (told is.events is.reached)
+
+    same : history casts (is.events ++ event.Retire a ∷ []) ≡ record h { retired = is.retired ++ a ∷ [] }
+    same =
+        one_after casts is.events (event.Retire a)
+        ∙ ap (λ (refusal : Option WorldRefusal). after_by (history casts is.events) (event.Retire a) refusal) none
+        ∙ ap (λ (g : History). add_event g (event.Retire a)) is.same
+
+    Rests : ℕ → Type 0
+    Rests b = is_some (cast_of b h) ≡ true → (is_dead b h || contains b (is.retired ++ a ∷ [])) ≡ true
+
+    grown : (d x y : Bool) → (d || x) ≡ true → (d || (x || y)) ≡ true
+    grown true x y e = refl
+    grown false true y e = refl
+    grown false false y e = cc
+
+    go : (b : ℕ) → 1 ≤ b → (c : Bool) → (b == a) ≡ c → b ≤ n + 1 → Rests b
+    go b low true same high there =
+        or_second (is_dead b h) (contains b (is.retired ++ a ∷ []))
+        (contains_push b a is.retired ∙ or_second (contains b is.retired) (a == b) (eq-eqb a b (sym (eqb-true b a same))))
+    go b low false other high there =
+        let differs : b ≡ a → ⊥ = eqb-false b a other in
+        ap (λ (x : Bool). is_dead b h || x) (contains_push b a is.retired)
+        ∙ grown (is_dead b h) (contains b is.retired) (a == b) (is.rests b low (omega arith) there)
+
+    rests : (b : ℕ) → 1 ≤ b → b ≤ n + 1 → Rests b
+    rests b low high = go b low (b == a) refl high
+
+-- nothing rests yet
+pub rest_none_yet : (casts : List ActorSpec) (events : List Event) (world : WorldView) → IsReachedBy casts events world → IsResting casts (history casts events) 0 world
+rest_none_yet casts events world reached = record {
+  events = events;
+  reached = reached;
+  retired = (history casts events).retired;
+  same = refl;
+  rests = λ a low high. let bad : ⊥ = omega arith in absurd bad;
+}
+
+-- what the world shows in the end
+pub rest_shown : (casts : List ActorSpec) (h : History) (world : WorldView) → IsResting casts h 8 world → world_summary world ≡ told_at_rest h
+rest_shown casts h world is =
+    summary_is casts is.events world is.reached
+    ∙ ap (λ (g : History). summary g) is.same
+    ∙ ended_told (record h { retired = is.retired }) (record h { retired = map (λ cast. cast.actor) h.casts }) refl
+    (λ c. refl) (λ c. refl) (λ a. refl) (λ a. refl) is.rests (at_rest h)

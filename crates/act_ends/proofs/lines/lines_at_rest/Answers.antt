@@ -1,0 +1,13 @@
+use Rattle.std.proofs.Common.{List, ℕ, ◌++◌, ap, ◌∙◌}
+use Rattle.act_rules.specs.Laws.{history}
+use Rattle.act_world.specs.View.{world_view}
+use Rattle.act_console.specs.Parts.{world_summary}
+use Rattle.act_ends.proofs.Rest.{rest_none_yet, rest_shown}
+use Rattle.act_ends.proofs.lines.lines_at_rest.Goals as goal
+
+pub returns : goal.returns
+returns g c casts events reached =
+    let rests = c.in_ok-retire_all.ensures casts (history casts events) (rest_none_yet casts events (world_view g.K.Actor.state c.args.world.now) reached) in
+    c.in_ok-play_report.ensures.ok
+    ∙ ap (λ (front : List ℕ). front ++ world_summary (world_view g.K.Actor.state c.retire_all.new.world)) c.new-lines.ensures.bytes
+    ∙ rest_shown casts (history casts events) (world_view g.K.Actor.state c.retire_all.new.world) rests
