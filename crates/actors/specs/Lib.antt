@@ -30,12 +30,20 @@ pub use Rattle.act_owner.specs.declared.owner.Collected
 pub use Rattle.act_actor.specs.declared.cast.Cast
 pub use Rattle.act_world.specs.declared.slot.Stage
 pub use Rattle.act_serve.specs.declared.turn.Ended
+pub use Rattle.act_serve.specs.declared.turn.Finished
 -- errors of runs in threads, and of callers that are code
 pub use Rattle.act_executor.specs.declared.run.RunFault
 pub use Rattle.act_drive.specs.declared.refusals.WaitRefusal
 pub use Rattle.act_drive.specs.declared.refusals.KillRefusal
 pub use Rattle.act_replay.specs.declared.run.RecordFault
 pub use Rattle.act_service.specs.declared.epochs.EpochFault
+-- every end of plans
+pub use Rattle.act_explore.specs.declared.opening.End
+pub use Rattle.act_explore.specs.declared.exploring.Found
+pub use Rattle.act_explore.specs.declared.exploring.Ends
+pub use Rattle.act_explore.specs.declared.search.Visited
+pub use Rattle.act_explore.specs.declared.search.Searched
+pub use Rattle.act_explore.specs.declared.fault.ExploreFault
 -- histories by order alone
 pub use Rattle.act_orders.specs.declared.told.Told
 pub use Rattle.act_orders.specs.declared.verdict.Refused
@@ -56,6 +64,7 @@ pub mod Worlds
 pub mod Threads
 pub mod Codes
 pub mod Plays
+pub mod PlanEnds
 pub mod Epochs
 pub mod Histories
 pub mod Scripts

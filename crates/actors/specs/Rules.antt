@@ -2,6 +2,7 @@
 
 -- casts as the rules have them, and what stands after events
 pub use Rattle.act_rules.specs.History.{ActorSpec, History, opening, opening_of, actors_naming, contains}
+pub use Rattle.act_rules.specs.History.{cast_of, calls_of, kept_of, runs_of, is_dead, is_retired}
 pub use Rattle.act_rules.specs.Laws.{history}
 pub use Rattle.act_rules.specs.Rules.{after, after_all}
 -- what is told of an event

@@ -2,7 +2,7 @@
 
 -- the test of plans, and what contracts see of them
 pub use Rattle.act_plans.specs.Setups.{PlansFit}
-pub use Rattle.act_plans.specs.Runs.{plan_of, steps_of_plan, first_bad_plan}
+pub use Rattle.act_plans.specs.Runs.{plan_of, steps_of_plan, first_bad_plan, actors_of_casts, cast_at}
 pub use Rattle.act_executor.specs.Runs.{plan_view}
 -- when each error comes
 pub use Rattle.act_executor.specs.Runs.{IsFault}

@@ -6,6 +6,7 @@
 //! - A world, which is played event by event: `World`, `Event`, and `Did` for what each event did.
 //! - The same in threads: `run_plans` for plans of `Step`, `run_callers` for callers that are `Code`.
 //! - Such a run with a list of events that ends so: `run_recorded`.
+//! - A question to every end of plans, and so to every run in threads: `always`, `explore`, `Opening`, `Check`.
 //! - Runs that follow one another, for as long as a `Service` has codes to give: `run_epochs`.
 //! - The history that a run in threads leaves, judged by its order alone: `told_of`, `judge`, `write_history`.
 //! - One caller and one actor without either: `Owner`, `Live`, `Packet`, `Notice`.
@@ -57,6 +58,12 @@ pub use act_plans::plans_fit;
 pub use act_replay::{RecordFault, Recorded, Source, play_of, run_recorded};
 pub use act_rules::{Plan, Step};
 pub use act_serve::{Ended, Finished, Gate, NoGate};
+
+// Every end of plans.
+pub use act_explore::{
+    Check, End, Ends, ExploreFault, Found, Opening, Plays, Searched, Visit, Visited, always,
+    explore, visit_ends,
+};
 
 // Runs in threads that follow one another.
 pub use act_epochs::{epochs_are_consistent, epochs_go_on, kept_over_epochs};

@@ -1,0 +1,2 @@
+pub mod SamePurse
+pub mod Threads

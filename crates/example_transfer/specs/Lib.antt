@@ -1,0 +1,3 @@
+pub mod Purse
+pub mod Purses
+pub mod Money
