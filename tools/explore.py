@@ -4,8 +4,9 @@
     ./explore [OPTION..] [FILE]
 
 Without FILE, or where it is `-`, the script is read from the standard input: roles, and each caller's lines as its
-plan. Each end that is told has a play of the plans that ends so, which is proved. That no other is left out is tested
-and not proved: so the last line says how many were found, and whether all was searched.
+plan. Each end that is told has a play of the plans that ends so, which is proved. That no other is left out is proved
+for the view report, whose last line says so; for the other views it is tested, and the last line says how many were
+found.
 
     --view report     ends that differ in an answer, in how an actor ended, or in a run list (this is the default)
     --view answers    ends that differ in an answer or in how an actor ended; run lists are left out
@@ -42,7 +43,8 @@ SHOWN = {
     "answers": re.compile(r"c\d|a\d+ "),
     "ends": re.compile(r"a\d+ "),
 }
-CLOSING = re.compile(r"(whole|part): (\d+) ends, (\d+) states\n\Z")
+# The view report tells no states.
+CLOSING = re.compile(r"(whole|part): (\d+) ends(?:, (\d+) states)?\n\Z")
 
 
 class Words(argparse.ArgumentParser):
@@ -93,6 +95,18 @@ class Pulse(threading.Thread):
             elif is_seen and time.monotonic() - said >= SIGN_OF_LIFE_SECONDS:
                 said = time.monotonic()
                 program.say(TOOL, line.rstrip("\n"))
+
+
+class Count(threading.Thread):
+    """Says every few seconds how many ends there are so far: of the view report the program tells no states."""
+
+    def __init__(self):
+        super().__init__(daemon=True)
+        self.ends, self.is_over = 0, threading.Event()
+
+    def run(self):
+        while not self.is_over.wait(SIGN_OF_LIFE_SECONDS):
+            program.say(TOOL, f"{self.ends} end{plural(str(self.ends))} so far")
 
 
 class End:
@@ -165,16 +179,25 @@ def plural(count):
     return "" if count == "1" else "s"
 
 
+def found_of(states):
+    """What is said of a search that was whole. The view report is proved to have all ends, and tells no states."""
+    return f" found ({states} state{plural(states)})" if states else ""
+
+
+def after_of(states):
+    return f", after {states} state{plural(states)}" if states else ""
+
+
 def closing_text(judge, searched, ends, states):
     """The last line. It claims no more than what was searched."""
     found = f"{ends} end{plural(ends)}"
     if judge.judges:
         found += f", {judge.told} of them as they must never be"
     if searched == "whole":
-        return f"{found}, and no other found ({states} state{plural(states)})\n"
+        return f"{found}, and no other{found_of(states)}\n"
     coarser = " or ".join(f"--view {view}" for view in VIEWS[VIEWS.index(judge.view) + 1 :])
     more = f", or try {coarser}" if coarser else ""
-    return f"{found} so far, after {states} state{plural(states)}, and there may be more: raise --most{more}\n"
+    return f"{found} so far{after_of(states)}, and there may be more: raise --most{more}\n"
 
 
 def explore(words, script):
@@ -185,17 +208,21 @@ def explore(words, script):
     command = [kept(), words.view, str(words.most)]
     searched = None
     with subprocess.Popen(command, **pipes, text=True, errors="replace") as process:
-        pulse = Pulse(process.stderr)
+        pulse, count = Pulse(process.stderr), Count()
         pulse.start()
+        if words.view == "report" and os.isatty(2):
+            count.start()
         with contextlib.suppress(BrokenPipeError):
             process.stdin.buffer.write(script)
         with contextlib.suppress(BrokenPipeError):
             process.stdin.close()
         for told in ends_in(process.stdout):
             if isinstance(told, End):
+                count.ends += 1
                 judge.tell(told)
             elif closing := CLOSING.match(told):
                 searched = closing
+        count.is_over.set()
         pulse.join()
     program.note("".join(pulse.others))
     status = process.returncode

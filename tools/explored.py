@@ -1,7 +1,7 @@
 #!/usr/bin/env python3
 """Compares the ends that the program ray_explore tells with those of every play, and with runs in threads.
 
-    tools/explored.py [--seed N] [--count N] [--program PATH] [--runner PATH]
+    tools/explored.py [--seed N] [--count N] [--runs N] [--program PATH] [--runner PATH]
 
 The scripts are random small plans of tools/small_plans.py. There each event is tried after each other one, and nothing
 is done as early as it can be; here a kill that was asked may stay untaken, as the rules let it. A script fails where
@@ -12,7 +12,8 @@ is done as early as it can be; here a kill that was asked may stay untaken, as t
   - a play that it tells has other roles than the script, does a caller's steps in another order, or ends otherwise by
     the second reading of the rules;
   - a run in threads, of a few, leaves what is no end;
-  - with room for one state less than there are, the program says that all was searched, or ends with 0.
+  - with room for one state less than the view `ends` has, or of several ends with room for one state alone in the view
+    `report`, the program says that all was searched, or ends with 0.
 
 Without `--seed` there are two seeds, as in tools/recorded.py.
 """
@@ -30,7 +31,7 @@ import small_plans
 
 COUNT = 200  # scripts of each seed
 MOST_STATES = 60_000  # of a script's plays; one that has more is left out
-RUNS = 3  # in threads, of each script
+RUNS = 3  # in threads, of each script; --runs asks for others
 MAX_SECONDS = 300
 MAX_SHOWN = 5
 AT_ONCE = 4
@@ -71,7 +72,8 @@ def complaint_of_ends(path, script, view, wanted):
     """What is wrong with the ends of a view, by the reports of all plays."""
     status, ends, last = explored(path, script, view)
     texts = ["".join(end.shown(view)) for end in ends]
-    if status != 0 or not last.startswith(f"whole: {len(ends)} ends, "):
+    closing = explore.CLOSING.fullmatch(last)
+    if status != 0 or not closing or closing[1] != "whole" or closing[2] != str(len(ends)):
         return f"{view}: it ends with {status} and {last!r}"
     if len({*texts}) != len(texts):
         return f"{view}: an end is told twice"
@@ -115,7 +117,18 @@ def complaint_of_play(plans, script, end):
     return None
 
 
-def complaint(path, runner, plans):
+def complaint_of_cuts(path, script, count):
+    """What is wrong with searches that aren't whole: with one state less, and of several ends with one state alone."""
+    _, _, last = explored(path, script, "ends")
+    states = int(explore.CLOSING.fullmatch(last)[3])
+    for view, most in [("ends", states - 1), *([("report", 1)] if count > 1 else [])]:
+        status, _, last = explored(path, script, view, most)
+        if status != explore.CUT or not last.startswith("part: "):
+            return f"with room for {most} states the view {view} ends with {status} and {last!r}"
+    return None
+
+
+def complaint(path, runner, runs, plans):
     """What is wrong with what is told of a script, or nothing. None of a script with too many plays."""
     script = plans.script()
     reports = Plays(plans).reports(MOST_STATES)
@@ -125,27 +138,25 @@ def complaint(path, runner, plans):
     for view in VIEWS:
         if wrong := complaint_of_ends(path, script, view, wanted):
             return wrong
-    _, ends, last = explored(path, script, "report")
+    _, ends, _ = explored(path, script, "report")
     for end in ends:
         if wrong := complaint_of_play(plans, script, end):
             return wrong
-    states = int(explore.CLOSING.match(last)[3])
-    status, _, last = explored(path, script, "report", states - 1)
-    if status != explore.CUT or not last.startswith("part: "):
-        return f"with room for {states - 1} of {states} states it ends with {status} and {last!r}"
-    for _ in range(RUNS):
+    if wrong := complaint_of_cuts(path, script, len(ends)):
+        return wrong
+    for _ in range(runs):
         status, lines = told([runner, "threads"], script)
         if status != 0 or "".join(lines) not in wanted:
             return f"a run in threads is no end:\n{''.join(lines)}"
     return ""
 
 
-def checked(path, runner, seed, count):
+def checked(path, runner, runs, seed, count):
     """How many scripts of a seed were compared, and what is wrong with some."""
 
     def one(place):
         plans = small_plans.Plans(random.Random(f"explored {seed}.{place}"))
-        return plans.script(), complaint(path, runner, plans)
+        return plans.script(), complaint(path, runner, runs, plans)
 
     with concurrent.futures.ThreadPoolExecutor(AT_ONCE) as pool:
         answers = [*pool.map(one, range(count))]
@@ -157,6 +168,7 @@ def main():
     words = argparse.ArgumentParser(usage=__doc__)
     words.add_argument("--seed", type=int)
     words.add_argument("--count", type=int, default=COUNT)
+    words.add_argument("--runs", type=int, default=RUNS)
     words.add_argument("--program")
     words.add_argument("--runner")
     words = words.parse_args()
@@ -165,7 +177,7 @@ def main():
     runner = words.runner or program.kept("explored")
     failed = False
     for seed in seeds.chosen(words.seed, "explored"):
-        compared, wrong = checked(path, runner, seed, words.count)
+        compared, wrong = checked(path, runner, words.runs, seed, words.count)
         print(f"explored: seed {seed}: {compared} scripts compared, {len(wrong)} wrong", flush=True)
         for script, answer in wrong[:MAX_SHOWN]:
             print(f"{script.decode()}{answer}")
