@@ -34,8 +34,8 @@ pub record TellsEachAndCloses (casts : List ActorSpec) (plans : List (ℕ × Lis
   pub last : List ℕ
   pub closing : Appends mid new last
 
--- all ends of the script that the bytes spell were written, each with a play of the script, or of one that has awaits
--- more at its end; and then a last line
+-- all ends of the script that the bytes spell were written, each with a play of the script, or of one that has more
+-- lines at its end; and then a last line
 pub record TellsAll (bytes : List ℕ) (old new : Option (List ℕ)) : Type 0 where
   pub script : Script
   pub read : spelled Threads bytes ≡ Ok script
