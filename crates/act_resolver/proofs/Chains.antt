@@ -1,9 +1,7 @@
 -- The chains through the places that wait, after one more place and along one link.
-use Rattle.std.proofs.Common.{◌≡◌, ℕ, zero, suc, ◌+◌, ◌<◌, Option, Some, None, List, [], ◌∷◌, ◌++◌, length, map, get_or, drop, refl, sym, ◌∙◌, ap, arith, IfSome, All}
-use Rattle.std.specs.Prelude.{slice_set, slice_get}
-use Rattle.std.proofs.lemmas.List.{get_or_append_left, get_or_at, map-set, get_or-map, length_push}
-use Rattle.act_resolver.specs.declared.resolver.Place.{Place}
-use Rattle.act_resolver.specs.Waiters.{chain_from, chains_after, chains_of, AreLinked, AreWaiters, waiters_of}
+use Rattle.act_resolver.proofs.Common.{◌≡◌, ℕ, zero, suc, ◌+◌, ◌<◌, Option, Some, None, List, [], ◌∷◌, ◌++◌, length, map, get_or, drop, refl, sym, ◌∙◌, ap}
+use Rattle.act_resolver.proofs.Common.{arith, IfSome, All, slice_set, slice_get, get_or_append_left, get_or_at, map-set, get_or-map, length_push, Place}
+use Rattle.act_resolver.proofs.Common.{chain_from, chains_after, chains_of, AreLinked, AreWaiters, waiters_of}
 
 length-chains_after : (chains : List (List ℕ)) (places : List Place) → length (chains_after chains places) ≡ length chains + length places
 length-chains_after chains [] = omega arith

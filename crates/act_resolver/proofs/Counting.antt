@@ -1,17 +1,11 @@
 -- The counts, the waiting calls and the free calls after an entry, a telling and a sending.
-use Rattle.std.proofs.Common.{◌≡◌, ◌≢◌, ℕ, zero, suc, ◌+◌, ◌-◌, ◌<◌, ◌≤◌, ◌==◌, ◌&&◌, ◌⊎◌, inl, inr, Bool, true, false, cond, not, eqb, Option, Some, None, List, [], ◌∷◌, ◌++◌, length, get_or, take, drop, find, count_by, refl, sym, ◌∙◌, ap, arith}
-use Rattle.std.specs.Prelude.{slice_set, slice_get}
-use Rattle.std.specs.List.{list_all, range_with_len}
-use Rattle.std.specs.Option.{option_map_or}
-use Rattle.std.proofs.lemmas.List.{length-set, length_push, get_or-set_other, get_or-set_same, get_or_push, get_or_past, take_all, drop_all, append-nil}
-use Rattle.std.proofs.lemmas.List.Sums.{sum_by-cons}
-use Rattle.std.proofs.lemmas.Option.{slice_get-get_or, slice_get_past, slice_get_within, slice_get_read}
-use Rattle.std.proofs.lemmas.Bool.{cases_lt, cases_eq, eq-eqb, false≢true}
-use Rattle.std.proofs.lemmas.Bool.Decides.{eqb_tells}
-use Rattle.act_resolver.specs.Resolver.{Entered, new_call, is_answered, is_told, is_next_ready, least_ready, changed_at}
-use Rattle.act_resolver.specs.Least.{IsLeast}
-use Rattle.act_resolver.specs.Waiters.{waiters_of}
-use Rattle.act_resolver.specs.Counts.{futures_at, missing_of, count_number, places_for, is_free, AreCounted, AreFree, IsResolver, IsTelling}
+use Rattle.act_resolver.proofs.Common.{◌≡◌, ◌≢◌, ℕ, zero, suc, ◌+◌, ◌-◌, ◌<◌, ◌≤◌, ◌==◌, ◌&&◌, ◌⊎◌, inl, inr, Bool, true, false, cond, not, eqb, Option, Some}
+use Rattle.act_resolver.proofs.Common.{None, List, [], ◌∷◌, ◌++◌, length, get_or, take, drop, find, count_by, refl, sym, ◌∙◌, ap, arith, slice_set, slice_get}
+use Rattle.act_resolver.proofs.Common.{list_all, range_with_len, option_map_or, length-set, length_push, get_or-set_other, get_or-set_same, get_or_push}
+use Rattle.act_resolver.proofs.Common.{get_or_past, take_all, drop_all, append-nil, sum_by-cons, slice_get-get_or, slice_get_past, slice_get_within}
+use Rattle.act_resolver.proofs.Common.{slice_get_read, cases_lt, cases_eq, eq-eqb, false≢true, eqb_tells, Entered, new_call, is_answered, is_told}
+use Rattle.act_resolver.proofs.Common.{is_next_ready, least_ready, changed_at, IsLeast, waiters_of, futures_at, missing_of, count_number, places_for, is_free}
+use Rattle.act_resolver.proofs.Common.{AreCounted, AreFree, IsResolver, IsTelling}
 
 not_eqb : (a b : ℕ) → a ≢ b → eqb a b ≡ false
 not_eqb a b other = elim (eqb_tells a b) [ inl told ↦ absurd (other told.1) | inr told ↦ told.0 ]

@@ -1,14 +1,8 @@
 -- Words as bits: the look-up of a bit, a bit that changes, and the first bit below the first word.
-use Rattle.std.proofs.Common.{◌≡◌, ◌≢◌, ℕ, ◌+◌, ◌*◌, ◌/◌, ◌%◌, ◌^◌, ◌<◌, ◌≤◌, ◌==◌, inl, inr, Bool, true, false, not, Some, None, List, length, get_or, refl, sym, ◌∙◌, arith}
-use Rattle.std.specs.Prelude.{slice_set}
-use Rattle.std.specs.Int.{bit_at, trailing_zeros, w64}
-use Rattle.std.proofs.lemmas.List.{get_or-set_other, get_or-set_same, get_or_past, length-set}
-use Rattle.std.proofs.lemmas.List.FromFn.{length-map-range_with_len, get_or-map-range_with_len, fill_by_all}
-use Rattle.std.proofs.lemmas.Bool.{cases_lt, cases_eq, false≢true}
-use Rattle.std.proofs.lemmas.Bool.Decides.{eqb_tells}
-use Rattle.std.proofs.lemmas.Nat.Bits.{bit_at-zero, bit_at-trailing_zeros}
-use Rattle.act_resolver.specs.Least.{IsLeast}
-use Rattle.act_resolver.specs.Levels.{IsAbove, IsFirst, bits_of, has_any, has_bit}
+use Rattle.act_resolver.proofs.Common.{◌≡◌, ◌≢◌, ℕ, ◌+◌, ◌*◌, ◌/◌, ◌%◌, ◌^◌, ◌<◌, ◌≤◌, ◌==◌, inl, inr, Bool, true, false, not, Some, None, List, length, get_or}
+use Rattle.act_resolver.proofs.Common.{refl, sym, ◌∙◌, arith, slice_set, bit_at, trailing_zeros, w64, get_or-set_other, get_or-set_same, get_or_past}
+use Rattle.act_resolver.proofs.Common.{length-set, length-map-range_with_len, get_or-map-range_with_len, fill_by_all, cases_lt, cases_eq, false≢true, eqb_tells}
+use Rattle.act_resolver.proofs.Common.{bit_at-zero, bit_at-trailing_zeros, IsLeast, IsAbove, IsFirst, bits_of, has_any, has_bit}
 
 -- the bits as a list
 pub length-bits_of : (words : List ℕ) → length (bits_of words) ≡ 64 * length words

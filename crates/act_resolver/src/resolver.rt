@@ -1,6 +1,6 @@
 //! The calls of one caller, and which of them may be sent next.
 
-ghost use Rattle.std.specs.Prelude.{◌≡◌, ℕ, ◌+◌, ◌-◌, ◌<◌, ◌≤◌, ◌==◌, ◌&&◌, not, false, [], ◌∷◌, ◌++◌, if◌then◌else◌, length, All, IsOk, OnOk, OnErr, slice_get, slice_set, slice_index, slice_index_or, ◌*◌, drop};
+ghost use Rattle.std.specs.Prelude.{◌≡◌, ℕ, ◌+◌, ◌-◌, ◌<◌, ◌≤◌, ◌==◌, ◌&&◌, not, false, Some, None, [], ◌∷◌, ◌++◌, if◌then◌else◌, length, All, IsOk, OnOk, OnErr, slice_get, slice_set, slice_index, slice_index_or, ◌*◌, drop};
 ghost use Rattle.std.specs.Option.{option_copied, option_map_or};
 ghost use Rattle.act_resolver.specs.Resolver.{new_call, is_answered, is_marked_sent, is_told, least_ready, with_told, with_mark};
 ghost use Rattle.act_resolver.specs.Counts.{is_free, count_number, missing_of};
@@ -280,19 +280,66 @@ fn tell_place(calls: &[Call], missing: &mut [u8], ready: &mut LeastSet, k: Futur
     ready.set(place, is_free);
 }
 
+/// The place of a place, or none: four bytes, where an `Option<u32>` has eight.
+#[derive(Clone, Copy)]
+struct Link {
+    /// One more than the place, and 0 for none.
+    number: u32,
+}
+
+impl Model for Link {
+    ghost use Rattle.std.specs.Prelude.{◌≡◌, ℕ, zero, suc, refl, Option};
+    ghost use Rattle.act_resolver.specs.Links.{link_of, number_of};
+
+    ghost Value = { Option ℕ };
+
+    ghost view = { λ link. link_of link.number };
+
+    ghost inverse = { λ place. record { number = number_of place } };
+
+    ghost inverse_ok = { λ link is_in i. record {
+      number = (elim link.number as (λ n. number_of (link_of n) ≡ n) [ zero ↦ refl | suc n ↦ refl ]) i;
+    } };
+}
+
+impl Link {
+    fn none() -> Link
+        ensures { result ≡ None }
+    {
+        Link { number: 0 }
+    }
+
+    fn to(place: u32) -> Link
+        requires { place < 4294967295 }
+        ensures { result ≡ Some place }
+    {
+        Link { number: place + 1 }
+    }
+
+    fn place(self) -> Option<u32>
+        ensures { result ≡ self }
+    {
+        let Link { number } = self;
+        if number == 0 {
+            return None;
+        }
+        Some(number - 1)
+    }
+}
+
 /// A place among a call's arguments that waits for a future, and the next place that waits for the
 /// same one.
 #[derive(Clone, Copy)]
 struct Place {
     call: FutureId,
-    next: Option<u32>,
+    next: Link,
 }
 
 /// For each future the calls that wait for it, the latest first. A call stands there once for each
 /// place among its arguments.
 #[derive(Drop)]
 pub struct Waiters {
-    firsts: Vec<Option<u32>>,
+    firsts: Vec<Link>,
     places: Vec<Place>,
 }
 
@@ -378,7 +425,7 @@ impl Waiters {
         ensures future_room { self.old.future_room ≡ self.new.future_room + 1 }
         ensures place_room { self.new.place_room ≡ self.old.place_room }
     {
-        self.firsts.push_reserved(None);
+        self.firsts.push_reserved(Link::none());
     }
 
     /// Puts the call in front of those that wait for the future.
@@ -394,7 +441,7 @@ impl Waiters {
         let next = self.firsts[future];
         let place = self.places.len() as u32;
         self.places.push_reserved(Place { call, next });
-        self.firsts[future] = Some(place);
+        self.firsts[future] = Link::to(place);
     }
 
     /// Takes the first of the calls that wait for the future.
@@ -407,7 +454,7 @@ impl Waiters {
         ensures place_room { self.new.place_room ≡ self.old.place_room }
     {
         let future = future.number() as usize;
-        let first = self.firsts[future]?;
+        let first = self.firsts[future].place()?;
         let place = self.places[first as usize];
         self.firsts[future] = place.next;
         Some(place.call)
@@ -418,7 +465,7 @@ impl Waiters {
 #[derive(Drop)]
 pub struct Futures {
     places: [FutureId; MAX_ARGS],
-    count: usize,
+    count: u8,
 }
 
 impl Model for Futures {
@@ -441,7 +488,10 @@ impl Futures {
         let mut places = [FutureId::new(0); MAX_ARGS];
         let count = futures.len();
         places[..count].copy_from_slice(futures);
-        Futures { places, count }
+        Futures {
+            places,
+            count: count as u8,
+        }
     }
 
     /// Adds a future at the end.
@@ -449,7 +499,7 @@ impl Futures {
         requires { length self.old < MAX_ARGS }
         ensures { self.new ≡ self.old ++ future ∷ [] }
     {
-        self.places[self.count] = future;
+        self.places[self.count as usize] = future;
         self.count += 1;
     }
 
@@ -457,6 +507,6 @@ impl Futures {
     pub fn as_slice(&self) -> &[FutureId]
         ensures { result.now ≡ self.now }
     {
-        &self.places[..self.count]
+        &self.places[..self.count as usize]
     }
 }

@@ -1,5 +1,4 @@
-use Rattle.std.specs.Int.{w64}
-use Rattle.std.proofs.lemmas.Nat.Bits.{bit_at_set_same, bit_at_set_other, bit_at_clear_same, bit_at_clear_other}
+use Rattle.act_resolver.proofs.Common.{w64, bit_at_set_same, bit_at_set_other, bit_at_clear_same, bit_at_clear_other}
 use Rattle.act_resolver.proofs.least.with_bit.Goals as goal
 
 pub returns-then-is_set-clause-same : goal.returns-then-is_set-clause-same

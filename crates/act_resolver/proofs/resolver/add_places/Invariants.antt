@@ -1,7 +1,4 @@
-use Rattle.std.proofs.Common.{◌≡◌, ℕ, ◌+◌, ◌≤◌, ◌==◌, ◌&&◌, not, cond, length, take}
-use Rattle.act_resolver.specs.Resolver.{is_answered}
-use Rattle.act_resolver.specs.Counts.{count_number, missing_of}
-use Rattle.act_resolver.specs.Waiters.{waiters_of}
+use Rattle.act_resolver.proofs.Common.{◌≡◌, ℕ, ◌+◌, ◌≤◌, ◌==◌, ◌&&◌, not, cond, length, take, is_answered, count_number, missing_of, waiters_of}
 use Rattle.act_resolver.proofs.resolver.add_places.Given as goal
 
 -- the call waits at the places so far

@@ -1,6 +1,4 @@
-use Rattle.std.proofs.Common.{◌≡◌, None, Some, sym, subst, rules}
-use Rattle.act_resolver.specs.Least.{IsLeast}
-use Rattle.act_resolver.specs.Levels.{has_any, has_bit}
+use Rattle.act_resolver.proofs.Common.{◌≡◌, None, Some, sym, subst, rules, IsLeast, has_any, has_bit}
 use Rattle.act_resolver.proofs.Levels.{first_same, least_is, none_below, none_is_least}
 use Rattle.act_resolver.proofs.least.LeastSet.least.Goals as goal
 

@@ -1,5 +1,4 @@
-use Rattle.std.proofs.Common.{◌∙◌, length, get_or, false, sym, ap, arith}
-use Rattle.std.proofs.lemmas.Result.{on_ok_weaker}
+use Rattle.act_resolver.proofs.Common.{◌∙◌, length, get_or, false, sym, ap, arith, on_ok_weaker}
 use Rattle.act_resolver.proofs.Levels.{above_grown, get_or-bits_of, has_bit-same, length-bits_of}
 use Rattle.act_resolver.proofs.least.LeastSet.raise.Goals as goal
 

@@ -1,5 +1,4 @@
-use Rattle.std.proofs.Common.{◌/◌, ◌∙◌, length, sym, ap, arith}
-use Rattle.std.specs.Prelude.{slice_set}
+use Rattle.act_resolver.proofs.Common.{◌/◌, ◌∙◌, length, sym, ap, arith, slice_set}
 use Rattle.act_resolver.proofs.Levels.{bits_of-set, length-bits_of, tells_after}
 use Rattle.act_resolver.proofs.least.LeastSet.set.Goals as goal
 

@@ -1,6 +1,4 @@
-use Rattle.std.proofs.Common.{◌≡◌, ◌∙◌, ◌<◌, ◌^◌, length, get_or, ap, arith}
-use Rattle.std.specs.Int.{w64, trailing_zeros}
-use Rattle.std.proofs.lemmas.Grind.{get_or_default_zero}
+use Rattle.act_resolver.proofs.Common.{◌≡◌, ◌∙◌, ◌<◌, ◌^◌, length, get_or, ap, arith, w64, trailing_zeros, get_or_default_zero}
 use Rattle.act_resolver.proofs.Levels.{first_bit, lowest_bit, word_within}
 use Rattle.act_resolver.proofs.least.Level.first_in.Goals as goal
 

@@ -1,7 +1,5 @@
-use Rattle.std.proofs.Common.{◌≡◌, ℕ, ◌+◌, ◌<◌, ◌==◌, ◌&&◌, ◌++◌, ◌∷◌, [], ◌∙◌, length, cond, not, sym, ap, arith}
-use Rattle.act_resolver.specs.Resolver.{is_answered}
-use Rattle.act_resolver.specs.Waiters.{waiters_of}
-use Rattle.act_resolver.specs.Counts.{count_number, missing_of}
+use Rattle.act_resolver.proofs.Common.{◌≡◌, ℕ, ◌+◌, ◌<◌, ◌==◌, ◌&&◌, ◌++◌, ◌∷◌, [], ◌∙◌, length, cond, not, sym, ap, arith, is_answered, waiters_of}
+use Rattle.act_resolver.proofs.Common.{count_number, missing_of}
 use Rattle.act_resolver.proofs.Counting.{entered_fine}
 use Rattle.act_resolver.proofs.resolver.Resolver.enter_reserved.Goals as goal
 

@@ -1,7 +1,4 @@
-use Rattle.std.proofs.Common.{◌==◌, ◌∙◌, ap, false}
-use Rattle.std.specs.Prelude.{slice_get}
-use Rattle.std.specs.Option.{option_map_or}
-use Rattle.act_resolver.specs.Resolver.{is_told}
+use Rattle.act_resolver.proofs.Common.{◌==◌, ◌∙◌, ap, false, slice_get, option_map_or, is_told}
 use Rattle.act_resolver.proofs.Counting.{known_is}
 use Rattle.act_resolver.proofs.resolver.Resolver.is_known.Goals as goal
 

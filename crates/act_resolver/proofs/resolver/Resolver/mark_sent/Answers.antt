@@ -1,6 +1,4 @@
-use Rattle.std.proofs.Common.{◌≡◌, ◌∙◌, true, Some, refl, ap}
-use Rattle.std.specs.Prelude.{slice_get}
-use Rattle.act_resolver.specs.Resolver.{Entered, with_mark}
+use Rattle.act_resolver.proofs.Common.{◌≡◌, ◌∙◌, true, Some, refl, ap, slice_get, Entered, with_mark}
 use Rattle.act_resolver.proofs.Counting.{changed_is, found_at, sent_fine}
 use Rattle.act_resolver.proofs.resolver.Resolver.mark_sent.Goals as goal
 

@@ -1,5 +1,4 @@
-use Rattle.std.proofs.Common.{◌≡◌, ◌∙◌, ap, rules}
-use Rattle.act_resolver.specs.Resolver.{least_ready}
+use Rattle.act_resolver.proofs.Common.{◌≡◌, ◌∙◌, ap, rules, least_ready}
 use Rattle.act_resolver.proofs.Counting.{first_ready_is}
 use Rattle.act_resolver.proofs.resolver.Resolver.ready.Goals as goal
 

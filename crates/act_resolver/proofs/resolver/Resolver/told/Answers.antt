@@ -1,8 +1,5 @@
-use Rattle.std.proofs.Common.{◌≡◌, ◌-◌, ◌∙◌, length, get_or, true, false, Some, refl, sym, ap, subst, rules}
-use Rattle.std.specs.Prelude.{slice_get, slice_set}
-use Rattle.std.proofs.lemmas.List.{length-set}
-use Rattle.act_resolver.specs.Resolver.{Entered, with_told}
-use Rattle.act_resolver.specs.Counts.{IsTelling, is_free}
+use Rattle.act_resolver.proofs.Common.{◌≡◌, ◌-◌, ◌∙◌, length, get_or, true, false, Some, refl, sym, ap, subst, rules, slice_get, slice_set, length-set, Entered}
+use Rattle.act_resolver.proofs.Common.{with_told, IsTelling, is_free}
 use Rattle.act_resolver.proofs.Counting.{changed_is, found_at, told_start, told_step, waiter_entered, waiter_counted, whole}
 use Rattle.act_resolver.proofs.resolver.Resolver.told.Goals as goal
 

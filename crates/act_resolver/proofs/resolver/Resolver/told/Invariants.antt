@@ -1,6 +1,4 @@
-use Rattle.std.proofs.Common.{◌≡◌, length, vec_capacity, vec_len}
-use Rattle.act_resolver.specs.Counts.{IsTelling}
-use Rattle.act_resolver.specs.Waiters.{waiters_of}
+use Rattle.act_resolver.proofs.Common.{◌≡◌, length, vec_capacity, vec_len, IsTelling, waiters_of}
 use Rattle.act_resolver.proofs.resolver.Resolver.told.Given as goal
 
 -- the calls that wait are yet to be counted down, and the room stays

@@ -1,8 +1,5 @@
-use Rattle.std.proofs.Common.{◌≡◌, ◌<◌, ◌++◌, ◌∷◌, [], length, get_or, Some, None, ◌∙◌, ap, arith}
-use Rattle.std.specs.Prelude.{slice_set}
-use Rattle.std.proofs.lemmas.List.{length-map, get_or_read}
-use Rattle.act_resolver.specs.declared.resolver.Place.{Place}
-use Rattle.act_resolver.specs.Waiters.{chains_of, chain_from, chains_after, waiters_of}
+use Rattle.act_resolver.proofs.Common.{◌≡◌, ◌<◌, ◌++◌, ◌∷◌, [], length, get_or, Some, None, ◌∙◌, ap, arith, slice_set, length-map, get_or_read, Place}
+use Rattle.act_resolver.proofs.Common.{chains_of, chain_from, chains_after, waiters_of}
 use Rattle.act_resolver.proofs.Chains.{added}
 use Rattle.act_resolver.proofs.resolver.Waiters.add.Goals as goal
 
@@ -17,7 +14,8 @@ returns-clause-lists c =
     let within : k < length firsts = omega (arith, count, ap length lists) in
     let size : c.len-place.result ≡ length places = omega arith in
     let next : c.index-next.result.now ≡ get_or firsts k None = get_or_read firsts k c.index-next.result.now within c.index-next.ensures None in
-    ap (λ ps. chains_of (slice_set firsts k (Some c.len-place.result)) ps) c.push_reserved.ensures.items
+    ap (λ o. chains_of (slice_set firsts k o) c.push_reserved.new.self.items) c.to.ensures
+    ∙ ap (λ ps. chains_of (slice_set firsts k (Some c.len-place.result)) ps) c.push_reserved.ensures.items
     ∙ ap (λ n. chains_of (slice_set firsts k (Some n)) (places ++ place ∷ [])) size
     ∙ added firsts places place k c.self.invariant within next
     ∙ ap (λ ls. slice_set ls k (c.args.call ∷ waiters_of ls k)) lists
